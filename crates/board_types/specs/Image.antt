@@ -1,0 +1,14 @@
+-- The bytes of an image: a finite map from addresses, kept in their order.
+use Rattle.std.specs.Prelude.{ℕ, ◌≤◌, ◌<◌, ◌⊎◌, List, Option}
+use Rattle.std.specs.Ordering.{nat_cmp}
+use Rattle.std.specs.BTreeMap.{is_at}
+use Rattle.std.specs.Map.{lookup}
+
+-- where a program's bytes may go: below text memory's half of the map, and in the ROM
+-- (IBM PC Technical Reference, "System Memory Map")
+abbrev pub IsLoadable : ℕ → Type 0
+IsLoadable address = (address < 0xA0000) ⊎ ((0xF0000 ≤ address) × (address < 0x100000))
+
+-- the byte at an address, if there is one
+abbrev pub image_byte : List (ℕ × ℕ) → ℕ → Option ℕ
+image_byte image address = lookup (is_at (nat_cmp address)) image

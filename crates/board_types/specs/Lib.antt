@@ -1,0 +1,4 @@
+pub mod Iterate
+pub mod Image
+pub mod Keys
+pub mod Flags

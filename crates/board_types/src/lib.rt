@@ -1,0 +1,9 @@
+//! The words that every part of the board shares: the processor clock, a wire's level, the bytes of an
+//! image, the stamped key codes and the 8086's register file.
+#![tactic(auto)]
+
+pub mod clock;
+pub mod image;
+pub mod keys;
+pub mod line;
+pub mod regs;
