@@ -1,0 +1,3 @@
+pub mod Registers
+pub mod Encoding
+pub mod Clocks
