@@ -1,5 +1,5 @@
 -- Every form stands among the rows, and every row is a form.
-use Rattle.std.proofs.Common.{◌≢◌, List, [], ◌∷◌, ◌++◌, map, refl, subst, All, Contains, lit<}
+use Rattle.std.proofs.Common.{arith, ◌≢◌, List, [], ◌∷◌, ◌++◌, map, refl, subst, All, Contains, lit<}
 use Rattle.std.proofs.lemmas.List.Elements.{All-append, All-map, All-cons, All-nil}
 use Rattle.isa.specs.declared.register.ByteRegister.TheVariants.{Al, Cl, Dl, Bl, Ah, Ch, Dh, Bh}
 use Rattle.isa.specs.declared.register.WordRegister.TheVariants.{Ax, Cx, Dx, Bx, Sp, Bp, Si, Di}
@@ -8,7 +8,8 @@ use Rattle.isa.specs.declared.register.SegmentRegister.TheVariants.{Es, Cs, Ss, 
 use Rattle.isa.specs.declared.form.Place.TheVariants.{Register}
 use Rattle.isa.specs.declared.form.Form.{Form}
 use Rattle.isa.specs.declared.form.Form.TheVariants.{MoveByte, MoveWord, MoveToSegment, StoreWord, OutByte, JumpFar, Halt}
-use Rattle.isa.specs.Encoding.{IsForm, rows, moves_to, byte_registers, word_registers}
+use Rattle.std.proofs.lemmas.Grind.{common_steps}
+use Rattle.isa.specs.Encoding.{OneRowFits, IsForm, rows, moves_to, byte_registers, word_registers}
 
 -- a form stands at this place among the rows
 pub is_row : (f : Form) → IsForm f → Contains rows f
@@ -89,3 +90,7 @@ all_rows =
 
 pub is_form : (f : Form) → Contains rows f → IsForm f
 is_form f within = subst IsForm within.2 (all_rows within.0 f within.1)
+
+-- no bytes fit two rows
+pub one_row : OneRowFits
+one_row bytes f g f_form g_form f_begins g_begins = grind (arith, common_steps)

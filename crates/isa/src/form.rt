@@ -49,7 +49,8 @@ impl Form {
         self.head_length() + self.immediate_field().size() + self.segment_field().size()
     }
 
-    fn head_length(self) -> u8
+    /// How many bytes of it come before its fields.
+    pub fn head_length(self) -> u8
         ensures value { result ≡ length (head self) }
         ensures bound { result ≤ 2 }
     {
