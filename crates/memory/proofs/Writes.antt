@@ -1,0 +1,15 @@
+-- What a read finds, at power-on and after a write.
+use Rattle.std.proofs.Common.{arith}
+use Rattle.std.proofs.lemmas.Grind.{common_steps}
+use Rattle.std.proofs.lemmas.List.FromFn.{get_or-map-range_with_len}
+use Rattle.memory.specs.Map.{address_count, byte_at, with_byte, power_on, power_on_byte, PowerOnBytes, WriteChangesRamAlone}
+
+pub write_changes : WriteChangesRamAlone
+unfolding byte_at with_byte
+write_changes memory address byte within =
+    (λ ram. grind (arith, common_steps), λ past. grind (arith, common_steps), λ other ne. grind (arith, common_steps), grind (arith, common_steps))
+
+pub on_at_power_on : PowerOnBytes
+unfolding byte_at power_on
+on_at_power_on image ram_size address within =
+    get_or-map-range_with_len (power_on_byte image ram_size) 0 address_count address address 0 within (omega arith)

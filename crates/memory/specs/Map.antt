@@ -1,0 +1,71 @@
+-- The memory map: one byte for each of 1,048,576 addresses. What stands at the text adapter's addresses is
+-- its own, and not said here.
+use Rattle.std.specs.Prelude.{ℕ, ◌≡◌, ◌≢◌, ◌%◌, ◌<◌, ◌≤◌, if◌then◌else◌, nat_lt, List, map, length, slice_index, slice_set, unwrap_or, Option, IsSome}
+use Rattle.std.specs.List.{range_with_len}
+use Rattle.board_types.specs.Image.{image_byte}
+use Rattle.memory.specs.declared.kind.Kind.{Kind}
+use Rattle.memory.specs.declared.kind.Kind.TheVariants.{Ram, Text, Rom, Nothing}
+use Rattle.memory.specs.declared.map.MemoryFault.{MemoryFault}
+use Rattle.memory.specs.declared.map.MemoryFault.TheVariants.{RamSize, OutOfMemory}
+use Rattle.memory.specs.Kinds.{kind_of}
+
+unfoldable pub address_count : ℕ
+address_count = 1048576
+
+-- the bytes of the map, and how many of them from 0 on are RAM
+pub record MemoryMap : Type 0 where
+  pub ram_size : ℕ
+  pub cells : List ℕ
+
+unfoldable pub byte_at : MemoryMap → ℕ → ℕ
+byte_at memory address = slice_index memory.cells address
+
+-- a write changes a byte of RAM, and no other
+unfoldable pub with_byte : MemoryMap → ℕ → ℕ → MemoryMap
+with_byte memory address byte =
+    if nat_lt address memory.ram_size then record memory { cells = slice_set memory.cells address byte } else memory
+
+-- RAM is 0 and the ROM FFh, but for the image's bytes
+abbrev pub byte_of_kind : Kind → Option ℕ → ℕ
+byte_of_kind Ram given = unwrap_or given 0
+byte_of_kind Text given = 0xFF
+byte_of_kind Rom given = unwrap_or given 0xFF
+byte_of_kind Nothing given = 0xFF
+
+abbrev pub power_on_byte : List (ℕ × ℕ) → ℕ → ℕ → ℕ
+power_on_byte image ram_size address = byte_of_kind (kind_of ram_size address) (image_byte image address)
+
+unfoldable pub power_on : List (ℕ × ℕ) → ℕ → MemoryMap
+power_on image ram_size = record {
+  ram_size = ram_size;
+  cells = map (power_on_byte image ram_size) (range_with_len 0 address_count);
+}
+
+-- a size that the board can have, in units of 1,024 bytes
+pub record IsRamSize (ram_kb : ℕ) : Type 0 where
+  pub least : 16 ≤ ram_kb
+  pub most : ram_kb ≤ 640
+  pub whole : ram_kb % 16 ≡ 0
+
+-- the image has no byte between the RAM's end and A0000h
+abbrev pub FitsRam : List (ℕ × ℕ) → ℕ → Type 0
+FitsRam image ram_size = (address : ℕ) → ram_size ≤ address → address < 0xA0000 → ¬ (IsSome (image_byte image address))
+
+abbrev pub memory_fault_number : MemoryFault → ℕ
+memory_fault_number RamSize = 36
+memory_fault_number OutOfMemory = 41
+
+-- a byte reads back where there is RAM, and a write leaves every other byte as it is
+abbrev pub WriteChangesRamAlone : Type 0
+WriteChangesRamAlone =
+    (memory : MemoryMap) (address byte : ℕ) → (address < length memory.cells) →
+    (address < memory.ram_size → byte_at (with_byte memory address byte) address ≡ byte)
+    × (memory.ram_size ≤ address → with_byte memory address byte ≡ memory)
+    × ((other : ℕ) → other ≢ address → byte_at (with_byte memory address byte) other ≡ byte_at memory other)
+    × ((with_byte memory address byte).ram_size ≡ memory.ram_size)
+
+-- at power-on each address has the byte of its kind
+abbrev pub PowerOnBytes : Type 0
+PowerOnBytes =
+    (image : List (ℕ × ℕ)) (ram_size address : ℕ) → address < address_count →
+    byte_at (power_on image ram_size) address ≡ power_on_byte image ram_size address

@@ -1,0 +1,31 @@
+//! What answers at an address.
+ghost use Rattle.std.specs.Prelude.{◌≡◌};
+ghost use Rattle.memory.specs.Kinds.{kind_of};
+
+/// What answers at an address.
+#[derive(Clone, Copy, Debug, PartialEq, Eq)]
+pub enum Kind {
+    /// Memory that a write changes.
+    Ram,
+    /// The text adapter's memory.
+    Text,
+    /// Memory that a write leaves as it is.
+    Rom,
+    /// Nothing: FFh is read, and a write is lost.
+    Nothing,
+}
+
+/// What answers at the physical address `addr` of a board with `ram_size` bytes of RAM.
+pub fn kind_of(ram_size: u32, addr: u32) -> Kind
+    ensures { result ≡ kind_of ram_size addr }
+{
+    if addr < ram_size {
+        Kind::Ram
+    } else if 0xB0000 <= addr && addr < 0xB1000 {
+        Kind::Text
+    } else if addr >= 0xF0000 {
+        Kind::Rom
+    } else {
+        Kind::Nothing
+    }
+}

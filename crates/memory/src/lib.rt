@@ -1,0 +1,6 @@
+//! The memory of the system board outside the text adapter: RAM from 0, the ROM at F0000h, and nothing
+//! elsewhere (IBM PC Technical Reference, "System Memory Map").
+#![tactic(auto)]
+
+pub mod kind;
+pub mod map;

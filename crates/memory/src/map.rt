@@ -1,0 +1,180 @@
+//! The memory map, and what a board's memory holds at power-on.
+ghost use Rattle.std.specs.Prelude.{◌≡◌, ◌<◌, ◌*◌, ◌^◌, IfOk, OnOk, IsTrue, ◌↔◌, length, map};
+ghost use Rattle.std.specs.List.{range_with_len};
+ghost use Rattle.std.specs.Result.{IsErrOf};
+ghost use Rattle.memory.specs.Kinds.{IsTextAddress};
+ghost use Rattle.memory.specs.Map.{address_count, byte_at, with_byte, power_on, power_on_byte, memory_fault_number, IsRamSize, FitsRam, PowerOnBytes, WriteChangesRamAlone};
+
+use crate::kind::{Kind, kind_of};
+use board_types::image::Image;
+use std::alloc::{AllocError, Global};
+use std::marker::Model;
+use thiserror::Error;
+
+/// Why a memory can't be made.
+#[derive(Clone, Copy, Debug, PartialEq, Eq, Drop, Error)]
+pub enum MemoryFault {
+    #[error("the RAM's size isn't a multiple of 16 KB from 16 to 640, or the image goes past it")]
+    RamSize,
+    #[error("out of memory")]
+    OutOfMemory,
+}
+
+impl MemoryFault {
+    /// The fault's number.
+    pub fn number(self) -> u8
+        ensures { result ≡ memory_fault_number self }
+    {
+        match self {
+            MemoryFault::RamSize => 36,
+            MemoryFault::OutOfMemory => 41,
+        }
+    }
+}
+
+/// Where loadable addresses end below the text adapter.
+const RAM_LIMIT: u32 = 0xA0000;
+
+/// The board's memory: a byte for each address outside the text adapter's.
+#[derive(Drop)]
+pub struct Memory {
+    ram_size: u32,
+    cells: Vec<u8>,
+}
+
+impl Model for Memory {
+    ghost use Rattle.std.specs.Prelude.{◌≡◌, ◌≤◌, length};
+    ghost use Rattle.memory.specs.Map.{MemoryMap};
+
+    ghost Value = { MemoryMap };
+
+    ghost view = { λ m. record { ram_size = m.ram_size; cells = m.cells.items } };
+
+    ghost invariant = { λ m. (length m.cells.items ≡ 1048576) × (m.ram_size ≤ 0xA0000) };
+}
+
+impl Memory {
+    /// The memory at power-on of a board with `ram_kb` times 1,024 bytes of RAM: RAM is 0 and the ROM FFh, but
+    /// for the image's bytes. Refused as `RamSize` where the size isn't a multiple of 16 from 16 to 640, or
+    /// the image has a byte between the RAM's end and A0000h.
+    #[tactic(auto, unfolding(crate::specs::Map::power_on))]
+    pub fn new(alloc: Global, ram_kb: u16, image: &Image) -> Result<Memory, MemoryFault>
+        ensures power_on { IfOk result (λ memory. memory ≡ power_on image.now (1024 * ram_kb)) }
+        ensures size { OnOk result (IsRamSize ram_kb) }
+        ensures fits { OnOk result (FitsRam image.now (1024 * ram_kb)) }
+        ensures refused { IsErrOf result MemoryFault.RamSize ↔ (¬ (IsRamSize ram_kb × FitsRam image.now (1024 * ram_kb))) }
+    {
+        if !is_ram_size(ram_kb) {
+            return Err(MemoryFault::RamSize);
+        }
+        let ram_size = 1024 * u32::from(ram_kb);
+        if !fits_ram(image, ram_size) {
+            return Err(MemoryFault::RamSize);
+        }
+        match power_on_cells(alloc, ram_size, image, address_count()) {
+            Ok(cells) => Ok(Memory { ram_size, cells }),
+            Err(_) => Err(MemoryFault::OutOfMemory),
+        }
+    }
+
+    /// The byte at `addr`, below 100000h and outside the text adapter's memory.
+    #[tactic(auto, unfolding(crate::specs::Map::byte_at))]
+    pub fn read(&self, addr: u32) -> u8
+        requires within { addr < 2 ^ 20 }
+        requires outside_text { ¬ (IsTextAddress addr) }
+        ensures { result ≡ byte_at self.now addr }
+    {
+        self.cells[addr as usize]
+    }
+
+    /// Writes `byte` at `addr`, below 100000h and outside the text adapter's memory. Where there is no RAM
+    /// nothing changes.
+    #[tactic(auto, unfolding(crate::specs::Map::with_byte))]
+    pub fn write(&mut self, addr: u32, byte: u8)
+        requires within { addr < 2 ^ 20 }
+        requires outside_text { ¬ (IsTextAddress addr) }
+        ensures { self.new ≡ with_byte self.old addr byte }
+    {
+        if addr < self.ram_size {
+            self.cells[addr as usize] = byte;
+        }
+    }
+
+    /// The same memory in a place of its own.
+    pub fn copy(&self) -> Result<Memory, AllocError>
+        ensures { IfOk result (λ memory. memory ≡ self.now) }
+    {
+        Ok(Memory {
+            ram_size: self.ram_size,
+            cells: self.cells.clone()?,
+        })
+    }
+}
+
+/// A write changes the byte of a RAM address and no other, and an address where nothing answers, or in the ROM,
+/// keeps its byte.
+pub fn write_changes_ram_alone()
+    ensures { WriteChangesRamAlone }
+{}
+
+/// At power-on each address has the byte of its kind.
+pub fn power_on_bytes()
+    ensures { PowerOnBytes }
+{}
+
+/// Whether a board can have `ram_kb` times 1,024 bytes of RAM.
+fn is_ram_size(ram_kb: u16) -> bool
+    ensures { IsTrue result ↔ IsRamSize ram_kb }
+{
+    16 <= ram_kb && ram_kb <= 640 && ram_kb % 16 == 0
+}
+
+/// Whether the image has no byte between the RAM's end and A0000h.
+fn fits_ram(image: &Image, ram_size: u32) -> bool
+    ensures { IsTrue result ↔ FitsRam image.now ram_size }
+{
+    for addr in ram_size..RAM_LIMIT {
+        if image.get(addr).is_some() {
+            return false;
+        }
+    }
+    true
+}
+
+/// How many addresses the 8086 has.
+#[tactic(auto, unfolding(crate::specs::Map::address_count))]
+fn address_count() -> u32
+    ensures value { result ≡ address_count }
+    ensures number { result ≡ 1048576 }
+{
+    1 << 20
+}
+
+/// The bytes at power-on of the addresses below `count`.
+fn power_on_cells(
+    alloc: Global,
+    ram_size: u32,
+    image: &Image,
+    count: u32,
+) -> Result<Vec<u8>, AllocError>
+    ensures cells { IfOk result (λ cells. cells.items ≡ map (power_on_byte image.now ram_size) (range_with_len 0 count)) }
+    ensures length { IfOk result (λ cells. length cells.items ≡ count) }
+{
+    let mut cells = Vec::with_capacity(alloc, count as usize)?;
+    for addr in 0..count {
+        cells.push(power_on_byte(image, ram_size, addr))?;
+    }
+    Ok(cells)
+}
+
+/// The byte at `addr` at power-on.
+fn power_on_byte(image: &Image, ram_size: u32, addr: u32) -> u8
+    ensures { result ≡ power_on_byte image.now ram_size addr }
+{
+    let given = image.get(addr);
+    match kind_of(ram_size, addr) {
+        Kind::Ram => given.unwrap_or(0),
+        Kind::Rom => given.unwrap_or(0xFF),
+        Kind::Text | Kind::Nothing => 0xFF,
+    }
+}
