@@ -1,0 +1,4 @@
+pub mod Find
+pub mod Row
+pub mod Text
+pub mod Silent

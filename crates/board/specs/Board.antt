@@ -1,0 +1,26 @@
+-- What a board shows: the plain board at its clock, the speaker's changes so far, and the room that is kept
+-- for further ones.
+use Rattle.std.specs.Prelude.{ℕ, ◌<◌, ◌≡◌, ◌≢◌, List, ◌++◌}
+use Rattle.board.specs.declared.board.BoardFault.{BoardFault}
+use Rattle.board.specs.declared.board.BoardFault.TheVariants.{RamSize, Memory, ClockLimit}
+use Rattle.board.specs.declared.board.SpeakerChange.{SpeakerChange}
+use Rattle.board.specs.Plain.{Plain, clocks, one_clock, changes_in, speaker_level}
+
+pub record BoardState : Type 0 where
+  pub plain : Plain
+  pub changes : List SpeakerChange
+  pub room : ℕ
+
+-- a run of n clocks that found no memory: it stands at the clock before a change that there was no room for
+pub record StoppedEarly (n : ℕ) (old new : BoardState) : Type 0 where
+  pub passed : ℕ
+  pub before_end : passed < n
+  pub plain : new.plain ≡ clocks passed old.plain
+  pub changes : new.changes ≡ old.changes ++ changes_in passed old.plain
+  pub changes_next : speaker_level (one_clock new.plain) ≢ speaker_level new.plain
+  pub full : new.room ≡ 0
+
+abbrev pub board_fault_number : BoardFault → ℕ
+board_fault_number RamSize = 36
+board_fault_number Memory = 41
+board_fault_number ClockLimit = 42

@@ -1,0 +1,10 @@
+//! The system board: processor, memory and text adapter, run clock by clock.
+#![tactic(auto)]
+
+mod adapter;
+pub mod board;
+mod decode;
+pub mod devices;
+pub mod processor;
+mod step;
+mod system;
