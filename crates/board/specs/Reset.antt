@@ -1,4 +1,5 @@
--- the registers at power-on (8086 Family User's Manual, "Processor Reset and Initialization")
+-- the registers at power-on (8086 Family User's Manual, "Processor Reset and Initialization"; that the
+-- general registers are 0 is this board's choice)
 use Rattle.std.specs.Prelude.{false}
 use Rattle.board_types.specs.declared.regs.Flags.{Flags}
 use Rattle.board_types.specs.declared.regs.Regs.{Regs}

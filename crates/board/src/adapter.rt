@@ -2,7 +2,7 @@
 ghost use Rattle.std.specs.Prelude.{◌≡◌, ◌<◌, ◌≤◌, ◌++◌, IfOk, OnOk, map};
 ghost use Rattle.std.specs.List.{range_with_len, flat_map};
 ghost use Rattle.std.specs.String.{string_bytes};
-ghost use Rattle.board.specs.Adapter.{blank_adapter, cell, column_count, glyph, row_count, screen_row, screen_text, shown, text_byte, text_size, with_mode, with_text_byte};
+ghost use Rattle.board.specs.Adapter.{blank_adapter, cell, character_of, column_count, glyph, row_count, screen_row, screen_text, text_byte, text_size, with_mode, with_text_byte};
 
 use std::alloc::{AllocError, Global};
 use std::marker::Model;
@@ -20,7 +20,7 @@ impl Model for TextAdapter {
 
     ghost Value = { TextState };
 
-    ghost view = { λ t. record { bytes = t.bytes.items; video = t.video } };
+    ghost view = { λ t. record { bytes = t.bytes.items; start = 0; video = t.video } };
 
     ghost invariant = { λ t. length t.bytes.items ≡ 4096 };
 }
@@ -113,7 +113,7 @@ impl TextAdapter {
         ensures printable { result < 127 }
     {
         let word = (80 * row + column) % 2048;
-        shown(self.video, self.read(2 * word), self.read(2 * word + 1))
+        character_of(self.video, self.read(2 * word), self.read(2 * word + 1))
     }
 }
 
@@ -143,8 +143,8 @@ fn column_count() -> u16
 }
 
 /// What a cell with this code and attribute shows.
-fn shown(video: bool, code: u8, attribute: u8) -> u8
-    ensures value { result ≡ shown video code attribute }
+fn character_of(video: bool, code: u8, attribute: u8) -> u8
+    ensures value { result ≡ character_of video code attribute }
     ensures printable { result < 127 }
 {
     if !video || attribute & 0x77 == 0 || code == 0 {

@@ -3,20 +3,19 @@ ghost use Rattle.std.specs.Prelude.{◌≡◌, ◌+◌, ◌*◌, ◌<◌, ◌≤
 ghost use Rattle.std.specs.Result.{IfErr, IsErrOf};
 ghost use Rattle.std.specs.String.{string_bytes};
 ghost use Rattle.memory.specs.Map.{IsRamSize, FitsRam};
-ghost use Rattle.board.specs.Adapter.{screen_text};
 ghost use Rattle.board.specs.Board.{StoppedEarly, board_fault_number};
-ghost use Rattle.board.specs.Devices.{byte_at};
-ghost use Rattle.board.specs.Plain.{changes_in, clocks, lost_codes, power_on};
+ghost use Rattle.board.specs.Plain.{byte_of, changes_in, clocks, lost_codes, power_on, registers_of, screen_of, state_of};
 
 use crate::adapter::TextAdapter;
 use crate::devices::Devices;
-use crate::processor::{Processor, State};
+use crate::processor::Processor;
 use crate::system::System;
 use board_types::clock::Clock;
 use board_types::image::Image;
 use board_types::keys::Keys;
 use board_types::line::Line;
-use board_types::regs::{Flags, Regs};
+use board_types::regs::Regs;
+use board_types::state::State;
 use memory::map::{Memory, MemoryFault};
 use std::alloc::Global;
 use std::marker::Model;
@@ -45,6 +44,9 @@ impl BoardFault {
         }
     }
 }
+
+/// No key codes arrive yet, so none is lost.
+const LOST_CODES: u64 = 0;
 
 /// How a board is fitted out.
 #[derive(Clone, Copy, Debug, PartialEq, Eq)]
@@ -96,8 +98,9 @@ impl Board {
         keys: Keys,
     ) -> Result<Board, BoardFault>
         requires { keys ≡ [] }
-        ensures plain { IfOk result (λ board. board.plain ≡ power_on image.now config) }
+        ensures plain { IfOk result (λ board. board.plain ≡ power_on image.now config keys) }
         ensures changes { IfOk result (λ board. board.changes ≡ []) }
+        ensures size { OnOk result (IsRamSize config.ram_kb × FitsRam image.now (1024 * config.ram_kb)) }
         ensures ram_size { IsErrOf result BoardFault.RamSize ↔ (¬ (IsRamSize config.ram_kb × FitsRam image.now (1024 * config.ram_kb))) }
         ensures no_limit { ¬ (IsErrOf result BoardFault.ClockLimit) }
     {
@@ -145,7 +148,7 @@ impl Board {
 
     /// The processor's registers.
     pub fn regs(&self) -> Regs
-        ensures { result ≡ self.now.plain.processor.registers }
+        ensures { result ≡ registers_of self.now.plain }
     {
         self.system.regs()
     }
@@ -153,23 +156,24 @@ impl Board {
     /// The byte at the physical address `addr`, below 100000h.
     pub fn byte(&self, addr: u32) -> u8
         requires { addr < 2 ^ 20 }
-        ensures { result ≡ byte_at self.now.plain.devices addr }
+        ensures { result ≡ byte_of self.now.plain addr }
     {
         self.system.byte(addr)
     }
 
     /// Whether the processor runs, is halted or is jammed.
     pub fn state(&self) -> State
-        ensures { result ≡ self.now.plain.processor.state }
+        ensures { result ≡ state_of self.now.plain }
     {
         self.system.state()
     }
 
+    #[tactic(auto, unfolding(crate::specs::Plain::lost_codes))]
     /// How many key codes were lost because the keyboard's queue was full.
     pub fn lost(&self) -> u64
         ensures { result ≡ lost_codes self.now.plain }
     {
-        0
+        LOST_CODES
     }
 
     /// The changes of the speaker's level since power-on, where it is low.
@@ -181,7 +185,7 @@ impl Board {
 
     /// The screen's 25 rows of 80 characters, each ended by a line feed.
     pub fn screen(&self) -> Result<String, BoardFault>
-        ensures ok { IfOk result (λ text. string_bytes text ≡ screen_text self.now.plain.devices.adapter) }
+        ensures ok { IfOk result (λ text. string_bytes text ≡ screen_of self.now.plain) }
         ensures err { IfErr result (λ fault. fault ≡ BoardFault.Memory) }
     {
         match self.system.screen(*self.changes.allocator()) {

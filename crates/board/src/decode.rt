@@ -3,8 +3,8 @@ ghost use Rattle.std.specs.Prelude.{◌≡◌, ◌≤◌, ◌<◌, ◌+◌, ◌^
 ghost use Rattle.isa.specs.declared.form.Form.{Form};
 ghost use Rattle.isa.specs.Encoding.{Begins, IsForm};
 ghost use Rattle.isa.specs.Registers.{byte_register_number, word_register_number};
-ghost use Rattle.board.specs.Bus.{physical, offset_after};
-ghost use Rattle.board.specs.Decoding.{code_at, instruction_at, number_at, row_at, values_at};
+ghost use Rattle.board_types.specs.Address.{physical, offset_after};
+ghost use Rattle.board.specs.Decoding.{code_at, instruction_at, number_at, row_at, values_at, DecodingIsExact};
 ghost use Rattle.board.specs.Devices.{byte_at};
 
 use crate::devices::{Devices, read8};
@@ -52,6 +52,11 @@ pub(crate) fn decode(code: &[u8; LONGEST]) -> Option<Instr>
         values: values_at(form, code),
     })
 }
+
+/// What stands at CS:IP is the one instruction whose bytes, as the encoding table gives them, stand there.
+pub fn decoding_is_exact()
+    ensures { DecodingIsExact }
+{}
 
 /// The row whose head the code begins with.
 fn row_at(code: &[u8; LONGEST]) -> Option<Form>

@@ -1,8 +1,9 @@
 //! What the processor reaches over the bus.
-ghost use Rattle.std.specs.Prelude.{◌≡◌, ◌<◌, ◌^◌, IsTrue, ◌↔◌};
-ghost use Rattle.board.specs.Devices.{after_output, byte_at, is_text_address, with_byte};
+ghost use Rattle.std.specs.Prelude.{◌≡◌, ◌<◌, ◌^◌};
+ghost use Rattle.board.specs.Devices.{after_output, byte_at, with_byte, WriteChangesOneByte};
 
 use crate::adapter::TextAdapter;
+use memory::kind::is_text_address;
 use memory::map::Memory;
 
 /// The board's memory and its text adapter.
@@ -48,8 +49,7 @@ pub(crate) fn out8(devices: &mut Devices, port: u16, byte: u8)
     }
 }
 
-fn is_text_address(addr: u32) -> bool
-    ensures { result ≡ is_text_address addr }
-{
-    0xB0000 <= addr && addr < 0xB1000
-}
+/// A write changes the byte of a RAM or text address and no other.
+pub fn write_changes_one_byte()
+    ensures { WriteChangesOneByte }
+{}

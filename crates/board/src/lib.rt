@@ -3,8 +3,10 @@
 
 mod adapter;
 pub mod board;
-mod decode;
+pub mod decode;
 pub mod devices;
 pub mod processor;
 mod step;
 mod system;
+#[cfg(test)]
+mod tests;

@@ -4,31 +4,21 @@ ghost use Rattle.board.specs.Reset.{reset};
 ghost use Rattle.board.specs.Meaning.{with_low, with_high, with_byte_register, word_register, with_word_register, with_segment_register, word_in, string_offset_after};
 
 use board_types::regs::{Flags, Regs};
+use board_types::state::State;
 use isa::form::Place;
 use isa::register::{ByteRegister, SegmentRegister, WordRegister};
 
-/// Whether the processor goes on.
-#[derive(Clone, Copy, Debug, PartialEq, Eq)]
-pub enum State {
-    Running,
-    /// After HLT.
-    Halted,
-    /// No row of the encoding table stood at CS:IP.
-    Jammed,
-}
-
-/// The processor: its registers, its state, and the clocks that its last step still takes.
+/// The processor: its registers and its state.
 #[derive(Drop)]
 pub struct Processor {
     pub registers: Regs,
     pub state: State,
-    pub busy: u16,
 }
 
 impl Processor {
     /// The processor at power-on: CS is FFFFh, all other registers and the flags are 0.
     pub(crate) fn new() -> Processor
-        ensures { result ≡ record { registers = reset; state = State.Running; busy = 0 } }
+        ensures { result ≡ record { registers = reset; state = State.Running } }
     {
         let registers = Regs {
             cs: 0xFFFF,
@@ -37,7 +27,6 @@ impl Processor {
         Processor {
             registers,
             state: State::Running,
-            busy: 0,
         }
     }
 }

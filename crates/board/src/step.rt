@@ -2,16 +2,15 @@
 ghost use Rattle.std.specs.Prelude.{◌≡◌};
 ghost use Rattle.board.specs.Bus.{with_word_at};
 ghost use Rattle.board.specs.Devices.{board_bus};
-ghost use Rattle.board.specs.Meaning.{machine, performed, stepped};
+ghost use Rattle.board.specs.Meaning.{after_form, after_instruction, after_step, ordinary, performed, stepped};
 
 use crate::decode::physical;
 use crate::devices::{Devices, out8, write8};
-use crate::processor::{
-    Processor, State, set_byte, set_segment, set_word, string_offset_after, word_in,
-};
+use crate::processor::{Processor, set_byte, set_segment, set_word, string_offset_after, word_in};
+use board_types::state::State;
 use isa::clocks::cost;
 use isa::form::{Form, Instr, Values};
-use isa::outcome::Outcome;
+use isa::outcome::{Cost, Outcome};
 
 /// What a step finds that finds nothing out of the ordinary.
 const ORDINARY: Outcome = Outcome {
@@ -22,26 +21,37 @@ const ORDINARY: Outcome = Outcome {
     fault: false,
 };
 
-/// Makes one step: `instr`, which stands at CS:IP, or a jam where none does.
-#[tactic(auto, unfolding(crate::specs::Meaning::stepped))]
-pub(crate) fn step(processor: &mut Processor, devices: &mut Devices, instr: Option<Instr>)
-    ensures { machine processor.new devices.new ≡ stepped board_bus processor.old devices.old instr }
+/// Makes one step: `instr`, which stands at CS:IP, or a jam where none does, which takes no clock.
+#[tactic(auto, unfolding(crate::specs::Meaning::after_step))]
+pub(crate) fn step(processor: &mut Processor, devices: &mut Devices, instr: Option<Instr>) -> Cost
+    ensures { stepped processor.new devices.new result.0 ≡ after_step board_bus processor.old devices.old instr }
 {
     match instr {
-        None => processor.state = State::Jammed,
+        None => {
+            processor.state = State::Jammed;
+            Cost(0)
+        }
         Some(instr) => {
-            let length = u16::from(instr.form.length());
+            let length = u16::from(instr.length());
             processor.registers.ip = processor.registers.ip.wrapping_add(length);
-            processor.busy = cost(&instr, &ORDINARY).0;
-            perform(processor, devices, instr.form, instr.values);
+            let outcome = perform(processor, devices, &instr);
+            cost(&instr, &outcome)
         }
     }
 }
 
 /// Does what an instruction does, IP being the next one's already.
-#[tactic(auto, unfolding(crate::specs::Meaning::performed))]
-fn perform(processor: &mut Processor, devices: &mut Devices, form: Form, values: Values)
-    ensures { machine processor.new devices.new ≡ performed board_bus processor.old devices.old form values }
+#[tactic(auto, unfolding(crate::specs::Meaning::after_instruction))]
+fn perform(processor: &mut Processor, devices: &mut Devices, instr: &Instr) -> Outcome
+    ensures { performed processor.new devices.new result ≡ after_instruction board_bus processor.old devices.old instr.now }
+{
+    perform_form(processor, devices, instr.form, instr.values);
+    ORDINARY
+}
+
+#[tactic(auto, unfolding(crate::specs::Meaning::after_form))]
+fn perform_form(processor: &mut Processor, devices: &mut Devices, form: Form, values: Values)
+    ensures { performed processor.new devices.new ordinary ≡ after_form board_bus processor.old devices.old form values }
 {
     let registers = &mut processor.registers;
     match form {

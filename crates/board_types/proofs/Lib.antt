@@ -1,2 +1,3 @@
 pub mod Iterate
 pub mod KeyOrder
+pub mod Images

@@ -1,3 +1,4 @@
+pub mod Address
 pub mod Iterate
 pub mod Image
 pub mod Keys

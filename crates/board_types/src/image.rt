@@ -1,8 +1,8 @@
 //! The bytes that a program brings to the board's memory.
-ghost use Rattle.std.specs.Prelude.{◌≡◌, [], OnOk, OnErr};
+ghost use Rattle.std.specs.Prelude.{◌≡◌, [], ◌↔◌, IsTrue, None, OnOk, OnErr};
 ghost use Rattle.std.specs.Ordering.{nat_cmp};
 ghost use Rattle.std.specs.BTreeMap.{insert_entry};
-ghost use Rattle.board_types.specs.Image.{IsLoadable, image_byte};
+ghost use Rattle.board_types.specs.Image.{IsImage, IsLoadable, image_byte};
 
 use std::alloc::{AllocError, Global};
 use std::collections::BTreeMap;
@@ -16,11 +16,21 @@ pub struct Image {
 
 impl Model for Image {
     ghost use Rattle.std.specs.Prelude.{List, ℕ};
+    ghost use Rattle.board_types.specs.Image.{IsImage};
 
     // the addresses that have a byte, rising, each with its byte
     ghost Value = { List (ℕ × ℕ) };
 
     ghost view = { λ a. a.bytes.entries };
+
+    ghost invariant = { λ a. IsImage a.bytes.entries };
+}
+
+/// Whether a program's bytes may go to the physical address `addr`: below A0000h, or from F0000h to FFFFFh.
+pub fn is_loadable(addr: u32) -> bool
+    ensures { IsTrue result ↔ IsLoadable addr }
+{
+    addr < 0xA0000 || 0xF0000 <= addr && addr < 0x10_0000
 }
 
 impl Image {
@@ -35,17 +45,19 @@ impl Image {
 
     /// The byte at the physical address `addr`, if the image has one there.
     pub fn get(&self, addr: u32) -> Option<u8>
-        ensures { result ≡ image_byte self.now addr }
+        ensures byte { result ≡ image_byte self.now addr }
+        ensures is_image { IsImage self.now }
     {
         self.bytes.get(&addr).copied()
     }
 
     /// Places `byte` at the loadable address `addr`, in place of a byte that was there. Fails only where the
-    /// image can't grow, and then stays as it was.
+    /// image can't grow, and then stays as it was; where it has a byte at `addr` already it doesn't grow.
     pub fn put(&mut self, addr: u32, byte: u8) -> Result<(), AllocError>
         requires { IsLoadable addr }
         ensures ok { OnOk result (self.new ≡ insert_entry nat_cmp self.old addr byte) }
         ensures err { OnErr result (self.new ≡ self.old) }
+        ensures grows { OnErr result (image_byte self.old addr ≡ None) }
     {
         self.bytes.insert(addr, byte)?;
         Ok(())

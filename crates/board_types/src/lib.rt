@@ -7,3 +7,6 @@ pub mod image;
 pub mod keys;
 pub mod line;
 pub mod regs;
+pub mod state;
+#[cfg(test)]
+mod tests;

@@ -6,8 +6,8 @@ ghost use Rattle.isa.specs.Encoding.{addressing, encoding, field_bytes, form_len
 use crate::form::{Field, Form, Place, Values};
 use arrayvec::ArrayVec;
 
-/// The bytes of the instruction with this form and these numbers in its fields, at most 14 with prefixes.
-/// A byte field takes a number modulo 256, and a field that the form lacks none.
+/// The bytes of the instruction with this form and these numbers in its fields. A byte field takes a number
+/// modulo 256, and a field that the form lacks none.
 #[tactic(auto, unfolding(crate::specs::Encoding::encoding))]
 pub fn encode(form: &Form, values: Values) -> ArrayVec<u8, 14>
     ensures bytes { result.items ≡ encoding form.now values }

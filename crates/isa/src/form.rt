@@ -1,6 +1,6 @@
 //! The forms of instructions: what one is, apart from the numbers in its fields.
 ghost use Rattle.std.specs.Prelude.{◌≡◌, ◌≤◌, length};
-ghost use Rattle.isa.specs.Encoding.{field_size, form_length, head, immediate_field, segment_field};
+ghost use Rattle.isa.specs.Encoding.{field_size, form_length, head, immediate_field, instruction_length, segment_field};
 
 use crate::register::{ByteRegister, SegmentRegister, WordRegister};
 
@@ -118,4 +118,14 @@ pub struct Values {
 pub struct Instr {
     pub form: Form,
     pub values: Values,
+}
+
+impl Instr {
+    /// How many bytes the instruction has.
+    pub fn length(self) -> u8
+        ensures value { result ≡ instruction_length self }
+        ensures bound { result ≤ 6 }
+    {
+        self.form.length()
+    }
 }

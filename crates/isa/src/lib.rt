@@ -8,3 +8,5 @@ pub mod encoding;
 pub mod form;
 pub mod outcome;
 pub mod register;
+#[cfg(test)]
+mod tests;

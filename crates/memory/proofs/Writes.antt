@@ -2,14 +2,18 @@
 use Rattle.std.proofs.Common.{arith}
 use Rattle.std.proofs.lemmas.Grind.{common_steps}
 use Rattle.std.proofs.lemmas.List.FromFn.{get_or-map-range_with_len}
-use Rattle.memory.specs.Map.{address_count, byte_at, with_byte, power_on, power_on_byte, PowerOnBytes, WriteChangesRamAlone}
+use Rattle.memory.specs.Map.{address_count, byte_at, is_writable, with_byte, power_on, power_on_byte, PowerOnBytes, RamIsWritable, WriteChangesRamAlone}
 
 pub write_changes : WriteChangesRamAlone
-unfolding byte_at with_byte
-write_changes memory address byte within =
-    (λ ram. grind (arith, common_steps), λ past. grind (arith, common_steps), λ other ne. grind (arith, common_steps), grind (arith, common_steps))
+unfolding byte_at with_byte is_writable
+write_changes memory address byte =
+    (λ writable. grind (arith, common_steps), λ kept. grind (arith, common_steps), λ other ne. grind (arith, common_steps), grind (arith, common_steps))
+
+pub ram_written : RamIsWritable
+unfolding is_writable
+ram_written memory address whole ram = grind (arith, common_steps, whole.bytes, whole.ram)
 
 pub on_at_power_on : PowerOnBytes
 unfolding byte_at power_on
 on_at_power_on image ram_size address within =
-    get_or-map-range_with_len (power_on_byte image ram_size) 0 address_count address address 0 within (omega arith)
+    rw (get_or-map-range_with_len (power_on_byte image ram_size) 0 address_count address address 0 within (omega arith)) (grind (arith, common_steps))

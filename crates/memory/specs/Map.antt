@@ -1,6 +1,6 @@
 -- The memory map: one byte for each of 1,048,576 addresses. What stands at the text adapter's addresses is
 -- its own, and not said here.
-use Rattle.std.specs.Prelude.{ℕ, ◌≡◌, ◌≢◌, ◌%◌, ◌<◌, ◌≤◌, if◌then◌else◌, nat_lt, List, map, length, slice_index, slice_set, unwrap_or, Option, IsSome}
+use Rattle.std.specs.Prelude.{ℕ, ◌≡◌, ◌≢◌, ◌+◌, ◌*◌, ◌%◌, ◌<◌, ◌≤◌, ◌&&◌, Bool, true, false, if◌then◌else◌, nat_lt, List, map, length, slice_index, slice_set, unwrap_or, Option, IsSome}
 use Rattle.std.specs.List.{range_with_len}
 use Rattle.board_types.specs.Image.{image_byte}
 use Rattle.memory.specs.declared.kind.Kind.{Kind}
@@ -17,18 +17,40 @@ pub record MemoryMap : Type 0 where
   pub ram_size : ℕ
   pub cells : List ℕ
 
+-- FFh is read where nothing answers
+abbrev pub byte_answered : Kind → ℕ → ℕ
+byte_answered Ram cell = cell
+byte_answered Text cell = cell
+byte_answered Rom cell = cell
+byte_answered Nothing cell = 0xFF
+
 unfoldable pub byte_at : MemoryMap → ℕ → ℕ
-byte_at memory address = slice_index memory.cells address
+byte_at memory address = byte_answered (kind_of memory.ram_size address) (slice_index memory.cells address)
+
+-- RAM alone can be written
+abbrev pub is_ram : Kind → Bool
+is_ram Ram = true
+is_ram Text = false
+is_ram Rom = false
+is_ram Nothing = false
+
+unfoldable pub is_writable : MemoryMap → ℕ → Bool
+is_writable memory address = is_ram (kind_of memory.ram_size address) && nat_lt address (length memory.cells)
 
 -- a write changes a byte of RAM, and no other
 unfoldable pub with_byte : MemoryMap → ℕ → ℕ → MemoryMap
 with_byte memory address byte =
-    if nat_lt address memory.ram_size then record memory { cells = slice_set memory.cells address byte } else memory
+    if is_writable memory address then record memory { cells = slice_set memory.cells address byte } else memory
+
+-- the map is whole: a byte for each address, and no RAM from A0000h on
+pub record IsMap (memory : MemoryMap) : Type 0 where
+  pub bytes : length memory.cells ≡ 1048576
+  pub ram : memory.ram_size ≤ 0xA0000
 
 -- RAM is 0 and the ROM FFh, but for the image's bytes
 abbrev pub byte_of_kind : Kind → Option ℕ → ℕ
 byte_of_kind Ram given = unwrap_or given 0
-byte_of_kind Text given = 0xFF
+byte_of_kind Text given = 0
 byte_of_kind Rom given = unwrap_or given 0xFF
 byte_of_kind Nothing given = 0xFF
 
@@ -55,14 +77,18 @@ abbrev pub memory_fault_number : MemoryFault → ℕ
 memory_fault_number RamSize = 36
 memory_fault_number OutOfMemory = 41
 
--- a byte reads back where there is RAM, and a write leaves every other byte as it is
+-- a byte reads back where there is RAM, elsewhere nothing changes, and a write leaves every other byte as it is
 abbrev pub WriteChangesRamAlone : Type 0
 WriteChangesRamAlone =
-    (memory : MemoryMap) (address byte : ℕ) → (address < length memory.cells) →
-    (address < memory.ram_size → byte_at (with_byte memory address byte) address ≡ byte)
-    × (memory.ram_size ≤ address → with_byte memory address byte ≡ memory)
+    (memory : MemoryMap) (address byte : ℕ) →
+    (is_writable memory address ≡ true → byte_at (with_byte memory address byte) address ≡ byte)
+    × (is_writable memory address ≡ false → with_byte memory address byte ≡ memory)
     × ((other : ℕ) → other ≢ address → byte_at (with_byte memory address byte) other ≡ byte_at memory other)
     × ((with_byte memory address byte).ram_size ≡ memory.ram_size)
+
+-- of a whole map all RAM can be written
+abbrev pub RamIsWritable : Type 0
+RamIsWritable = (memory : MemoryMap) (address : ℕ) → IsMap memory → address < memory.ram_size → is_writable memory address ≡ true
 
 -- at power-on each address has the byte of its kind
 abbrev pub PowerOnBytes : Type 0

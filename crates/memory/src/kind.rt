@@ -1,6 +1,6 @@
 //! What answers at an address.
 ghost use Rattle.std.specs.Prelude.{◌≡◌};
-ghost use Rattle.memory.specs.Kinds.{kind_of};
+ghost use Rattle.memory.specs.Kinds.{is_text_address, kind_of};
 
 /// What answers at an address.
 #[derive(Clone, Copy, Debug, PartialEq, Eq)]
@@ -15,13 +15,20 @@ pub enum Kind {
     Nothing,
 }
 
+/// Whether the physical address `addr` is one of the text adapter's 4,096.
+pub fn is_text_address(addr: u32) -> bool
+    ensures { result ≡ is_text_address addr }
+{
+    0xB0000 <= addr && addr < 0xB1000
+}
+
 /// What answers at the physical address `addr` of a board with `ram_size` bytes of RAM.
 pub fn kind_of(ram_size: u32, addr: u32) -> Kind
     ensures { result ≡ kind_of ram_size addr }
 {
     if addr < ram_size {
         Kind::Ram
-    } else if 0xB0000 <= addr && addr < 0xB1000 {
+    } else if is_text_address(addr) {
         Kind::Text
     } else if addr >= 0xF0000 {
         Kind::Rom

@@ -4,3 +4,5 @@
 
 pub mod kind;
 pub mod map;
+#[cfg(test)]
+mod tests;

@@ -3,7 +3,7 @@ ghost use Rattle.std.specs.Prelude.{◌≡◌, ◌<◌, ◌*◌, ◌^◌, IfOk, 
 ghost use Rattle.std.specs.List.{range_with_len};
 ghost use Rattle.std.specs.Result.{IsErrOf};
 ghost use Rattle.memory.specs.Kinds.{IsTextAddress};
-ghost use Rattle.memory.specs.Map.{address_count, byte_at, with_byte, power_on, power_on_byte, memory_fault_number, IsRamSize, FitsRam, PowerOnBytes, WriteChangesRamAlone};
+ghost use Rattle.memory.specs.Map.{address_count, byte_at, with_byte, power_on, power_on_byte, memory_fault_number, IsRamSize, FitsRam, IsMap, PowerOnBytes, RamIsWritable, WriteChangesRamAlone};
 
 use crate::kind::{Kind, kind_of};
 use board_types::image::Image;
@@ -43,14 +43,13 @@ pub struct Memory {
 }
 
 impl Model for Memory {
-    ghost use Rattle.std.specs.Prelude.{◌≡◌, ◌≤◌, length};
-    ghost use Rattle.memory.specs.Map.{MemoryMap};
+    ghost use Rattle.memory.specs.Map.{IsMap, MemoryMap};
 
     ghost Value = { MemoryMap };
 
     ghost view = { λ m. record { ram_size = m.ram_size; cells = m.cells.items } };
 
-    ghost invariant = { λ m. (length m.cells.items ≡ 1048576) × (m.ram_size ≤ 0xA0000) };
+    ghost invariant = { λ m. IsMap (record { ram_size = m.ram_size; cells = m.cells.items }) };
 }
 
 impl Memory {
@@ -82,14 +81,19 @@ impl Memory {
     pub fn read(&self, addr: u32) -> u8
         requires within { addr < 2 ^ 20 }
         requires outside_text { ¬ (IsTextAddress addr) }
-        ensures { result ≡ byte_at self.now addr }
+        ensures byte { result ≡ byte_at self.now addr }
+        ensures map { IsMap self.now }
     {
-        self.cells[addr as usize]
+        let index = addr as usize;
+        match kind_of(self.ram_size, addr) {
+            Kind::Ram | Kind::Text | Kind::Rom => self.cells[index],
+            Kind::Nothing => 0xFF,
+        }
     }
 
     /// Writes `byte` at `addr`, below 100000h and outside the text adapter's memory. Where there is no RAM
     /// nothing changes.
-    #[tactic(auto, unfolding(crate::specs::Map::with_byte))]
+    #[tactic(auto, unfolding(crate::specs::Map::with_byte, crate::specs::Map::is_writable))]
     pub fn write(&mut self, addr: u32, byte: u8)
         requires within { addr < 2 ^ 20 }
         requires outside_text { ¬ (IsTextAddress addr) }
@@ -115,6 +119,11 @@ impl Memory {
 /// keeps its byte.
 pub fn write_changes_ram_alone()
     ensures { WriteChangesRamAlone }
+{}
+
+/// All RAM can be written.
+pub fn ram_is_writable()
+    ensures { RamIsWritable }
 {}
 
 /// At power-on each address has the byte of its kind.
@@ -174,7 +183,8 @@ fn power_on_byte(image: &Image, ram_size: u32, addr: u32) -> u8
     let given = image.get(addr);
     match kind_of(ram_size, addr) {
         Kind::Ram => given.unwrap_or(0),
+        Kind::Text => 0,
         Kind::Rom => given.unwrap_or(0xFF),
-        Kind::Text | Kind::Nothing => 0xFF,
+        Kind::Nothing => 0xFF,
     }
 }

@@ -1,0 +1,10 @@
+-- Addresses of the 8086 (8086 Family User's Manual, "Physical Address Generation").
+use Rattle.std.specs.Prelude.{ℕ, ◌+◌, ◌*◌, ◌%◌, ◌^◌}
+
+-- the address of an offset in a segment
+abbrev pub physical : ℕ → ℕ → ℕ
+physical segment offset = (16 * segment + offset) % 2 ^ 20
+
+-- an offset so far on, which wraps at 65,536
+abbrev pub offset_after : ℕ → ℕ → ℕ
+offset_after offset more = (offset + more) % 65536
