@@ -31,7 +31,7 @@ after_arrival s code =
 abbrev pub cleared : KeyboardState → KeyboardState
 cleared s = record s { latch = None }
 
--- whether the keyboard settles by a code that moves: line 6 of port B lets it send, and the latch is empty
+-- whether a code may move: line 6 of port B lets the keyboard send, and the latch is empty
 abbrev pub sends : KeyboardState → ℕ → Bool
 sends s port_b = bit_at port_b 6 == 1 && is_none s.latch
 

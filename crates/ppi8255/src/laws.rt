@@ -1,5 +1,5 @@
 //! What holds of every parallel port and every access, over the definitions alone.
-ghost use Rattle.std.specs.Prelude.{◌≡◌, ◌<◌, ◌^◌, ℕ, List};
+ghost use Rattle.std.specs.Prelude.{◌≡◌, ℕ, List};
 ghost use Rattle.std.specs.Int.{bit_at};
 ghost use Rattle.ppi8255.specs.declared.ppi.Inputs.{Inputs};
 ghost use Rattle.ppi8255.specs.Ppi.{PpiState};

@@ -1,6 +1,6 @@
 //! The parallel port: three ports with an output latch each, and the switches, the keyboard's latch and
 //! counter 2's output on their pins (Intel 8255A data sheet; IBM PC Technical Reference, "System Board I/O").
-ghost use Rattle.std.specs.Prelude.{◌≡◌, ◌<◌, ◌≤◌, ◌==◌, IsTrue, ◌↔◌};
+ghost use Rattle.std.specs.Prelude.{◌≡◌, ◌<◌, ◌==◌};
 ghost use Rattle.std.specs.Int.{bit_at};
 ghost use Rattle.ppi8255.specs.Ppi.{power_on, shown, lines_b, pins_a, pins_c, shown_c, read_of, direction_of, after_mode_word, after_bit_word, after_write};
 
@@ -42,9 +42,29 @@ impl Model for Ppi {
 
     ghost Value = { PpiState };
 
-    ghost view = { λ p. record { sw1 = p.sw1; sw2 = p.sw2; a = p.a; b = p.b; c_upper = p.c_upper; c_lower = p.c_lower; a_latch = p.a_latch; b_latch = p.b_latch; c_latch = p.c_latch } };
+    ghost view = { λ p. record {
+      sw1 = p.sw1;
+      sw2 = p.sw2;
+      a = p.a;
+      b = p.b;
+      c_upper = p.c_upper;
+      c_lower = p.c_lower;
+      a_latch = p.a_latch;
+      b_latch = p.b_latch;
+      c_latch = p.c_latch;
+    } };
 
-    ghost inverse = { λ s. record { sw1 = s.sw1; sw2 = s.sw2; a = s.a; b = s.b; c_upper = s.c_upper; c_lower = s.c_lower; a_latch = s.a_latch; b_latch = s.b_latch; c_latch = s.c_latch } };
+    ghost inverse = { λ s. record {
+      sw1 = s.sw1;
+      sw2 = s.sw2;
+      a = s.a;
+      b = s.b;
+      c_upper = s.c_upper;
+      c_lower = s.c_lower;
+      a_latch = s.a_latch;
+      b_latch = s.b_latch;
+      c_latch = s.c_latch;
+    } };
 }
 
 impl Ppi {
