@@ -1,0 +1,205 @@
+//! The keyboard and its latch (IBM PC Technical Reference, "Keyboard"; "System Board I/O", ports 60h and 61h).
+ghost use Rattle.std.specs.Prelude.{◌≡◌, ◌<◌, ◌==◌, IfOk};
+ghost use Rattle.std.specs.Int.{bit_at};
+ghost use Rattle.keyboard.specs.Keyboard.{power_on, after_arrival, after_settling};
+
+use circular_buffer::HeapCircularBuffer;
+use std::alloc::{AllocError, Global};
+use std::marker::Model;
+
+/// How many codes can wait.
+pub const QUEUE_LENGTH: usize = 16;
+
+/// Codes that wait, the latch that holds the code for the processor, and the number of lost codes.
+#[derive(Drop)]
+pub struct Keyboard {
+    waiting: HeapCircularBuffer<u8>,
+    latch: Option<u8>,
+    lost: u64,
+}
+
+impl Model for Keyboard {
+    ghost use Rattle.std.specs.Prelude.{◌≡◌};
+    ghost use Rattle.keyboard.specs.Keyboard.{KeyboardState};
+
+    ghost Value = { KeyboardState };
+
+    ghost view = { λ k. record { waiting = k.waiting.items; latch = k.latch; lost = k.lost } };
+
+    ghost invariant = { λ k. k.waiting.capacity ≡ 16 };
+}
+
+impl Keyboard {
+    /// A keyboard with no code waiting, an empty latch and no code lost. Fails only where there is no memory for
+    /// the queue.
+    pub fn new(alloc: Global) -> Result<Keyboard, AllocError>
+        ensures { IfOk result (λ keyboard. keyboard ≡ power_on) }
+    {
+        Ok(Keyboard {
+            waiting: HeapCircularBuffer::with_capacity(alloc, QUEUE_LENGTH)?,
+            latch: None,
+            lost: 0,
+        })
+    }
+
+    /// The same keyboard, in memory of its own. Fails only where there is none.
+    #[tactic(auto, using(crate::proofs::Copied::parts_kept))]
+    pub fn copy(&self) -> Result<Keyboard, AllocError>
+        ensures { IfOk result (λ keyboard. keyboard ≡ self.now) }
+    {
+        let mut waiting = HeapCircularBuffer::with_capacity(
+            *self.waiting.allocator(),
+            QUEUE_LENGTH,
+        )?;
+        // both parts fit: no more than QUEUE_LENGTH codes wait
+        let _count = self.waiting.len();
+        let (first, rest) = self.waiting.as_slices();
+        waiting.extend_from_slice(first);
+        waiting.extend_from_slice(rest);
+        Ok(Keyboard {
+            waiting,
+            latch: self.latch,
+            lost: self.lost,
+        })
+    }
+
+    /// The scan code `code` comes from the keyboard: it waits behind the others, or, where `QUEUE_LENGTH` codes
+    /// wait, is lost and counted.
+    #[tactic(auto, unfolding(crate::specs::Keyboard::after_arrival))]
+    pub fn arrive(&mut self, code: u8)
+        ensures { self.new ≡ after_arrival self.old code }
+    {
+        if self.waiting.try_push_back(code).is_err() {
+            self.lost = self.lost.saturating_add(1);
+        }
+    }
+
+    /// Follows the levels of port B's eight lines: line 7 empties the latch; with it low and line 6 high, the
+    /// first waiting code moves into an empty latch.
+    #[tactic(auto, unfolding(crate::specs::Keyboard::after_settling))]
+    pub fn settle(&mut self, port_b: u8)
+        ensures { self.new ≡ after_settling self.old port_b }
+    {
+        if bit(port_b, 7) {
+            self.latch = None;
+        } else if bit(port_b, 6) && self.latch.is_none() {
+            self.latch = self.waiting.pop_front();
+        }
+    }
+
+    /// The code in the latch, `None` where it is empty.
+    pub fn latch(&self) -> Option<u8>
+        ensures { result ≡ self.now.latch }
+    {
+        self.latch
+    }
+
+    /// How many codes were lost, up to the greatest `u64`.
+    pub fn lost(&self) -> u64
+        ensures { result ≡ self.now.lost }
+    {
+        self.lost
+    }
+}
+
+fn bit(byte: u8, k: u8) -> bool
+    requires { k < 8 }
+    ensures { result ≡ (bit_at byte k == 1) }
+{
+    byte >> k & 1 == 1
+}
+
+#[cfg(test)]
+mod tests {
+    use super::*;
+    use std::test::Fail;
+
+    #[test]
+    fn sixteen_codes_wait_and_come_in_order(rt: HostRuntime) -> Result<(), Fail> {
+        let mut keyboard = Keyboard::new(rt.alloc())?;
+        keyboard.settle(0xC0);
+        for code in 0x01..0x12 {
+            keyboard.arrive(code);
+        }
+        assert_eq!(rt; keyboard.lost(), 1);
+        for code in 0x01..0x11 {
+            keyboard.settle(0x40);
+            assert_eq!(rt; keyboard.latch(), Some(code), "the latch at {code}");
+            keyboard.settle(0xC0);
+            assert_eq!(rt; keyboard.latch(), None, "the latch after {code}");
+        }
+        keyboard.settle(0x40);
+        assert_eq!(rt; keyboard.latch(), None);
+        assert_eq!(rt; keyboard.lost(), 1);
+        Ok(())
+    }
+
+    #[test]
+    fn lines_6_and_7_move_and_clear(rt: HostRuntime) -> Result<(), Fail> {
+        let mut keyboard = Keyboard::new(rt.alloc())?;
+        for code in [0x1E, 0x9E, 0x30, 0xB0] {
+            keyboard.arrive(code);
+        }
+        // the lines of port B, and the latch that follows
+        for (port_b, latch) in [
+            (0x00, None),
+            (0xBF, None),
+            (0x3F, None),
+            (0x40, Some(0x1E)),
+            (0x40, Some(0x1E)),
+            (0x7F, Some(0x1E)),
+            (0x00, Some(0x1E)),
+            (0xC0, None),
+            (0xC0, None),
+            (0x7F, Some(0x9E)),
+            (0x80, None),
+            (0x4C, Some(0x30)),
+            (0xFF, None),
+            (0x48, Some(0xB0)),
+            (0xC8, None),
+            (0x48, None),
+        ] {
+            keyboard.settle(port_b);
+            assert_eq!(rt; keyboard.latch(), latch, "after {port_b}");
+        }
+        assert_eq!(rt; keyboard.lost(), 0);
+        Ok(())
+    }
+
+    #[test]
+    fn copies_hold_the_same_codes(rt: HostRuntime) -> Result<(), Fail> {
+        let mut keyboard = Keyboard::new(rt.alloc())?;
+        for code in 0x01..0x15 {
+            keyboard.arrive(code);
+        }
+        // the queue goes round the end of its memory: 05h to 10h, then 41h to 44h
+        for _ in 0..4 {
+            keyboard.settle(0x40);
+            keyboard.settle(0xC0);
+        }
+        for code in 0x41..0x46 {
+            keyboard.arrive(code);
+        }
+        keyboard.settle(0x40);
+        let mut copy = keyboard.copy()?;
+        for code in 0x46..0x49 {
+            copy.arrive(code);
+        }
+        assert_eq!(rt; keyboard.lost(), 5);
+        assert_eq!(rt; copy.lost(), 7);
+        for code in [
+            0x05, 0x06, 0x07, 0x08, 0x09, 0x0A, 0x0B, 0x0C, 0x0D, 0x0E, 0x0F, 0x10, 0x41, 0x42,
+            0x43, 0x44,
+        ] {
+            assert_eq!(rt; keyboard.latch(), Some(code));
+            assert_eq!(rt; copy.latch(), Some(code), "in the copy");
+            keyboard.settle(0xC0);
+            keyboard.settle(0x40);
+            copy.settle(0xC0);
+            copy.settle(0x40);
+        }
+        assert_eq!(rt; keyboard.latch(), None);
+        assert_eq!(rt; copy.latch(), Some(0x46));
+        Ok(())
+    }
+}

@@ -1,0 +1,16 @@
+//! What holds of every run of arrivals and settlings, over the definitions alone.
+ghost use Rattle.std.specs.Prelude.{List, ℕ};
+ghost use Rattle.keyboard.specs.Keyboard.{KeyboardState};
+ghost use Rattle.keyboard.specs.Runs.{Event, AccountsForCodes, SettlesOnce};
+
+/// First in, first out: from any keyboard, over any run, the codes taken from the latch, the one in it and those
+/// that wait are, in this order, the codes held at first and those that arrived and found room. Each code that
+/// arrived either found room or was lost, and the lost ones are counted.
+pub fn accounts_for_codes()
+    ensures { (s : KeyboardState) (es : List Event) → AccountsForCodes s es }
+{}
+
+/// A keyboard that has settled to the lines of port B stays as it is while they stay and no code arrives.
+pub fn settles_once()
+    ensures { (s : KeyboardState) (port_b : ℕ) → SettlesOnce s port_b }
+{}

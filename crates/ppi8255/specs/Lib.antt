@@ -1,0 +1,2 @@
+pub mod Ppi
+pub mod Laws

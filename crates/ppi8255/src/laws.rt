@@ -1,0 +1,27 @@
+//! What holds of every parallel port and every access, over the definitions alone.
+ghost use Rattle.std.specs.Prelude.{◌≡◌, ℕ, List};
+ghost use Rattle.std.specs.Int.{bit_at};
+ghost use Rattle.ppi8255.specs.declared.ppi.Inputs.{Inputs};
+ghost use Rattle.ppi8255.specs.Ppi.{PpiState};
+ghost use Rattle.ppi8255.specs.Laws.{ReadsBack, BeginsAnew, SetsOneBit, DiffersUnseen, LooksAlike};
+
+/// An output port reads what was last written to it.
+pub fn reads_back()
+    ensures { (s : PpiState) (byte : ℕ) (inputs : Inputs) → ReadsBack s byte inputs }
+{}
+
+/// After a mode word the port is as if nothing but that word had been written since reset.
+pub fn begins_anew()
+    ensures { (s : PpiState) (word : ℕ) → BeginsAnew s word }
+{}
+
+/// The bit set/reset word changes the bit of port C that it names, and nothing else.
+pub fn sets_one_bit()
+    ensures { (s : PpiState) (word : ℕ) → bit_at word 7 ≡ 0 → SetsOneBit s word }
+{}
+
+/// What the latch of an input holds is never seen: ports that differ in nothing else give the same reads, and the
+/// same levels of port B, now and after any writes.
+pub fn hides_latches_of_inputs()
+    ensures { (s t : PpiState) (writes : List (ℕ × ℕ)) → DiffersUnseen s t → LooksAlike s t writes }
+{}
