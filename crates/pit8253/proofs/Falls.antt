@@ -24,7 +24,7 @@ falling step left size start falls zero within =
 falling step left size start falls (suc n) within =
     let same : suc n ≡ n + 1 = omega arith in
     let before : iterate step (suc n) start ≡ left (size - (n + 1)) =
-        ap (λ k. iterate step k start) same ∙ falling step left size start falls n (omega arith) in
+    ap (λ k. iterate step k start) same ∙ falling step left size start falls n (omega arith) in
     let one_less : size - (n + 1) - 1 ≡ size - (suc n + 1) = omega arith in
     iterate_more step (suc n) start ∙ ap step before ∙ falls.next (size - (n + 1)) (omega arith) ∙ ap left one_less
 

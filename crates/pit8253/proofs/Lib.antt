@@ -1,2 +1,5 @@
 pub mod Falls
+pub mod Latches
 pub mod PitTicks
+pub mod Ticking
+pub mod Waves

@@ -1,11 +1,12 @@
 -- What the definition of a counter means over time, in the data sheet's terms: the level of OUT any number of
 -- ticks after a load ("Mode Definition" and its timing diagrams), and what a latch shows.
-use Rattle.std.specs.Prelude.{◌≡◌, ◌≢◌, ℕ, ◌+◌, ◌-◌, ◌/◌, ◌%◌, ◌<◌, ◌==◌, nat_lt, if◌then◌else◌, ◌⊎◌, Option, None}
+use Rattle.std.specs.Prelude.{◌≡◌, ◌≢◌, ℕ, ◌+◌, ◌*◌, ◌/◌, ◌%◌, ◌<◌, ◌==◌, false, nat_lt, if◌then◌else◌, ◌⊎◌, Option, None}
 use Rattle.board_types.specs.declared.line.Line.TheVariants.{Low, High}
 use Rattle.pit8253.specs.declared.program.Mode.TheVariants.{TerminalCount, OneShot, RateGenerator, SquareWave, SoftwareStrobe, HardwareStrobe}
-use Rattle.pit8253.specs.declared.program.Access.TheVariants.{LowByte, HighByte, LowThenHigh}
+use Rattle.pit8253.specs.declared.program.Access.TheVariants.{LowThenHigh}
 use Rattle.pit8253.specs.declared.program.Base.{Base}
-use Rattle.pit8253.specs.Program.{modulus, digits_of}
+use Rattle.pit8253.specs.declared.program.Base.TheVariants.{Decimal}
+use Rattle.pit8253.specs.Program.{modulus, count_of, digits_of}
 use Rattle.pit8253.specs.Counter.{CounterState, loaded, after_ticks, latched, read_byte, after_read}
 
 -- how many ticks a count stands for: 0 is the largest count, 65,536 or 10,000
@@ -62,3 +63,26 @@ abbrev pub StrobesOnTrigger : Type 0
 StrobesOnTrigger =
     (c : CounterState) → c.mode ≡ HardwareStrobe → c.newest < modulus c.base → (n : ℕ)
     → (after_ticks n (loaded High c)).out ≡ (if n == size c then Low else High)
+
+-- a read after a latch and any ticks gives the byte that a read at the latch would have given
+abbrev pub LatchHolds : Type 0
+LatchHolds = (c : CounterState) (k : ℕ) → read_byte (after_ticks k (latched c)) ≡ read_byte c
+
+-- two bytes of one latch, read low then high with any ticks between, are those of one count; then the latch ends
+abbrev pub LatchHoldsBoth : Type 0
+LatchHoldsBoth =
+    (c : CounterState) → c.access ≡ LowThenHigh → c.high_next ≡ false → c.latch ≡ None → (k m : ℕ)
+    → (read_byte (after_ticks k (latched c)) ≡ digits_of c.count_base c.count % 256)
+    × (read_byte (after_ticks m (after_read (after_ticks k (latched c)))) ≡ digits_of c.count_base c.count / 256)
+    × ((after_read (after_ticks m (after_read (after_ticks k (latched c))))).latch ≡ None)
+
+-- a second latch before the first is read changes nothing
+abbrev pub LatchIsHeld : Type 0
+LatchIsHeld = (c : CounterState) (k : ℕ) → latched (after_ticks k (latched c)) ≡ after_ticks k (latched c)
+
+-- four decimal digits count by their weights, and are shown as they were written
+abbrev pub CountsInDecimal : Type 0
+CountsInDecimal =
+    (a b c d : ℕ) → a < 10 → b < 10 → c < 10 → d < 10
+    → (count_of Decimal (4096 * a + 256 * b + 16 * c + d) ≡ 1000 * a + 100 * b + 10 * c + d)
+    × (digits_of Decimal (1000 * a + 100 * b + 10 * c + d) ≡ 4096 * a + 256 * b + 16 * c + d)

@@ -3,6 +3,7 @@
 #![tactic(auto)]
 
 pub mod counter;
+pub mod laws;
 pub mod pit;
 pub mod program;
 #[cfg(test)]
