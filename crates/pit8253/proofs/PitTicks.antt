@@ -5,9 +5,6 @@ use Rattle.board_types.proofs.Iterate.{iterate_zero, iterate_more}
 use Rattle.pit8253.specs.Counter.{CounterState, tick, after_ticks}
 use Rattle.pit8253.specs.Pit.{PitState, pit_tick, after_pit_ticks}
 
-side_by_side : ℕ → PitState → PitState
-side_by_side n p = record { counter_0 = after_ticks n p.counter_0; counter_1 = after_ticks n p.counter_1; counter_2 = after_ticks n p.counter_2 }
-
 pub each_counter : (n : ℕ) (p : PitState) → after_pit_ticks n p ≡ record { counter_0 = after_ticks n p.counter_0; counter_1 = after_ticks n p.counter_1; counter_2 = after_ticks n p.counter_2 }
 unfolding pit_tick iterate
 each_counter zero p = refl

@@ -5,9 +5,10 @@ use Rattle.board_types.specs.declared.line.Line.TheVariants.{Low, High}
 use Rattle.pit8253.specs.declared.program.Mode.TheVariants.{TerminalCount, OneShot, RateGenerator, SquareWave, SoftwareStrobe, HardwareStrobe}
 use Rattle.pit8253.specs.declared.program.Access.TheVariants.{LowThenHigh}
 use Rattle.pit8253.specs.declared.program.Base.{Base}
-use Rattle.pit8253.specs.declared.program.Base.TheVariants.{Decimal}
+use Rattle.pit8253.specs.declared.program.Base.TheVariants.{Binary, Decimal}
 use Rattle.pit8253.specs.Program.{modulus, count_of, digits_of}
-use Rattle.pit8253.specs.Counter.{CounterState, loaded, after_ticks, latched, read_byte, after_read}
+use Rattle.pit8253.specs.Counter.{CounterState, is_loaded, loaded, after_ticks, shown, latched, controlled, written, read_byte, after_read}
+use Rattle.pit8253.specs.Pit.{PitState, after_pit_ticks}
 
 -- how many ticks a count stands for: 0 is the largest count, 65,536 or 10,000
 abbrev pub length_of : Base → ℕ → ℕ
@@ -86,3 +87,40 @@ CountsInDecimal =
     (a b c d : ℕ) → a < 10 → b < 10 → c < 10 → d < 10
     → (count_of Decimal (4096 * a + 256 * b + 16 * c + d) ≡ 1000 * a + 100 * b + 10 * c + d)
     × (digits_of Decimal (1000 * a + 100 * b + 10 * c + d) ≡ 4096 * a + 256 * b + 16 * c + d)
+
+-- the low gate stops counting in modes 0, 2 and 3: with no load due, ticks change nothing
+abbrev pub GateStops : Type 0
+GateStops =
+    (c : CounterState) → c.load_due ≡ false → c.gate ≡ Low
+    → (c.mode ≡ TerminalCount) ⊎ ((c.mode ≡ RateGenerator) ⊎ (c.mode ≡ SquareWave)) → (n : ℕ) → after_ticks n c ≡ c
+
+-- nothing counts before the first load: with none due, the count is shown as it was, whatever ticks follow
+abbrev pub WaitsForLoad : Type 0
+WaitsForLoad =
+    (c : CounterState) → c.load_due ≡ false → is_loaded c.progress ≡ false → (n : ℕ) → shown (after_ticks n c) ≡ shown c
+
+-- how many ticks two bytes stand for, in binary
+abbrev pub ticks_of : ℕ → ℕ → ℕ
+ticks_of low high = length_of Binary (low + 256 * high)
+
+-- a counter with its gate high, told two-byte access and a mode by a control word, and then two bytes
+abbrev pub told : ℕ → ℕ → ℕ → CounterState → CounterState
+told word low high c = written high (written low (controlled word c))
+
+-- mode 2 as a program sets it up: the first tick loads; then OUT is low for the last tick of each period
+abbrev pub DividesAsTold : Type 0
+DividesAsTold =
+    (c : CounterState) → c.gate ≡ High → (low high : ℕ) → low < 256 → high < 256 → ticks_of low high ≢ 1 → (n : ℕ)
+    → (after_ticks (1 + n) (told 0x34 low high c)).out ≡ (if n % ticks_of low high + 1 == ticks_of low high then Low else High)
+
+-- mode 3 as a program sets it up: the first tick loads; then OUT is high for the first half of each period
+abbrev pub MakesSquaresAsTold : Type 0
+MakesSquaresAsTold =
+    (c : CounterState) → c.gate ≡ High → (low high : ℕ) → low < 256 → high < 256 → ticks_of low high ≢ 1 → (n : ℕ)
+    → (after_ticks (1 + n) (told 0x36 low high c)).out ≡ (if nat_lt (n % ticks_of low high) ((ticks_of low high + 1) / 2) then High else Low)
+
+-- n ticks of the timer are n ticks of each counter
+abbrev pub CountersTickAlike : Type 0
+CountersTickAlike =
+    (n : ℕ) (p : PitState)
+    → after_pit_ticks n p ≡ record { counter_0 = after_ticks n p.counter_0; counter_1 = after_ticks n p.counter_1; counter_2 = after_ticks n p.counter_2 }

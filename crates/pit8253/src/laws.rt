@@ -1,6 +1,6 @@
 //! What the definition of a counter means over time, in the data sheet's terms. Each law is a function that
 //! does nothing: its contract speaks of the definition alone.
-ghost use Rattle.pit8253.specs.Laws.{TicksAdd, CountsOut, ShootsOnce, Divides, MakesSquares, StaysHigh, StrobesOnce, StrobesOnTrigger, LatchHolds, LatchHoldsBoth, LatchIsHeld, CountsInDecimal};
+ghost use Rattle.pit8253.specs.Laws.{TicksAdd, CountsOut, ShootsOnce, Divides, MakesSquares, StaysHigh, StrobesOnce, StrobesOnTrigger, LatchHolds, LatchHoldsBoth, LatchIsHeld, CountsInDecimal, GateStops, WaitsForLoad, DividesAsTold, MakesSquaresAsTold, CountersTickAlike};
 
 /// Ticks, and then more ticks, are as many ticks together.
 #[tactic(auto, using(crate::proofs::Waves::ticks_add))]
@@ -62,4 +62,30 @@ pub fn latch_holds()
 #[tactic(auto, using(crate::proofs::Latches::counts_in_decimal))]
 pub fn counts_in_decimal()
     ensures { CountsInDecimal }
+{}
+
+/// With the gate low modes 0, 2 and 3 stand still, but for a load that is due.
+#[tactic(auto, using(crate::proofs::Waits::gate_stops))]
+pub fn gate_stops()
+    ensures { GateStops }
+{}
+
+/// Before the first load a counter shows what it held.
+#[tactic(auto, using(crate::proofs::Waits::waits_for_load))]
+pub fn waits_for_load()
+    ensures { WaitsForLoad }
+{}
+
+/// The control words 34h and 36h and a count's two bytes, with the gate high: the waves of modes 2 and 3, from
+/// the first tick on.
+#[tactic(auto, using(crate::proofs::Told::divides_as_told, crate::proofs::Told::makes_squares_as_told))]
+pub fn waves_as_told()
+    ensures mode_2 { DividesAsTold }
+    ensures mode_3 { MakesSquaresAsTold }
+{}
+
+/// The counters tick side by side, each as if it were alone.
+#[tactic(auto, using(crate::proofs::PitTicks::each_counter))]
+pub fn counters_tick_alike()
+    ensures { CountersTickAlike }
 {}
