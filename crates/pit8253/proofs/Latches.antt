@@ -10,7 +10,7 @@ use Rattle.pit8253.specs.declared.program.Access.{Access}
 use Rattle.pit8253.specs.declared.program.Access.TheVariants.{LowByte, HighByte, LowThenHigh}
 use Rattle.pit8253.specs.declared.program.Base.TheVariants.{Decimal}
 use Rattle.pit8253.specs.Program.{count_of, digits_of, lowered, is_high, turned}
-use Rattle.pit8253.specs.Counter.{CounterState, loaded, out_at_load, is_loaded, counted, counted_out, divided, half_step, squared, strobed, rested, tick, after_ticks, shown, latched, reads_high, read_byte, read_by, after_read}
+use Rattle.pit8253.specs.Counter.{CounterState, loaded, out_at_load, is_loaded, counted, counted_out, rate_generated, half_step, square_waved, strobed, rested, tick, after_ticks, shown, latched, reads_high, read_byte, read_by, after_read}
 use Rattle.pit8253.specs.Laws.{LatchHolds, LatchHoldsBoth, LatchIsHeld, CountsInDecimal}
 use Rattle.pit8253.proofs.Falls.{keeping}
 
@@ -34,14 +34,14 @@ loaded_keeps out c = record { latch = refl; access = refl; high_next = refl }
 moved_keeps : (c : CounterState) (count : ℕ) (due : Bool) (out : Line) → Kept c (record c { count = count; strobe_due = due; out = out })
 moved_keeps c count due out = record { latch = refl; access = refl; high_next = refl }
 
-divided_keeps : (c : CounterState) → Kept c (divided c)
-divided_keeps c =
+rate_keeps : (c : CounterState) → Kept c (rate_generated c)
+rate_keeps c =
     let count : ℕ = lowered c.count_base 1 c.count in
     let out : Line = (if count == 1 then Low else c.out) in
     choose (c.count == 1) c (loaded High c) (record c { count = count; out = out }) (loaded_keeps High c) (moved_keeps c count c.strobe_due out)
 
-squared_keeps : (c : CounterState) → Kept c (squared c)
-squared_keeps c =
+square_keeps : (c : CounterState) → Kept c (square_waved c)
+square_keeps c =
     let count : ℕ = lowered c.count_base (half_step c.count c.out) c.count in
     let turn : Line = (if c.newest == 1 then High else turned c.out) in
     choose (c.count == 1) c (loaded High c) (if count == 0 then loaded turn c else record c { count = count }) (loaded_keeps High c)
@@ -59,8 +59,8 @@ rested_keeps c = record { latch = refl; access = refl; high_next = refl }
 counted_keeps : (mode : Mode) (c : CounterState) → Kept c (counted mode c)
 counted_keeps TerminalCount c = choose (is_loaded c.progress && is_high c.gate && is_none c.first_byte) c (counted_out c) c (out_keeps c) (none_changed c)
 counted_keeps OneShot c = choose (is_loaded c.progress) c (counted_out c) c (out_keeps c) (none_changed c)
-counted_keeps RateGenerator c = choose (is_loaded c.progress && is_high c.gate) c (divided c) c (divided_keeps c) (none_changed c)
-counted_keeps SquareWave c = choose (is_loaded c.progress && is_high c.gate) c (squared c) c (squared_keeps c) (none_changed c)
+counted_keeps RateGenerator c = choose (is_loaded c.progress && is_high c.gate) c (rate_generated c) c (rate_keeps c) (none_changed c)
+counted_keeps SquareWave c = choose (is_loaded c.progress && is_high c.gate) c (square_waved c) c (square_keeps c) (none_changed c)
 counted_keeps SoftwareStrobe c = choose (is_loaded c.progress && is_high c.gate) c (strobed c) (rested c) (strobed_keeps c) (rested_keeps c)
 counted_keeps HardwareStrobe c = choose (is_loaded c.progress) c (strobed c) (rested c) (strobed_keeps c) (rested_keeps c)
 

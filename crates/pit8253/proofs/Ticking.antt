@@ -8,7 +8,7 @@ use Rattle.pit8253.specs.declared.program.Mode.TheVariants.{TerminalCount, OneSh
 use Rattle.pit8253.specs.declared.program.Base.{Base}
 use Rattle.pit8253.specs.declared.program.Base.TheVariants.{Binary, Decimal}
 use Rattle.pit8253.specs.Program.{modulus, lowered, is_high, turned}
-use Rattle.pit8253.specs.Counter.{CounterState, loaded, counted, counted_out, divided, half_step, squared, strobed, rested, tick}
+use Rattle.pit8253.specs.Counter.{CounterState, loaded, counted, counted_out, rate_generated, half_step, square_waved, strobed, rested, tick}
 use Rattle.pit8253.specs.Laws.{length_of, size}
 use Rattle.pit8253.proofs.Falls.{if_yes, if_no}
 
@@ -81,17 +81,17 @@ pub tick_one_shot : (c : CounterState) → c.mode ≡ OneShot → (n : ℕ) (due
 unfolding tick
 tick_one_shot c mode n due out = ap (λ m. counted m (running c n due out)) mode
 
-pub tick_rate : (c : CounterState) → c.mode ≡ RateGenerator → c.gate ≡ High → (n : ℕ) (due : Bool) (out : Line) → tick (running c n due out) ≡ divided (running c n due out)
+pub tick_rate : (c : CounterState) → c.mode ≡ RateGenerator → c.gate ≡ High → (n : ℕ) (due : Bool) (out : Line) → tick (running c n due out) ≡ rate_generated (running c n due out)
 unfolding tick
 tick_rate c mode gate n due out =
     ap (λ m. counted m (running c n due out)) mode
-    ∙ ap (λ g. if is_high g then divided (running c n due out) else running c n due out) gate
+    ∙ ap (λ g. if is_high g then rate_generated (running c n due out) else running c n due out) gate
 
-pub tick_square : (c : CounterState) → c.mode ≡ SquareWave → c.gate ≡ High → (n : ℕ) (due : Bool) (out : Line) → tick (running c n due out) ≡ squared (running c n due out)
+pub tick_square : (c : CounterState) → c.mode ≡ SquareWave → c.gate ≡ High → (n : ℕ) (due : Bool) (out : Line) → tick (running c n due out) ≡ square_waved (running c n due out)
 unfolding tick
 tick_square c mode gate n due out =
     ap (λ m. counted m (running c n due out)) mode
-    ∙ ap (λ g. if is_high g then squared (running c n due out) else running c n due out) gate
+    ∙ ap (λ g. if is_high g then square_waved (running c n due out) else running c n due out) gate
 
 pub tick_software_strobe : (c : CounterState) → c.mode ≡ SoftwareStrobe → c.gate ≡ High → (n : ℕ) (due : Bool) (out : Line) → tick (running c n due out) ≡ strobed (running c n due out)
 unfolding tick
@@ -122,12 +122,12 @@ out_over c n due = ap (λ out. running c (lowered c.base 1 n) due out) (either_w
 
 -- mode 2
 
-pub rate_falls : (c : CounterState) (n m : ℕ) (due : Bool) (out : Line) → n ≢ 1 → lowered c.base 1 n ≡ m → divided (running c n due out) ≡ running c m due (if m == 1 then Low else out)
+pub rate_falls : (c : CounterState) (n m : ℕ) (due : Bool) (out : Line) → n ≢ 1 → lowered c.base 1 n ≡ m → rate_generated (running c n due out) ≡ running c m due (if m == 1 then Low else out)
 rate_falls c n m due out other is =
     if_no (n == 1) (loaded High (running c n due out)) (running c (lowered c.base 1 n) due (if lowered c.base 1 n == 1 then Low else out)) (differs n 1 other)
     ∙ ap (λ k. running c k due (if k == 1 then Low else out)) is
 
-pub rate_reloads : (c : CounterState) (due : Bool) (out : Line) → divided (running c 1 due out) ≡ running c c.newest true High
+pub rate_reloads : (c : CounterState) (due : Bool) (out : Line) → rate_generated (running c 1 due out) ≡ running c c.newest true High
 rate_reloads c due out = refl
 
 -- mode 3
@@ -137,25 +137,25 @@ halved c n m due out =
     if n == 1 then running c c.newest true High else (
     if m == 0 then running c c.newest true (if c.newest == 1 then High else turned out) else running c m due out)
 
-squared_is : (c : CounterState) (n : ℕ) (due : Bool) (out : Line) → squared (running c n due out) ≡ halved c n (lowered c.base (half_step n out) n) due out
+square_is : (c : CounterState) (n : ℕ) (due : Bool) (out : Line) → square_waved (running c n due out) ≡ halved c n (lowered c.base (half_step n out) n) due out
 unfolding halved
-squared_is c n due out = refl
+square_is c n due out = refl
 
-pub square_falls : (c : CounterState) (n m : ℕ) (due : Bool) (out : Line) → n ≢ 1 → lowered c.base (half_step n out) n ≡ m → m ≢ 0 → squared (running c n due out) ≡ running c m due out
+pub square_falls : (c : CounterState) (n m : ℕ) (due : Bool) (out : Line) → n ≢ 1 → lowered c.base (half_step n out) n ≡ m → m ≢ 0 → square_waved (running c n due out) ≡ running c m due out
 unfolding halved
 square_falls c n m due out other is some =
-    squared_is c n due out ∙ ap (λ k. halved c n k due out) is
+    square_is c n due out ∙ ap (λ k. halved c n k due out) is
     ∙ ap (λ b. if b then running c c.newest true High else (if m == 0 then running c c.newest true (if c.newest == 1 then High else turned out) else running c m due out)) (differs n 1 other)
     ∙ ap (λ b. if b then running c c.newest true (if c.newest == 1 then High else turned out) else running c m due out) (differs m 0 some)
 
-pub square_turns : (c : CounterState) (n : ℕ) (due : Bool) (out : Line) → n ≢ 1 → lowered c.base (half_step n out) n ≡ 0 → c.newest ≢ 1 → squared (running c n due out) ≡ running c c.newest true (turned out)
+pub square_turns : (c : CounterState) (n : ℕ) (due : Bool) (out : Line) → n ≢ 1 → lowered c.base (half_step n out) n ≡ 0 → c.newest ≢ 1 → square_waved (running c n due out) ≡ running c c.newest true (turned out)
 unfolding halved
 square_turns c n due out other is more =
-    squared_is c n due out ∙ ap (λ k. halved c n k due out) is
+    square_is c n due out ∙ ap (λ k. halved c n k due out) is
     ∙ ap (λ b. if b then running c c.newest true High else running c c.newest true (if c.newest == 1 then High else turned out)) (differs n 1 other)
     ∙ ap (λ b. running c c.newest true (if b then High else turned out)) (differs c.newest 1 more)
 
-pub square_reloads : (c : CounterState) (due : Bool) (out : Line) → squared (running c 1 due out) ≡ running c c.newest true High
+pub square_reloads : (c : CounterState) (due : Bool) (out : Line) → square_waved (running c 1 due out) ≡ running c c.newest true High
 square_reloads c due out = refl
 
 -- modes 4 and 5

@@ -11,7 +11,7 @@ use Rattle.board_types.specs.declared.line.Line.TheVariants.{Low, High}
 use Rattle.pit8253.specs.declared.program.Mode.TheVariants.{TerminalCount, OneShot, RateGenerator, SquareWave, SoftwareStrobe, HardwareStrobe}
 use Rattle.pit8253.specs.declared.program.Base.{Base}
 use Rattle.pit8253.specs.Program.{modulus, lowered, turned, is_high}
-use Rattle.pit8253.specs.Counter.{CounterState, loaded, counted, counted_out, divided, half_step, squared, strobed, tick, after_ticks}
+use Rattle.pit8253.specs.Counter.{CounterState, loaded, counted, counted_out, rate_generated, half_step, square_waved, strobed, tick, after_ticks}
 use Rattle.pit8253.specs.Laws.{length_of, size, TicksAdd, CountsOut, ShootsOnce, Divides, MakesSquares, StaysHigh, StrobesOnce, StrobesOnTrigger}
 use Rattle.pit8253.proofs.Falls.{Falls, falling, ending, keeping, round_again, if_yes, if_no}
 use Rattle.pit8253.proofs.Ticking.{differs, same, below, not_below, modulus_even, modulus_large, lowered_within, lowered_around, length_some, length_none, Lengths, lengths, running, tick_terminal_count, tick_one_shot, tick_rate, tick_square, tick_software_strobe, tick_hardware_strobe, out_falls, out_ends, out_over, rate_falls, rate_reloads, square_falls, square_turns, square_reloads, strobe_falls, strobe_ends, strobe_over}
@@ -115,7 +115,7 @@ mode_5 c mode within n = strobes c (tick_hardware_strobe c mode) within n
 abbrev rate_left : CounterState → ℕ → CounterState
 rate_left c r = running c r true (if r == 1 then Low else High)
 
-rate_falls_on : (c : CounterState) → ((n : ℕ) (due : Bool) (out : Line) → tick (running c n due out) ≡ divided (running c n due out)) → c.newest < modulus c.base → c.newest ≢ 1 → Falls tick (rate_left c) (size c) (loaded High c)
+rate_falls_on : (c : CounterState) → ((n : ℕ) (due : Bool) (out : Line) → tick (running c n due out) ≡ rate_generated (running c n due out)) → c.newest < modulus c.base → c.newest ≢ 1 → Falls tick (rate_left c) (size c) (loaded High c)
 rate_falls_on c ticks within other =
     let long : Lengths c.base c.newest = lengths c.base c.newest within in
     record {
@@ -127,13 +127,13 @@ rate_falls_on c ticks within other =
           ∙ ap (λ out. running c (r - 1) true (if r - 1 == 1 then Low else out)) high;
     }
 
-rate_period : (c : CounterState) → ((n : ℕ) (due : Bool) (out : Line) → tick (running c n due out) ≡ divided (running c n due out)) → c.newest < modulus c.base → c.newest ≢ 1 → iterate tick (size c) (loaded High c) ≡ loaded High c
+rate_period : (c : CounterState) → ((n : ℕ) (due : Bool) (out : Line) → tick (running c n due out) ≡ rate_generated (running c n due out)) → c.newest < modulus c.base → c.newest ≢ 1 → iterate tick (size c) (loaded High c) ≡ loaded High c
 rate_period c ticks within other =
     let long : Lengths c.base c.newest = lengths c.base c.newest within in
     ending tick (rate_left c) (size c) (loaded High c) (loaded High c) (rate_falls_on c ticks within other) long.some
     (λ only. absurd (other (long.one only))) (ticks 1 true Low ∙ rate_reloads c true Low)
 
-rate_within : (c : CounterState) → ((n : ℕ) (due : Bool) (out : Line) → tick (running c n due out) ≡ divided (running c n due out)) → c.newest < modulus c.base → c.newest ≢ 1 → (n : ℕ) → n < size c → (iterate tick n (loaded High c)).out ≡ (if n + 1 == size c then Low else High)
+rate_within : (c : CounterState) → ((n : ℕ) (due : Bool) (out : Line) → tick (running c n due out) ≡ rate_generated (running c n due out)) → c.newest < modulus c.base → c.newest ≢ 1 → (n : ℕ) → n < size c → (iterate tick n (loaded High c)).out ≡ (if n + 1 == size c then Low else High)
 rate_within c ticks within other zero before =
     let long : Lengths c.base c.newest = lengths c.base c.newest within in
     let more : size c ≢ 1 = λ only. other (long.one only) in
@@ -196,7 +196,7 @@ halves c within other = elim (cases_lt 0 c.newest) [
       )
 ]
 
-half_falls : (c : CounterState) → ((n : ℕ) (due : Bool) (out : Line) → tick (running c n due out) ≡ squared (running c n due out)) → c.newest ≢ 1 → (out : Line) (len : ℕ) → Half c out len → Falls tick (λ r. running c (2 * r) true out) len (running c c.newest true out)
+half_falls : (c : CounterState) → ((n : ℕ) (due : Bool) (out : Line) → tick (running c n due out) ≡ square_waved (running c n due out)) → c.newest ≢ 1 → (out : Line) (len : ℕ) → Half c out len → Falls tick (λ r. running c (2 * r) true out) len (running c c.newest true out)
 half_falls c ticks other out len half = record {
   first = λ more. ticks c.newest true out ∙ square_falls c c.newest (2 * (len - 1)) true out other half.first (omega arith);
   next = λ r more.
@@ -205,14 +205,14 @@ half_falls c ticks other out len half = record {
       ∙ square_falls c (2 * r) (2 * (r - 1)) true out (omega arith) (falls_by c (2 * r) 2 (2 * (r - 1)) out (even_step (2 * r) out (omega arith)) (omega arith)) (omega arith);
 }
 
-half_ends : (c : CounterState) → ((n : ℕ) (due : Bool) (out : Line) → tick (running c n due out) ≡ squared (running c n due out)) → c.newest ≢ 1 → (out : Line) (len : ℕ) → Half c out len → iterate tick len (running c c.newest true out) ≡ running c c.newest true (turned out)
+half_ends : (c : CounterState) → ((n : ℕ) (due : Bool) (out : Line) → tick (running c n due out) ≡ square_waved (running c n due out)) → c.newest ≢ 1 → (out : Line) (len : ℕ) → Half c out len → iterate tick len (running c c.newest true out) ≡ running c c.newest true (turned out)
 half_ends c ticks other out len half =
     ending tick (λ r. running c (2 * r) true out) len (running c c.newest true out) (running c c.newest true (turned out))
     (half_falls c ticks other out len half) half.some
     (λ only. ticks c.newest true out ∙ square_turns c c.newest true out other (half.first ∙ ap (λ k. 2 * (k - 1)) only) other)
     (ticks (2 * 1) true out ∙ square_turns c (2 * 1) true out (omega arith) (falls_by c (2 * 1) 2 0 out (even_step (2 * 1) out refl) (lowered_within c.base 2 (2 * 1) (omega arith))) other)
 
-half_holds : (c : CounterState) → ((n : ℕ) (due : Bool) (out : Line) → tick (running c n due out) ≡ squared (running c n due out)) → c.newest ≢ 1 → (out : Line) (len : ℕ) → Half c out len → (n : ℕ) → n < len → (iterate tick n (running c c.newest true out)).out ≡ out
+half_holds : (c : CounterState) → ((n : ℕ) (due : Bool) (out : Line) → tick (running c n due out) ≡ square_waved (running c n due out)) → c.newest ≢ 1 → (out : Line) (len : ℕ) → Half c out len → (n : ℕ) → n < len → (iterate tick n (running c c.newest true out)).out ≡ out
 half_holds c ticks other out len half zero within = ap (λ s. s.out) (iterate_zero tick (running c c.newest true out))
 half_holds c ticks other out len half (suc n) within =
     let more : suc n ≡ n + 1 = omega arith in
@@ -255,13 +255,13 @@ rate_of_one : (c : CounterState) → c.mode ≡ RateGenerator → c.newest ≡ 1
 unfolding tick
 rate_of_one c mode one =
     ap (λ m. counted m (loaded High c)) mode
-    ∙ either (is_high c.gate) (divided (loaded High c)) (loaded High c) (ap (λ k. divided (running c k true High)) one ∙ rate_reloads c true High)
+    ∙ either (is_high c.gate) (rate_generated (loaded High c)) (loaded High c) (ap (λ k. rate_generated (running c k true High)) one ∙ rate_reloads c true High)
 
 square_of_one : (c : CounterState) → c.mode ≡ SquareWave → c.newest ≡ 1 → tick (loaded High c) ≡ loaded High c
 unfolding tick
 square_of_one c mode one =
     ap (λ m. counted m (loaded High c)) mode
-    ∙ either (is_high c.gate) (squared (loaded High c)) (loaded High c) (ap (λ k. squared (running c k true High)) one ∙ square_reloads c true High)
+    ∙ either (is_high c.gate) (square_waved (loaded High c)) (loaded High c) (ap (λ k. square_waved (running c k true High)) one ∙ square_reloads c true High)
 
 pub a_count_of_1 : StaysHigh
 a_count_of_1 c (inl rate) one n = ap (λ s. s.out) (iterate_fixed tick n (loaded High c) (rate_of_one c rate one))

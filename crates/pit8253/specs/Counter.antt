@@ -26,14 +26,16 @@ pub record CounterState : Type 0 where
   pub progress : Progress
   -- whether the next tick loads the newest count: a write or a trigger asked for it
   pub load_due : Bool
-  -- the running count, and the base that it was loaded in
+  -- the running count, and the base that it was loaded in: a control word doesn't change how it is read (this
+  -- board's choice)
   pub count : ℕ
   pub count_base : Base
   -- whether the loaded count's strobe is still to come
   pub strobe_due : Bool
   -- what a latch holds, as it is read
   pub latch : Option ℕ
-  -- whether the high byte is the next to be read of two
+  -- whether the high byte is the next to be read of two: reading and writing keep byte orders of their own (this
+  -- board's choice)
   pub high_next : Bool
   pub gate : Line
   pub out : Line
@@ -96,32 +98,34 @@ counted_out c =
     record c { count = count; out = (if count == 0 then High else c.out) }
 
 -- mode 2: at 1 the newest count is loaded with OUT high; else the count falls by 1, and at 1 OUT goes low
-abbrev pub divided : CounterState → CounterState
-divided c =
+abbrev pub rate_generated : CounterState → CounterState
+rate_generated c =
     let count : ℕ = lowered c.count_base 1 c.count in
     if c.count == 1 then loaded High c else record c { count = count; out = (if count == 1 then Low else c.out) }
 
 -- mode 3: by how much a count falls. An odd one, which was loaded just before, falls by 1 in the high half
--- and by 3 in the low one.
+-- and by 3 in the low one. The half is the one that OUT shows, also after a change of the gate (this board's
+-- choice).
 abbrev pub half_step : ℕ → Line → ℕ
 half_step count out = if count % 2 == 0 then 2 else (if is_high out then 1 else 3)
 
 -- mode 3: a fall to 0 loads the newest count instead and turns OUT; a loaded 1 leaves OUT high, and the next
 -- tick loads again with OUT high (this board's choice)
-abbrev pub squared : CounterState → CounterState
-squared c =
+abbrev pub square_waved : CounterState → CounterState
+square_waved c =
     let count : ℕ = lowered c.count_base (half_step c.count c.out) c.count in
     if c.count == 1 then loaded High c else (
     if count == 0 then loaded (if c.newest == 1 then High else turned c.out) c else record c { count = count })
 
--- modes 4 and 5: the count falls by 1; at 0, once for each load, OUT goes low for one tick
+-- modes 4 and 5: the count falls by 1; at 0, once for each load, OUT goes low for one tick (once: this board's
+-- choice)
 abbrev pub strobed : CounterState → CounterState
 strobed c =
     let count : ℕ = lowered c.count_base 1 c.count in
     let strobes : Bool = (count == 0) && c.strobe_due in
     record c { count = count; strobe_due = c.strobe_due && not strobes; out = (if strobes then Low else High) }
 
--- modes 4 and 5: a tick that doesn't count ends a strobe too
+-- modes 4 and 5: a tick that doesn't count ends a strobe too (this board's choice)
 abbrev pub rested : CounterState → CounterState
 rested c = record c { out = High }
 
@@ -130,8 +134,8 @@ rested c = record c { out = High }
 abbrev pub counted : Mode → CounterState → CounterState
 counted TerminalCount c = if is_loaded c.progress && is_high c.gate && is_none c.first_byte then counted_out c else c
 counted OneShot c = if is_loaded c.progress then counted_out c else c
-counted RateGenerator c = if is_loaded c.progress && is_high c.gate then divided c else c
-counted SquareWave c = if is_loaded c.progress && is_high c.gate then squared c else c
+counted RateGenerator c = if is_loaded c.progress && is_high c.gate then rate_generated c else c
+counted SquareWave c = if is_loaded c.progress && is_high c.gate then square_waved c else c
 counted SoftwareStrobe c = if is_loaded c.progress && is_high c.gate then strobed c else rested c
 counted HardwareStrobe c = if is_loaded c.progress then strobed c else rested c
 
@@ -158,12 +162,12 @@ out_at_control HardwareStrobe = High
 abbrev pub shown : CounterState → ℕ
 shown c = unwrap_or c.latch (digits_of c.count_base c.count)
 
--- a latch holds what the counter shows: what was latched before and isn't read yet stays
+-- a latch holds what the counter shows: what was latched before and isn't read yet stays (this board's choice)
 unfoldable pub latched : CounterState → CounterState
 latched c = record c { latch = Some (shown c) }
 
 -- a control word that programs: the mode, the access and the base are new, OUT takes the mode's first level,
--- and the count runs no more; it stays to be read. The gate is as before.
+-- and the count runs no more; it stays to be read. The gate is as before. Both byte orders begin anew.
 abbrev pub programmed : Mode → Access → Base → CounterState → CounterState
 programmed mode access base c = record c {
   mode = mode;
@@ -205,9 +209,9 @@ out_at_write SquareWave out = out
 out_at_write SoftwareStrobe out = out
 out_at_write HardwareStrobe out = out
 
--- a full count of sixteen bits
-abbrev pub counting_from : ℕ → CounterState → CounterState
-counting_from word c = record c {
+-- a full count of sixteen bits: it takes the place of the one before, also where that isn't loaded yet
+abbrev pub with_full_count : ℕ → CounterState → CounterState
+with_full_count word c = record c {
   first_byte = None;
   newest = count_of c.base word;
   progress = (if is_loaded c.progress then Loaded else Written);
@@ -222,14 +226,14 @@ with_first_byte byte c = record c { first_byte = Some byte; out = out_at_write c
 -- one of two bytes, by what was written before it
 abbrev pub with_byte_of_two : Option ℕ → ℕ → CounterState → CounterState
 with_byte_of_two None byte c = with_first_byte byte c
-with_byte_of_two (Some low) byte c = counting_from (low + 256 * byte) c
+with_byte_of_two (Some low) byte c = with_full_count (low + 256 * byte) c
 
 abbrev pub written_by : Access → ℕ → CounterState → CounterState
-written_by LowByte byte c = counting_from byte c
-written_by HighByte byte c = counting_from (256 * byte) c
+written_by LowByte byte c = with_full_count byte c
+written_by HighByte byte c = with_full_count (256 * byte) c
 written_by LowThenHigh byte c = with_byte_of_two c.first_byte byte c
 
--- a byte written to the counter: with one-byte access the other byte is 0
+-- a byte written to the counter: with one-byte access the other byte is 0 (this board's choice)
 unfoldable pub written : ℕ → CounterState → CounterState
 written byte c = written_by c.access byte c
 
@@ -277,7 +281,8 @@ out_at_gate SquareWave gate out = if is_high gate then out else High
 out_at_gate SoftwareStrobe gate out = out
 out_at_gate HardwareStrobe gate out = out
 
--- the gate takes a level; in modes 1, 2, 3 and 5 its rise after a full count is a trigger
+-- the gate takes a level; in modes 1, 2, 3 and 5 its rise after a full count is a trigger, which no later fall
+-- takes back (this board's choice)
 unfoldable pub gated : Line → CounterState → CounterState
 gated gate c = record c {
   gate = gate;

@@ -1,13 +1,14 @@
 -- What the definition of a counter means over time, in the data sheet's terms: the level of OUT any number of
 -- ticks after a load ("Mode Definition" and its timing diagrams), and what a latch shows.
-use Rattle.std.specs.Prelude.{◌≡◌, ◌≢◌, ℕ, ◌+◌, ◌*◌, ◌/◌, ◌%◌, ◌<◌, ◌==◌, false, nat_lt, if◌then◌else◌, ◌⊎◌, Option, None}
+use Rattle.std.specs.Prelude.{◌≡◌, ◌≢◌, ℕ, ◌+◌, ◌*◌, ◌/◌, ◌%◌, ◌<◌, ◌==◌, false, nat_lt, if◌then◌else◌, ◌⊎◌, ◌||◌, Bool, Option, None, Some}
 use Rattle.board_types.specs.declared.line.Line.TheVariants.{Low, High}
 use Rattle.pit8253.specs.declared.program.Mode.TheVariants.{TerminalCount, OneShot, RateGenerator, SquareWave, SoftwareStrobe, HardwareStrobe}
 use Rattle.pit8253.specs.declared.program.Access.TheVariants.{LowThenHigh}
 use Rattle.pit8253.specs.declared.program.Base.{Base}
 use Rattle.pit8253.specs.declared.program.Base.TheVariants.{Binary, Decimal}
-use Rattle.pit8253.specs.Program.{modulus, count_of, digits_of}
-use Rattle.pit8253.specs.Counter.{CounterState, is_loaded, loaded, after_ticks, shown, latched, controlled, written, read_byte, after_read}
+use Rattle.pit8253.specs.declared.program.Progress.TheVariants.{Loaded}
+use Rattle.pit8253.specs.Program.{modulus, count_of, digits_of, lowered}
+use Rattle.pit8253.specs.Counter.{CounterState, is_loaded, loaded, half_step, tick, after_ticks, shown, latched, controlled, with_full_count, written, read_byte, after_read, gated}
 use Rattle.pit8253.specs.Pit.{PitState, after_pit_ticks}
 
 -- how many ticks a count stands for: 0 is the largest count, 65,536 or 10,000
@@ -94,6 +95,30 @@ GateStops =
     (c : CounterState) → c.load_due ≡ false → c.gate ≡ Low
     → (c.mode ≡ TerminalCount) ⊎ ((c.mode ≡ RateGenerator) ⊎ (c.mode ≡ SquareWave)) → (n : ℕ) → after_ticks n c ≡ c
 
+-- and in mode 4, where OUT goes high, the count stays
+abbrev pub GateStopsStrobe : Type 0
+GateStopsStrobe =
+    (c : CounterState) → c.load_due ≡ false → c.gate ≡ Low → c.mode ≡ SoftwareStrobe → (n : ℕ)
+    → (after_ticks n c).count ≡ c.count
+
+-- the first byte of two stops counting in mode 0
+abbrev pub FirstByteStops : Type 0
+FirstByteStops =
+    (c : CounterState) (byte : ℕ) → c.load_due ≡ false → c.mode ≡ TerminalCount → c.first_byte ≡ Some byte → (n : ℕ)
+    → after_ticks n c ≡ c
+
+-- mode 3: whether the next tick that counts ends the half
+abbrev pub ends_half : CounterState → Bool
+ends_half c = (c.count == 1) || (lowered c.count_base (half_step c.count c.out) c.count == 0)
+
+-- modes 2 and 3: a new count waits for the end of the period, or of the half. Before that, to write it and to
+-- tick is to tick and to write it.
+abbrev pub NewCountWaits : Type 0
+NewCountWaits =
+    (c : CounterState) (word : ℕ) → c.load_due ≡ false → c.progress ≡ Loaded
+    → ((c.mode ≡ RateGenerator) × (c.count ≢ 1)) ⊎ ((c.mode ≡ SquareWave) × (ends_half c ≡ false))
+    → tick (with_full_count word c) ≡ with_full_count word (tick c)
+
 -- nothing counts before the first load: with none due, the count is shown as it was, whatever ticks follow
 abbrev pub WaitsForLoad : Type 0
 WaitsForLoad =
@@ -103,21 +128,49 @@ WaitsForLoad =
 abbrev pub ticks_of : ℕ → ℕ → ℕ
 ticks_of low high = length_of Binary (low + 256 * high)
 
--- a counter with its gate high, told two-byte access and a mode by a control word, and then two bytes
+-- a counter that is told two-byte access and a mode by a control word, and then the two bytes
 abbrev pub told : ℕ → ℕ → ℕ → CounterState → CounterState
 told word low high c = written high (written low (controlled word c))
 
--- mode 2 as a program sets it up: the first tick loads; then OUT is low for the last tick of each period
+-- the same, and then a fall and a rise of its gate
+abbrev pub triggered : ℕ → ℕ → ℕ → CounterState → CounterState
+triggered word low high c = gated High (gated Low (told word low high c))
+
+-- mode 0 as a program sets it up: the first tick loads; then OUT is low for the count's ticks
+abbrev pub CountsOutAsTold : Type 0
+CountsOutAsTold =
+    (c : CounterState) → c.gate ≡ High → (low high : ℕ) → low < 256 → high < 256 → (n : ℕ)
+    → (after_ticks (1 + n) (told 0x30 low high c)).out ≡ (if nat_lt n (ticks_of low high) then Low else High)
+
+-- mode 1: the first tick after the trigger loads; then OUT is low for the count's ticks
+abbrev pub ShootsAsTriggered : Type 0
+ShootsAsTriggered =
+    (c : CounterState) → (low high : ℕ) → low < 256 → high < 256 → (n : ℕ)
+    → (after_ticks (1 + n) (triggered 0x32 low high c)).out ≡ (if nat_lt n (ticks_of low high) then Low else High)
+
+-- mode 2: then OUT is low for the last tick of each period
 abbrev pub DividesAsTold : Type 0
 DividesAsTold =
     (c : CounterState) → c.gate ≡ High → (low high : ℕ) → low < 256 → high < 256 → ticks_of low high ≢ 1 → (n : ℕ)
     → (after_ticks (1 + n) (told 0x34 low high c)).out ≡ (if n % ticks_of low high + 1 == ticks_of low high then Low else High)
 
--- mode 3 as a program sets it up: the first tick loads; then OUT is high for the first half of each period
+-- mode 3: then OUT is high for the first half of each period
 abbrev pub MakesSquaresAsTold : Type 0
 MakesSquaresAsTold =
     (c : CounterState) → c.gate ≡ High → (low high : ℕ) → low < 256 → high < 256 → ticks_of low high ≢ 1 → (n : ℕ)
     → (after_ticks (1 + n) (told 0x36 low high c)).out ≡ (if nat_lt (n % ticks_of low high) ((ticks_of low high + 1) / 2) then High else Low)
+
+-- mode 4: then OUT is low for the one tick that ends the count
+abbrev pub StrobesAsTold : Type 0
+StrobesAsTold =
+    (c : CounterState) → c.gate ≡ High → (low high : ℕ) → low < 256 → high < 256 → (n : ℕ)
+    → (after_ticks (1 + n) (told 0x38 low high c)).out ≡ (if n == ticks_of low high then Low else High)
+
+-- mode 5: the same after a trigger
+abbrev pub StrobesAsTriggered : Type 0
+StrobesAsTriggered =
+    (c : CounterState) → (low high : ℕ) → low < 256 → high < 256 → (n : ℕ)
+    → (after_ticks (1 + n) (triggered 0x3A low high c)).out ≡ (if n == ticks_of low high then Low else High)
 
 -- n ticks of the timer are n ticks of each counter
 abbrev pub CountersTickAlike : Type 0

@@ -2,7 +2,7 @@
 ghost use Rattle.std.specs.Prelude.{◌≡◌, ◌≤◌, ◌<◌, ◌/◌, ◌%◌, ◌+◌, ◌*◌};
 ghost use Rattle.board_types.specs.declared.line.Line.{Line};
 ghost use Rattle.pit8253.specs.Program.{mode_of, access_of, base_of, count_of, digits_of, lowered, is_high, turned};
-ghost use Rattle.pit8253.specs.Counter.{power_on, is_awaited, is_loaded, out_at_load, loaded, counted_out, divided, half_step, squared, strobed, rested, counted, tick, after_ticks, out_at_control, shown, latched, programmed, controlled, loads_when_written, out_at_write, counting_from, with_first_byte, written, read_byte, after_read, rises, is_triggered, out_at_gate, gated};
+ghost use Rattle.pit8253.specs.Counter.{power_on, is_awaited, is_loaded, out_at_load, loaded, counted_out, rate_generated, half_step, square_waved, strobed, rested, counted, tick, after_ticks, out_at_control, shown, latched, programmed, controlled, loads_when_written, out_at_write, with_full_count, with_first_byte, written, read_byte, after_read, rises, is_triggered, out_at_gate, gated};
 
 use crate::program::{Access, Base, Mode, Progress};
 use board_types::line::Line;
@@ -118,10 +118,10 @@ impl Counter {
         ensures { self.new ≡ written value self.old }
     {
         match self.access {
-            Access::LowByte => self.count_from(u16::from(value)),
-            Access::HighByte => self.count_from(256 * u16::from(value)),
+            Access::LowByte => self.keep_full_count(u16::from(value)),
+            Access::HighByte => self.keep_full_count(256 * u16::from(value)),
             Access::LowThenHigh => match self.first_byte {
-                Some(low) => self.count_from(word_of(low, value)),
+                Some(low) => self.keep_full_count(word_of(low, value)),
                 None => self.keep_first_byte(value),
             },
         }
@@ -192,8 +192,8 @@ impl Counter {
         }
     }
 
-    fn count_from(&mut self, word: u16)
-        ensures { self.new ≡ counting_from word self.old }
+    fn keep_full_count(&mut self, word: u16)
+        ensures { self.new ≡ with_full_count word self.old }
     {
         self.first_byte = None;
         self.newest = count_of(self.base, word);
@@ -232,40 +232,14 @@ impl Counter {
         let loaded = self.progress == Progress::Loaded;
         let enabled = loaded && self.gate == Line::High;
         match self.mode {
-            Mode::TerminalCount => {
-                if enabled && self.first_byte.is_none() {
-                    self.count_out();
-                }
-            }
-            Mode::OneShot => {
-                if loaded {
-                    self.count_out();
-                }
-            }
-            Mode::RateGenerator => {
-                if enabled {
-                    self.divide();
-                }
-            }
-            Mode::SquareWave => {
-                if enabled {
-                    self.square();
-                }
-            }
-            Mode::SoftwareStrobe => {
-                if enabled {
-                    self.strobe();
-                } else {
-                    self.out = Line::High;
-                }
-            }
-            Mode::HardwareStrobe => {
-                if loaded {
-                    self.strobe();
-                } else {
-                    self.out = Line::High;
-                }
-            }
+            Mode::TerminalCount if enabled && self.first_byte.is_none() => self.count_out(),
+            Mode::OneShot if loaded => self.count_out(),
+            Mode::RateGenerator if enabled => self.divide(),
+            Mode::SquareWave if enabled => self.square(),
+            Mode::SoftwareStrobe if enabled => self.strobe(),
+            Mode::HardwareStrobe if loaded => self.strobe(),
+            Mode::SoftwareStrobe | Mode::HardwareStrobe => self.out = Line::High,
+            Mode::TerminalCount | Mode::OneShot | Mode::RateGenerator | Mode::SquareWave => (),
         }
     }
 
@@ -279,7 +253,7 @@ impl Counter {
     }
 
     fn divide(&mut self)
-        ensures { self.new ≡ divided self.old }
+        ensures { self.new ≡ rate_generated self.old }
     {
         if self.count == 1 {
             self.load(Line::High);
@@ -292,7 +266,7 @@ impl Counter {
     }
 
     fn square(&mut self)
-        ensures { self.new ≡ squared self.old }
+        ensures { self.new ≡ square_waved self.old }
     {
         let count = lowered(self.count_base, half_step(self.count, self.out), self.count);
         if self.count == 1 {
