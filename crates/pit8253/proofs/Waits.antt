@@ -41,9 +41,9 @@ gate_stops c none low (inr (inr square)) n =
 pub first_byte_stops : FirstByteStops
 first_byte_stops c byte none terminal first n =
     iterate_fixed tick n c
-      ( no_load c none ∙ ap (λ m. counted m c) terminal
-      ∙ ap (λ f. if is_loaded c.progress && is_high c.gate && is_none f then counted_out c else c) first
-      ∙ ap (λ b. if b then counted_out c else c) (stopped (is_loaded c.progress && is_high c.gate)) )
+    (no_load c none ∙ ap (λ m. counted m c) terminal
+    ∙ ap (λ f. if is_loaded c.progress && is_high c.gate && is_none f then counted_out c else c) first
+    ∙ ap (λ b. if b then counted_out c else c) (stopped (is_loaded c.progress && is_high c.gate)))
 
 -- what a strobe counter with a low gate keeps
 record Stands (c d : CounterState) : Type 0 where
@@ -94,15 +94,15 @@ square_waits High c word goes_on =
     if_no (c.count == 1) (loaded High e) (if count == 0 then loaded (if e.newest == 1 then High else turned c.out) e else record e { count = count }) facts.0
     ∙ if_no (count == 0) (loaded (if e.newest == 1 then High else turned c.out) e) (record e { count = count }) facts.1
     ∙ sym (ap (λ s. with_full_count word s)
-        ( if_no (c.count == 1) (loaded High d) (if count == 0 then loaded (if d.newest == 1 then High else turned c.out) d else record d { count = count }) facts.0
-        ∙ if_no (count == 0) (loaded (if d.newest == 1 then High else turned c.out) d) (record d { count = count }) facts.1 ))
+    (if_no (c.count == 1) (loaded High d) (if count == 0 then loaded (if d.newest == 1 then High else turned c.out) d else record d { count = count }) facts.0
+    ∙ if_no (count == 0) (loaded (if d.newest == 1 then High else turned c.out) d) (record d { count = count }) facts.1))
 
 -- the state with its known parts written out
 written_out : (c : CounterState) (mode : Mode) → c.load_due ≡ false → c.progress ≡ Loaded → c.mode ≡ mode → record c { load_due = false; progress = Loaded; mode = mode } ≡ c
 written_out c mode none loaded_once is =
     sym
-      ( ap (λ b. record c { load_due = b }) none ∙ ap (λ p. record c { load_due = false; progress = p }) loaded_once
-      ∙ ap (λ m. record c { load_due = false; progress = Loaded; mode = m }) is )
+    (ap (λ b. record c { load_due = b }) none ∙ ap (λ p. record c { load_due = false; progress = p }) loaded_once
+    ∙ ap (λ m. record c { load_due = false; progress = Loaded; mode = m }) is)
 
 pub new_count_waits : NewCountWaits
 new_count_waits c word none loaded_once (inl rate) =

@@ -73,15 +73,13 @@ pub fn counting_stops()
     ensures gate { GateStops }
     ensures strobe { GateStopsStrobe }
     ensures first_byte { FirstByteStops }
-{
-}
+{}
 
 /// Modes 2 and 3: a new count waits for the end of the period or of the half.
 #[tactic(auto, using(crate::proofs::Waits::new_count_waits))]
 pub fn new_count_waits()
     ensures { NewCountWaits }
-{
-}
+{}
 
 /// Before the first load a counter shows what it held.
 #[tactic(auto, using(crate::proofs::Waits::waits_for_load))]
@@ -99,8 +97,7 @@ pub fn waves_as_told()
     ensures mode_3 { MakesSquaresAsTold }
     ensures mode_4 { StrobesAsTold }
     ensures mode_5 { StrobesAsTriggered }
-{
-}
+{}
 
 /// The counters tick side by side, each as if it were alone.
 #[tactic(auto, using(crate::proofs::PitTicks::each_counter))]
