@@ -1,15 +1,13 @@
 -- What a latch shows while the counter ticks on, and how decimal digits count.
-use Rattle.std.proofs.Common.{◌≡◌, ℕ, zero, suc, ◌+◌, ◌-◌, ◌*◌, ◌/◌, ◌%◌, ◌<◌, ◌≤◌, Bool, true, false, if◌then◌else◌, ◌&&◌, refl, sym, ap, ◌∙◌, arith, Option, None, Some, unwrap_or}
+use Rattle.std.proofs.Common.{◌≡◌, ℕ, ◌+◌, ◌*◌, ◌/◌, ◌%◌, Bool, true, false, if◌then◌else◌, ◌&&◌, refl, sym, ap, ◌∙◌, arith, None, Some, unwrap_or}
 use Rattle.std.specs.Prelude.{◌==◌, is_none}
-use Rattle.board_types.proofs.Iterate.{iterate_zero, iterate_more}
 use Rattle.board_types.specs.declared.line.Line.{Line}
 use Rattle.board_types.specs.declared.line.Line.TheVariants.{Low, High}
 use Rattle.pit8253.specs.declared.program.Mode.{Mode}
 use Rattle.pit8253.specs.declared.program.Mode.TheVariants.{TerminalCount, OneShot, RateGenerator, SquareWave, SoftwareStrobe, HardwareStrobe}
 use Rattle.pit8253.specs.declared.program.Access.{Access}
-use Rattle.pit8253.specs.declared.program.Access.TheVariants.{LowByte, HighByte, LowThenHigh}
-use Rattle.pit8253.specs.declared.program.Base.TheVariants.{Decimal}
-use Rattle.pit8253.specs.Program.{count_of, digits_of, lowered, is_high, turned}
+use Rattle.pit8253.specs.declared.program.Access.TheVariants.{LowThenHigh}
+use Rattle.pit8253.specs.Program.{digits_of, lowered, is_high, turned}
 use Rattle.pit8253.specs.Counter.{CounterState, loaded, out_at_load, is_loaded, counted, counted_out, rate_generated, half_step, square_waved, strobed, rested, tick, after_ticks, shown, latched, reads_high, read_byte, read_by, after_read}
 use Rattle.pit8253.specs.Laws.{LatchHolds, LatchHoldsBoth, LatchIsHeld, CountsInDecimal}
 use Rattle.pit8253.proofs.Falls.{keeping}

@@ -1,8 +1,7 @@
 -- The three counters tick side by side.
-use Rattle.std.proofs.Common.{◌≡◌, ℕ, zero, suc, ◌+◌, refl, sym, ap, ◌∙◌, arith}
+use Rattle.std.proofs.Common.{◌≡◌, ℕ, zero, suc, refl, ap}
 use Rattle.board_types.specs.Iterate.{iterate}
-use Rattle.board_types.proofs.Iterate.{iterate_zero, iterate_more}
-use Rattle.pit8253.specs.Counter.{CounterState, tick, after_ticks}
+use Rattle.pit8253.specs.Counter.{after_ticks}
 use Rattle.pit8253.specs.Pit.{PitState, pit_tick, after_pit_ticks}
 
 pub each_counter : (n : ℕ) (p : PitState) → after_pit_ticks n p ≡ record { counter_0 = after_ticks n p.counter_0; counter_1 = after_ticks n p.counter_1; counter_2 = after_ticks n p.counter_2 }

@@ -1,5 +1,5 @@
 -- What one tick makes of a counter that counts, in each mode.
-use Rattle.std.proofs.Common.{◌≡◌, ◌≢◌, ℕ, zero, suc, ◌+◌, ◌-◌, ◌*◌, ◌/◌, ◌%◌, ◌<◌, ◌≤◌, Bool, true, false, if◌then◌else◌, not, ◌&&◌, refl, sym, ap, ◌∙◌, arith, inl, inr, Option, None, nat_lt, lit≤, lit<}
+use Rattle.std.proofs.Common.{◌≡◌, ◌≢◌, ℕ, zero, suc, ◌+◌, ◌-◌, ◌*◌, ◌/◌, ◌<◌, ◌≤◌, Bool, true, false, if◌then◌else◌, not, ◌&&◌, refl, ap, ◌∙◌, arith, None, nat_lt, lit≤, lit<}
 use Rattle.std.specs.Prelude.{◌==◌, is_none}
 use Rattle.std.proofs.lemmas.Bool.Decides.{nat_tests}
 use Rattle.board_types.specs.declared.line.Line.{Line}
@@ -9,7 +9,7 @@ use Rattle.pit8253.specs.declared.program.Base.{Base}
 use Rattle.pit8253.specs.declared.program.Base.TheVariants.{Binary, Decimal}
 use Rattle.pit8253.specs.Program.{modulus, lowered, is_high, turned}
 use Rattle.pit8253.specs.Counter.{CounterState, loaded, counted, counted_out, rate_generated, half_step, square_waved, strobed, rested, tick}
-use Rattle.pit8253.specs.Laws.{length_of, size}
+use Rattle.pit8253.specs.Laws.{length_of}
 use Rattle.pit8253.proofs.Falls.{if_yes, if_no}
 
 -- numbers

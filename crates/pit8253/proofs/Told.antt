@@ -1,13 +1,11 @@
 -- The waves of the six modes as a program sets them up.
-use Rattle.std.proofs.Common.{◌≡◌, ◌≢◌, ℕ, ◌+◌, ◌-◌, ◌*◌, ◌<◌, ◌≤◌, refl, sym, ap, ◌∙◌, arith, inl, inr}
-use Rattle.std.proofs.lemmas.Bool.{cases_lt}
+use Rattle.std.proofs.Common.{◌≡◌, ◌≢◌, ℕ, ◌+◌, ◌*◌, ◌<◌, refl, ap, ◌∙◌, arith}
 use Rattle.board_types.proofs.Iterate.{iterate_add, iterate_zero, iterate_more}
 use Rattle.board_types.specs.declared.line.Line.{Line}
 use Rattle.board_types.specs.declared.line.Line.TheVariants.{Low, High}
 use Rattle.pit8253.specs.declared.program.Base.TheVariants.{Binary}
-use Rattle.pit8253.specs.Program.{modulus}
 use Rattle.pit8253.specs.Counter.{CounterState, loaded, tick, after_ticks, controlled, written, gated}
-use Rattle.pit8253.specs.Laws.{length_of, size, told, triggered, ticks_of, CountsOutAsTold, ShootsAsTriggered, DividesAsTold, MakesSquaresAsTold, StrobesAsTold, StrobesAsTriggered}
+use Rattle.pit8253.specs.Laws.{told, triggered, ticks_of, CountsOutAsTold, ShootsAsTriggered, DividesAsTold, MakesSquaresAsTold, StrobesAsTold, StrobesAsTriggered}
 use Rattle.pit8253.proofs.Ticking.{length_some}
 use Rattle.pit8253.proofs.Waves.{mode_0, mode_1, mode_2, mode_3, mode_4, mode_5}
 

@@ -1,5 +1,5 @@
 -- Ticks that count nothing.
-use Rattle.std.proofs.Common.{◌≡◌, ℕ, Bool, true, false, if◌then◌else◌, ◌&&◌, ◌⊎◌, inl, inr, ◌≢◌, refl, sym, ap, ◌∙◌, subst, Option, unwrap_or}
+use Rattle.std.proofs.Common.{◌≡◌, ℕ, Bool, true, false, if◌then◌else◌, ◌&&◌, inl, inr, ◌≢◌, refl, sym, ap, ◌∙◌, subst}
 use Rattle.std.specs.Prelude.{◌==◌, ◌||◌, is_none}
 use Rattle.board_types.proofs.Iterate.{iterate_fixed}
 use Rattle.board_types.specs.declared.line.Line.{Line}
@@ -7,8 +7,8 @@ use Rattle.board_types.specs.declared.line.Line.TheVariants.{Low, High}
 use Rattle.pit8253.specs.declared.program.Mode.{Mode}
 use Rattle.pit8253.specs.declared.program.Mode.TheVariants.{TerminalCount, OneShot, RateGenerator, SquareWave, SoftwareStrobe, HardwareStrobe}
 use Rattle.pit8253.specs.declared.program.Progress.TheVariants.{Loaded}
-use Rattle.pit8253.specs.Program.{digits_of, lowered, is_high, turned}
-use Rattle.pit8253.specs.Counter.{CounterState, loaded, out_at_load, is_loaded, counted, counted_out, rate_generated, half_step, square_waved, strobed, rested, tick, after_ticks, shown, with_full_count}
+use Rattle.pit8253.specs.Program.{lowered, is_high, turned}
+use Rattle.pit8253.specs.Counter.{CounterState, loaded, out_at_load, is_loaded, counted, counted_out, rate_generated, half_step, square_waved, strobed, rested, tick, shown, with_full_count}
 use Rattle.pit8253.specs.Laws.{GateStops, GateStopsStrobe, FirstByteStops, ends_half, NewCountWaits, WaitsForLoad}
 use Rattle.pit8253.proofs.Falls.{keeping, if_no}
 use Rattle.pit8253.proofs.Ticking.{differs}

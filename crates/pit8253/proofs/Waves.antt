@@ -1,5 +1,5 @@
 -- The level of OUT, any number of ticks after a load.
-use Rattle.std.proofs.Common.{◌≡◌, ◌≢◌, ℕ, zero, suc, ◌+◌, ◌-◌, ◌*◌, ◌/◌, ◌%◌, ◌<◌, ◌≤◌, Bool, true, false, if◌then◌else◌, refl, sym, ap, ◌∙◌, arith, inl, inr, ◌⊎◌, nat_lt}
+use Rattle.std.proofs.Common.{◌≡◌, ◌≢◌, ℕ, zero, suc, ◌+◌, ◌-◌, ◌*◌, ◌/◌, ◌%◌, ◌<◌, Bool, true, false, if◌then◌else◌, refl, sym, ap, ◌∙◌, arith, inl, inr, nat_lt}
 use Rattle.std.specs.Prelude.{◌==◌}
 use Rattle.std.proofs.lemmas.Bool.{cases_lt}
 use Rattle.std.proofs.lemmas.Nat.{mod_below}
@@ -8,11 +8,11 @@ use Rattle.board_types.specs.Iterate.{iterate}
 use Rattle.board_types.proofs.Iterate.{iterate_zero, iterate_more, iterate_add, iterate_fixed}
 use Rattle.board_types.specs.declared.line.Line.{Line}
 use Rattle.board_types.specs.declared.line.Line.TheVariants.{Low, High}
-use Rattle.pit8253.specs.declared.program.Mode.TheVariants.{TerminalCount, OneShot, RateGenerator, SquareWave, SoftwareStrobe, HardwareStrobe}
+use Rattle.pit8253.specs.declared.program.Mode.TheVariants.{RateGenerator, SquareWave}
 use Rattle.pit8253.specs.declared.program.Base.{Base}
 use Rattle.pit8253.specs.Program.{modulus, lowered, turned, is_high}
 use Rattle.pit8253.specs.Counter.{CounterState, loaded, counted, counted_out, rate_generated, half_step, square_waved, strobed, tick, after_ticks}
-use Rattle.pit8253.specs.Laws.{length_of, size, TicksAdd, CountsOut, ShootsOnce, Divides, MakesSquares, StaysHigh, StrobesOnce, StrobesOnTrigger}
+use Rattle.pit8253.specs.Laws.{size, TicksAdd, CountsOut, ShootsOnce, Divides, MakesSquares, StaysHigh, StrobesOnce, StrobesOnTrigger}
 use Rattle.pit8253.proofs.Falls.{Falls, falling, ending, keeping, round_again, if_yes, if_no}
 use Rattle.pit8253.proofs.Ticking.{differs, same, below, not_below, modulus_even, modulus_large, lowered_within, lowered_around, length_some, length_none, Lengths, lengths, running, tick_terminal_count, tick_one_shot, tick_rate, tick_square, tick_software_strobe, tick_hardware_strobe, out_falls, out_ends, out_over, rate_falls, rate_reloads, square_falls, square_turns, square_reloads, strobe_falls, strobe_ends, strobe_over}
 
