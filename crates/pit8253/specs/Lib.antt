@@ -1,0 +1,4 @@
+pub mod Program
+pub mod Counter
+pub mod Pit
+pub mod Laws

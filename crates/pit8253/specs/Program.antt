@@ -1,0 +1,56 @@
+-- What the control word and the bytes of a count mean (Intel 8253 data sheet, "Control Word Format" and
+-- "Programming the 8253").
+use Rattle.std.specs.Prelude.{ℕ, ◌+◌, ◌*◌, ◌/◌, ◌%◌, ◌-◌, ◌==◌, Bool, true, false, if◌then◌else◌, nat_lt}
+use Rattle.board_types.specs.declared.line.Line.{Line}
+use Rattle.board_types.specs.declared.line.Line.TheVariants.{Low, High}
+use Rattle.pit8253.specs.declared.program.Mode.{Mode}
+use Rattle.pit8253.specs.declared.program.Mode.TheVariants.{TerminalCount, OneShot, RateGenerator, SquareWave, SoftwareStrobe, HardwareStrobe}
+use Rattle.pit8253.specs.declared.program.Access.{Access}
+use Rattle.pit8253.specs.declared.program.Access.TheVariants.{LowByte, HighByte, LowThenHigh}
+use Rattle.pit8253.specs.declared.program.Base.{Base}
+use Rattle.pit8253.specs.declared.program.Base.TheVariants.{Binary, Decimal}
+
+-- bits 3 to 1 of the control word: 0, 1, 4 and 5 name their mode, x10 is mode 2 and x11 mode 3
+abbrev pub mode_of : ℕ → Mode
+mode_of bits =
+    if bits == 0 then TerminalCount else (
+    if bits == 1 then OneShot else (
+    if bits == 4 then SoftwareStrobe else (
+    if bits == 5 then HardwareStrobe else (
+    if bits % 2 == 0 then RateGenerator else SquareWave))))
+
+-- bits 5 and 4 of the control word, where they aren't 00, which latches
+abbrev pub access_of : ℕ → Access
+access_of bits = if bits == 1 then LowByte else (if bits == 2 then HighByte else LowThenHigh)
+
+-- bit 0 of the control word
+abbrev pub base_of : ℕ → Base
+base_of bit = if bit == 0 then Binary else Decimal
+
+-- how many counts there are
+abbrev pub modulus : Base → ℕ
+modulus Binary = 65536
+modulus Decimal = 10000
+
+-- the count that sixteen bits give, modulo the number of counts: 0 is then the largest count, 65,536 or
+-- 10,000. A decimal digit above 9 counts by its weight (this board's choice).
+abbrev pub count_of : Base → ℕ → ℕ
+count_of Binary word = word
+count_of Decimal word = (1000 * (word / 4096) + 100 * (word / 256 % 16) + 10 * (word / 16 % 16) + word % 16) % 10000
+
+-- the sixteen bits that show a count
+abbrev pub digits_of : Base → ℕ → ℕ
+digits_of Binary count = count
+digits_of Decimal count = 4096 * (count / 1000 % 10) + 256 * (count / 100 % 10) + 16 * (count / 10 % 10) + count % 10
+
+-- the count after counting down by some; below 0 it goes on from FFFFh or 9999
+abbrev pub lowered : Base → ℕ → ℕ → ℕ
+lowered base by count = if nat_lt count by then count + modulus base - by else count - by
+
+abbrev pub is_high : Line → Bool
+is_high High = true
+is_high Low = false
+
+abbrev pub turned : Line → Line
+turned High = Low
+turned Low = High

@@ -1,0 +1,106 @@
+//! What the definition of a counter means over time, in the data sheet's terms. Each law is a function that
+//! does nothing: its contract speaks of the definition alone.
+ghost use Rattle.pit8253.specs.Laws.{TicksAdd, CountsOut, ShootsOnce, Divides, MakesSquares, StaysHigh, StrobesOnce, StrobesOnTrigger, LatchHolds, LatchHoldsBoth, LatchIsHeld, CountsInDecimal, GateStops, GateStopsStrobe, FirstByteStops, NewCountWaits, WaitsForLoad, CountsOutAsTold, ShootsAsTriggered, DividesAsTold, MakesSquaresAsTold, StrobesAsTold, StrobesAsTriggered, CountersTickAlike};
+
+/// Ticks, and then more ticks, are as many ticks together.
+#[tactic(auto, using(crate::proofs::Waves::ticks_add))]
+pub fn ticks_add()
+    ensures { TicksAdd }
+{}
+
+/// Mode 0, while the gate is high and no first byte stops it: OUT is low for the count's ticks after the load,
+/// and then high.
+#[tactic(auto, using(crate::proofs::Waves::mode_0))]
+pub fn counts_out()
+    ensures { CountsOut }
+{}
+
+/// Mode 1: OUT is low for the count's ticks after the load, whatever the gate, and then high.
+#[tactic(auto, using(crate::proofs::Waves::mode_1))]
+pub fn shoots_once()
+    ensures { ShootsOnce }
+{}
+
+/// Mode 2, while the gate is high, at a count other than 1: OUT is low for the last tick of each period.
+#[tactic(auto, using(crate::proofs::Waves::mode_2))]
+pub fn divides()
+    ensures { Divides }
+{}
+
+/// Mode 3, while the gate is high, at a count N other than 1: an odd N is high for (N + 1) / 2 ticks and low for
+/// (N - 1) / 2, an even one half and half.
+#[tactic(auto, using(crate::proofs::Waves::mode_3))]
+pub fn makes_squares()
+    ensures { MakesSquares }
+{}
+
+/// Modes 2 and 3: a count of 1 keeps OUT high.
+#[tactic(auto, using(crate::proofs::Waves::a_count_of_1))]
+pub fn stays_high()
+    ensures { StaysHigh }
+{}
+
+/// Mode 4, while the gate is high: OUT is low for the one tick that ends the count, and never again.
+#[tactic(auto, using(crate::proofs::Waves::mode_4))]
+pub fn strobes_once()
+    ensures { StrobesOnce }
+{}
+
+/// Mode 5: the same, whatever the gate.
+#[tactic(auto, using(crate::proofs::Waves::mode_5))]
+pub fn strobes_on_trigger()
+    ensures { StrobesOnTrigger }
+{}
+
+/// A latch holds a count, whatever ticks follow, until its last byte is read; a second one changes nothing.
+#[tactic(auto, using(crate::proofs::Latches::latch_holds, crate::proofs::Latches::latch_is_held))]
+pub fn latch_holds()
+    ensures one_byte { LatchHolds }
+    ensures two_bytes { LatchHoldsBoth }
+    ensures held { LatchIsHeld }
+{}
+
+/// Decimal digits count by their weights, and are shown as they were written.
+#[tactic(auto, using(crate::proofs::Latches::counts_in_decimal))]
+pub fn counts_in_decimal()
+    ensures { CountsInDecimal }
+{}
+
+/// With the gate low modes 0, 2 and 3 stand still, and in mode 4 the count does, but for a load that is due. In
+/// mode 0 the first byte of two does the same.
+#[tactic(auto, using(crate::proofs::Waits::gate_stops, crate::proofs::Waits::gate_stops_strobe, crate::proofs::Waits::first_byte_stops))]
+pub fn counting_stops()
+    ensures gate { GateStops }
+    ensures strobe { GateStopsStrobe }
+    ensures first_byte { FirstByteStops }
+{}
+
+/// Modes 2 and 3: a new count waits for the end of the period or of the half.
+#[tactic(auto, using(crate::proofs::Waits::new_count_waits))]
+pub fn new_count_waits()
+    ensures { NewCountWaits }
+{}
+
+/// Before the first load a counter shows what it held.
+#[tactic(auto, using(crate::proofs::Waits::waits_for_load))]
+pub fn waits_for_load()
+    ensures { WaitsForLoad }
+{}
+
+/// A control word for two bytes (30h to 3Ah) and a count's bytes: the wave of each mode from the next tick on, in
+/// modes 0, 2, 3 and 4 while the gate is high, in modes 1 and 5 from a trigger on.
+#[tactic(auto, using(crate::proofs::Told::counts_out_as_told, crate::proofs::Told::shoots_as_triggered, crate::proofs::Told::divides_as_told, crate::proofs::Told::makes_squares_as_told, crate::proofs::Told::strobes_as_told, crate::proofs::Told::strobes_as_triggered))]
+pub fn waves_as_told()
+    ensures mode_0 { CountsOutAsTold }
+    ensures mode_1 { ShootsAsTriggered }
+    ensures mode_2 { DividesAsTold }
+    ensures mode_3 { MakesSquaresAsTold }
+    ensures mode_4 { StrobesAsTold }
+    ensures mode_5 { StrobesAsTriggered }
+{}
+
+/// The counters tick side by side, each as if it were alone.
+#[tactic(auto, using(crate::proofs::PitTicks::each_counter))]
+pub fn counters_tick_alike()
+    ensures { CountersTickAlike }
+{}

@@ -1,0 +1,10 @@
+//! The programmable interval timer (Intel 8253 data sheet): three independent counters of sixteen bits, each
+//! with six modes, binary or decimal counting, one-byte or two-byte access, a latch and a gate.
+#![tactic(auto)]
+
+pub mod counter;
+pub mod laws;
+pub mod pit;
+pub mod program;
+#[cfg(test)]
+mod tests;

@@ -1,0 +1,125 @@
+//! The timer: three counters behind four ports (Intel 8253 data sheet, "Block Diagram").
+ghost use Rattle.std.specs.Prelude.{◌≡◌, ◌≤◌, ◌<◌};
+ghost use Rattle.board_types.specs.declared.line.Line.{Line};
+ghost use Rattle.pit8253.specs.Counter.{CounterState};
+ghost use Rattle.pit8253.specs.Pit.{power_on_pit, counter, with_counter, pit_tick, after_pit_ticks, pit_controlled, pit_written, pit_read_byte, pit_after_read, pit_gated};
+
+use crate::counter::Counter;
+use board_types::line::Line;
+use std::marker::Model;
+
+/// The 8253: counters 0, 1 and 2. Its ports are numbered by A1 and A0, from 0 to 3.
+#[derive(Clone, Copy, Debug)]
+pub struct Pit {
+    counter_0: Counter,
+    counter_1: Counter,
+    counter_2: Counter,
+}
+
+impl Model for Pit {
+    ghost use Rattle.pit8253.specs.Pit.{PitState};
+
+    ghost Value = { PitState };
+
+    ghost view = { λ p. record { counter_0 = p.counter_0; counter_1 = p.counter_1; counter_2 = p.counter_2 } };
+
+    ghost inverse = { λ p. record { counter_0 = p.counter_0; counter_1 = p.counter_1; counter_2 = p.counter_2 } };
+}
+
+impl Pit {
+    /// The timer at power-on: each counter in mode 0 with no count, gates 0 and 1 high, gate 2 low.
+    #[tactic(auto, unfolding(crate::specs::Pit::power_on_pit))]
+    pub fn new() -> Self
+        ensures { result ≡ power_on_pit }
+    {
+        Pit {
+            counter_0: Counter::new(Line::High),
+            counter_1: Counter::new(Line::High),
+            counter_2: Counter::new(Line::Low),
+        }
+    }
+
+    /// Reads a byte of counter `port`; port 3 gives FFh. A read ends a latch with its last byte.
+    #[tactic(auto, unfolding(crate::specs::Pit::pit_read_byte, crate::specs::Pit::pit_after_read))]
+    pub fn read(&mut self, port: u8) -> u8
+        requires { port < 4 }
+        ensures byte { result ≡ pit_read_byte port self.old }
+        ensures state { self.new ≡ pit_after_read port self.old }
+    {
+        match port {
+            0 => self.counter_0.read(),
+            1 => self.counter_1.read(),
+            2 => self.counter_2.read(),
+            _ => 0xFF,
+        }
+    }
+
+    /// Writes a byte of a count to counter `port`, or a control word to port 3. A control word whose bits 7
+    /// and 6 are 11 does nothing.
+    #[tactic(auto, unfolding(crate::specs::Pit::pit_written))]
+    pub fn write(&mut self, port: u8, value: u8)
+        requires { port < 4 }
+        ensures { self.new ≡ pit_written port value self.old }
+    {
+        match port {
+            0 => self.counter_0.write(value),
+            1 => self.counter_1.write(value),
+            2 => self.counter_2.write(value),
+            _ => self.write_control(value),
+        }
+    }
+
+    /// Gate `n` takes the level `line`; `n` is below 3.
+    #[tactic(auto, unfolding(crate::specs::Pit::pit_gated))]
+    pub fn set_gate(&mut self, n: u8, line: Line)
+        requires { n < 3 }
+        ensures { self.new ≡ pit_gated n line self.old }
+    {
+        match n {
+            0 => self.counter_0.set_gate(line),
+            1 => self.counter_1.set_gate(line),
+            _ => self.counter_2.set_gate(line),
+        }
+    }
+
+    /// The level of OUT `n`; `n` is below 3.
+    pub fn out(&self, n: u8) -> Line
+        requires { n < 3 }
+        ensures { result ≡ (counter n self.now).out }
+    {
+        self.counter(n).out()
+    }
+
+    /// Counter `n` as it is now; `n` is below 3.
+    pub fn counter(&self, n: u8) -> Counter
+        requires { n < 3 }
+        ensures { result ≡ counter n self.now }
+    {
+        match n {
+            0 => self.counter_0,
+            1 => self.counter_1,
+            _ => self.counter_2,
+        }
+    }
+
+    /// `ticks` ticks of the three counters.
+    #[tactic(auto, using(crate::proofs::PitTicks::each_counter))]
+    pub fn advance(&mut self, ticks: u64)
+        ensures { self.new ≡ after_pit_ticks ticks self.old }
+    {
+        self.counter_0.advance(ticks);
+        self.counter_1.advance(ticks);
+        self.counter_2.advance(ticks);
+    }
+
+    fn write_control(&mut self, word: u8)
+        ensures { self.new ≡ pit_controlled word self.old }
+    {
+        match word / 64 {
+            0 => self.counter_0.write_control(word),
+            1 => self.counter_1.write_control(word),
+            2 => self.counter_2.write_control(word),
+            _ => (),
+        }
+    }
+}
