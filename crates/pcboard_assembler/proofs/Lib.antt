@@ -1,0 +1,5 @@
+pub mod Scanning
+pub mod Wording
+pub mod Passing
+pub mod Placing
+pub mod Answering

@@ -1,0 +1,9 @@
+pub mod Lexemes
+pub mod Words
+pub mod Statements
+pub mod Lines
+pub mod Symbols
+pub mod Placement
+pub mod Gives
+pub mod Passes
+pub mod FirstFault
