@@ -22,9 +22,9 @@ run_files : option_map {U = Text × Text × Text} (λ found. (found.0, text_in (
 unfolding clap_on_literals
 run_files = refl
 
-run_alone : fault_of app (codes "run" ∷ codes "a.asm" ∷ []) ≡ MissingRequiredArgument ∷ []
+one_file : fault_of app (codes "run" ∷ codes "a.asm" ∷ []) ≡ MissingRequiredArgument ∷ []
 unfolding clap_on_literals
-run_alone = refl
+one_file = refl
 
 help : fault_of app (codes "--help" ∷ []) ≡ DisplayHelp ∷ []
 unfolding clap_on_literals
