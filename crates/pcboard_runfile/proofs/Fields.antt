@@ -54,6 +54,7 @@ pub good_run : (d : Data) (version ram sw1 sw2 budget : ℕ) → has_only_fields
     → number_of (codes "budget") d ≡ Some budget → keys_of (get (codes "keys") d) ≡ Some []
     → budget ≤ 2 ^ 40
     → run_of d ≡ Ok (record { ram_kb = ram; sw1 = sw1; sw2 = sw2; budget = budget; keys = [] })
+unfolding run_of
 good_run d version ram sw1 sw2 budget only versions rams firsts seconds budgets none fits =
     let within : nat_le budget (2 ^ 40) ≡ true = search rules in
     rw (only, versions, rams, firsts, seconds, budgets, none, within) refl

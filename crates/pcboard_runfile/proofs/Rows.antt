@@ -4,11 +4,11 @@ use Rattle.std.specs.Prelude.{⊤}
 use Rattle.std.specs.Str.{chars, is_utf8}
 use Rattle.serde_json.proofs.OnLiterals.{serde_json_on_literals}
 use Rattle.pcboard_runfile.specs.declared.fault.RunFault.TheVariants.{NotJson, BadField, BudgetTooLarge}
-use Rattle.pcboard_runfile.specs.RunFile.{run_of_text, value_of, has_only_fields, are_fields, is_field, number_of, number_within, keys_of}
+use Rattle.pcboard_runfile.specs.RunFile.{run_of, run_of_text, value_of, has_only_fields, are_fields, is_field, number_of, number_within, keys_of}
 
 -- what a row unfolds
 unfoldable on_texts : ⊤
-unfolding serde_json_on_literals chars is_utf8 value_of has_only_fields are_fields is_field number_of number_within keys_of
+unfolding serde_json_on_literals chars is_utf8 run_of_text run_of value_of has_only_fields are_fields is_field number_of number_within keys_of
 on_texts = tt
 
 -- the run file of examples/hello.json

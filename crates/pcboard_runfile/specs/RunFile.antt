@@ -50,7 +50,7 @@ judged (Some version) (Some ram) (Some sw1) (Some sw2) (Some budget) (Some keys)
 judged _ _ _ _ _ _ = Err BadField
 
 -- what a value says as a run file, or the first fault: 32 before 35
-abbrev pub run_of : Data → Result RunFile RunFault
+unfoldable pub run_of : Data → Result RunFile RunFault
 run_of d =
     if has_only_fields d then judged (number_within 1 1 (codes "version") d) (number_within 0 65535 (codes "ram") d)
     (number_within 0 255 (codes "sw1") d) (number_within 0 31 (codes "sw2") d)
@@ -62,7 +62,7 @@ unfoldable pub value_of : List ℕ → Option Data
 value_of text = if is_utf8 text then read text else None
 
 -- what a text says as a run file, or the first fault: 31 before those of its value
-abbrev pub run_of_text : List ℕ → Result RunFile RunFault
+unfoldable pub run_of_text : List ℕ → Result RunFile RunFault
 run_of_text text = option_map_or run_of (value_of text) (Err NotJson)
 
 -- the answer is the one that is meant, but for want of memory

@@ -17,6 +17,7 @@ use std::alloc::Global;
 /// (0 to 255), `sw2` (0 to 31), `budget` and `keys` (an empty list), all of them and no others. Refused as
 /// `BadField` where a field is missing, unknown, of another kind or out of its range, else as
 /// `BudgetTooLarge` where the budget is above 2^40. `Memory` may come in place of any answer.
+#[tactic(auto, unfolding(crate::specs::RunFile::run_of))]
 pub fn read_run(alloc: Global, value: &Value) -> Result<RunFile, RunFault>
     ensures { Answers result (run_of (view value.now)) }
 {
@@ -40,7 +41,7 @@ pub fn read_run(alloc: Global, value: &Value) -> Result<RunFile, RunFault>
 
 /// Reads the text of a run file. Refused as `NotJson` where the text isn't UTF-8 or `serde_json` reads no
 /// value from it, else as `read_run` refuses its value.
-#[tactic(auto, using(crate::proofs::Fields::value_read, crate::proofs::Fields::value_refused))]
+#[tactic(auto, using(crate::proofs::Fields::value_refused), unfolding(crate::specs::RunFile::run_of_text))]
 pub fn read_run_text(alloc: Global, text: &[u8]) -> Result<RunFile, RunFault>
     ensures { Answers result (run_of_text text.now) }
 {
