@@ -34,6 +34,7 @@ not_true false never = refl
 -- a refusal that isn't for want of memory
 pub refused : (words : List Text) (fault : LineFault) (e : Error) → OnUsage fault (kind_of e ≢ OutOfMemory)
     → (takes app words ≡ true → kind_of e ≡ OutOfMemory) → HasKind (fault_of app words) e → Answers words (Err fault)
+unfolding Answers
 refused words Memory e other passes kinds = tt
 refused words (Usage text) e other passes kinds = (
   λ none. elim kinds [

@@ -36,7 +36,7 @@ IsTaskOf found (Run file run) =
 
 -- A task is given only where `clap` finds no fault in the words, and is the one that its matches hold;
 -- a refusal as usage only where it finds one.
-abbrev pub Answers : List Text → Result Task LineFault → Type 0
+unfoldable pub Answers : List Text → Result Task LineFault → Type 0
 Answers words (Ok task) = (fault_of app words ≡ []) × IsTaskOf (subcommand_of app words) task
 Answers words (Err (Usage text)) = (fault_of app words ≢ []) × (takes app words ≡ false)
 Answers words (Err Memory) = Unit {0}

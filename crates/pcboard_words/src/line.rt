@@ -10,6 +10,7 @@ use std::alloc::{AllocError, Global};
 
 /// Reads the words after the program's name. Without a word the task is the stored run; `run FILE RUN` is the
 /// other. Refused as `Usage` where `clap` refuses the words, with its text, and as `Memory` for want of memory.
+#[tactic(auto, unfolding(crate::specs::CommandLine::Answers))]
 pub fn read_words<'a>(alloc: Global, words: &'a [&'a str]) -> Result<Task<'a>, LineFault>
     ensures { Answers (map (λ word. word.now) words.entry.now) result }
 {
