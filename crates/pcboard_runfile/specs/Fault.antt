@@ -1,0 +1,16 @@
+-- The numbers and names of the faults of a run file.
+use Rattle.std.specs.Prelude.{ℕ, List, codes}
+use Rattle.pcboard_runfile.specs.declared.fault.RunFault.{RunFault}
+use Rattle.pcboard_runfile.specs.declared.fault.RunFault.TheVariants.{NotJson, BadField, BudgetTooLarge, Memory}
+
+abbrev pub run_fault_number : RunFault → ℕ
+run_fault_number NotJson = 31
+run_fault_number BadField = 32
+run_fault_number BudgetTooLarge = 35
+run_fault_number Memory = 37
+
+abbrev pub run_fault_name : RunFault → List ℕ
+run_fault_name NotJson = codes "NotJson"
+run_fault_name BadField = codes "BadField"
+run_fault_name BudgetTooLarge = codes "BudgetTooLarge"
+run_fault_name Memory = codes "Memory"

@@ -1,0 +1,31 @@
+-- The command line at words that are written out.
+use Rattle.std.proofs.Common.{◌≡◌, [], ◌∷◌, codes, None, Some, option_map, refl}
+use Rattle.clap.proofs.OnLiterals.{clap_on_literals}
+use Rattle.clap.specs.Words.{Text, fault_of, subcommand_of}
+use Rattle.clap.specs.declared.error.ErrorKind.TheVariants.{DisplayHelp, MissingRequiredArgument}
+use Rattle.pcboard_words.specs.CommandLine.{app, text_in}
+
+no_words : fault_of app [] ≡ []
+unfolding clap_on_literals
+no_words = refl
+
+stored : subcommand_of app [] ≡ None
+unfolding clap_on_literals
+stored = refl
+
+run_words : fault_of app (codes "run" ∷ codes "a.asm" ∷ codes "b.json" ∷ []) ≡ []
+unfolding clap_on_literals
+run_words = refl
+
+run_files : option_map {U = Text × Text × Text} (λ found. (found.0, text_in (codes "FILE") found.1, text_in (codes "RUN") found.1))
+    (subcommand_of app (codes "run" ∷ codes "a.asm" ∷ codes "b.json" ∷ [])) ≡ Some (codes "run", codes "a.asm", codes "b.json")
+unfolding clap_on_literals
+run_files = refl
+
+one_file : fault_of app (codes "run" ∷ codes "a.asm" ∷ []) ≡ MissingRequiredArgument ∷ []
+unfolding clap_on_literals
+one_file = refl
+
+help : fault_of app (codes "--help" ∷ []) ≡ DisplayHelp ∷ []
+unfolding clap_on_literals
+help = refl

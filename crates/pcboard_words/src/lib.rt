@@ -1,0 +1,5 @@
+//! The words of the command line: what the program `pcboard` is asked to do.
+#![tactic(auto)]
+
+pub mod line;
+pub mod task;

@@ -1,0 +1,19 @@
+//! What the program is asked to do.
+
+/// A task of the program.
+#[derive(Clone, Copy, Debug, PartialEq, Eq)]
+pub enum Task<'a> {
+    /// Runs the program that follows its run file on standard input.
+    Stored,
+    /// Runs the program of the file `file` as the run file `run` says.
+    Run { file: &'a str, run: &'a str },
+}
+
+/// Why the words name no task.
+#[derive(Debug, Drop)]
+pub enum LineFault {
+    /// The words aren't the program's, or ask for help: the text for standard error.
+    Usage(String),
+    /// There was no memory (fault 41).
+    Memory,
+}
