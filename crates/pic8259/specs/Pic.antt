@@ -24,7 +24,7 @@ pub record PicState : Type 0 where
   pub expected : Expected
   -- what its words have asked: ICW1 bits 1 (clear), 0 and 3, ICW2 bits 7 to 3, ICW3, ICW4 bits 0, 1 and 4
   pub is_cascaded : Bool
-  pub asks_fourth : Bool
+  pub asks_icw4 : Bool
   pub is_level_triggered : Bool
   pub vector : ℕ
   pub slaves : ℕ
@@ -43,7 +43,7 @@ pub record PicState : Type 0 where
 abbrev pub power_on : PicState
 power_on = record {
   order = all_levels; high = no_levels; risen = no_levels; masked = no_levels; served = no_levels;
-  expected = Operation; is_cascaded = false; asks_fourth = false; is_level_triggered = false; vector = 0; slaves = 0;
+  expected = Operation; is_cascaded = false; asks_icw4 = false; is_level_triggered = false; vector = 0; slaves = 0;
   is_8086 = false; auto_end = false; is_specially_nested = false; rotates = false; special_mask = false;
   polled = false; reads_served = false }
 
@@ -125,13 +125,13 @@ with_line level High s = record s {
 unfoldable pub with_icw1 : ℕ → PicState → PicState
 with_icw1 value s = record {
   order = all_levels; high = s.high; risen = no_levels; masked = no_levels; served = no_levels;
-  expected = Icw2; is_cascaded = not (has_bit value 1); asks_fourth = has_bit value 0;
+  expected = Icw2; is_cascaded = not (has_bit value 1); asks_icw4 = has_bit value 0;
   is_level_triggered = has_bit value 3; vector = s.vector; slaves = s.slaves;
   is_8086 = false; auto_end = false; is_specially_nested = false; rotates = false; special_mask = false;
   polled = false; reads_served = false }
 
 abbrev pub expected_after_icw3 : PicState → Expected
-expected_after_icw3 s = if s.asks_fourth then Icw4 else Operation
+expected_after_icw3 s = if s.asks_icw4 then Icw4 else Operation
 
 abbrev pub expected_after_icw2 : PicState → Expected
 expected_after_icw2 s = if s.is_cascaded then Icw3 else expected_after_icw3 s
