@@ -1,2 +1,5 @@
 pub mod Order
 pub mod Walk
+pub mod Places
+pub mod OrderWhole
+pub mod Taking

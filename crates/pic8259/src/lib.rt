@@ -3,6 +3,7 @@
 #![tactic(auto)]
 
 pub mod controller;
+pub mod laws;
 mod levels;
 
 pub use controller::Pic;

@@ -1,0 +1,86 @@
+-- What holds of the controller whatever happens to it, in the words of the Intel 8259A data sheet.
+use Rattle.std.specs.Prelude.{◌≡◌, ◌≢◌, ℕ, ◌+◌, ◌<◌, ◌==◌, Bool, true, false, ◌&&◌, List, [], ◌∷◌, ◌++◌, length, count_by, All, Option, MatchOption, Some}
+use Rattle.board_types.specs.declared.line.Line.{Line}
+use Rattle.pic8259.specs.Levels.{contains}
+use Rattle.pic8259.specs.Pic.{PicState, power_on, is_ready, asks, blocks, may_be_taken, found, took, acknowledged, vector_of, after_read, with_line, written, ended, highest_served}
+
+-- what can happen to a controller: a line changes, it is read or written, or an acknowledge comes
+pub data Event : Type 0 where
+  line_set : ℕ → Line → Event
+  read : Event
+  write : Bool → ℕ → Event
+  acknowledge : Event
+
+abbrev pub after_event : Event → PicState → PicState
+after_event (line_set n line) s = with_line n line s
+after_event read s = after_read s
+after_event (write a0 value) s = written a0 value s
+after_event acknowledge s = acknowledged s
+
+-- the state that events make of the one at power-on, the newest event first
+unfoldable pub state_after : List Event → PicState
+state_after [] = power_on
+state_after (event ∷ earlier) = after_event event (state_after earlier)
+
+-- the eight levels, each once
+pub record HoldsEachLevelOnce (order : List ℕ) : Type 0 where
+  pub only : All (λ level. level < 8) order
+  pub once : (level : ℕ) → level < 8 → count_by (λ other. other == level) order ≡ 1
+
+-- "Priority Resolver": at any time each level has one place in the order of priority
+abbrev pub OrderIsWhole : Type 0
+OrderIsWhole = (events : List Event) → HoldsEachLevelOnce (state_after events).order
+
+-- the level asks, is unmasked, nothing that blocks stands at or before its place, and none before it may be taken
+pub record IsFirstToTake (s : PicState) (level : ℕ) : Type 0 where
+  pub before : List ℕ
+  pub after : List ℕ
+  pub placed : s.order ≡ before ++ level ∷ after
+  pub asking : asks s level ≡ true
+  pub unmasked : contains s.masked level ≡ false
+  pub unblocked : All (λ other. blocks s other ≡ false) (before ++ level ∷ [])
+  pub none_before : All (λ other. may_be_taken s other ≡ false) before
+
+-- an acknowledge takes this level and answers its vector
+pub record Takes (s : PicState) (level : ℕ) : Type 0 where
+  pub first : IsFirstToTake s level
+  pub vector : vector_of s ≡ s.vector + level
+  pub state : acknowledged s ≡ took level s
+
+-- an acknowledge finds nothing to take: it answers level 7 and changes nothing
+pub record TakesNone (s : PicState) : Type 0 where
+  pub none : is_ready s ≡ true → All (λ level. may_be_taken s level ≡ false) s.order
+  pub vector : vector_of s ≡ s.vector + 7
+  pub state : acknowledged s ≡ s
+
+-- "Interrupt Sequence"
+abbrev pub AcknowledgeTakesFirst : Type 0
+AcknowledgeTakesFirst = (s : PicState) → MatchOption (found s) (TakesNone s) (λ level. Takes s level)
+
+-- "Fully Nested Mode": a level in service that special mask mode doesn't except blocks itself and all after it
+abbrev pub ServiceBlocks : Type 0
+ServiceBlocks =
+    (s : PicState) (level : ℕ) (before after : List ℕ) → HoldsEachLevelOnce s.order → s.order ≡ before ++ level ∷ after
+    → contains s.served level ≡ true → (s.special_mask && contains s.masked level) ≡ false
+    → All (λ other. may_be_taken s other ≡ false) (level ∷ after)
+
+-- "Special Mask Mode": one that it excepts stands in no level's way, as if it weren't in service, and a plain end of
+-- interrupt doesn't end it
+pub record IsExcepted (s : PicState) (level : ℕ) : Type 0 where
+  pub others : (other : ℕ) → may_be_taken s other ≡ may_be_taken (ended level s) other
+  pub kept : highest_served s ≢ Some level
+
+abbrev pub SpecialMaskExcepts : Type 0
+SpecialMaskExcepts =
+    (s : PicState) (level : ℕ) → s.special_mask ≡ true → contains s.masked level ≡ true → IsExcepted s level
+
+-- "End of Interrupt (EOI)": what a plain end of interrupt ends is in service, and none before it in the order blocks
+pub record IsFirstInService (s : PicState) (level : ℕ) : Type 0 where
+  pub before : List ℕ
+  pub after : List ℕ
+  pub placed : s.order ≡ before ++ level ∷ after
+  pub served : contains s.served level ≡ true
+  pub none_before : All (λ other. blocks s other ≡ false) before
+
+abbrev pub EndsFirstInService : Type 0
+EndsFirstInService = (s : PicState) → MatchOption (highest_served s) (All (λ level. blocks s level ≡ false) s.order) (λ level. IsFirstInService s level)
