@@ -3,3 +3,4 @@ pub mod Walk
 pub mod Places
 pub mod OrderWhole
 pub mod Taking
+pub mod Masks

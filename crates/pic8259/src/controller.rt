@@ -177,7 +177,6 @@ impl Pic {
         self.vector
     }
 
-    #[tactic(auto, unfolding(crate::specs::Pic::after_read))]
     fn answer_poll(&mut self) -> u8
         ensures value { result ≡ poll_of self.old }
         ensures state { self.new ≡ record (acknowledged self.old) { polled = false } }
@@ -217,16 +216,11 @@ impl Pic {
     fn requests(&self) -> LevelSet
         ensures { result ≡ requests self.now }
     {
-        LevelSet::from_members([
-            self.asks(0),
-            self.asks(1),
-            self.asks(2),
-            self.asks(3),
-            self.asks(4),
-            self.asks(5),
-            self.asks(6),
-            self.asks(7),
-        ])
+        if self.is_level_triggered {
+            self.high.intersection(LevelSet::from_byte(0xFF))
+        } else {
+            self.high.intersection(self.risen)
+        }
     }
 
     fn asks(&self, level: u8) -> bool
@@ -253,7 +247,7 @@ impl Pic {
     fn is_ready(&self) -> bool
         ensures { result ≡ is_ready self.now }
     {
-        matches!(self.expected, Expected::Operation) && self.is_8086
+        self.is_operating() && self.is_8086
     }
 
     /// The levels, the highest priority first.
@@ -300,9 +294,9 @@ impl Pic {
         ensures level { result ≡ highest_served self.now }
         ensures bound { IfSome result (λ level. level < 8) }
     {
-        for level in self.order() {
-            if self.blocks(level) {
-                return Some(level);
+        for served in self.order() {
+            if self.blocks(served) {
+                return Some(served);
             }
         }
         None

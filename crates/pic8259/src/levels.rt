@@ -1,95 +1,83 @@
 //! A set of interrupt levels.
-ghost use Rattle.std.specs.Prelude.{◌≡◌, ◌<◌, ◌≤◌, ◌^◌, if◌then◌else◌};
-ghost use Rattle.pic8259.specs.Levels.{contains, with_level, without_level, byte_of, levels_of, has_bit};
+ghost use Rattle.std.specs.Prelude.{◌≡◌, ◌<◌};
+ghost use Rattle.pic8259.specs.Levels.{contains, with_level, without_level, in_both, byte_of, levels_of, has_bit};
 
 use std::marker::Model;
 
 /// A set of the eight levels IR0 to IR7.
-#[derive(Clone, Copy, Debug, PartialEq, Eq)]
+#[derive(Clone, Copy, Debug)]
 pub struct LevelSet {
-    members: [bool; 8],
+    /// Bit n is 1 where level n is in the set.
+    mask: u8,
 }
 
 impl Model for LevelSet {
-    ghost use Rattle.pic8259.specs.Levels.{Levels};
+    ghost use Rattle.std.specs.Prelude.{◌<◌};
+    ghost use Rattle.pic8259.specs.Levels.{Levels, levels_of, byte_of, byte_of-levels_of};
+    ghost use Rattle.std.proofs.Common.{ap};
 
     ghost Value = { Levels };
 
-    ghost view = { λ s. s.members };
+    ghost view = { λ s. levels_of s.mask };
 
-    ghost inverse = { λ members. record { members = members } };
+    ghost invariant = { λ s. s.mask < 256 };
+
+    ghost inverse = { λ set. record { mask = byte_of set } };
+
+    ghost inverse_ok = { λ s h. ap (λ n. record { mask = n }) (byte_of-levels_of s.mask h) };
 }
 
 impl LevelSet {
-    /// The set of the levels at whose places `members` is true.
-    pub fn from_members(members: [bool; 8]) -> LevelSet
-        ensures { result ≡ members }
-    {
-        LevelSet { members }
-    }
-
     /// The set of the levels whose bits are 1 in `byte`.
     pub fn from_byte(byte: u8) -> LevelSet
         ensures { result ≡ levels_of byte }
     {
-        LevelSet {
-            members: [
-                bit(byte, 0),
-                bit(byte, 1),
-                bit(byte, 2),
-                bit(byte, 3),
-                bit(byte, 4),
-                bit(byte, 5),
-                bit(byte, 6),
-                bit(byte, 7),
-            ],
-        }
+        LevelSet { mask: byte }
     }
 
-    /// The byte whose bits at the levels of this set are 1.
+    /// The byte whose bits at the levels of this set are 1, and the others 0.
+    #[tactic(auto, using(crate::proofs::Masks::byte_of_levels))]
     pub fn byte(self) -> u8
         ensures { result ≡ byte_of self }
     {
-        self.weight(0)
-            + self.weight(1)
-            + self.weight(2)
-            + self.weight(3)
-            + self.weight(4)
-            + self.weight(5)
-            + self.weight(6)
-            + self.weight(7)
-    }
-
-    fn weight(self, level: u8) -> u8
-        requires { level < 8 }
-        ensures value { result ≡ (if contains self level then 2 ^ level else 0) }
-        ensures bound { result ≤ 2 ^ level }
-    {
-        if self.contains(level) { 1 << level } else { 0 }
+        self.mask
     }
 
     /// Whether `level` is in the set.
+    #[tactic(auto, using(crate::proofs::Masks::contains_levels))]
     pub fn contains(self, level: u8) -> bool
         requires { level < 8 }
         ensures { result ≡ contains self level }
     {
-        self.members[level as usize]
+        bit(self.mask, level)
     }
 
     /// Puts `level` into the set.
+    #[tactic(auto, using(crate::proofs::Masks::levels_with))]
     pub fn insert(&mut self, level: u8)
         requires { level < 8 }
         ensures { self.new ≡ with_level self.old level }
     {
-        self.members[level as usize] = true;
+        self.mask |= 1 << level;
     }
 
     /// Takes `level` out of the set.
+    #[tactic(auto, using(crate::proofs::Masks::levels_without))]
     pub fn remove(&mut self, level: u8)
         requires { level < 8 }
         ensures { self.new ≡ without_level self.old level }
     {
-        self.members[level as usize] = false;
+        self.mask &= !(1 << level);
+    }
+
+    /// The levels that are in both sets.
+    #[tactic(auto, using(crate::proofs::Masks::levels_in_both))]
+    pub fn intersection(self, other: LevelSet) -> LevelSet
+        ensures { result ≡ in_both self other }
+    {
+        LevelSet {
+            mask: self.mask & other.mask,
+        }
     }
 }
 
