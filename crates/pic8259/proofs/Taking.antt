@@ -8,8 +8,8 @@ use Rattle.std.proofs.Math.Bool.{and-false}
 use Rattle.std.proofs.lemmas.List.{get_or_past, get_or-set_same, get_or-set_other, length-set}
 use Rattle.std.proofs.lemmas.List.Elements.{All-cons, All-tail, All-same, All-weaker, All-from_get_or, All-push}
 use Rattle.pic8259.specs.Levels.{Levels, contains, without_level, up_to}
-use Rattle.pic8259.specs.Pic.{PicState, is_ready, asks, is_pending, blocks, may_be_taken, found, took, acknowledged, vector_of, ended, highest_served}
-use Rattle.pic8259.specs.Laws.{HoldsEachLevelOnce, IsFirstToTake, Takes, TakesNone, AcknowledgeTakesFirst, ServiceBlocks, IsExcepted, SpecialMaskExcepts, IsFirstInService, EndsFirstInService}
+use Rattle.pic8259.specs.Pic.{PicState, is_operating, is_ready, asks, is_pending, blocks, may_be_taken, found, took, acknowledged, vector_of, ended, highest_served, with_ocw2, with_command, written}
+use Rattle.pic8259.specs.Laws.{HoldsEachLevelOnce, IsFirstToTake, Takes, TakesNone, AcknowledgeTakesFirst, ServiceBlocks, IsExcepted, SpecialMaskExcepts, IsFirstInService, Ends, EndsNone, EndsFirstInService}
 use Rattle.pic8259.proofs.Places.{FoundAt, found_at, none_found, before_first_past, before_first_here, any_here, none_where_any_fails, none_counted, counted_here, count_at_place, all_right}
 
 -- a level that may not be taken is another than one that may
@@ -148,13 +148,29 @@ special_mask_excepts s level special masked =
         let passes = at.passes in cc;
     }
 
-ending : (s : PicState) (o : Option ℕ) → highest_served s ≡ o → MatchOption o (All (λ level. blocks s level ≡ false) s.order) (λ level. IsFirstInService s level)
+plain_end : (s : PicState) (o : Option ℕ) → highest_served s ≡ o → is_operating s.expected ≡ true → written false 0x20 s ≡ option_map_or (λ highest. ended highest s) o s
+unfolding written with_command with_ocw2
+plain_end s o is operating =
+    ap (λ b. if not b then s else option_map_or (λ highest. ended highest s) (highest_served s) s) operating
+    ∙ ap (λ o. option_map_or (λ highest. ended highest s) o s) is
+
+ending : (s : PicState) (o : Option ℕ) → highest_served s ≡ o → is_operating s.expected ≡ true → MatchOption o (EndsNone s) (λ level. Ends s level)
 unfolding highest_served
-ending s None is = none_found (blocks s) s.order is
-ending s (Some level) is =
+ending s None is operating = record { none = none_found (blocks s) s.order is; state = plain_end s None is operating }
+ending s (Some level) is operating =
     let at = found_at (blocks s) s.order level is in
     let parts = and_parts (contains s.served level) (not (s.special_mask && contains s.masked level)) at.passes in
-    record { before = at.before; after = at.after; placed = at.placed; served = parts.0; none_before = at.none_before }
+    record {
+      first = record {
+        before = at.before;
+        after = at.after;
+        placed = at.placed;
+        served = parts.0;
+        unexcepted = not-true _ parts.1;
+        none_before = at.none_before;
+      };
+      state = plain_end s (Some level) is operating;
+    }
 
 pub ends_first_in_service : EndsFirstInService
-ends_first_in_service s = ending s (highest_served s) refl
+ends_first_in_service s operating = ending s (highest_served s) refl operating

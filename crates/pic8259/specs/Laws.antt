@@ -2,7 +2,7 @@
 use Rattle.std.specs.Prelude.{◌≡◌, ◌≢◌, ℕ, ◌+◌, ◌<◌, ◌==◌, Bool, true, false, ◌&&◌, List, [], ◌∷◌, ◌++◌, length, count_by, All, Option, MatchOption, Some}
 use Rattle.board_types.specs.declared.line.Line.{Line}
 use Rattle.pic8259.specs.Levels.{contains}
-use Rattle.pic8259.specs.Pic.{PicState, power_on, is_ready, asks, blocks, may_be_taken, found, took, acknowledged, vector_of, after_read, with_line, written, ended, highest_served}
+use Rattle.pic8259.specs.Pic.{PicState, power_on, is_operating, is_ready, asks, blocks, may_be_taken, found, took, acknowledged, vector_of, after_read, with_line, written, ended, highest_served}
 
 -- what can happen to a controller: a line changes, it is read or written, or an acknowledge comes
 pub data Event : Type 0 where
@@ -74,13 +74,26 @@ abbrev pub SpecialMaskExcepts : Type 0
 SpecialMaskExcepts =
     (s : PicState) (level : ℕ) → s.special_mask ≡ true → contains s.masked level ≡ true → IsExcepted s level
 
--- "End of Interrupt (EOI)": what a plain end of interrupt ends is in service, and none before it in the order blocks
+-- the level is in service and not excepted, and none before it in the order is
 pub record IsFirstInService (s : PicState) (level : ℕ) : Type 0 where
   pub before : List ℕ
   pub after : List ℕ
   pub placed : s.order ≡ before ++ level ∷ after
   pub served : contains s.served level ≡ true
+  pub unexcepted : (s.special_mask && contains s.masked level) ≡ false
   pub none_before : All (λ other. blocks s other ≡ false) before
 
+-- a plain end of interrupt, the word 20h, ends this level
+pub record Ends (s : PicState) (level : ℕ) : Type 0 where
+  pub first : IsFirstInService s level
+  pub state : written false 0x20 s ≡ ended level s
+
+-- it finds no level in service, and changes nothing
+pub record EndsNone (s : PicState) : Type 0 where
+  pub none : All (λ level. blocks s level ≡ false) s.order
+  pub state : written false 0x20 s ≡ s
+
+-- "End of Interrupt (EOI)"
 abbrev pub EndsFirstInService : Type 0
-EndsFirstInService = (s : PicState) → MatchOption (highest_served s) (All (λ level. blocks s level ≡ false) s.order) (λ level. IsFirstInService s level)
+EndsFirstInService =
+    (s : PicState) → is_operating s.expected ≡ true → MatchOption (highest_served s) (EndsNone s) (λ level. Ends s level)

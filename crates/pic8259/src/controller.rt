@@ -1,11 +1,12 @@
-//! The interrupt controller of one board.
+//! The controller's registers and the commands that change them. The headings named are those of the Intel
+//! 8259A data sheet.
 ghost use Rattle.std.specs.Prelude.{◌≡◌, ◌<◌, ◌≤◌, is_some, IfSome, length, slice_index_or, take, ◌+◌, ℕ, All, true, false};
 
 use crate::levels::{LevelSet, bit};
 use board_types::line::Line;
 use std::marker::Model;
 
-/// The word that an initialisation sequence waits for.
+/// The word that an initialisation sequence waits for ("Initialization Command Words").
 #[derive(Clone, Copy, Debug, PartialEq, Eq)]
 pub enum Expected {
     Icw2,
@@ -15,7 +16,7 @@ pub enum Expected {
     Operation,
 }
 
-/// An Intel 8259A in 8086 mode, alone on its board.
+/// An Intel 8259A, alone on its board. It takes interrupts in 8086 mode only.
 #[derive(Clone, Copy, Debug)]
 pub struct Pic {
     /// The level with the lowest priority; the one after it has the highest.
@@ -70,8 +71,8 @@ impl Pic {
     ghost use Rattle.pic8259.specs.Levels.{up_to};
     ghost use Rattle.pic8259.specs.Pic.{power_on, is_ready, asks, is_pending, requests, blocks, found, took, acknowledged, vector_of, poll_of, read_of, after_read, with_line, with_icw1, with_icw2, with_icw3, with_icw4, with_ocw1, with_word, ended, lowered, highest_served, with_ocw2, with_ocw3, with_command, written, is_operating, expected_after_icw3};
 
-    /// A controller at power-on: every line low, nothing masked or in service, edge mode, no
-    /// initialisation sequence begun.
+    /// A controller at power-on: every line low, nothing masked or in service, edge mode, no initialisation
+    /// sequence begun.
     #[tactic(auto, unfolding(crate::specs::Levels::order_with_lowest))]
     pub fn new() -> Pic
         ensures { result ≡ power_on }
@@ -98,7 +99,8 @@ impl Pic {
         }
     }
 
-    /// Sets the request line of level `n`, below 8.
+    /// Sets the request line of level `n`, from 0 to 7. A line that goes from low to high has risen, and stays so
+    /// until its level is taken or ICW1 is written ("Edge and Level Triggered Modes").
     #[tactic(auto, unfolding(crate::specs::Pic::with_line))]
     pub fn set_line(&mut self, n: u8, line: Line)
         requires { n < 8 }
@@ -115,8 +117,9 @@ impl Pic {
         }
     }
 
-    /// Reads at address line A0: the answer to a pending poll, the mask at A0 = 1, and else the requests
-    /// or the levels in service.
+    /// Reads at address line A0. A pending poll is answered at either port: it takes a level as an acknowledge does
+    /// and gives 80h plus it, or 0. Else A0 = 1 gives the mask, and A0 = 0 the requests or the levels in service
+    /// ("Poll Command", "Reading the 8259A Status").
     #[tactic(auto, unfolding(crate::specs::Pic::read_of, crate::specs::Pic::after_read))]
     pub fn read(&mut self, a0: bool) -> u8
         ensures value { result ≡ read_of a0 self.old }
@@ -133,7 +136,8 @@ impl Pic {
         }
     }
 
-    /// Writes at address line A0: an initialisation or operation command word.
+    /// Writes at address line A0. At A0 = 0 it is ICW1, OCW2 or OCW3, by its bits 4 and 3; at A0 = 1 the word that
+    /// the initialisation sequence waits for, and else the mask ("Programming the 8259A").
     #[tactic(auto, unfolding(crate::specs::Pic::written, crate::specs::Pic::with_word))]
     pub fn write(&mut self, a0: bool, value: u8)
         ensures { self.new ≡ written a0 value self.old }
@@ -150,15 +154,16 @@ impl Pic {
         }
     }
 
-    /// Whether the interrupt output asks for an acknowledge.
+    /// Whether the interrupt output is high: an acknowledge would take a level.
     pub fn request(&self) -> bool
         ensures { result ≡ is_some (found self.now) }
     {
         self.find_level().is_some()
     }
 
-    /// The processor's interrupt acknowledge: takes the level that has its turn, and answers its vector.
-    /// Where none has, the vector is that of level 7 and nothing changes.
+    /// The processor's interrupt acknowledge: takes the first level in the order of priority that asks, is unmasked
+    /// and isn't blocked, and answers its vector. Where there is none, the vector is that of level 7 and nothing
+    /// changes ("Interrupt Sequence").
     pub fn acknowledge(&mut self) -> u8
         ensures vector { result ≡ vector_of self.old }
         ensures state { self.new ≡ acknowledged self.old }
@@ -170,6 +175,7 @@ impl Pic {
         }
     }
 
+    /// Bits 7 to 3 of each vector.
     fn vector_bits(&self) -> u8
         ensures value { result ≡ self.now.vector }
         ensures bound { result ≤ 248 }
@@ -189,6 +195,7 @@ impl Pic {
         }
     }
 
+    /// Takes the level that has its turn, if one has.
     #[tactic(auto, unfolding(crate::specs::Pic::acknowledged))]
     fn take_level(&mut self) -> Option<u8>
         ensures level { result ≡ found self.old }

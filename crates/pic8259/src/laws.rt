@@ -30,7 +30,8 @@ pub fn special_mask_excepts()
 {
 }
 
-/// A plain end of interrupt ends the first level in the order that is in service and not excepted.
+/// A plain end of interrupt, the word 20h, ends the first level in the order that is in service and not
+/// excepted, and changes nothing where there is none.
 #[tactic(auto, using(crate::proofs::Taking::ends_first_in_service))]
 pub fn ends_first_in_service()
     ensures { EndsFirstInService }
