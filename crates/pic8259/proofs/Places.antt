@@ -1,7 +1,7 @@
 -- Where a list's first element stands that passes a test, and what a count says of it.
-use Rattle.std.proofs.Common.{◌≡◌, ℕ, ◌+◌, ◌<◌, ◌≤◌, ◌==◌, Bool, true, false, not, ◌&&◌, ◌||◌, cond, List, [], ◌∷◌, ◌++◌, length, get_or, take, find, count_by, All, Option, None, Some, refl, sym, ap, ◌∙◌, arith, append-nil, inl, inr}
-use Rattle.std.specs.List.{list_any, before_first, after_first, position_or_len, take_while}
-use Rattle.std.proofs.lemmas.Bool.{cases_Bool, eq-eqb}
+use Rattle.std.proofs.Common.{◌≡◌, ℕ, ◌+◌, ◌<◌, ◌≤◌, Bool, true, false, not, ◌||◌, cond, List, [], ◌∷◌, ◌++◌, length, get_or, take, find, count_by, All, None, Some, refl, sym, ap, ◌∙◌, arith, append-nil, inl, inr}
+use Rattle.std.specs.List.{list_any, before_first, position_or_len}
+use Rattle.std.proofs.lemmas.Bool.{cases_Bool}
 use Rattle.std.proofs.Math.Bool.{or-true}
 use Rattle.std.proofs.lemmas.List.Elements.{All-nil, All-cons, All-head, All-tail, All-from_get_or}
 use Rattle.std.proofs.lemmas.List.Folds.{list_any-append, list_any_at}
@@ -64,10 +64,10 @@ any_here p xs x ys passes =
 pub none_where_any_fails : {X : Type 0} (p : X → Bool) (xs : List X) (d : X) → list_any p xs ≡ false → All (λ x. p x ≡ false) xs
 none_where_any_fails p xs d none =
     All-from_get_or (λ x. p x ≡ false) xs d
-      (λ i within. elim (cases_Bool (p (get_or xs i d))) [
-        | inl passes ↦ let some : list_any p xs ≡ true = list_any_at p xs i d within passes in cc
-        | inr fails ↦ fails
-      ])
+    (λ i within. elim (cases_Bool (p (get_or xs i d))) [
+      | inl passes ↦ let some : list_any p xs ≡ true = list_any_at p xs i d within passes in cc
+      | inr fails ↦ fails
+    ])
 
 pub count_at_place : {X : Type 0} (p : X → Bool) (before : List X) (x : X) (after : List X) → count_by p (before ++ x ∷ after) ≡ count_by p before + (cond (p x) 1 0 + count_by p after)
 count_at_place p before x after =
@@ -84,10 +84,10 @@ counted_here p xs i d within passes =
 pub none_counted : {X : Type 0} (p : X → Bool) (xs : List X) (d : X) → count_by p xs ≡ 0 → All (λ x. p x ≡ false) xs
 none_counted p xs d none =
     All-from_get_or (λ x. p x ≡ false) xs d
-      (λ i within. elim (cases_Bool (p (get_or xs i d))) [
-        | inl passes ↦ let some : 0 < count_by p xs = counted_here p xs i d within passes in absurd (omega arith)
-        | inr fails ↦ fails
-      ])
+    (λ i within. elim (cases_Bool (p (get_or xs i d))) [
+      | inl passes ↦ let some : 0 < count_by p xs = counted_here p xs i d within passes in absurd (omega arith)
+      | inr fails ↦ fails
+    ])
 
 passing_step : {X : Type 0} (p : X → Bool) (x : X) (xs : List X) (b : Bool) → p x ≡ b → 0 < count_by p (x ∷ xs) → (0 < count_by p xs → position_or_len p xs < length xs) → position_or_len p (x ∷ xs) < length (x ∷ xs)
 passing_step p x xs true passes some more =

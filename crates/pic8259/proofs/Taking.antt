@@ -1,16 +1,16 @@
 -- What an acknowledge takes, what blocks it, and what a plain end of interrupt ends.
-use Rattle.std.proofs.Common.{◌≡◌, ◌≢◌, ℕ, ◌+◌, ◌<◌, ◌≤◌, ◌==◌, Bool, true, false, not, ◌&&◌, ◌||◌, cond, if◌then◌else◌, List, [], ◌∷◌, ◌++◌, length, get_or, slice_set, find, count_by, All, Option, MatchOption, None, Some, unwrap_or, refl, sym, ap, ◌∙◌, arith, inl, inr, append_assoc, subst}
+use Rattle.std.proofs.Common.{◌≡◌, ℕ, ◌+◌, ◌%◌, ◌<◌, ◌==◌, Bool, true, false, not, ◌&&◌, cond, if◌then◌else◌, List, [], ◌∷◌, ◌++◌, length, get_or, find, count_by, All, Option, MatchOption, None, Some, unwrap_or, refl, sym, ap, ◌∙◌, arith, inl, inr, append_assoc, subst}
 use Rattle.std.specs.Option.{option_map_or}
 use Rattle.std.specs.List.{list_any, before_first}
-use Rattle.std.proofs.lemmas.Bool.{cases_Bool, cases_lt, eq-eqb, eqb-true, and_parts, not-true}
+use Rattle.std.proofs.lemmas.Bool.{cases_Bool, cases_lt, eq-eqb, and_parts, not-true}
 use Rattle.std.proofs.lemmas.Bool.Decides.{eqb_tells}
 use Rattle.std.proofs.Math.Bool.{and-false}
 use Rattle.std.proofs.lemmas.List.{get_or_past, get_or-set_same, get_or-set_other, length-set}
-use Rattle.std.proofs.lemmas.List.Elements.{All-cons, All-tail, All-same, All-weaker, All-from_get_or, All-push}
-use Rattle.pic8259.specs.Levels.{Levels, contains, without_level, up_to}
-use Rattle.pic8259.specs.Pic.{PicState, is_operating, is_ready, asks, is_pending, blocks, may_be_taken, found, took, acknowledged, vector_of, ended, highest_served, with_ocw2, with_command, written}
-use Rattle.pic8259.specs.Laws.{HoldsEachLevelOnce, IsFirstToTake, Takes, TakesNone, AcknowledgeTakesFirst, ServiceBlocks, IsExcepted, SpecialMaskExcepts, IsFirstInService, Ends, EndsNone, EndsFirstInService}
-use Rattle.pic8259.proofs.Places.{FoundAt, found_at, none_found, before_first_past, before_first_here, any_here, none_where_any_fails, none_counted, counted_here, count_at_place, all_right}
+use Rattle.std.proofs.lemmas.List.Elements.{All-cons, All-tail, All-same, All-weaker, All-from_get_or}
+use Rattle.pic8259.specs.Levels.{has_bit, Levels, contains, without_level, up_to}
+use Rattle.pic8259.specs.Pic.{PicState, is_operating, is_ready, asks, is_pending, blocks, may_be_taken, found, took, acknowledged, ended, highest_served, power_on, with_ocw2, with_ocw3, with_icw1, with_command, written}
+use Rattle.pic8259.specs.Laws.{HoldsEachLevelOnce, IsFirstToTake, Takes, TakesNone, AcknowledgeTakesFirst, ServiceBlocks, SpecialMaskExcepts, Ends, EndsNone, EndsFirstInService, BeginsAnew, WaitsForSequence}
+use Rattle.pic8259.proofs.Places.{found_at, none_found, before_first_past, before_first_here, any_here, none_where_any_fails, none_counted, counted_here, count_at_place, all_right}
 
 -- a level that may not be taken is another than one that may
 other_level : (s : PicState) (level other : ℕ) → may_be_taken s level ≡ true → may_be_taken s other ≡ false → (other == level) ≡ false
@@ -26,12 +26,12 @@ first_to_take s level is =
     let parts = and_parts (is_pending s level) (not (list_any (blocks s) (up_to level s.order))) at.passes in
     let pending = and_parts (asks s level) (not (contains s.masked level)) parts.0 in
     let others : All (λ other. (other == level) ≡ false) at.before =
-      All-weaker (λ other. may_be_taken s other ≡ false) (λ other. (other == level) ≡ false) (λ other. other_level s level other at.passes) at.before at.none_before in
+    All-weaker (λ other. may_be_taken s other ≡ false) (λ other. (other == level) ≡ false) (λ other. other_level s level other at.passes) at.before at.none_before in
     let reach : up_to level s.order ≡ at.before ++ level ∷ [] =
-      ap (λ xs. up_to level xs) at.placed
-      ∙ ap (λ xs. xs ++ level ∷ []) (before_first_here (λ other. other == level) at.before level at.after others (eq-eqb level level refl)) in
+    ap (λ xs. up_to level xs) at.placed
+    ∙ ap (λ xs. xs ++ level ∷ []) (before_first_here (λ other. other == level) at.before level at.after others (eq-eqb level level refl)) in
     let unblocked : list_any (blocks s) (at.before ++ level ∷ []) ≡ false =
-      ap (list_any (blocks s)) (sym reach) ∙ not-true _ parts.1 in
+    ap (list_any (blocks s)) (sym reach) ∙ not-true _ parts.1 in
     record {
       before = at.before;
       after = at.after;
@@ -46,6 +46,10 @@ some_found : (b : Bool) (p : ℕ → Bool) (order : List ℕ) (level : ℕ) → 
 some_found true p order level is = is
 some_found false p order level is = absurd (cc)
 
+some_ready : (b : Bool) (p : ℕ → Bool) (order : List ℕ) (level : ℕ) → (if b then find p order else None) ≡ Some level → b ≡ true
+some_ready true p order level is = refl
+some_ready false p order level is = absurd (cc)
+
 none_ready : (b : Bool) (p : ℕ → Bool) (order : List ℕ) → (if b then find p order else None) ≡ None → b ≡ true → find p order ≡ None
 none_ready true p order is ready = is
 none_ready false p order is ready = absurd (cc)
@@ -58,6 +62,7 @@ taking s None is = record {
   state = ap (λ o. option_map_or (λ level. took level s) o s) is;
 }
 taking s (Some level) is = record {
+  ready = some_ready (is_ready s) (may_be_taken s) s.order level is;
   first = first_to_take s level (some_found (is_ready s) (may_be_taken s) s.order level is);
   vector = ap (λ o. s.vector + unwrap_or o 7) is;
   state = ap (λ o. option_map_or (λ level. took level s) o s) is;
@@ -78,34 +83,34 @@ blocked_after s level other before after whole placed here within later =
     let p : ℕ → Bool = λ n. n == other in
     let once : count_by p s.order ≡ 1 = whole.once other within in
     let counts : count_by p s.order ≡ count_by p before + (cond (p level) 1 0 + count_by p after) =
-      ap (count_by p) placed ∙ count_at_place p before level after in
+    ap (count_by p) placed ∙ count_at_place p before level after in
     let none : count_by p before ≡ 0 = omega arith in
     let fails : All (λ n. p n ≡ false) before = none_counted p before 0 none in
     let differs : p level ≡ false =
-      elim (cases_Bool (p level)) [
-        | inl same ↦
-            let one : cond {A = ℕ} (p level) 1 0 ≡ 1 = ap (λ b. cond b 1 0) same in absurd (omega arith)
-        | inr differ ↦ differ
-      ]
+    elim (cases_Bool (p level)) [
+      | inl same ↦
+          let one : cond {A = ℕ} (p level) 1 0 ≡ 1 = ap (λ b. cond b 1 0) same in absurd (omega arith)
+      | inr differ ↦ differ
+    ]
     in
     let reach : up_to other s.order ≡ before ++ level ∷ (before_first p after ++ other ∷ []) =
-      ap (λ xs. before_first p xs ++ other ∷ []) placed
-      ∙ ap (λ xs. xs ++ other ∷ []) (before_first_past p before (level ∷ after) fails ∙ ap (λ xs. before ++ xs) (before_first_past p (level ∷ []) after (All-cons (λ n. p n ≡ false) level [] differs (none_counted p [] 0 refl))))
-      ∙ append_assoc before (level ∷ before_first p after) (other ∷ []) in
+    ap (λ xs. before_first p xs ++ other ∷ []) placed
+    ∙ ap (λ xs. xs ++ other ∷ []) (before_first_past p before (level ∷ after) fails ∙ ap (λ xs. before ++ xs) (before_first_past p (level ∷ []) after (All-cons (λ n. p n ≡ false) level [] differs (none_counted p [] 0 refl))))
+    ∙ append_assoc before (level ∷ before_first p after) (other ∷ []) in
     blocked s level other before (before_first p after ++ other ∷ []) here reach
 
 pub service_blocks : ServiceBlocks
 service_blocks s level before after whole placed served unexcepted =
     let here : blocks s level ≡ true =
-      ap (λ b. b && not (s.special_mask && contains s.masked level)) served ∙ ap (λ b. not b) unexcepted in
+    ap (λ b. b && not (s.special_mask && contains s.masked level)) served ∙ ap (λ b. not b) unexcepted in
     let P : ℕ → Type 0 = λ other. may_be_taken s other ≡ false in
     let itself : P level = blocked s level level (before_first (λ other. other == level) s.order) [] here refl in
     let levels : All (λ n. n < 8) (before ++ level ∷ after) = All-same (λ n. n < 8) _ s.order (sym placed) whole.only in
     let rest : All (λ n. n < 8) after = All-tail (λ n. n < 8) level after (all_right (λ n. n < 8) before (level ∷ after) levels) in
     let later : All P after =
-      All-from_get_or P after 0
-        (λ i within. blocked_after s level (get_or after i 0) before after whole placed here (rest i 0 within)
-          (counted_here (λ n. n == get_or after i 0) after i 0 within (eq-eqb _ _ refl))) in
+    All-from_get_or P after 0
+    (λ i within. blocked_after s level (get_or after i 0) before after whole placed here (rest i 0 within)
+    (counted_here (λ n. n == get_or after i 0) after i 0 within (eq-eqb _ _ refl))) in
     All-cons P level after itself later
 
 -- a level that has gone out of a set isn't in it, and the others are as before
@@ -131,7 +136,7 @@ blocks_as_ended s level special masked other =
     elim (eqb_tells other level) [
       | inl same ↦
           let is : blocks s level ≡ (contains (without_level s.served level) level && free level) =
-            excepted_blocks s level special masked ∙ sym (ap (λ b. b && free level) (gone s.served level)) in
+          excepted_blocks s level special masked ∙ sym (ap (λ b. b && free level) (gone s.served level)) in
           subst (λ (n : ℕ). blocks s n ≡ (contains (without_level s.served level) n && free n)) (sym same.1) is
       | inr differ ↦ ap (λ b. b && free other) (sym (get_or-set_other s.served level other false false differ.1))
     ]
@@ -143,9 +148,9 @@ special_mask_excepts s level special masked =
     record {
       others = λ other. λ i. is_pending s other && not (list_any (λ n. same n i) (up_to other s.order));
       kept = λ is.
-        let at = found_at (blocks s) s.order level is in
-        let never = excepted_blocks s level special masked in
-        let passes = at.passes in cc;
+          let at = found_at (blocks s) s.order level is in
+          let never = excepted_blocks s level special masked in
+          let passes = at.passes in cc;
     }
 
 plain_end : (s : PicState) (o : Option ℕ) → highest_served s ≡ o → is_operating s.expected ≡ true → written false 0x20 s ≡ option_map_or (λ highest. ended highest s) o s
@@ -174,3 +179,23 @@ ending s (Some level) is operating =
 
 pub ends_first_in_service : EndsFirstInService
 ends_first_in_service s operating = ending s (highest_served s) refl operating
+
+pub begins_anew : BeginsAnew
+unfolding written with_command with_icw1
+begins_anew s value begins =
+    let t : PicState = record power_on { high = s.high; vector = s.vector; slaves = s.slaves } in
+    let heard : (u : PicState) → written false value u ≡ with_icw1 value u =
+    λ u. ap (λ b. if b then with_icw1 value u else if not (is_operating u.expected) then u else if has_bit value 3 then with_ocw3 value u else with_ocw2 (has_bit value 7) (has_bit value 6) (has_bit value 5) (value % 8) u) begins in
+    heard s ∙ sym (heard t)
+
+pub waits_for_sequence : WaitsForSequence
+unfolding found written with_command
+waits_for_sequence s = (
+  (λ waits. record {
+    none = ap (λ b. if b && s.is_8086 then find (may_be_taken s) s.order else None) waits;
+    unheard = λ value later.
+        ap (λ b. if b then with_icw1 value s else if not (is_operating s.expected) then s else if has_bit value 3 then with_ocw3 value s else with_ocw2 (has_bit value 7) (has_bit value 6) (has_bit value 5) (value % 8) s) later
+        ∙ ap (λ b. if not b then s else if has_bit value 3 then with_ocw3 value s else with_ocw2 (has_bit value 7) (has_bit value 6) (has_bit value 5) (value % 8) s) waits;
+  }),
+  (λ other. ap (λ b. if is_operating s.expected && b then find (may_be_taken s) s.order else None) other ∙ ap (λ b. if b then find (may_be_taken s) s.order else None) (and-false (is_operating s.expected))),
+)

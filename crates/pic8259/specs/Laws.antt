@@ -1,8 +1,8 @@
 -- What holds of the controller whatever happens to it, in the words of the Intel 8259A data sheet.
-use Rattle.std.specs.Prelude.{◌≡◌, ◌≢◌, ℕ, ◌+◌, ◌<◌, ◌==◌, Bool, true, false, ◌&&◌, List, [], ◌∷◌, ◌++◌, length, count_by, All, Option, MatchOption, Some}
+use Rattle.std.specs.Prelude.{◌≡◌, ◌≢◌, ℕ, ◌+◌, ◌<◌, ◌==◌, Bool, true, false, ◌&&◌, List, [], ◌∷◌, ◌++◌, count_by, All, MatchOption, None, Some}
 use Rattle.board_types.specs.declared.line.Line.{Line}
-use Rattle.pic8259.specs.Levels.{contains}
-use Rattle.pic8259.specs.Pic.{PicState, power_on, is_operating, is_ready, asks, blocks, may_be_taken, found, took, acknowledged, vector_of, after_read, with_line, written, ended, highest_served}
+use Rattle.pic8259.specs.Levels.{contains, has_bit, order_with_lowest}
+use Rattle.pic8259.specs.Pic.{PicState, power_on, is_operating, is_ready, asks, blocks, may_be_taken, found, took, acknowledged, vector_of, after_read, with_line, written, ended, lowered, highest_served}
 
 -- what can happen to a controller: a line changes, it is read or written, or an acknowledge comes
 pub data Event : Type 0 where
@@ -27,9 +27,40 @@ pub record HoldsEachLevelOnce (order : List ℕ) : Type 0 where
   pub only : All (λ level. level < 8) order
   pub once : (level : ℕ) → level < 8 → count_by (λ other. other == level) order ≡ 1
 
--- "Priority Resolver": at any time each level has one place in the order of priority
+-- the levels by number, turned until some level is the last
+pub record IsTurn (order : List ℕ) : Type 0 where
+  pub lowest : ℕ
+  pub within : lowest < 8
+  pub is : order ≡ order_with_lowest lowest
+
+pub record IsWhole (order : List ℕ) : Type 0 where
+  pub turn : IsTurn order
+  pub whole : HoldsEachLevelOnce order
+
+-- "Priority Resolver", "Automatic Rotation", "Specific Rotation": at any time each level has one place in the order of
+-- priority, which is a turn of the circle of levels
 abbrev pub OrderIsWhole : Type 0
-OrderIsWhole = (events : List Event) → HoldsEachLevelOnce (state_after events).order
+OrderIsWhole = (events : List Event) → IsWhole (state_after events).order
+
+-- a level that is made the lowest is the last of the circle
+abbrev pub RotationTurns : Type 0
+RotationTurns =
+    (s : PicState) (level : ℕ) → IsTurn s.order → level < 8 → (lowered level s).order ≡ order_with_lowest level
+
+-- "Initialization Command Words 1 and 2": ICW1 begins anew, from power-on but for the lines, the vector's bits and ICW3
+abbrev pub BeginsAnew : Type 0
+BeginsAnew =
+    (s : PicState) (value : ℕ) → has_bit value 4 ≡ true
+    → written false value s ≡ written false value (record power_on { high = s.high; vector = s.vector; slaves = s.slaves })
+
+-- nothing is taken before 8086 mode has been chosen, nor in mid-sequence, where no operation word is heard at A0 = 0
+pub record IsDeafInSequence (s : PicState) : Type 0 where
+  pub none : found s ≡ None
+  pub unheard : (value : ℕ) → has_bit value 4 ≡ false → written false value s ≡ s
+
+abbrev pub WaitsForSequence : Type 0
+WaitsForSequence =
+    (s : PicState) → (is_operating s.expected ≡ false → IsDeafInSequence s) × (s.is_8086 ≡ false → found s ≡ None)
 
 -- the level asks, is unmasked, nothing that blocks stands at or before its place, and none before it may be taken
 pub record IsFirstToTake (s : PicState) (level : ℕ) : Type 0 where
@@ -43,6 +74,7 @@ pub record IsFirstToTake (s : PicState) (level : ℕ) : Type 0 where
 
 -- an acknowledge takes this level and answers its vector
 pub record Takes (s : PicState) (level : ℕ) : Type 0 where
+  pub ready : is_ready s ≡ true
   pub first : IsFirstToTake s level
   pub vector : vector_of s ≡ s.vector + level
   pub state : acknowledged s ≡ took level s

@@ -1,9 +1,7 @@
 -- The eight interrupt levels, IR0 to IR7: sets of them, and the list that gives their priority
 -- (Intel 8259A data sheet, "Interrupt Request Register (IRR) and In-Service Register (ISR)", "Priority Resolver").
-use Rattle.std.specs.Prelude.{ℕ, ◌+◌, ◌*◌, ◌/◌, ◌%◌, ◌^◌, ◌==◌, ◌≡◌, ◌<◌, Bool, true, false, ◌&&◌, if◌then◌else◌, List, [], ◌∷◌, ◌++◌, map, sum_by, slice_index, slice_index_or, slice_set}
+use Rattle.std.specs.Prelude.{ℕ, ◌+◌, ◌/◌, ◌%◌, ◌^◌, ◌==◌, Bool, true, false, if◌then◌else◌, List, [], ◌∷◌, ◌++◌, map, sum_by, slice_index_or, slice_set}
 use Rattle.std.specs.List.{before_first, after_first}
-use Rattle.std.proofs.Common.{arith, ap, ◌∙◌, sym, inl, inr}
-use Rattle.std.proofs.lemmas.Bool.Decides.{eqb_tells}
 
 -- the levels by number: after initialisation IR0 has the highest priority and IR7 the lowest
 abbrev pub all_levels : List ℕ
@@ -36,10 +34,6 @@ byte_of set = sum_by (λ level. if contains set level then 2 ^ level else 0) all
 abbrev pub levels_of : ℕ → Levels
 levels_of byte = map (has_bit byte) all_levels
 
--- the levels that are in both sets
-abbrev pub in_both : Levels → Levels → Levels
-in_both a b = map (λ level. contains a level && contains b level) all_levels
-
 -- the levels of the list up to this one, itself among them
 abbrev pub up_to : ℕ → List ℕ → List ℕ
 up_to level order = before_first (λ other. other == level) order ++ level ∷ []
@@ -52,35 +46,3 @@ made_lowest level order =
 -- the list that has this level as its last: the numbers rise from the one after it, and 0 follows 7
 unfoldable pub order_with_lowest : ℕ → List ℕ
 order_with_lowest lowest = map (λ steps. (lowest + steps) % 8) (1 ∷ 2 ∷ 3 ∷ 4 ∷ 5 ∷ 6 ∷ 7 ∷ 8 ∷ [])
-
-pub last-order_with_lowest : (lowest : ℕ) → lowest < 8 → slice_index (order_with_lowest lowest) 7 ≡ lowest
-unfolding order_with_lowest
-last-order_with_lowest lowest within = omega arith
-
-bit_weight : (weight b : ℕ) → b < 2 → (if b == 1 then weight else 0) ≡ b * weight
-bit_weight weight b small =
-    elim (eqb_tells b 1) [
-      | inl one ↦ ap (λ c. if c then weight else 0) one.0 ∙ rw one.1 (omega arith)
-      | inr other ↦ let none : b ≡ 0 = omega arith in ap (λ c. if c then weight else 0) other.0 ∙ rw none (omega arith)
-    ]
-
--- a byte is the sum of its bits
-pub byte_of-levels_of : (byte : ℕ) → byte < 256 → byte_of (levels_of byte) ≡ byte
-byte_of-levels_of byte within =
-    let h0 : byte ≡ 2 * (byte / 2) + byte % 2 = omega arith in
-    let h1 : byte / 2 ≡ 2 * (byte / 4) + byte / 2 % 2 = omega arith in
-    let h2 : byte / 4 ≡ 2 * (byte / 8) + byte / 4 % 2 = omega arith in
-    let h3 : byte / 8 ≡ 2 * (byte / 16) + byte / 8 % 2 = omega arith in
-    let h4 : byte / 16 ≡ 2 * (byte / 32) + byte / 16 % 2 = omega arith in
-    let h5 : byte / 32 ≡ 2 * (byte / 64) + byte / 32 % 2 = omega arith in
-    let h6 : byte / 64 ≡ 2 * (byte / 128) + byte / 64 % 2 = omega arith in
-    let h7 : byte / 128 ≡ byte / 128 % 2 = omega arith in
-    let w0 = bit_weight 1 (byte / 1 % 2) (omega arith) in
-    let w1 = bit_weight 2 (byte / 2 % 2) (omega arith) in
-    let w2 = bit_weight 4 (byte / 4 % 2) (omega arith) in
-    let w3 = bit_weight 8 (byte / 8 % 2) (omega arith) in
-    let w4 = bit_weight 16 (byte / 16 % 2) (omega arith) in
-    let w5 = bit_weight 32 (byte / 32 % 2) (omega arith) in
-    let w6 = bit_weight 64 (byte / 64 % 2) (omega arith) in
-    let w7 = bit_weight 128 (byte / 128 % 2) (omega arith) in
-    omega arith

@@ -1,3 +1,4 @@
 pub mod Levels
+pub mod Masks
 pub mod Pic
 pub mod Laws

@@ -1,6 +1,6 @@
 -- The interrupt controller: what it remembers, and how each command and each acknowledge changes that.
 -- The headings named are those of the Intel 8259A data sheet.
-use Rattle.std.specs.Prelude.{ℕ, ◌+◌, ◌*◌, ◌/◌, ◌%◌, Bool, true, false, not, ◌&&◌, ◌||◌, if◌then◌else◌, List, map, find, Option, None, Some, is_some, unwrap_or}
+use Rattle.std.specs.Prelude.{ℕ, ◌+◌, ◌*◌, ◌/◌, ◌%◌, Bool, true, false, not, ◌&&◌, ◌||◌, if◌then◌else◌, List, map, find, Option, None, unwrap_or}
 use Rattle.std.specs.Option.{option_map_or}
 use Rattle.std.specs.List.{list_any}
 use Rattle.board_types.specs.declared.line.Line.{Line}
@@ -22,12 +22,15 @@ pub record PicState : Type 0 where
   pub served : Levels
   -- the word that the newest initialisation sequence waits for, or none
   pub expected : Expected
-  -- what its words have asked: ICW1 bits 1 (clear), 0 and 3, ICW2 bits 7 to 3, ICW3, ICW4 bits 0, 1 and 4
+  -- ICW1: not single, its bit 1 clear (SNGL); ICW4 follows, bit 0 (IC4); level mode, bit 3 (LTIM)
   pub is_cascaded : Bool
   pub asks_icw4 : Bool
   pub is_level_triggered : Bool
+  -- ICW2: the vector of level 0 (T7 to T3)
   pub vector : ℕ
+  -- ICW3: the levels that have a slave
   pub slaves : ℕ
+  -- ICW4: 8086 mode, its bit 0; automatic end of interrupt, bit 1 (AEOI); special fully nested mode, bit 4 (SFNM)
   pub is_8086 : Bool
   pub auto_end : Bool
   pub is_specially_nested : Bool
@@ -42,10 +45,25 @@ pub record PicState : Type 0 where
 -- power-on, this board's choice: no sequence has been written; edge mode, nothing masked
 abbrev pub power_on : PicState
 power_on = record {
-  order = all_levels; high = no_levels; risen = no_levels; masked = no_levels; served = no_levels;
-  expected = Operation; is_cascaded = false; asks_icw4 = false; is_level_triggered = false; vector = 0; slaves = 0;
-  is_8086 = false; auto_end = false; is_specially_nested = false; rotates = false; special_mask = false;
-  polled = false; reads_served = false }
+  order = all_levels;
+  high = no_levels;
+  risen = no_levels;
+  masked = no_levels;
+  served = no_levels;
+  expected = Operation;
+  is_cascaded = false;
+  asks_icw4 = false;
+  is_level_triggered = false;
+  vector = 0;
+  slaves = 0;
+  is_8086 = false;
+  auto_end = false;
+  is_specially_nested = false;
+  rotates = false;
+  special_mask = false;
+  polled = false;
+  reads_served = false;
+}
 
 abbrev pub is_operating : Expected → Bool
 is_operating Icw2 = false
@@ -87,8 +105,10 @@ unfoldable pub took : ℕ → PicState → PicState
 took level s = record s {
   risen = without_level s.risen level;
   served = if s.auto_end then s.served else with_level s.served level;
-  order = if s.auto_end && s.rotates then made_lowest level s.order else s.order }
+  order = if s.auto_end && s.rotates then made_lowest level s.order else s.order;
+}
 
+-- an acknowledge or a poll takes the level that it finds; a pending poll stays pending (this board's choice)
 unfoldable pub acknowledged : PicState → PicState
 acknowledged s = option_map_or (λ level. took level s) (found s) s
 
@@ -101,7 +121,7 @@ abbrev pub poll_of : PicState → ℕ
 poll_of s = option_map_or (λ level. 0x80 + level) (found s) 0
 
 -- "Reading the 8259A Status": a pending poll is answered at either port (this board's choice); else A0 = 1 reads the
--- mask, and A0 = 0 the register that was chosen
+-- mask, in mid-sequence too (this board's choice), and A0 = 0 the register that was chosen
 unfoldable pub read_of : Bool → PicState → ℕ
 read_of a0 s =
     if s.polled then poll_of s
@@ -118,18 +138,34 @@ unfoldable pub with_line : ℕ → Line → PicState → PicState
 with_line level Low s = record s { high = without_level s.high level }
 with_line level High s = record s {
   high = with_level s.high level;
-  risen = if contains s.high level then s.risen else with_level s.risen level }
+  risen = if contains s.high level then s.risen else with_level s.risen level;
+}
 
 -- "Initialization Command Words 1 and 2": ICW1 begins a sequence. That it also clears the levels in service, a pending
 -- poll and rotation under automatic end of interrupt is this board's choice
 unfoldable pub with_icw1 : ℕ → PicState → PicState
 with_icw1 value s = record {
-  order = all_levels; high = s.high; risen = no_levels; masked = no_levels; served = no_levels;
-  expected = Icw2; is_cascaded = not (has_bit value 1); asks_icw4 = has_bit value 0;
-  is_level_triggered = has_bit value 3; vector = s.vector; slaves = s.slaves;
-  is_8086 = false; auto_end = false; is_specially_nested = false; rotates = false; special_mask = false;
-  polled = false; reads_served = false }
+  order = all_levels;
+  high = s.high;
+  risen = no_levels;
+  masked = no_levels;
+  served = no_levels;
+  expected = Icw2;
+  is_cascaded = not (has_bit value 1);
+  asks_icw4 = has_bit value 0;
+  is_level_triggered = has_bit value 3;
+  vector = s.vector;
+  slaves = s.slaves;
+  is_8086 = false;
+  auto_end = false;
+  is_specially_nested = false;
+  rotates = false;
+  special_mask = false;
+  polled = false;
+  reads_served = false;
+}
 
+-- the word that follows
 abbrev pub expected_after_icw3 : PicState → Expected
 expected_after_icw3 s = if s.asks_icw4 then Icw4 else Operation
 
@@ -140,14 +176,18 @@ expected_after_icw2 s = if s.is_cascaded then Icw3 else expected_after_icw3 s
 unfoldable pub with_icw2 : ℕ → PicState → PicState
 with_icw2 value s = record s { vector = 8 * (value / 8); expected = expected_after_icw2 s }
 
--- "Initialization Command Word 3 (ICW3)": no slave hangs on this board, so it is kept without effect
+-- "Initialization Command Word 3 (ICW3)": no slave hangs on this board, so it is kept without effect (this board's choice)
 unfoldable pub with_icw3 : ℕ → PicState → PicState
 with_icw3 value s = record s { slaves = value; expected = expected_after_icw3 s }
 
--- "Initialization Command Word 4 (ICW4)": special fully nested mode is kept without effect
+-- "Initialization Command Word 4 (ICW4)": special fully nested mode is kept without effect (this board's choice)
 unfoldable pub with_icw4 : ℕ → PicState → PicState
 with_icw4 value s = record s {
-  is_8086 = has_bit value 0; auto_end = has_bit value 1; is_specially_nested = has_bit value 4; expected = Operation }
+  is_8086 = has_bit value 0;
+  auto_end = has_bit value 1;
+  is_specially_nested = has_bit value 4;
+  expected = Operation;
+}
 
 -- "Operation Control Word 1 (OCW1)": the mask
 unfoldable pub with_ocw1 : ℕ → PicState → PicState
@@ -172,7 +212,8 @@ lowered level s = record s { order = made_lowest level s.order }
 unfoldable pub highest_served : PicState → Option ℕ
 highest_served s = find (blocks s) s.order
 
--- "Operation Control Word 2 (OCW2)", by its bits R, SL and EOI, and the level in its bits 2 to 0
+-- "Operation Control Word 2 (OCW2)", by its bits R, SL and EOI, and the level in its bits 2 to 0. That R, SL and EOI
+-- together make the level the lowest even where it wasn't in service is this board's choice
 unfoldable pub with_ocw2 : Bool → Bool → Bool → ℕ → PicState → PicState
 with_ocw2 false false true level s = option_map_or (λ highest. ended highest s) (highest_served s) s
 with_ocw2 false true true level s = ended level s
@@ -183,12 +224,14 @@ with_ocw2 false false false level s = record s { rotates = false }
 with_ocw2 true true false level s = lowered level s
 with_ocw2 false true false level s = s
 
--- "Operation Control Word 3 (OCW3)": ESMM and SMM, RR and RIS, and P, which without its bit withdraws a poll
+-- "Operation Control Word 3 (OCW3)": ESMM and SMM, RR and RIS, and P; each such word without P
+-- withdraws a poll (this board's choice)
 unfoldable pub with_ocw3 : ℕ → PicState → PicState
 with_ocw3 value s = record s {
   special_mask = if has_bit value 6 then has_bit value 5 else s.special_mask;
   reads_served = if has_bit value 1 then has_bit value 0 else s.reads_served;
-  polled = has_bit value 2 }
+  polled = has_bit value 2;
+}
 
 -- A0 = 0: bit 4 makes it ICW1, which is heard at any time. In mid-sequence an operation word is ignored (this board's
 -- choice); else bit 3 tells OCW3 from OCW2
@@ -199,5 +242,6 @@ with_command value s =
     else if has_bit value 3 then with_ocw3 value s
     else with_ocw2 (has_bit value 7) (has_bit value 6) (has_bit value 5) (value % 8) s
 
+-- a write at either port
 unfoldable pub written : Bool → ℕ → PicState → PicState
 written a0 value s = if a0 then with_word s.expected value s else with_command value s

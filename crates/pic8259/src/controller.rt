@@ -43,26 +43,55 @@ pub struct Pic {
 impl Model for Pic {
     ghost use Rattle.std.specs.Prelude.{◌≤◌, ◌<◌, slice_index};
     ghost use Rattle.std.proofs.Common.{ap};
-    ghost use Rattle.pic8259.specs.Levels.{order_with_lowest, last-order_with_lowest};
+    ghost use Rattle.pic8259.specs.Levels.{order_with_lowest};
+    ghost use Rattle.pic8259.specs.Masks.{last-order_with_lowest};
     ghost use Rattle.pic8259.specs.Pic.{PicState};
 
     ghost Value = { PicState };
 
     ghost view = { λ a. record {
-        order = order_with_lowest a.lowest; high = a.high; risen = a.risen; masked = a.masked; served = a.served;
-        expected = a.expected; is_cascaded = a.is_cascaded; asks_icw4 = a.asks_icw4;
-        is_level_triggered = a.is_level_triggered; vector = a.vector; slaves = a.slaves; is_8086 = a.is_8086;
-        auto_end = a.auto_end; is_specially_nested = a.is_specially_nested; rotates = a.rotates;
-        special_mask = a.special_mask; polled = a.polled; reads_served = a.reads_served } };
+      order = order_with_lowest a.lowest;
+      high = a.high;
+      risen = a.risen;
+      masked = a.masked;
+      served = a.served;
+      expected = a.expected;
+      is_cascaded = a.is_cascaded;
+      asks_icw4 = a.asks_icw4;
+      is_level_triggered = a.is_level_triggered;
+      vector = a.vector;
+      slaves = a.slaves;
+      is_8086 = a.is_8086;
+      auto_end = a.auto_end;
+      is_specially_nested = a.is_specially_nested;
+      rotates = a.rotates;
+      special_mask = a.special_mask;
+      polled = a.polled;
+      reads_served = a.reads_served;
+    } };
 
     ghost invariant = { λ a. (a.lowest < 8) × (a.vector ≤ 248) };
 
     ghost inverse = { λ s. record {
-        lowest = slice_index s.order 7; high = s.high; risen = s.risen; masked = s.masked; served = s.served;
-        expected = s.expected; is_cascaded = s.is_cascaded; asks_icw4 = s.asks_icw4;
-        is_level_triggered = s.is_level_triggered; vector = s.vector; slaves = s.slaves; is_8086 = s.is_8086;
-        auto_end = s.auto_end; is_specially_nested = s.is_specially_nested; rotates = s.rotates;
-        special_mask = s.special_mask; polled = s.polled; reads_served = s.reads_served } };
+      lowest = slice_index s.order 7;
+      high = s.high;
+      risen = s.risen;
+      masked = s.masked;
+      served = s.served;
+      expected = s.expected;
+      is_cascaded = s.is_cascaded;
+      asks_icw4 = s.asks_icw4;
+      is_level_triggered = s.is_level_triggered;
+      vector = s.vector;
+      slaves = s.slaves;
+      is_8086 = s.is_8086;
+      auto_end = s.auto_end;
+      is_specially_nested = s.is_specially_nested;
+      rotates = s.rotates;
+      special_mask = s.special_mask;
+      polled = s.polled;
+      reads_served = s.reads_served;
+    } };
 
     ghost inverse_ok = { λ a h. ap (λ n. record a { lowest = n }) (last-order_with_lowest a.lowest h.0) };
 }
@@ -369,7 +398,11 @@ impl Pic {
     fn expected_after_icw3(&self) -> Expected
         ensures { result ≡ expected_after_icw3 self.now }
     {
-        if self.asks_icw4 { Expected::Icw4 } else { Expected::Operation }
+        if self.asks_icw4 {
+            Expected::Icw4
+        } else {
+            Expected::Operation
+        }
     }
 
     #[tactic(auto, unfolding(crate::specs::Pic::with_icw4))]
@@ -452,121 +485,4 @@ impl Pic {
 }
 
 #[cfg(test)]
-mod tests {
-    use super::*;
-
-    /// A single controller after ICW1 13h, with these ICW2 and ICW4.
-    fn initialised(vector: u8, mode: u8) -> Pic {
-        let mut pic = Pic::new();
-        pic.write(false, 0x13);
-        pic.write(true, vector);
-        pic.write(true, mode);
-        pic
-    }
-
-    fn rise(pic: &mut Pic, n: u8)
-        requires { n < 8 }
-    {
-        pic.set_line(n, Line::Low);
-        pic.set_line(n, Line::High);
-    }
-
-    /// The levels in service, as OCW3 0Bh and a read give them.
-    fn in_service(pic: &mut Pic) -> u8 {
-        pic.write(false, 0x0B);
-        pic.read(false)
-    }
-
-    #[test]
-    fn a_plain_end_of_interrupt_ends_the_first_in_priority_order(rt: HostRuntime) {
-        let mut pic = initialised(0x08, 0x01);
-        rise(&mut pic, 2);
-        assert_eq!(rt; pic.acknowledge(), 0x0A);
-        pic.write(false, 0xC3);
-        rise(&mut pic, 5);
-        assert_eq!(rt; pic.acknowledge(), 0x0D);
-        pic.write(false, 0x20);
-        assert_eq!(rt; in_service(&mut pic), 0x04);
-    }
-
-    #[test]
-    fn automatic_end_of_interrupt_rotates(rt: HostRuntime) {
-        let mut pic = initialised(0x08, 0x03);
-        pic.write(false, 0x80);
-        rise(&mut pic, 0);
-        rise(&mut pic, 1);
-        assert_eq!(rt; pic.acknowledge(), 0x08);
-        assert_eq!(rt; pic.acknowledge(), 0x09);
-        rise(&mut pic, 0);
-        rise(&mut pic, 1);
-        assert_eq!(rt; pic.acknowledge(), 0x08);
-        pic.write(false, 0x0C);
-        assert_eq!(rt; pic.read(false), 0x81);
-        assert_eq!(rt; pic.read(false), 0x00);
-    }
-
-    #[test]
-    fn special_mask_lets_a_lower_level_through(rt: HostRuntime) {
-        let mut pic = initialised(0x08, 0x01);
-        rise(&mut pic, 1);
-        assert_eq!(rt; pic.acknowledge(), 0x09);
-        rise(&mut pic, 4);
-        assert!(rt; !pic.request());
-        pic.write(true, 0x02);
-        pic.write(false, 0x68);
-        assert!(rt; pic.request());
-        assert_eq!(rt; pic.acknowledge(), 0x0C);
-        pic.write(false, 0x20);
-        assert_eq!(rt; in_service(&mut pic), 0x02);
-        assert_eq!(rt; pic.read(true), 0x02);
-    }
-
-    #[test]
-    fn a_request_that_has_gone_answers_level_7(rt: HostRuntime) {
-        let mut pic = initialised(0x08, 0x01);
-        rise(&mut pic, 3);
-        pic.set_line(3, Line::Low);
-        assert!(rt; !pic.request());
-        assert_eq!(rt; pic.acknowledge(), 0x0F);
-        assert_eq!(rt; in_service(&mut pic), 0x00);
-    }
-
-    /// The data sheet's example of automatic rotation: IR6 and IR4 are in service, IR4 is ended by a rotating
-    /// command, and then IR5 has the highest priority and IR4 the lowest.
-    #[test]
-    fn the_data_sheets_rotation(rt: HostRuntime) {
-        let mut pic = initialised(0x20, 0x01);
-        rise(&mut pic, 6);
-        assert_eq!(rt; pic.acknowledge(), 0x26);
-        rise(&mut pic, 4);
-        assert_eq!(rt; pic.acknowledge(), 0x24);
-        assert_eq!(rt; in_service(&mut pic), 0x50);
-        pic.write(false, 0xA0);
-        assert_eq!(rt; in_service(&mut pic), 0x40);
-        rise(&mut pic, 4);
-        rise(&mut pic, 7);
-        assert!(rt; !pic.request());
-        rise(&mut pic, 5);
-        assert_eq!(rt; pic.acknowledge(), 0x25);
-    }
-
-    /// Four words in cascade mode, with level triggering: a line that stays high asks again once its level is ended.
-    #[test]
-    fn a_level_asks_as_long_as_it_is_high(rt: HostRuntime) {
-        let mut pic = Pic::new();
-        pic.set_line(2, Line::High);
-        pic.write(false, 0x19);
-        pic.write(true, 0x47);
-        assert!(rt; !pic.request());
-        pic.write(true, 0x04);
-        pic.write(true, 0x01);
-        assert_eq!(rt; pic.acknowledge(), 0x42);
-        assert!(rt; !pic.request());
-        pic.write(false, 0x62);
-        assert_eq!(rt; pic.acknowledge(), 0x42);
-        pic.write(true, 0xFF);
-        assert_eq!(rt; pic.read(true), 0xFF);
-        pic.write(false, 0x0A);
-        assert_eq!(rt; pic.read(false), 0x04);
-    }
-}
+mod tests;

@@ -1,6 +1,7 @@
 //! A set of interrupt levels.
 ghost use Rattle.std.specs.Prelude.{◌≡◌, ◌<◌};
-ghost use Rattle.pic8259.specs.Levels.{contains, with_level, without_level, in_both, byte_of, levels_of, has_bit};
+ghost use Rattle.pic8259.specs.Levels.{contains, with_level, without_level, byte_of, levels_of, has_bit};
+ghost use Rattle.pic8259.specs.Masks.{in_both};
 
 use std::marker::Model;
 
@@ -13,7 +14,8 @@ pub struct LevelSet {
 
 impl Model for LevelSet {
     ghost use Rattle.std.specs.Prelude.{◌<◌};
-    ghost use Rattle.pic8259.specs.Levels.{Levels, levels_of, byte_of, byte_of-levels_of};
+    ghost use Rattle.pic8259.specs.Levels.{Levels, levels_of, byte_of};
+    ghost use Rattle.pic8259.specs.Masks.{byte_of-levels_of};
     ghost use Rattle.std.proofs.Common.{ap};
 
     ghost Value = { Levels };

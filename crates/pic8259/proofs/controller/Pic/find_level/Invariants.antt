@@ -6,5 +6,5 @@ use Rattle.pic8259.proofs.controller.Pic.find_level.Given as goal
 abbrev pub invariant-loop-level : goal.invariant-loop-level
 invariant-loop-level l = record {
   none_yet : find (may_be_taken l.self) (take l.level-index l.level-items) ≡ None;
-  blocked : l.is_blocked ≡ list_any (blocks l.self) (take l.level-index l.level-items)
+  blocked : l.is_blocked ≡ list_any (blocks l.self) (take l.level-index l.level-items);
 }

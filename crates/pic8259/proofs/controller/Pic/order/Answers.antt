@@ -1,4 +1,3 @@
-use Rattle.std.proofs.Common.{rules}
 use Rattle.pic8259.specs.Levels.{order_with_lowest}
 use Rattle.pic8259.proofs.Order.{up_to_place}
 use Rattle.pic8259.proofs.controller.Pic.order.Goals as goal
