@@ -4,3 +4,4 @@ pub mod Places
 pub mod OrderWhole
 pub mod Taking
 pub mod Masks
+pub mod Edges

@@ -114,7 +114,7 @@ service_blocks s level before after whole placed served unexcepted =
     All-cons P level after itself later
 
 -- a level that has gone out of a set isn't in it, and the others are as before
-gone : (set : Levels) (level : ℕ) → contains (without_level set level) level ≡ false
+pub gone : (set : Levels) (level : ℕ) → contains (without_level set level) level ≡ false
 gone set level =
     elim (cases_lt level (length set)) [
       | inl within ↦ get_or-set_same set level false false within

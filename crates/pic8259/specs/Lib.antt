@@ -2,3 +2,4 @@ pub mod Levels
 pub mod Masks
 pub mod Pic
 pub mod Laws
+pub mod Edges

@@ -1,5 +1,6 @@
 //! Laws of the controller, proved over its definition. Each is an empty function whose contract states it.
 ghost use Rattle.pic8259.specs.Laws.{OrderIsWhole, RotationTurns, BeginsAnew, WaitsForSequence, AcknowledgeTakesFirst, ServiceBlocks, SpecialMaskExcepts, EndsFirstInService};
+ghost use Rattle.pic8259.specs.Edges.{AsksOnceARise};
 
 /// At any time the order of priority holds each of the eight levels once, and is a turn of their circle.
 pub fn order_is_whole()
@@ -48,4 +49,11 @@ pub fn special_mask_excepts()
 #[tactic(auto, using(crate::proofs::Taking::ends_first_in_service))]
 pub fn ends_first_in_service()
     ensures { EndsFirstInService }
+{}
+
+/// In edge mode a level that was taken doesn't ask again until its line has fallen and risen. In level mode a level
+/// asks as long as its line is high.
+#[tactic(auto, using(crate::proofs::Edges::asks_once_a_rise))]
+pub fn asks_once_a_rise()
+    ensures { AsksOnceARise }
 {}
