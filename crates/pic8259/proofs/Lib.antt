@@ -1,0 +1,7 @@
+pub mod Order
+pub mod Walk
+pub mod Places
+pub mod OrderWhole
+pub mod Taking
+pub mod Masks
+pub mod Edges

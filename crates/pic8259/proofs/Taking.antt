@@ -1,0 +1,201 @@
+-- What an acknowledge takes, what blocks it, and what a plain end of interrupt ends.
+use Rattle.std.proofs.Common.{◌≡◌, ℕ, ◌+◌, ◌%◌, ◌<◌, ◌==◌, Bool, true, false, not, ◌&&◌, cond, if◌then◌else◌, List, [], ◌∷◌, ◌++◌, length, get_or, find, count_by, All, Option, MatchOption, None, Some, unwrap_or, refl, sym, ap, ◌∙◌, arith, inl, inr, append_assoc, subst}
+use Rattle.std.specs.Option.{option_map_or}
+use Rattle.std.specs.List.{list_any, before_first}
+use Rattle.std.proofs.lemmas.Bool.{cases_Bool, cases_lt, eq-eqb, and_parts, not-true}
+use Rattle.std.proofs.lemmas.Bool.Decides.{eqb_tells}
+use Rattle.std.proofs.Math.Bool.{and-false}
+use Rattle.std.proofs.lemmas.List.{get_or_past, get_or-set_same, get_or-set_other, length-set}
+use Rattle.std.proofs.lemmas.List.Elements.{All-cons, All-tail, All-same, All-weaker, All-from_get_or}
+use Rattle.pic8259.specs.Levels.{has_bit, Levels, contains, without_level, up_to}
+use Rattle.pic8259.specs.Pic.{PicState, is_operating, is_ready, asks, is_pending, blocks, may_be_taken, found, took, acknowledged, ended, highest_served, power_on, with_ocw2, with_ocw3, with_icw1, with_command, written}
+use Rattle.pic8259.specs.Laws.{HoldsEachLevelOnce, IsFirstToTake, Takes, TakesNone, AcknowledgeTakesFirst, ServiceBlocks, SpecialMaskExcepts, Ends, EndsNone, EndsFirstInService, BeginsAnew, WaitsForSequence}
+use Rattle.pic8259.proofs.Places.{found_at, none_found, before_first_past, before_first_here, any_here, none_where_any_fails, none_counted, counted_here, count_at_place, all_right}
+
+-- a level that may not be taken is another than one that may
+other_level : (s : PicState) (level other : ℕ) → may_be_taken s level ≡ true → may_be_taken s other ≡ false → (other == level) ≡ false
+other_level s level other may may_not =
+    elim (eqb_tells other level) [
+      | inl same ↦ let both : may_be_taken s other ≡ may_be_taken s level = ap (may_be_taken s) same.1 in cc
+      | inr differ ↦ differ.0
+    ]
+
+first_to_take : (s : PicState) (level : ℕ) → find (may_be_taken s) s.order ≡ Some level → IsFirstToTake s level
+first_to_take s level is =
+    let at = found_at (may_be_taken s) s.order level is in
+    let parts = and_parts (is_pending s level) (not (list_any (blocks s) (up_to level s.order))) at.passes in
+    let pending = and_parts (asks s level) (not (contains s.masked level)) parts.0 in
+    let others : All (λ other. (other == level) ≡ false) at.before =
+    All-weaker (λ other. may_be_taken s other ≡ false) (λ other. (other == level) ≡ false) (λ other. other_level s level other at.passes) at.before at.none_before in
+    let reach : up_to level s.order ≡ at.before ++ level ∷ [] =
+    ap (λ xs. up_to level xs) at.placed
+    ∙ ap (λ xs. xs ++ level ∷ []) (before_first_here (λ other. other == level) at.before level at.after others (eq-eqb level level refl)) in
+    let unblocked : list_any (blocks s) (at.before ++ level ∷ []) ≡ false =
+    ap (list_any (blocks s)) (sym reach) ∙ not-true _ parts.1 in
+    record {
+      before = at.before;
+      after = at.after;
+      placed = at.placed;
+      asking = pending.0;
+      unmasked = not-true _ pending.1;
+      unblocked = none_where_any_fails (blocks s) (at.before ++ level ∷ []) 0 unblocked;
+      none_before = at.none_before;
+    }
+
+some_found : (b : Bool) (p : ℕ → Bool) (order : List ℕ) (level : ℕ) → (if b then find p order else None) ≡ Some level → find p order ≡ Some level
+some_found true p order level is = is
+some_found false p order level is = absurd (cc)
+
+some_ready : (b : Bool) (p : ℕ → Bool) (order : List ℕ) (level : ℕ) → (if b then find p order else None) ≡ Some level → b ≡ true
+some_ready true p order level is = refl
+some_ready false p order level is = absurd (cc)
+
+none_ready : (b : Bool) (p : ℕ → Bool) (order : List ℕ) → (if b then find p order else None) ≡ None → b ≡ true → find p order ≡ None
+none_ready true p order is ready = is
+none_ready false p order is ready = absurd (cc)
+
+taking : (s : PicState) (o : Option ℕ) → found s ≡ o → MatchOption o (TakesNone s) (λ level. Takes s level)
+unfolding found acknowledged
+taking s None is = record {
+  none = λ ready. none_found (may_be_taken s) s.order (none_ready (is_ready s) (may_be_taken s) s.order is ready);
+  vector = ap (λ o. s.vector + unwrap_or o 7) is;
+  state = ap (λ o. option_map_or (λ level. took level s) o s) is;
+}
+taking s (Some level) is = record {
+  ready = some_ready (is_ready s) (may_be_taken s) s.order level is;
+  first = first_to_take s level (some_found (is_ready s) (may_be_taken s) s.order level is);
+  vector = ap (λ o. s.vector + unwrap_or o 7) is;
+  state = ap (λ o. option_map_or (λ level. took level s) o s) is;
+}
+
+pub acknowledge_takes_first : AcknowledgeTakesFirst
+acknowledge_takes_first s = taking s (found s) refl
+
+-- a level at or before which one stands that blocks may not be taken
+blocked : (s : PicState) (level other : ℕ) (before between : List ℕ) → blocks s level ≡ true → up_to other s.order ≡ before ++ level ∷ between → may_be_taken s other ≡ false
+blocked s level other before between here reach =
+    let some : list_any (blocks s) (up_to other s.order) ≡ true = ap (list_any (blocks s)) reach ∙ any_here (blocks s) before level between here in
+    ap (λ b. is_pending s other && not b) some ∙ and-false (is_pending s other)
+
+-- one after it in an order that holds each once
+blocked_after : (s : PicState) (level other : ℕ) (before after : List ℕ) → HoldsEachLevelOnce s.order → s.order ≡ before ++ level ∷ after → blocks s level ≡ true → other < 8 → 0 < count_by (λ n. n == other) after → may_be_taken s other ≡ false
+blocked_after s level other before after whole placed here within later =
+    let p : ℕ → Bool = λ n. n == other in
+    let once : count_by p s.order ≡ 1 = whole.once other within in
+    let counts : count_by p s.order ≡ count_by p before + (cond (p level) 1 0 + count_by p after) =
+    ap (count_by p) placed ∙ count_at_place p before level after in
+    let none : count_by p before ≡ 0 = omega arith in
+    let fails : All (λ n. p n ≡ false) before = none_counted p before 0 none in
+    let differs : p level ≡ false =
+    elim (cases_Bool (p level)) [
+      | inl same ↦
+          let one : cond {A = ℕ} (p level) 1 0 ≡ 1 = ap (λ b. cond b 1 0) same in absurd (omega arith)
+      | inr differ ↦ differ
+    ]
+    in
+    let reach : up_to other s.order ≡ before ++ level ∷ (before_first p after ++ other ∷ []) =
+    ap (λ xs. before_first p xs ++ other ∷ []) placed
+    ∙ ap (λ xs. xs ++ other ∷ []) (before_first_past p before (level ∷ after) fails ∙ ap (λ xs. before ++ xs) (before_first_past p (level ∷ []) after (All-cons (λ n. p n ≡ false) level [] differs (none_counted p [] 0 refl))))
+    ∙ append_assoc before (level ∷ before_first p after) (other ∷ []) in
+    blocked s level other before (before_first p after ++ other ∷ []) here reach
+
+pub service_blocks : ServiceBlocks
+service_blocks s level before after whole placed served unexcepted =
+    let here : blocks s level ≡ true =
+    ap (λ b. b && not (s.special_mask && contains s.masked level)) served ∙ ap (λ b. not b) unexcepted in
+    let P : ℕ → Type 0 = λ other. may_be_taken s other ≡ false in
+    let itself : P level = blocked s level level (before_first (λ other. other == level) s.order) [] here refl in
+    let levels : All (λ n. n < 8) (before ++ level ∷ after) = All-same (λ n. n < 8) _ s.order (sym placed) whole.only in
+    let rest : All (λ n. n < 8) after = All-tail (λ n. n < 8) level after (all_right (λ n. n < 8) before (level ∷ after) levels) in
+    let later : All P after =
+    All-from_get_or P after 0
+    (λ i within. blocked_after s level (get_or after i 0) before after whole placed here (rest i 0 within)
+    (counted_here (λ n. n == get_or after i 0) after i 0 within (eq-eqb _ _ refl))) in
+    All-cons P level after itself later
+
+-- a level that has gone out of a set isn't in it, and the others are as before
+pub gone : (set : Levels) (level : ℕ) → contains (without_level set level) level ≡ false
+gone set level =
+    elim (cases_lt level (length set)) [
+      | inl within ↦ get_or-set_same set level false false within
+      | inr past ↦
+          let size : length (without_level set level) ≡ length set = length-set set level false in
+          get_or_past (without_level set level) level false (omega arith)
+    ]
+
+excepted_blocks : (s : PicState) (level : ℕ) → s.special_mask ≡ true → contains s.masked level ≡ true → blocks s level ≡ false
+excepted_blocks s level special masked =
+    ap (λ b. contains s.served level && not (b && contains s.masked level)) special
+    ∙ ap (λ b. contains s.served level && not b) masked
+    ∙ and-false (contains s.served level)
+
+blocks_as_ended : (s : PicState) (level : ℕ) → s.special_mask ≡ true → contains s.masked level ≡ true → (other : ℕ) → blocks s other ≡ blocks (ended level s) other
+unfolding ended
+blocks_as_ended s level special masked other =
+    let free : ℕ → Bool = λ n. not (s.special_mask && contains s.masked n) in
+    elim (eqb_tells other level) [
+      | inl same ↦
+          let is : blocks s level ≡ (contains (without_level s.served level) level && free level) =
+          excepted_blocks s level special masked ∙ sym (ap (λ b. b && free level) (gone s.served level)) in
+          subst (λ (n : ℕ). blocks s n ≡ (contains (without_level s.served level) n && free n)) (sym same.1) is
+      | inr differ ↦ ap (λ b. b && free other) (sym (get_or-set_other s.served level other false false differ.1))
+    ]
+
+pub special_mask_excepts : SpecialMaskExcepts
+unfolding ended highest_served
+special_mask_excepts s level special masked =
+    let same = blocks_as_ended s level special masked in
+    record {
+      others = λ other. λ i. is_pending s other && not (list_any (λ n. same n i) (up_to other s.order));
+      kept = λ is.
+          let at = found_at (blocks s) s.order level is in
+          let never = excepted_blocks s level special masked in
+          let passes = at.passes in cc;
+    }
+
+plain_end : (s : PicState) (o : Option ℕ) → highest_served s ≡ o → is_operating s.expected ≡ true → written false 0x20 s ≡ option_map_or (λ highest. ended highest s) o s
+unfolding written with_command with_ocw2
+plain_end s o is operating =
+    ap (λ b. if not b then s else option_map_or (λ highest. ended highest s) (highest_served s) s) operating
+    ∙ ap (λ o. option_map_or (λ highest. ended highest s) o s) is
+
+ending : (s : PicState) (o : Option ℕ) → highest_served s ≡ o → is_operating s.expected ≡ true → MatchOption o (EndsNone s) (λ level. Ends s level)
+unfolding highest_served
+ending s None is operating = record { none = none_found (blocks s) s.order is; state = plain_end s None is operating }
+ending s (Some level) is operating =
+    let at = found_at (blocks s) s.order level is in
+    let parts = and_parts (contains s.served level) (not (s.special_mask && contains s.masked level)) at.passes in
+    record {
+      first = record {
+        before = at.before;
+        after = at.after;
+        placed = at.placed;
+        served = parts.0;
+        unexcepted = not-true _ parts.1;
+        none_before = at.none_before;
+      };
+      state = plain_end s (Some level) is operating;
+    }
+
+pub ends_first_in_service : EndsFirstInService
+ends_first_in_service s operating = ending s (highest_served s) refl operating
+
+pub begins_anew : BeginsAnew
+unfolding written with_command with_icw1
+begins_anew s value begins =
+    let t : PicState = record power_on { high = s.high; vector = s.vector; slaves = s.slaves } in
+    let heard : (u : PicState) → written false value u ≡ with_icw1 value u =
+    λ u. ap (λ b. if b then with_icw1 value u else if not (is_operating u.expected) then u else if has_bit value 3 then with_ocw3 value u else with_ocw2 (has_bit value 7) (has_bit value 6) (has_bit value 5) (value % 8) u) begins in
+    heard s ∙ sym (heard t)
+
+pub waits_for_sequence : WaitsForSequence
+unfolding found written with_command
+waits_for_sequence s = (
+  (λ waits. record {
+    none = ap (λ b. if b && s.is_8086 then find (may_be_taken s) s.order else None) waits;
+    unheard = λ value later.
+        ap (λ b. if b then with_icw1 value s else if not (is_operating s.expected) then s else if has_bit value 3 then with_ocw3 value s else with_ocw2 (has_bit value 7) (has_bit value 6) (has_bit value 5) (value % 8) s) later
+        ∙ ap (λ b. if not b then s else if has_bit value 3 then with_ocw3 value s else with_ocw2 (has_bit value 7) (has_bit value 6) (has_bit value 5) (value % 8) s) waits;
+  }),
+  (λ other. ap (λ b. if is_operating s.expected && b then find (may_be_taken s) s.order else None) other ∙ ap (λ b. if b then find (may_be_taken s) s.order else None) (and-false (is_operating s.expected))),
+)

@@ -1,0 +1,5 @@
+pub mod Levels
+pub mod Masks
+pub mod Pic
+pub mod Laws
+pub mod Edges

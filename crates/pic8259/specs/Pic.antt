@@ -1,0 +1,247 @@
+-- The interrupt controller: what it remembers, and how each command and each acknowledge changes that.
+-- The headings named are those of the Intel 8259A data sheet.
+use Rattle.std.specs.Prelude.{ℕ, ◌+◌, ◌*◌, ◌/◌, ◌%◌, Bool, true, false, not, ◌&&◌, ◌||◌, if◌then◌else◌, List, map, find, Option, None, unwrap_or}
+use Rattle.std.specs.Option.{option_map_or}
+use Rattle.std.specs.List.{list_any}
+use Rattle.board_types.specs.declared.line.Line.{Line}
+use Rattle.board_types.specs.declared.line.Line.TheVariants.{Low, High}
+use Rattle.pic8259.specs.declared.controller.Expected.{Expected}
+use Rattle.pic8259.specs.declared.controller.Expected.TheVariants.{Icw2, Icw3, Icw4, Operation}
+use Rattle.pic8259.specs.Levels.{all_levels, Levels, no_levels, contains, with_level, without_level, has_bit, byte_of, levels_of, up_to, made_lowest}
+
+pub record PicState : Type 0 where
+  -- the levels, the highest priority first
+  pub order : List ℕ
+  -- the levels whose line is high
+  pub high : Levels
+  -- the levels whose line has risen since they were last taken
+  pub risen : Levels
+  -- the levels that the interrupt mask register holds back
+  pub masked : Levels
+  -- the levels in service
+  pub served : Levels
+  -- the word that the newest initialisation sequence waits for, or none
+  pub expected : Expected
+  -- ICW1: not single, its bit 1 clear (SNGL); ICW4 follows, bit 0 (IC4); level mode, bit 3 (LTIM)
+  pub is_cascaded : Bool
+  pub asks_icw4 : Bool
+  pub is_level_triggered : Bool
+  -- ICW2: the vector of level 0 (T7 to T3)
+  pub vector : ℕ
+  -- ICW3: the levels that have a slave
+  pub slaves : ℕ
+  -- ICW4: 8086 mode, its bit 0; automatic end of interrupt, bit 1 (AEOI); special fully nested mode, bit 4 (SFNM)
+  pub is_8086 : Bool
+  pub auto_end : Bool
+  pub is_specially_nested : Bool
+  -- rotation under automatic end of interrupt
+  pub rotates : Bool
+  pub special_mask : Bool
+  -- a poll command waits for its read
+  pub polled : Bool
+  -- a read at A0 = 0 gives the levels in service, and else the requests
+  pub reads_served : Bool
+
+-- power-on, this board's choice: no sequence has been written; edge mode, nothing masked
+abbrev pub power_on : PicState
+power_on = record {
+  order = all_levels;
+  high = no_levels;
+  risen = no_levels;
+  masked = no_levels;
+  served = no_levels;
+  expected = Operation;
+  is_cascaded = false;
+  asks_icw4 = false;
+  is_level_triggered = false;
+  vector = 0;
+  slaves = 0;
+  is_8086 = false;
+  auto_end = false;
+  is_specially_nested = false;
+  rotates = false;
+  special_mask = false;
+  polled = false;
+  reads_served = false;
+}
+
+abbrev pub is_operating : Expected → Bool
+is_operating Icw2 = false
+is_operating Icw3 = false
+is_operating Icw4 = false
+is_operating Operation = true
+
+-- the newest sequence has ended, in 8086 mode; before, nothing is taken (this board's choice)
+abbrev pub is_ready : PicState → Bool
+is_ready s = is_operating s.expected && s.is_8086
+
+-- "Edge and Level Triggered Modes"
+abbrev pub asks : PicState → ℕ → Bool
+asks s level = contains s.high level && (s.is_level_triggered || contains s.risen level)
+
+-- the requests, as the IRR shows them
+abbrev pub requests : PicState → Levels
+requests s = map (asks s) all_levels
+
+-- "Fully Nested Mode": a level in service blocks; "Special Mask Mode": but not where it is masked
+abbrev pub blocks : PicState → ℕ → Bool
+blocks s level = contains s.served level && not (s.special_mask && contains s.masked level)
+
+-- "Interrupt Mask Register (IMR)": it asks, and is unmasked
+abbrev pub is_pending : PicState → ℕ → Bool
+is_pending s level = asks s level && not (contains s.masked level)
+
+-- "Priority Resolver": and no level that blocks stands in the list at or before its place
+abbrev pub may_be_taken : PicState → ℕ → Bool
+may_be_taken s level = is_pending s level && not (list_any (blocks s) (up_to level s.order))
+
+-- the level that an acknowledge or a poll finds
+unfoldable pub found : PicState → Option ℕ
+found s = if is_ready s then find (may_be_taken s) s.order else None
+
+-- "Interrupt Sequence": its edge bit goes and it comes into service; "Automatic End of Interrupt (AEOI) Mode": or it
+-- doesn't; "Automatic Rotation": and then becomes the lowest
+unfoldable pub took : ℕ → PicState → PicState
+took level s = record s {
+  risen = without_level s.risen level;
+  served = if s.auto_end then s.served else with_level s.served level;
+  order = if s.auto_end && s.rotates then made_lowest level s.order else s.order;
+}
+
+-- an acknowledge or a poll takes the level that it finds; a pending poll stays pending (this board's choice)
+unfoldable pub acknowledged : PicState → PicState
+acknowledged s = option_map_or (λ level. took level s) (found s) s
+
+-- "Interrupt Sequence": the vector's upper bits and the level, or level 7 where the request has gone
+abbrev pub vector_of : PicState → ℕ
+vector_of s = s.vector + unwrap_or (found s) 7
+
+-- "Poll Command": bit 7 and the level, or 0 where none is found (this board's choice)
+abbrev pub poll_of : PicState → ℕ
+poll_of s = option_map_or (λ level. 0x80 + level) (found s) 0
+
+-- "Reading the 8259A Status": a pending poll is answered at either port (this board's choice); else A0 = 1 reads the
+-- mask, in mid-sequence too (this board's choice), and A0 = 0 the register that was chosen
+unfoldable pub read_of : Bool → PicState → ℕ
+read_of a0 s =
+    if s.polled then poll_of s
+    else if a0 then byte_of s.masked
+    else if s.reads_served then byte_of s.served
+    else byte_of (requests s)
+
+-- a read changes something only where it answers a poll
+unfoldable pub after_read : PicState → PicState
+after_read s = if s.polled then record (acknowledged s) { polled = false } else s
+
+-- "Edge and Level Triggered Modes": a line that goes high has risen
+unfoldable pub with_line : ℕ → Line → PicState → PicState
+with_line level Low s = record s { high = without_level s.high level }
+with_line level High s = record s {
+  high = with_level s.high level;
+  risen = if contains s.high level then s.risen else with_level s.risen level;
+}
+
+-- "Initialization Command Words 1 and 2": ICW1 begins a sequence. That it also clears the levels in service, a pending
+-- poll and rotation under automatic end of interrupt is this board's choice
+unfoldable pub with_icw1 : ℕ → PicState → PicState
+with_icw1 value s = record {
+  order = all_levels;
+  high = s.high;
+  risen = no_levels;
+  masked = no_levels;
+  served = no_levels;
+  expected = Icw2;
+  is_cascaded = not (has_bit value 1);
+  asks_icw4 = has_bit value 0;
+  is_level_triggered = has_bit value 3;
+  vector = s.vector;
+  slaves = s.slaves;
+  is_8086 = false;
+  auto_end = false;
+  is_specially_nested = false;
+  rotates = false;
+  special_mask = false;
+  polled = false;
+  reads_served = false;
+}
+
+-- the word that follows
+abbrev pub expected_after_icw3 : PicState → Expected
+expected_after_icw3 s = if s.asks_icw4 then Icw4 else Operation
+
+abbrev pub expected_after_icw2 : PicState → Expected
+expected_after_icw2 s = if s.is_cascaded then Icw3 else expected_after_icw3 s
+
+-- ICW2: bits 7 to 3 are those of the vector
+unfoldable pub with_icw2 : ℕ → PicState → PicState
+with_icw2 value s = record s { vector = 8 * (value / 8); expected = expected_after_icw2 s }
+
+-- "Initialization Command Word 3 (ICW3)": no slave hangs on this board, so it is kept without effect (this board's choice)
+unfoldable pub with_icw3 : ℕ → PicState → PicState
+with_icw3 value s = record s { slaves = value; expected = expected_after_icw3 s }
+
+-- "Initialization Command Word 4 (ICW4)": special fully nested mode is kept without effect (this board's choice)
+unfoldable pub with_icw4 : ℕ → PicState → PicState
+with_icw4 value s = record s {
+  is_8086 = has_bit value 0;
+  auto_end = has_bit value 1;
+  is_specially_nested = has_bit value 4;
+  expected = Operation;
+}
+
+-- "Operation Control Word 1 (OCW1)": the mask
+unfoldable pub with_ocw1 : ℕ → PicState → PicState
+with_ocw1 value s = record s { masked = levels_of value }
+
+-- A0 = 1: the word that the sequence waits for, and the mask outside a sequence
+unfoldable pub with_word : Expected → ℕ → PicState → PicState
+with_word Icw2 value s = with_icw2 value s
+with_word Icw3 value s = with_icw3 value s
+with_word Icw4 value s = with_icw4 value s
+with_word Operation value s = with_ocw1 value s
+
+-- "Specific EOI": this level is no longer in service
+unfoldable pub ended : ℕ → PicState → PicState
+ended level s = record s { served = without_level s.served level }
+
+-- "Specific Rotation": this level becomes the lowest
+unfoldable pub lowered : ℕ → PicState → PicState
+lowered level s = record s { order = made_lowest level s.order }
+
+-- "Nonspecific EOI" ends this level: the highest in service; in special mask mode a masked one counts as none
+unfoldable pub highest_served : PicState → Option ℕ
+highest_served s = find (blocks s) s.order
+
+-- "Operation Control Word 2 (OCW2)", by its bits R, SL and EOI, and the level in its bits 2 to 0. That R, SL and EOI
+-- together make the level the lowest even where it wasn't in service is this board's choice
+unfoldable pub with_ocw2 : Bool → Bool → Bool → ℕ → PicState → PicState
+with_ocw2 false false true level s = option_map_or (λ highest. ended highest s) (highest_served s) s
+with_ocw2 false true true level s = ended level s
+with_ocw2 true false true level s = option_map_or (λ highest. lowered highest (ended highest s)) (highest_served s) s
+with_ocw2 true true true level s = lowered level (ended level s)
+with_ocw2 true false false level s = record s { rotates = true }
+with_ocw2 false false false level s = record s { rotates = false }
+with_ocw2 true true false level s = lowered level s
+with_ocw2 false true false level s = s
+
+-- "Operation Control Word 3 (OCW3)": ESMM and SMM, RR and RIS, and P; each such word without P
+-- withdraws a poll (this board's choice)
+unfoldable pub with_ocw3 : ℕ → PicState → PicState
+with_ocw3 value s = record s {
+  special_mask = if has_bit value 6 then has_bit value 5 else s.special_mask;
+  reads_served = if has_bit value 1 then has_bit value 0 else s.reads_served;
+  polled = has_bit value 2;
+}
+
+-- A0 = 0: bit 4 makes it ICW1, which is heard at any time. In mid-sequence an operation word is ignored (this board's
+-- choice); else bit 3 tells OCW3 from OCW2
+unfoldable pub with_command : ℕ → PicState → PicState
+with_command value s =
+    if has_bit value 4 then with_icw1 value s
+    else if not (is_operating s.expected) then s
+    else if has_bit value 3 then with_ocw3 value s
+    else with_ocw2 (has_bit value 7) (has_bit value 6) (has_bit value 5) (value % 8) s
+
+-- a write at either port
+unfoldable pub written : Bool → ℕ → PicState → PicState
+written a0 value s = if a0 then with_word s.expected value s else with_command value s

@@ -1,0 +1,488 @@
+//! The controller's registers and the commands that change them. The headings named are those of the Intel
+//! 8259A data sheet.
+ghost use Rattle.std.specs.Prelude.{◌≡◌, ◌<◌, ◌≤◌, is_some, IfSome, length, slice_index_or, take, ◌+◌, ℕ, All, true, false};
+
+use crate::levels::{LevelSet, bit};
+use board_types::line::Line;
+use std::marker::Model;
+
+/// The word that an initialisation sequence waits for ("Initialization Command Words").
+#[derive(Clone, Copy, Debug, PartialEq, Eq)]
+pub enum Expected {
+    Icw2,
+    Icw3,
+    Icw4,
+    /// No sequence is under way.
+    Operation,
+}
+
+/// An Intel 8259A, alone on its board. It takes interrupts in 8086 mode only.
+#[derive(Clone, Copy, Debug)]
+pub struct Pic {
+    /// The level with the lowest priority; the one after it has the highest.
+    lowest: u8,
+    high: LevelSet,
+    risen: LevelSet,
+    masked: LevelSet,
+    served: LevelSet,
+    expected: Expected,
+    is_cascaded: bool,
+    asks_icw4: bool,
+    is_level_triggered: bool,
+    vector: u8,
+    slaves: u8,
+    is_8086: bool,
+    auto_end: bool,
+    is_specially_nested: bool,
+    rotates: bool,
+    special_mask: bool,
+    polled: bool,
+    reads_served: bool,
+}
+
+impl Model for Pic {
+    ghost use Rattle.std.specs.Prelude.{◌≤◌, ◌<◌, slice_index};
+    ghost use Rattle.std.proofs.Common.{ap};
+    ghost use Rattle.pic8259.specs.Levels.{order_with_lowest};
+    ghost use Rattle.pic8259.specs.Masks.{last-order_with_lowest};
+    ghost use Rattle.pic8259.specs.Pic.{PicState};
+
+    ghost Value = { PicState };
+
+    ghost view = { λ a. record {
+      order = order_with_lowest a.lowest;
+      high = a.high;
+      risen = a.risen;
+      masked = a.masked;
+      served = a.served;
+      expected = a.expected;
+      is_cascaded = a.is_cascaded;
+      asks_icw4 = a.asks_icw4;
+      is_level_triggered = a.is_level_triggered;
+      vector = a.vector;
+      slaves = a.slaves;
+      is_8086 = a.is_8086;
+      auto_end = a.auto_end;
+      is_specially_nested = a.is_specially_nested;
+      rotates = a.rotates;
+      special_mask = a.special_mask;
+      polled = a.polled;
+      reads_served = a.reads_served;
+    } };
+
+    ghost invariant = { λ a. (a.lowest < 8) × (a.vector ≤ 248) };
+
+    ghost inverse = { λ s. record {
+      lowest = slice_index s.order 7;
+      high = s.high;
+      risen = s.risen;
+      masked = s.masked;
+      served = s.served;
+      expected = s.expected;
+      is_cascaded = s.is_cascaded;
+      asks_icw4 = s.asks_icw4;
+      is_level_triggered = s.is_level_triggered;
+      vector = s.vector;
+      slaves = s.slaves;
+      is_8086 = s.is_8086;
+      auto_end = s.auto_end;
+      is_specially_nested = s.is_specially_nested;
+      rotates = s.rotates;
+      special_mask = s.special_mask;
+      polled = s.polled;
+      reads_served = s.reads_served;
+    } };
+
+    ghost inverse_ok = { λ a h. ap (λ n. record a { lowest = n }) (last-order_with_lowest a.lowest h.0) };
+}
+
+impl Pic {
+    ghost use Rattle.pic8259.specs.Levels.{up_to};
+    ghost use Rattle.pic8259.specs.Pic.{power_on, is_ready, asks, is_pending, requests, blocks, found, took, acknowledged, vector_of, poll_of, read_of, after_read, with_line, with_icw1, with_icw2, with_icw3, with_icw4, with_ocw1, with_word, ended, lowered, highest_served, with_ocw2, with_ocw3, with_command, written, is_operating, expected_after_icw3};
+
+    /// A controller at power-on: every line low, nothing masked or in service, edge mode, no initialisation
+    /// sequence begun.
+    #[tactic(auto, unfolding(crate::specs::Levels::order_with_lowest))]
+    pub fn new() -> Pic
+        ensures { result ≡ power_on }
+    {
+        Pic {
+            lowest: 7,
+            high: LevelSet::from_byte(0),
+            risen: LevelSet::from_byte(0),
+            masked: LevelSet::from_byte(0),
+            served: LevelSet::from_byte(0),
+            expected: Expected::Operation,
+            is_cascaded: false,
+            asks_icw4: false,
+            is_level_triggered: false,
+            vector: 0,
+            slaves: 0,
+            is_8086: false,
+            auto_end: false,
+            is_specially_nested: false,
+            rotates: false,
+            special_mask: false,
+            polled: false,
+            reads_served: false,
+        }
+    }
+
+    /// Sets the request line of level `n`, from 0 to 7. A line that goes from low to high has risen, and stays so
+    /// until its level is taken or ICW1 is written ("Edge and Level Triggered Modes").
+    #[tactic(auto, unfolding(crate::specs::Pic::with_line))]
+    pub fn set_line(&mut self, n: u8, line: Line)
+        requires { n < 8 }
+        ensures { self.new ≡ with_line n line self.old }
+    {
+        match line {
+            Line::Low => self.high.remove(n),
+            Line::High => {
+                if !self.high.contains(n) {
+                    self.risen.insert(n);
+                }
+                self.high.insert(n);
+            }
+        }
+    }
+
+    /// Reads at address line A0. A pending poll is answered at either port: it takes a level as an acknowledge does
+    /// and gives 80h plus it, or 0. Else A0 = 1 gives the mask, and A0 = 0 the requests or the levels in service
+    /// ("Poll Command", "Reading the 8259A Status").
+    #[tactic(auto, unfolding(crate::specs::Pic::read_of, crate::specs::Pic::after_read))]
+    pub fn read(&mut self, a0: bool) -> u8
+        ensures value { result ≡ read_of a0 self.old }
+        ensures state { self.new ≡ after_read self.old }
+    {
+        if self.polled {
+            self.answer_poll()
+        } else if a0 {
+            self.masked.byte()
+        } else if self.reads_served {
+            self.served.byte()
+        } else {
+            self.requests().byte()
+        }
+    }
+
+    /// Writes at address line A0. At A0 = 0 it is ICW1, OCW2 or OCW3, by its bits 4 and 3; at A0 = 1 the word that
+    /// the initialisation sequence waits for, and else the mask ("Programming the 8259A").
+    #[tactic(auto, unfolding(crate::specs::Pic::written, crate::specs::Pic::with_word))]
+    pub fn write(&mut self, a0: bool, value: u8)
+        ensures { self.new ≡ written a0 value self.old }
+    {
+        if !a0 {
+            self.write_command(value);
+            return;
+        }
+        match self.expected {
+            Expected::Icw2 => self.write_icw2(value),
+            Expected::Icw3 => self.write_icw3(value),
+            Expected::Icw4 => self.write_icw4(value),
+            Expected::Operation => self.write_ocw1(value),
+        }
+    }
+
+    /// Whether the interrupt output is high: an acknowledge would take a level.
+    pub fn request(&self) -> bool
+        ensures { result ≡ is_some (found self.now) }
+    {
+        self.find_level().is_some()
+    }
+
+    /// The processor's interrupt acknowledge: takes the first level in the order of priority that asks, is unmasked
+    /// and isn't blocked, and answers its vector. Where there is none, the vector is that of level 7 and nothing
+    /// changes ("Interrupt Sequence").
+    pub fn acknowledge(&mut self) -> u8
+        ensures vector { result ≡ vector_of self.old }
+        ensures state { self.new ≡ acknowledged self.old }
+    {
+        let vector = self.vector_bits();
+        match self.take_level() {
+            Some(level) => vector + level,
+            None => vector + 7,
+        }
+    }
+
+    /// Bits 7 to 3 of each vector.
+    fn vector_bits(&self) -> u8
+        ensures value { result ≡ self.now.vector }
+        ensures bound { result ≤ 248 }
+    {
+        self.vector
+    }
+
+    fn answer_poll(&mut self) -> u8
+        ensures value { result ≡ poll_of self.old }
+        ensures state { self.new ≡ record (acknowledged self.old) { polled = false } }
+    {
+        let level = self.take_level();
+        self.polled = false;
+        match level {
+            Some(level) => 0x80 + level,
+            None => 0,
+        }
+    }
+
+    /// Takes the level that has its turn, if one has.
+    #[tactic(auto, unfolding(crate::specs::Pic::acknowledged))]
+    fn take_level(&mut self) -> Option<u8>
+        ensures level { result ≡ found self.old }
+        ensures bound { IfSome result (λ level. level < 8) }
+        ensures state { self.new ≡ acknowledged self.old }
+    {
+        let level = self.find_level()?;
+        self.serve(level);
+        Some(level)
+    }
+
+    #[tactic(auto, using(crate::proofs::Order::turned_to_lowest), unfolding(crate::specs::Pic::took))]
+    fn serve(&mut self, level: u8)
+        requires { level < 8 }
+        ensures { self.new ≡ took level self.old }
+    {
+        self.risen.remove(level);
+        if !self.auto_end {
+            self.served.insert(level);
+        } else if self.rotates {
+            self.lowest = level;
+        }
+    }
+
+    fn requests(&self) -> LevelSet
+        ensures { result ≡ requests self.now }
+    {
+        if self.is_level_triggered {
+            self.high.intersection(LevelSet::from_byte(0xFF))
+        } else {
+            self.high.intersection(self.risen)
+        }
+    }
+
+    fn asks(&self, level: u8) -> bool
+        requires { level < 8 }
+        ensures { result ≡ asks self.now level }
+    {
+        self.high.contains(level) && (self.is_level_triggered || self.risen.contains(level))
+    }
+
+    fn is_pending(&self, level: u8) -> bool
+        requires { level < 8 }
+        ensures { result ≡ is_pending self.now level }
+    {
+        self.asks(level) && !self.masked.contains(level)
+    }
+
+    fn blocks(&self, level: u8) -> bool
+        requires { level < 8 }
+        ensures { result ≡ blocks self.now level }
+    {
+        self.served.contains(level) && !(self.special_mask && self.masked.contains(level))
+    }
+
+    fn is_ready(&self) -> bool
+        ensures { result ≡ is_ready self.now }
+    {
+        self.is_operating() && self.is_8086
+    }
+
+    /// The levels, the highest priority first.
+    #[tactic(auto, unfolding(crate::specs::Levels::order_with_lowest))]
+    fn order(&self) -> [u8; 8]
+        ensures order { result ≡ self.now.order }
+        ensures size { length result ≡ 8 }
+        ensures levels { All (λ level. level < 8) result }
+        ensures places { (place : ℕ) → place < 8 → up_to (slice_index_or result place 0) result ≡ take (place + 1) result }
+    {
+        let lowest = self.lowest;
+        [
+            (lowest + 1) % 8,
+            (lowest + 2) % 8,
+            (lowest + 3) % 8,
+            (lowest + 4) % 8,
+            (lowest + 5) % 8,
+            (lowest + 6) % 8,
+            (lowest + 7) % 8,
+            (lowest + 8) % 8,
+        ]
+    }
+
+    #[tactic(auto, unfolding(crate::specs::Pic::found))]
+    fn find_level(&self) -> Option<u8>
+        ensures level { result ≡ found self.now }
+        ensures bound { IfSome result (λ level. level < 8) }
+    {
+        if !self.is_ready() {
+            return None;
+        }
+        let mut is_blocked = false;
+        for level in self.order() {
+            is_blocked |= self.blocks(level);
+            if !is_blocked && self.is_pending(level) {
+                return Some(level);
+            }
+        }
+        None
+    }
+
+    #[tactic(auto, unfolding(crate::specs::Pic::highest_served))]
+    fn highest_served(&self) -> Option<u8>
+        ensures level { result ≡ highest_served self.now }
+        ensures bound { IfSome result (λ level. level < 8) }
+    {
+        for served in self.order() {
+            if self.blocks(served) {
+                return Some(served);
+            }
+        }
+        None
+    }
+
+    #[tactic(auto, unfolding(crate::specs::Pic::with_command))]
+    fn write_command(&mut self, value: u8)
+        ensures { self.new ≡ with_command value self.old }
+    {
+        if bit(value, 4) {
+            self.write_icw1(value);
+        } else if self.is_operating() {
+            if bit(value, 3) {
+                self.write_ocw3(value);
+            } else {
+                self.write_ocw2(bit(value, 7), bit(value, 6), bit(value, 5), value % 8);
+            }
+        }
+    }
+
+    fn is_operating(&self) -> bool
+        ensures { result ≡ is_operating self.now.expected }
+    {
+        matches!(self.expected, Expected::Operation)
+    }
+
+    #[tactic(auto, unfolding(crate::specs::Pic::with_icw1, crate::specs::Levels::order_with_lowest))]
+    fn write_icw1(&mut self, value: u8)
+        ensures { self.new ≡ with_icw1 value self.old }
+    {
+        *self = Pic {
+            high: self.high,
+            expected: Expected::Icw2,
+            is_cascaded: !bit(value, 1),
+            asks_icw4: bit(value, 0),
+            is_level_triggered: bit(value, 3),
+            vector: self.vector,
+            slaves: self.slaves,
+            ..Pic::new()
+        };
+    }
+
+    #[tactic(auto, unfolding(crate::specs::Pic::with_icw2))]
+    fn write_icw2(&mut self, value: u8)
+        ensures { self.new ≡ with_icw2 value self.old }
+    {
+        self.vector = value / 8 * 8;
+        self.expected = if self.is_cascaded {
+            Expected::Icw3
+        } else {
+            self.expected_after_icw3()
+        };
+    }
+
+    #[tactic(auto, unfolding(crate::specs::Pic::with_icw3))]
+    fn write_icw3(&mut self, value: u8)
+        ensures { self.new ≡ with_icw3 value self.old }
+    {
+        self.slaves = value;
+        self.expected = self.expected_after_icw3();
+    }
+
+    fn expected_after_icw3(&self) -> Expected
+        ensures { result ≡ expected_after_icw3 self.now }
+    {
+        if self.asks_icw4 {
+            Expected::Icw4
+        } else {
+            Expected::Operation
+        }
+    }
+
+    #[tactic(auto, unfolding(crate::specs::Pic::with_icw4))]
+    fn write_icw4(&mut self, value: u8)
+        ensures { self.new ≡ with_icw4 value self.old }
+    {
+        self.is_8086 = bit(value, 0);
+        self.auto_end = bit(value, 1);
+        self.is_specially_nested = bit(value, 4);
+        self.expected = Expected::Operation;
+    }
+
+    #[tactic(auto, unfolding(crate::specs::Pic::with_ocw1))]
+    fn write_ocw1(&mut self, value: u8)
+        ensures { self.new ≡ with_ocw1 value self.old }
+    {
+        self.masked = LevelSet::from_byte(value);
+    }
+
+    #[tactic(auto, unfolding(crate::specs::Pic::with_ocw2))]
+    fn write_ocw2(&mut self, rotate: bool, specific: bool, end: bool, level: u8)
+        requires { level < 8 }
+        ensures { self.new ≡ with_ocw2 rotate specific end level self.old }
+    {
+        match (rotate, specific, end) {
+            (false, false, true) => self.end_highest(false),
+            (false, true, true) => self.end_level(level),
+            (true, false, true) => self.end_highest(true),
+            (true, true, true) => {
+                self.end_level(level);
+                self.make_lowest(level);
+            }
+            (true, false, false) => self.rotates = true,
+            (false, false, false) => self.rotates = false,
+            (true, true, false) => self.make_lowest(level),
+            (false, true, false) => {}
+        }
+    }
+
+    #[tactic(auto, unfolding(crate::specs::Pic::with_ocw2))]
+    fn end_highest(&mut self, rotate: bool)
+        ensures { self.new ≡ with_ocw2 rotate false true 0 self.old }
+    {
+        if let Some(level) = self.highest_served() {
+            self.end_level(level);
+            if rotate {
+                self.make_lowest(level);
+            }
+        }
+    }
+
+    #[tactic(auto, unfolding(crate::specs::Pic::ended))]
+    fn end_level(&mut self, level: u8)
+        requires { level < 8 }
+        ensures { self.new ≡ ended level self.old }
+    {
+        self.served.remove(level);
+    }
+
+    #[tactic(auto, using(crate::proofs::Order::turned_to_lowest), unfolding(crate::specs::Pic::lowered))]
+    fn make_lowest(&mut self, level: u8)
+        requires { level < 8 }
+        ensures { self.new ≡ lowered level self.old }
+    {
+        self.lowest = level;
+    }
+
+    #[tactic(auto, unfolding(crate::specs::Pic::with_ocw3))]
+    fn write_ocw3(&mut self, value: u8)
+        ensures { self.new ≡ with_ocw3 value self.old }
+    {
+        if bit(value, 6) {
+            self.special_mask = bit(value, 5);
+        }
+        if bit(value, 1) {
+            self.reads_served = bit(value, 0);
+        }
+        self.polled = bit(value, 2);
+    }
+}
+
+#[cfg(test)]
+mod tests;

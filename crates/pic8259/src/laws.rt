@@ -1,0 +1,59 @@
+//! Laws of the controller, proved over its definition. Each is an empty function whose contract states it.
+ghost use Rattle.pic8259.specs.Laws.{OrderIsWhole, RotationTurns, BeginsAnew, WaitsForSequence, AcknowledgeTakesFirst, ServiceBlocks, SpecialMaskExcepts, EndsFirstInService};
+ghost use Rattle.pic8259.specs.Edges.{AsksOnceARise};
+
+/// At any time the order of priority holds each of the eight levels once, and is a turn of their circle.
+pub fn order_is_whole()
+    ensures { OrderIsWhole }
+{}
+
+/// A level that is made the lowest is the last of the circle.
+#[tactic(auto, using(crate::proofs::OrderWhole::rotation_turns))]
+pub fn rotation_turns()
+    ensures { RotationTurns }
+{}
+
+/// ICW1 begins anew, as from power-on, but for the lines, the vector's bits and the third word.
+#[tactic(auto, using(crate::proofs::Taking::begins_anew))]
+pub fn begins_anew()
+    ensures { BeginsAnew }
+{}
+
+/// Nothing is taken in mid-sequence, where no operation word is heard at A0 = 0, nor before 8086 mode is chosen.
+pub fn waits_for_sequence()
+    ensures { WaitsForSequence }
+{}
+
+/// An acknowledge takes the first level in the order that asks, is unmasked and isn't blocked, and no level
+/// before it may be taken.
+#[tactic(auto, using(crate::proofs::Taking::acknowledge_takes_first))]
+pub fn acknowledge_takes_first()
+    ensures { AcknowledgeTakesFirst }
+{}
+
+/// A level in service blocks itself and all after it in the order, unless special mask mode excepts it.
+#[tactic(auto, using(crate::proofs::Taking::service_blocks))]
+pub fn service_blocks()
+    ensures { ServiceBlocks }
+{}
+
+/// A level in service that is masked in special mask mode blocks none, and a plain end of interrupt leaves
+/// it in service.
+#[tactic(auto, using(crate::proofs::Taking::special_mask_excepts))]
+pub fn special_mask_excepts()
+    ensures { SpecialMaskExcepts }
+{}
+
+/// A plain end of interrupt, the word 20h, ends the first level in the order that is in service and not
+/// excepted, and changes nothing where there is none.
+#[tactic(auto, using(crate::proofs::Taking::ends_first_in_service))]
+pub fn ends_first_in_service()
+    ensures { EndsFirstInService }
+{}
+
+/// In edge mode a level that was taken doesn't ask again until its line has fallen and risen. In level mode a level
+/// asks as long as its line is high.
+#[tactic(auto, using(crate::proofs::Edges::asks_once_a_rise))]
+pub fn asks_once_a_rise()
+    ensures { AsksOnceARise }
+{}

@@ -1,0 +1,92 @@
+//! A set of interrupt levels.
+ghost use Rattle.std.specs.Prelude.{◌≡◌, ◌<◌};
+ghost use Rattle.pic8259.specs.Levels.{contains, with_level, without_level, byte_of, levels_of, has_bit};
+ghost use Rattle.pic8259.specs.Masks.{in_both};
+
+use std::marker::Model;
+
+/// A set of the eight levels IR0 to IR7.
+#[derive(Clone, Copy, Debug)]
+pub struct LevelSet {
+    /// Bit n is 1 where level n is in the set.
+    mask: u8,
+}
+
+impl Model for LevelSet {
+    ghost use Rattle.std.specs.Prelude.{◌<◌};
+    ghost use Rattle.pic8259.specs.Levels.{Levels, levels_of, byte_of};
+    ghost use Rattle.pic8259.specs.Masks.{byte_of-levels_of};
+    ghost use Rattle.std.proofs.Common.{ap};
+
+    ghost Value = { Levels };
+
+    ghost view = { λ s. levels_of s.mask };
+
+    ghost invariant = { λ s. s.mask < 256 };
+
+    ghost inverse = { λ set. record { mask = byte_of set } };
+
+    ghost inverse_ok = { λ s h. ap (λ n. record { mask = n }) (byte_of-levels_of s.mask h) };
+}
+
+impl LevelSet {
+    /// The set of the levels whose bits are 1 in `byte`.
+    pub fn from_byte(byte: u8) -> LevelSet
+        ensures { result ≡ levels_of byte }
+    {
+        LevelSet { mask: byte }
+    }
+
+    /// The byte whose bits at the levels of this set are 1, and the others 0.
+    #[tactic(auto, using(crate::proofs::Masks::byte_of_levels))]
+    pub fn byte(self) -> u8
+        ensures { result ≡ byte_of self }
+    {
+        self.mask
+    }
+
+    /// Whether `level` is in the set.
+    #[tactic(auto, using(crate::proofs::Masks::contains_levels))]
+    pub fn contains(self, level: u8) -> bool
+        requires { level < 8 }
+        ensures { result ≡ contains self level }
+    {
+        bit(self.mask, level)
+    }
+
+    /// Puts `level` into the set.
+    #[tactic(auto, using(crate::proofs::Masks::levels_with))]
+    pub fn insert(&mut self, level: u8)
+        requires { level < 8 }
+        ensures { self.new ≡ with_level self.old level }
+    {
+        self.mask |= 1 << level;
+    }
+
+    /// Takes `level` out of the set.
+    #[tactic(auto, using(crate::proofs::Masks::levels_without))]
+    pub fn remove(&mut self, level: u8)
+        requires { level < 8 }
+        ensures { self.new ≡ without_level self.old level }
+    {
+        self.mask &= !(1 << level);
+    }
+
+    /// The levels that are in both sets.
+    #[tactic(auto, using(crate::proofs::Masks::levels_in_both))]
+    pub fn intersection(self, other: LevelSet) -> LevelSet
+        ensures { result ≡ in_both self other }
+    {
+        LevelSet {
+            mask: self.mask & other.mask,
+        }
+    }
+}
+
+/// Whether bit `n` of `byte` is 1.
+pub fn bit(byte: u8, n: u8) -> bool
+    requires { n < 8 }
+    ensures { result ≡ has_bit byte n }
+{
+    (byte >> n) % 2 == 1
+}

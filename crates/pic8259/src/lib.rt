@@ -1,0 +1,9 @@
+//! The Intel 8259A interrupt controller, alone and in 8086 mode: eight request lines, their mask and
+//! priority, and the vector that an acknowledge answers.
+#![tactic(auto)]
+
+pub mod controller;
+pub mod laws;
+mod levels;
+
+pub use controller::Pic;
