@@ -1,6 +1,6 @@
 -- What a board shows: the plain board at its clock, the speaker's changes so far, and the room that is kept
 -- for further ones.
-use Rattle.std.specs.Prelude.{ℕ, ◌<◌, ◌≡◌, ◌≢◌, List, ◌++◌}
+use Rattle.std.specs.Prelude.{ℕ, ◌<◌, ◌≡◌, ◌≢◌, List, ◌++◌, codes}
 use Rattle.board.specs.declared.board.BoardFault.{BoardFault}
 use Rattle.board.specs.declared.board.BoardFault.TheVariants.{RamSize, Memory, ClockLimit}
 use Rattle.board.specs.declared.board.SpeakerChange.{SpeakerChange}
@@ -24,3 +24,8 @@ abbrev pub board_fault_number : BoardFault → ℕ
 board_fault_number RamSize = 36
 board_fault_number Memory = 41
 board_fault_number ClockLimit = 42
+
+abbrev pub board_fault_name : BoardFault → List ℕ
+board_fault_name RamSize = codes "RamSize"
+board_fault_name Memory = codes "Memory"
+board_fault_name ClockLimit = codes "ClockLimit"

@@ -3,7 +3,7 @@ ghost use Rattle.std.specs.Prelude.{◌≡◌, ◌+◌, ◌*◌, ◌<◌, ◌≤
 ghost use Rattle.std.specs.Result.{IfErr, IsErrOf};
 ghost use Rattle.std.specs.String.{string_bytes};
 ghost use Rattle.memory.specs.Map.{IsRamSize, FitsRam};
-ghost use Rattle.board.specs.Board.{StoppedEarly, board_fault_number};
+ghost use Rattle.board.specs.Board.{StoppedEarly, board_fault_name, board_fault_number};
 ghost use Rattle.board.specs.Plain.{byte_of, changes_in, clocks, lost_codes, power_on, registers_of, screen_of, state_of};
 
 use crate::adapter::TextAdapter;
@@ -41,6 +41,17 @@ impl BoardFault {
             BoardFault::RamSize => 36,
             BoardFault::Memory => 41,
             BoardFault::ClockLimit => 42,
+        }
+    }
+
+    /// The fault's name, as it is printed.
+    pub fn name(self) -> &'static str
+        ensures { result.now ≡ board_fault_name self }
+    {
+        match self {
+            BoardFault::RamSize => "RamSize",
+            BoardFault::Memory => "Memory",
+            BoardFault::ClockLimit => "ClockLimit",
         }
     }
 }
@@ -99,6 +110,7 @@ impl Board {
     ) -> Result<Board, BoardFault>
         requires { keys ≡ [] }
         ensures plain { IfOk result (λ board. board.plain ≡ power_on image.now config keys) }
+        ensures clock { IfOk result (λ board. board.plain.clock ≡ 0) }
         ensures changes { IfOk result (λ board. board.changes ≡ []) }
         ensures size { OnOk result (IsRamSize config.ram_kb × FitsRam image.now (1024 * config.ram_kb)) }
         ensures ram_size { IsErrOf result BoardFault.RamSize ↔ (¬ (IsRamSize config.ram_kb × FitsRam image.now (1024 * config.ram_kb))) }
@@ -124,6 +136,7 @@ impl Board {
     /// list of changes can't grow: the board then stands at that clock, and a new run goes on from there.
     pub fn run(&mut self, count: u64) -> Result<(), BoardFault>
         ensures plain { OnOk result (self.new.plain ≡ clocks count self.old.plain) }
+        ensures clock { OnOk result (self.new.plain.clock ≡ self.old.plain.clock + count) }
         ensures changes { OnOk result (self.new.changes ≡ self.old.changes ++ changes_in count self.old.plain) }
         ensures limit { IsErrOf result BoardFault.ClockLimit ↔ (2 ^ 40 < self.old.plain.clock + count) }
         ensures limit_kept { IsErrOf result BoardFault.ClockLimit → self.new ≡ self.old }

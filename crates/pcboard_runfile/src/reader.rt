@@ -1,5 +1,5 @@
 //! Reading run files.
-ghost use Rattle.std.specs.Prelude.{◌≡◌, ◌≤◌, IfOk, is_some, string_bytes};
+ghost use Rattle.std.specs.Prelude.{◌≡◌, ◌≤◌, [], IfOk, is_some, string_bytes};
 ghost use Rattle.std.specs.BTreeMap.{keys};
 ghost use Rattle.std.specs.List.{list_all};
 ghost use Rattle.std.specs.Option.{ok_or, option_map};
@@ -19,7 +19,8 @@ use std::alloc::Global;
 /// `BudgetTooLarge` where the budget is above 2^40. `Memory` may come in place of any answer.
 #[tactic(auto, unfolding(crate::specs::RunFile::run_of))]
 pub fn read_run(alloc: Global, value: &Value) -> Result<RunFile, RunFault>
-    ensures { Answers result (run_of (view value.now)) }
+    ensures meant { Answers result (run_of (view value.now)) }
+    ensures no_keys { IfOk result (λ run. run.keys ≡ []) }
 {
     if !has_only_fields(value) || !has_no_keys(value.get("keys")) {
         return Err(RunFault::BadField);
@@ -43,7 +44,8 @@ pub fn read_run(alloc: Global, value: &Value) -> Result<RunFile, RunFault>
 /// value from it, else as `read_run` refuses its value.
 #[tactic(auto, using(crate::proofs::Fields::value_refused), unfolding(crate::specs::RunFile::run_of_text))]
 pub fn read_run_text(alloc: Global, text: &[u8]) -> Result<RunFile, RunFault>
-    ensures { Answers result (run_of_text text.now) }
+    ensures meant { Answers result (run_of_text text.now) }
+    ensures no_keys { IfOk result (λ run. run.keys ≡ []) }
 {
     match Value::from_slice(alloc, text) {
         Ok(value) => read_run(alloc, &value),

@@ -5,8 +5,8 @@ use Rattle.pcboard_runfile.specs.RunFile.{has_only_fields, keys_of, number_of, n
 use Rattle.pcboard_runfile.proofs.Fields.{good_run, no_keys_read, number_read}
 use Rattle.pcboard_runfile.proofs.reader.read_run.Goals as goal
 
-pub returns : goal.returns
-returns c =
+pub returns-clause-meant : goal.returns-clause-meant
+returns-clause-meant c =
     let d = view c.args.value.now in
     let only : has_only_fields d ≡ true = search rules in
     let keys : is_some (keys_of (get (codes "keys") d)) ≡ true = search rules in

@@ -1,0 +1,65 @@
+-- Why a run is refused, and the line that says so.
+use Rattle.std.specs.Prelude.{ℕ, ◌≡◌, ◌*◌, List, [], ◌∷◌, ◌++◌, codes, Option, None, Some}
+use Rattle.std.specs.Fmt.{decimal}
+use Rattle.pcboard_assembler.specs.declared.fault.AsmFault.{AsmFault}
+use Rattle.pcboard_assembler.specs.Gives.{Gives}
+use Rattle.pcboard_assembler.specs.FirstFault.{IsFirst, fault_number, fault_name, fault_line}
+use Rattle.pcboard_runfile.specs.declared.run_file.RunFile.{RunFile}
+use Rattle.pcboard_runfile.specs.Fault.{run_fault_number, run_fault_name}
+use Rattle.pcboard_assembler.specs.declared.fault.AsmFault.TheVariants as asm
+use Rattle.pcboard_runfile.specs.declared.fault.RunFault.TheVariants as runs
+use Rattle.board.specs.declared.board.BoardFault.TheVariants as boards
+use Rattle.board.specs.declared.board.BoardFault.{BoardFault}
+use Rattle.board.specs.Board.{board_fault_number, board_fault_name}
+use Rattle.pcboard.specs.declared.fault.Fault.{Fault}
+use Rattle.pcboard.specs.declared.fault.Fault.TheVariants.{Source, Run, Board}
+use Rattle.pcboard.specs.Report.{FitsBoard}
+
+abbrev pub number_of : Fault → ℕ
+number_of (Source fault) = fault_number fault
+number_of (Run fault) = run_fault_number fault
+number_of (Board fault) = board_fault_number fault
+
+abbrev pub name_of : Fault → List ℕ
+name_of (Source fault) = fault_name fault
+name_of (Run fault) = run_fault_name fault
+name_of (Board fault) = board_fault_name fault
+
+abbrev pub line_of : Fault → Option ℕ
+line_of (Source fault) = fault_line fault
+line_of (Run fault) = None
+line_of (Board fault) = None
+
+abbrev pub line_suffix : Option ℕ → List ℕ
+line_suffix None = codes "\n"
+line_suffix (Some line) = codes " line " ++ (decimal line ++ codes "\n")
+
+-- the printed line of a fault
+unfoldable pub fault_text : Fault → List ℕ
+fault_text fault = codes "fault " ++ (decimal (number_of fault) ++ (codes " " ++ (name_of fault ++ line_suffix (line_of fault))))
+
+-- no memory was found, at whichever part
+abbrev pub IsWantOfMemory : Fault → Type 0
+IsWantOfMemory (Source asm.Memory) = Unit {0}
+IsWantOfMemory (Source (asm.InLine _ _)) = ⊥
+IsWantOfMemory (Source asm.SourceTooLong) = ⊥
+IsWantOfMemory (Run runs.Memory) = Unit {0}
+IsWantOfMemory (Run runs.NotJson) = ⊥
+IsWantOfMemory (Run runs.BadField) = ⊥
+IsWantOfMemory (Run runs.BudgetTooLarge) = ⊥
+IsWantOfMemory (Board boards.Memory) = Unit {0}
+IsWantOfMemory (Board boards.RamSize) = ⊥
+IsWantOfMemory (Board boards.ClockLimit) = ⊥
+
+-- a board's refusal is true of an image: its RAM doesn't fit, or there was no memory
+abbrev pub IsTrueOfBoard : List (ℕ × ℕ) → RunFile → BoardFault → Type 0
+IsTrueOfBoard image run boards.RamSize = ¬ (FitsBoard image run)
+IsTrueOfBoard image run boards.Memory = Unit {0}
+IsTrueOfBoard image run boards.ClockLimit = ⊥
+
+-- a refusal of a run is true of the source: it is the source's first fault, or a board's of the image that the
+-- source gives
+abbrev pub IsTrueOfSource : List ℕ → RunFile → Fault → Type 0
+IsTrueOfSource source run (Source fault) = IsFirst source fault
+IsTrueOfSource source run (Run fault) = ⊥
+IsTrueOfSource source run (Board fault) = (image : List (ℕ × ℕ)) × Gives source image × IsTrueOfBoard image run fault

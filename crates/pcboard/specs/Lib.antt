@@ -1,0 +1,4 @@
+pub mod ReportText
+pub mod Report
+pub mod Faults
+pub mod Answer

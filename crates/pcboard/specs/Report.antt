@@ -1,0 +1,42 @@
+-- What a run reports: the plain board of the image that the encoding table gives the source, after the
+-- budget's clocks.
+use Rattle.std.specs.Prelude.{ℕ, ◌≡◌, ◌*◌, ◌<◌, ◌^◌, List}
+use Rattle.std.specs.String.{string_bytes}
+use Rattle.memory.specs.Map.{IsRamSize, FitsRam}
+use Rattle.board_types.specs.declared.keys.StampedKey.{StampedKey}
+use Rattle.board.specs.declared.board.Config.{Config}
+use Rattle.board.specs.Plain.{Plain, board_after, byte_of, changes_in, power_on, registers_of, screen_of, state_of}
+use Rattle.pcboard_assembler.specs.Gives.{Gives}
+use Rattle.pcboard_runfile.specs.declared.run_file.RunFile.{RunFile}
+use Rattle.pcboard.specs.declared.report.Report.{Report}
+use Rattle.pcboard.specs.ReportText.{report_text}
+
+-- how a run file fits out the board
+abbrev pub config_of : RunFile → Config
+config_of run = record { ram_kb = run.ram_kb; sw1 = run.sw1; sw2 = run.sw2 }
+
+-- the plain board after the run file's budget
+abbrev pub plain_of : List (ℕ × ℕ) → RunFile → Plain
+plain_of image run = board_after image (config_of run) run.keys run.budget
+
+-- The report's board is the plain board of an image at the budget: its registers, its state, the byte at each
+-- of the 1,048,576 addresses, its screen and the speaker's changes; and the text is the one of that board.
+pub record ReportsImage (image : List (ℕ × ℕ)) (run : RunFile) (report : Report) : Type 0 where
+  pub clock : report.board.plain.clock ≡ run.budget
+  pub plain : report.board.plain ≡ plain_of image run
+  pub registers : registers_of report.board.plain ≡ registers_of (plain_of image run)
+  pub state : state_of report.board.plain ≡ state_of (plain_of image run)
+  pub bytes : (address : ℕ) → address < 2 ^ 20 → byte_of report.board.plain address ≡ byte_of (plain_of image run) address
+  pub screen : screen_of report.board.plain ≡ screen_of (plain_of image run)
+  pub changes : report.board.changes ≡ changes_in run.budget (power_on image (config_of run) run.keys)
+  pub text : string_bytes report.text ≡ report_text (plain_of image run) (changes_in run.budget (power_on image (config_of run) run.keys))
+
+-- the encoding table gives the source an image, and the report is of that image's board
+pub record ReportsSource (source : List ℕ) (run : RunFile) (report : Report) : Type 0 where
+  pub image : List (ℕ × ℕ)
+  pub gives : Gives source image
+  pub reports : ReportsImage image run report
+
+-- the board can have this much RAM, and the image keeps within it
+abbrev pub FitsBoard : List (ℕ × ℕ) → RunFile → Type 0
+FitsBoard image run = IsRamSize run.ram_kb × FitsRam image (1024 * run.ram_kb)

@@ -1,0 +1,71 @@
+//! Why a run is refused.
+ghost use Rattle.std.specs.Prelude.{◌≡◌, IfOk};
+ghost use Rattle.std.specs.String.{string_bytes};
+ghost use Rattle.pcboard.specs.Faults.{fault_text, line_of, line_suffix, name_of, number_of};
+
+use board::board::BoardFault;
+use pcboard_assembler::fault::AsmFault;
+use pcboard_runfile::fault::RunFault;
+use std::alloc::{AllocError, Global};
+
+/// A refusal, by the part that refuses.
+#[derive(Clone, Copy, Debug, PartialEq, Eq)]
+pub enum Fault {
+    Source(AsmFault),
+    Run(RunFault),
+    Board(BoardFault),
+}
+
+impl Fault {
+    /// The fault's number, from 1 on.
+    pub fn number(self) -> u8
+        ensures { result ≡ number_of self }
+    {
+        match self {
+            Fault::Source(fault) => fault.number(),
+            Fault::Run(fault) => fault.number(),
+            Fault::Board(fault) => fault.number(),
+        }
+    }
+
+    /// The fault's name, as it is printed.
+    pub fn name(self) -> &'static str
+        ensures { result.now ≡ name_of self }
+    {
+        match self {
+            Fault::Source(fault) => fault.name(),
+            Fault::Run(fault) => fault.name(),
+            Fault::Board(fault) => fault.name(),
+        }
+    }
+
+    /// The line of the source, from 1 on, where the fault has one.
+    pub fn line(self) -> Option<u32>
+        ensures { result ≡ line_of self }
+    {
+        match self {
+            Fault::Source(fault) => fault.line(),
+            Fault::Run(_) | Fault::Board(_) => None,
+        }
+    }
+}
+
+/// The line that tells a fault: its number and name, and where it has one the line of the source.
+#[tactic(auto, unfolding(crate::specs::Faults::fault_text))]
+pub fn fault_text(alloc: Global, fault: Fault) -> Result<String, AllocError>
+    ensures { IfOk result (λ text. string_bytes text ≡ fault_text fault) }
+{
+    let number = fault.number();
+    let name = fault.name();
+    let suffix = line_suffix(alloc, fault.line())?;
+    format!(in alloc; "fault {number} {name}{suffix}")
+}
+
+fn line_suffix(alloc: Global, line: Option<u32>) -> Result<String, AllocError>
+    ensures { IfOk result (λ text. string_bytes text ≡ line_suffix line) }
+{
+    match line {
+        Some(line) => format!(in alloc; " line {line}\n"),
+        None => String::from_str(alloc, "\n"),
+    }
+}

@@ -1,0 +1,61 @@
+//! The program `pcboard`: assembles a source, runs the board and prints the report.
+#![tactic(auto)]
+
+pub mod fault;
+pub mod opener;
+pub mod program;
+pub mod report;
+pub mod report_text;
+pub mod run;
+
+use crate::fault::{Fault, fault_text};
+use crate::opener::Opener;
+use crate::program::program;
+use board::board::BoardFault;
+use std::alloc::AllocError;
+use std::fs::File;
+use std::io;
+use std::process::ExitCode;
+use std::{env, fs};
+
+/// The files of the system.
+#[derive(Clone, Copy)]
+struct SystemFiles<'a> {
+    rt: &'a HostRuntime,
+}
+
+impl Opener for SystemFiles<'_> {
+    type Input = File;
+
+    fn open(&self, path: &str) -> io::Result<File> {
+        fs::open(self.rt, path)
+    }
+}
+
+fn main(rt: HostRuntime) -> ExitCode {
+    match status_of(&rt) {
+        Ok(status) => ExitCode::from(status),
+        Err(_) => ExitCode::from(3),
+    }
+}
+
+fn status_of(rt: &HostRuntime) -> io::Result<u8> {
+    let mut args = Vec::new(rt.alloc());
+    for arg in env::args(rt)? {
+        args.push(arg)?;
+    }
+    let mut words = Vec::new(rt.alloc());
+    for arg in args.iter().skip(1) {
+        words.push(arg.as_str())?;
+    }
+    let files = SystemFiles { rt };
+    let status = program(
+        rt.alloc(),
+        words.as_slice(),
+        &files,
+        &mut rt.stdin(),
+        &mut rt.stdout(),
+        &mut rt.stderr(),
+    );
+    Ok(status)
+}
