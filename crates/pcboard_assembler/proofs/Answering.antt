@@ -20,8 +20,9 @@ use Rattle.pcboard_assembler.specs.Placement.{Meaning, placed_of}
 use Rattle.pcboard_assembler.specs.Gives.{AreClean, IsMeaning, ArePlaced, Gives, source_limit}
 use Rattle.pcboard_assembler.specs.FirstFault.{IsFirst, IsEarlyFault, IsLateFault}
 use Rattle.pcboard_assembler.specs.Passes.{add_texts, look, place_texts, standing, Standing, Fails}
-use Rattle.pcboard_assembler.proofs.Passing.{fold_push, no_more, reads, Reads, ReadAll, ReadUpTo, clean_passes}
-use Rattle.pcboard_assembler.proofs.Placing.{places, Places, PlacedAll, PlacedUpTo, placed_passes, Placing, lookup_stays, rules_kept}
+use Rattle.pcboard_assembler.proofs.Passing.{fold_push, no_more, reads, Reads, ReadAll, ReadUpTo, clean_passes, keeps_rules, rules_kept}
+use Rattle.pcboard_assembler.proofs.Standing.{are_placed, are_faultless}
+use Rattle.pcboard_assembler.proofs.Placing.{places, Places, PlacedAll, PlacedUpTo, placed_passes, Placing, lookup_stays}
 
 -- names with the same letters are one
 pub same_names : (a b : Name) → same_name a b ≡ true → a ≡ b
@@ -122,7 +123,7 @@ named_lines before (text ∷ texts) [] clean named = absurd clean
 named_lines before (text ∷ texts) (line ∷ lines) clean named =
     subst (λ (ls : List Line). Named (state_of ls).definitions) (append_assoc before (line ∷ []) lines)
     (named_lines (before ++ line ∷ []) texts lines clean.1
-    (subst (λ (s : State). Named s.definitions) (sym (fold_push after start before line)) (named_after (state_of before) line named clean.0.keeps_rules)))
+    (subst (λ (s : State). Named s.definitions) (sym (fold_push after start before line)) (named_after (state_of before) line named (keeps_rules before text line clean.0))))
 
 none_named : Named []
 none_named name symbol there = absurd (omega (arith, there.1))
@@ -168,7 +169,7 @@ gives_of source image s spot within first second =
       clean = read.clean;
       meaning = look s.definitions;
       means = subst (λ (ds : List (Name × Symbol)). IsMeaning (look ds) (state_of read.lines).definitions) (sym same) (means_look (source_lines source) read.lines read.clean);
-      placed = placed.placed;
+      placed = are_placed (look s.definitions) [] read.lines placed.placed;
       bytes = placed.image
     }
 
@@ -226,7 +227,7 @@ late_of source (InLine fault number) s within first fails =
       back = placed.back;
       split = placed.split;
       counted = early_counted (length placed.front) ∙ same_number;
-      placed = placed.placed;
+      placed = are_placed (look s.definitions) [] placed.front placed.placed;
       found = placed.judged ∙ ap (λ (f : SourceFault). Some f) same_fault
     }))
 
@@ -241,7 +242,7 @@ pub runs_of : (source : List ℕ) (image : List (ℕ × ℕ)) → Gives source i
 runs_of source image g =
     let same : g.meaning ≡ look (state_of g.lines).definitions = one_meaning (source_lines source) g.lines g.meaning g.clean g.means in
     let passes = placed_passes (state_of g.lines).definitions [] (standing None []) 0 (source_lines source) g.lines g.clean refl (record { spot = refl; image = refl })
-        (subst (λ (m : Meaning). ArePlaced m [] g.lines) same g.placed) in
+        (are_faultless (look (state_of g.lines).definitions) [] g.lines (subst (λ (m : Meaning). ArePlaced m [] g.lines) same g.placed)) in
     let image_is : (placed_of (look (state_of g.lines).definitions) g.lines).image ≡ image = ap (λ (m : Meaning). (placed_of m g.lines).image) (sym same) ∙ sym g.bytes in
     record {
       s = state_of g.lines;

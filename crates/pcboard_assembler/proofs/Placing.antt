@@ -1,8 +1,7 @@
 -- What the second pass answers is what the definitions of the image and of the first fault say.
-use Rattle.std.proofs.Common.{◌≡◌, ℕ, ◌+◌, suc, List, [], ◌∷◌, ◌++◌, length, refl, sym, ap, ◌∙◌, subst, arith, Bool, true, false, cond, Option, None, Some, Result, Ok, Err, fold, append_assoc, is_none, ◌||◌, if◌then◌else◌}
+use Rattle.std.proofs.Common.{◌≡◌, ℕ, ◌+◌, suc, List, [], ◌∷◌, ◌++◌, length, refl, sym, ap, ◌∙◌, subst, arith, Bool, true, false, cond, Option, None, Some, Result, Ok, Err, fold, append_assoc, is_none}
 use Rattle.std.specs.Map.{lookup}
 use Rattle.pcboard_assembler.specs.declared.fault.SourceFault.{SourceFault}
-use Rattle.pcboard_assembler.specs.declared.fault.SourceFault.TheVariants.{BadLine, UnknownName, TwiceDefined, NoSegment}
 use Rattle.pcboard_assembler.specs.declared.fault.AsmFault.{AsmFault}
 use Rattle.pcboard_assembler.specs.declared.fault.AsmFault.TheVariants.{InLine}
 use Rattle.pcboard_assembler.specs.declared.word.Name.{Name}
@@ -15,30 +14,11 @@ use Rattle.pcboard_assembler.specs.declared.symbol.Location.{Location}
 use Rattle.pcboard_assembler.specs.declared.symbol.Symbol.{Symbol}
 use Rattle.pcboard_assembler.specs.declared.symbol.Symbol.TheVariants.{Label, Paragraph}
 use Rattle.pcboard_assembler.specs.Lines.{read_line}
-use Rattle.pcboard_assembler.specs.Symbols.{State, start, state_of, after, early_fault, same_name, paragraph_of, paragraph_in, opened, spot_after, label_definition, segment_definition, opens_within, lacks_paragraph, label_again, segment_again, stands_outside}
+use Rattle.pcboard_assembler.specs.Symbols.{State, start, state_of, after, early_fault, same_name, paragraph_of, paragraph_in, opened, spot_after, label_definition, segment_definition, lacks_paragraph}
 use Rattle.pcboard_assembler.specs.Placement.{Meaning, Placed, late_fault, placed_of, placing, spot_fault, start_placed, with_bytes, spot_bytes}
-use Rattle.pcboard_assembler.specs.Gives.{AreClean, IsCleanLine, ArePlaced}
+use Rattle.pcboard_assembler.specs.Gives.{AreClean}
 use Rattle.pcboard_assembler.specs.Passes.{look, next_standing, place_read, place_text, place_texts, standing, Standing, then_ok, unless}
-use Rattle.pcboard_assembler.proofs.Passing.{fold_push, no_more}
-
--- each test of a chain that finds nothing was false
-pub record AllFalse (a b c d : Bool) : Type 0 where
-  pub first : a ≡ false
-  pub second : b ≡ false
-  pub third : c ≡ false
-  pub fourth : d ≡ false
-
-chain_none : (a b c d : Bool) → (if a then Some BadLine else (if b then Some UnknownName else (if c then Some TwiceDefined else (if d then Some NoSegment else None)))) ≡ None → AllFalse a b c d
-chain_none true b c d none = cc
-chain_none false true c d none = cc
-chain_none false false true d none = cc
-chain_none false false false true none = cc
-chain_none false false false false none = record { first = refl; second = refl; third = refl; fourth = refl }
-
-pub rules_kept : (s : State) (line : Line) → early_fault s line ≡ None
-    → AllFalse (opens_within s.spot line.statement) (lacks_paragraph s.definitions line.statement) (label_again s.definitions line.label || segment_again s.definitions line.label line.statement) (stands_outside s.spot line)
-unfolding early_fault
-rules_kept s line none = chain_none (opens_within s.spot line.statement) (lacks_paragraph s.definitions line.statement) (label_again s.definitions line.label || segment_again s.definitions line.label line.statement) (stands_outside s.spot line) none
+use Rattle.pcboard_assembler.proofs.Passing.{fold_push, no_more, keeps_rules, rules_kept}
 
 -- a name that is found stays what it is when more names follow
 cond_stays : {A : Type 0} (test : Bool) (x v : A) (o p : Option A) → (o ≡ Some v → p ≡ Some v) → cond test (Some x) o ≡ Some v → cond test (Some x) p ≡ Some v
@@ -95,9 +75,15 @@ fold_state meaning p (line ∷ lines) = fold_state meaning (placing meaning p li
 state_is : (meaning : Meaning) (lines : List Line) → (placed_of meaning lines).state ≡ state_of lines
 state_is meaning lines = fold_state meaning start_placed lines
 
+-- none of these lines has a fault of placing
+abbrev pub AreFaultless : Meaning → List Line → List Line → Type 0
+AreFaultless meaning before [] = Unit {0}
+AreFaultless meaning before (line ∷ lines) =
+    (late_fault meaning (placed_of meaning before) line ≡ None) × AreFaultless meaning (before ++ line ∷ []) lines
+
 -- the lines that were placed, and the image that they made
 pub record PlacedAll (definitions : List (Name × Symbol)) (before lines : List Line) (p : Standing) : Type 0 where
-  pub placed : ArePlaced (look definitions) before lines
+  pub placed : AreFaultless (look definitions) before lines
   pub image : p.image ≡ (placed_of (look definitions) (before ++ lines)).image
 
 -- the lines that were placed before one with a fault
@@ -106,7 +92,7 @@ pub record PlacedUpTo (definitions : List (Name × Symbol)) (before : List Line)
   pub line : Line
   pub back : List Line
   pub split : lines ≡ front ++ line ∷ back
-  pub placed : ArePlaced (look definitions) before front
+  pub placed : AreFaultless (look definitions) before front
   pub found : SourceFault
   pub is : fault ≡ InLine found (number + (length front + 1))
   pub judged : late_fault (look definitions) (placed_of (look definitions) (before ++ front)) line ≡ Some found
@@ -206,7 +192,7 @@ places definitions before p n (text ∷ texts) (line ∷ lines) clean all at =
     let rest : Places definitions (before ++ line ∷ []) (n + 1) lines (place_texts definitions (next_standing definitions p line) (n + 1) texts) =
         places definitions (before ++ line ∷ []) (next_standing definitions p line) (n + 1) texts lines clean.1
         (all ∙ sym (ap (λ (ls : List Line). (state_of ls).definitions) (append_assoc before (line ∷ []) lines)))
-        (next_behind definitions before p line at known clean.0.keeps_rules) in
+        (next_behind definitions before p line at known (keeps_rules before text line clean.0)) in
     subst (λ (r : Result Line SourceFault). Places definitions before n (line ∷ lines) (then_ok (place_read definitions p (n + 1) r) go)) (sym clean.0.reads)
     (places_judged definitions before p n texts line lines (spot_fault (look definitions) p.image p.spot line) (late_is definitions before p line at) rest)
 
@@ -216,7 +202,7 @@ pub record Placing (definitions : List (Name × Symbol)) (lines : List Line) (r 
   pub is : r ≡ Ok (standing spot (placed_of (look definitions) lines).image)
 
 pub placed_passes : (definitions : List (Name × Symbol)) (before : List Line) (p : Standing) (n : ℕ) (texts : List (List ℕ)) (lines : List Line)
-    → AreClean before texts lines → definitions ≡ (state_of (before ++ lines)).definitions → StandsBehind definitions before p → ArePlaced (look definitions) before lines
+    → AreClean before texts lines → definitions ≡ (state_of (before ++ lines)).definitions → StandsBehind definitions before p → AreFaultless (look definitions) before lines
     → Placing definitions (before ++ lines) (place_texts definitions p n texts)
 unfolding place_text
 placed_passes definitions before p n [] [] clean all at placed = record {
@@ -232,7 +218,7 @@ placed_passes definitions before p n (text ∷ texts) (line ∷ lines) clean all
     let rest : Placing definitions ((before ++ line ∷ []) ++ lines) (place_texts definitions (next_standing definitions p line) (n + 1) texts) =
         placed_passes definitions (before ++ line ∷ []) (next_standing definitions p line) (n + 1) texts lines clean.1
         (all ∙ sym (ap (λ (ls : List Line). (state_of ls).definitions) (append_assoc before (line ∷ []) lines)))
-        (next_behind definitions before p line at known clean.0.keeps_rules) placed.1 in
+        (next_behind definitions before p line at known (keeps_rules before text line clean.0)) placed.1 in
     record {
       spot = rest.spot;
       is = ap (λ (r : Result Line SourceFault). then_ok (place_read definitions p (n + 1) r) go) clean.0.reads

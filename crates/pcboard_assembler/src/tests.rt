@@ -1,7 +1,6 @@
 use crate::assembly::assemble;
 use crate::fault::{AsmFault, SourceFault};
 use board_types::image::Image;
-use std::process::HostRuntime;
 use std::test::Fail;
 
 /// Writes HI into text memory, enables the video and halts, from the processor's first instruction on.
@@ -187,7 +186,7 @@ fn a_segment_ends_at_ffff(rt: HostRuntime) -> Result<(), Fail> {
 
 #[test]
 fn addresses_begin_again_past_the_last(rt: HostRuntime) -> Result<(), Fail> {
-    let source = repeated(&rt, b"SEGMENT A AT 0FFFFh\n", b"STOSW\n", 8, b"HLT\n")?;
+    let source = repeated(&rt, b"SEGMENT A AT 0FFFFh\n", b"STOSW\n", 16, b"HLT\n")?;
     let image = assemble(rt.alloc(), &source)?;
     assert_eq!(rt; image.get(0xF_FFFF), Some(0xAB));
     assert_eq!(rt; image.get(0), Some(0xF4));
