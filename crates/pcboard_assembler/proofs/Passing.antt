@@ -90,7 +90,7 @@ reads_more : (before : List Line) (line : Line) (text : List ℕ) (n : ℕ) (tex
 reads_more before line text n texts (Ok s) clean rest = record {
   lines = line ∷ rest.lines;
   clean = (clean, rest.clean);
-  reached = rest.reached ∙ ap state_of (append_assoc before (line ∷ []) rest.lines)
+  reached = rest.reached ∙ ap state_of (append_assoc before (line ∷ []) rest.lines);
 }
 reads_more before line text n texts (Err fault) clean rest = record {
   front = text ∷ rest.front;
@@ -101,7 +101,7 @@ reads_more before line text n texts (Err fault) clean rest = record {
   clean = (clean, rest.clean);
   found = rest.found;
   is = rest.is ∙ ap (InLine rest.found) (counted_more n (length rest.front));
-  judged = subst (λ (ls : List Line). read_fault (state_of ls) (read_line rest.text) ≡ Some rest.found) (append_assoc before (line ∷ []) rest.lines) rest.judged
+  judged = subst (λ (ls : List Line). read_fault (state_of ls) (read_line rest.text) ≡ Some rest.found) (append_assoc before (line ∷ []) rest.lines) rest.judged;
 }
 
 first_counted : (n : ℕ) → n + 1 ≡ n + (0 + 1)
@@ -123,7 +123,7 @@ reads_judged before s0 n text texts line (Some fault) at is judged rest = record
   clean = tt;
   found = fault;
   is = ap (InLine fault) (first_counted n);
-  judged = ap (read_fault (state_of (before ++ []))) is ∙ (ap (λ (s : State). early_fault s line) (ap state_of (no_more before) ∙ sym at) ∙ judged)
+  judged = ap (read_fault (state_of (before ++ []))) is ∙ (ap (λ (s : State). early_fault s line) (ap state_of (no_more before) ∙ sym at) ∙ judged);
 }
 
 reads_line : (before : List Line) (s0 : State) (n : ℕ) (text : List ℕ) (texts : List (List ℕ)) (read : Result Line SourceFault)
@@ -140,7 +140,7 @@ reads_line before s0 n text texts (Err fault) at is rest = record {
   clean = tt;
   found = fault;
   is = ap (InLine fault) (first_counted n);
-  judged = ap (read_fault (state_of (before ++ []))) is
+  judged = ap (read_fault (state_of (before ++ []))) is;
 }
 
 -- what the first pass answers

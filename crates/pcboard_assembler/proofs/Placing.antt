@@ -13,7 +13,6 @@ use Rattle.pcboard_assembler.specs.declared.statement.Line.{Line}
 use Rattle.pcboard_assembler.specs.declared.symbol.Location.{Location}
 use Rattle.pcboard_assembler.specs.declared.symbol.Symbol.{Symbol}
 use Rattle.pcboard_assembler.specs.declared.symbol.Symbol.TheVariants.{Label, Paragraph}
-use Rattle.pcboard_assembler.specs.Lines.{read_line}
 use Rattle.pcboard_assembler.specs.Symbols.{State, start, state_of, after, early_fault, same_name, paragraph_of, paragraph_in, opened, spot_after, label_definition, segment_definition, lacks_paragraph}
 use Rattle.pcboard_assembler.specs.Placement.{Meaning, Placed, late_fault, placed_of, placing, spot_fault, start_placed, with_bytes, spot_bytes}
 use Rattle.pcboard_assembler.specs.Gives.{AreClean}
@@ -60,7 +59,7 @@ grows s (line ∷ lines) =
     let names : List (Name × Symbol) = segment_definition s.definitions line.statement in
     record {
       more = labels ++ (names ++ rest.more);
-      is = rest.is ∙ (append_assoc (s.definitions ++ labels) names rest.more ∙ append_assoc s.definitions labels (names ++ rest.more))
+      is = rest.is ∙ (append_assoc (s.definitions ++ labels) names rest.more ∙ append_assoc s.definitions labels (names ++ rest.more));
     }
 
 fold_append : {A B : Type 0} (f : B → A → B) (b : B) (xs ys : List A) → fold f b (xs ++ ys) ≡ fold f (fold f b xs) ys
@@ -120,17 +119,17 @@ next_behind : (definitions : List (Name × Symbol)) (before : List Line) (p : St
 unfolding after placing
 next_behind definitions before p line at all clean =
     let spot : spot_after (record { spot = p.spot; definitions = definitions }) line.statement ≡ spot_after (state_of before) line.statement =
-        ap (λ (o : Option Location). spot_after (record { spot = o; definitions = definitions }) line.statement) at.spot
-        ∙ (ap (λ (ds : List (Name × Symbol)). spot_after (record { spot = (state_of before).spot; definitions = ds }) line.statement) all.is
-        ∙ same_spot (state_of before) all.more line.statement (rules_kept (state_of before) line clean).second) in
+    ap (λ (o : Option Location). spot_after (record { spot = o; definitions = definitions }) line.statement) at.spot
+    ∙ (ap (λ (ds : List (Name × Symbol)). spot_after (record { spot = (state_of before).spot; definitions = ds }) line.statement) all.is
+    ∙ same_spot (state_of before) all.more line.statement (rules_kept (state_of before) line clean).second) in
     let image : with_bytes p.image (spot_bytes (look definitions) p.spot line.statement)
-            ≡ with_bytes (placed_of (look definitions) before).image (spot_bytes (look definitions) (placed_of (look definitions) before).state.spot line.statement) =
-        ap (λ (i : List (ℕ × ℕ)). with_bytes i (spot_bytes (look definitions) p.spot line.statement)) at.image
-        ∙ ap (λ (o : Option Location). with_bytes (placed_of (look definitions) before).image (spot_bytes (look definitions) o line.statement))
-          (at.spot ∙ sym (ap (λ (s : State). s.spot) (state_is (look definitions) before))) in
+    ≡ with_bytes (placed_of (look definitions) before).image (spot_bytes (look definitions) (placed_of (look definitions) before).state.spot line.statement) =
+    ap (λ (i : List (ℕ × ℕ)). with_bytes i (spot_bytes (look definitions) p.spot line.statement)) at.image
+    ∙ ap (λ (o : Option Location). with_bytes (placed_of (look definitions) before).image (spot_bytes (look definitions) o line.statement))
+    (at.spot ∙ sym (ap (λ (s : State). s.spot) (state_is (look definitions) before))) in
     record {
       spot = spot ∙ sym (ap (λ (s : State). s.spot) (fold_push after start before line));
-      image = image ∙ sym (ap (λ (q : Placed). q.image) (fold_push (placing (look definitions)) start_placed before line))
+      image = image ∙ sym (ap (λ (q : Placed). q.image) (fold_push (placing (look definitions)) start_placed before line));
     }
 
 counted_more : (n k : ℕ) → (n + 1) + (k + 1) ≡ n + (suc k + 1)
@@ -144,7 +143,7 @@ places_more : (definitions : List (Name × Symbol)) (before : List Line) (line :
     → Places definitions (before ++ line ∷ []) (n + 1) lines r → Places definitions before n (line ∷ lines) r
 places_more definitions before line n lines (Ok p) none rest = record {
   placed = (none, rest.placed);
-  image = rest.image ∙ ap (λ (ls : List Line). (placed_of (look definitions) ls).image) (append_assoc before (line ∷ []) lines)
+  image = rest.image ∙ ap (λ (ls : List Line). (placed_of (look definitions) ls).image) (append_assoc before (line ∷ []) lines);
 }
 places_more definitions before line n lines (Err fault) none rest = record {
   front = line ∷ rest.front;
@@ -154,7 +153,7 @@ places_more definitions before line n lines (Err fault) none rest = record {
   placed = (none, rest.placed);
   found = rest.found;
   is = rest.is ∙ ap (InLine rest.found) (counted_more n (length rest.front));
-  judged = subst (λ (ls : List Line). late_fault (look definitions) (placed_of (look definitions) ls) rest.line ≡ Some rest.found) (append_assoc before (line ∷ []) rest.front) rest.judged
+  judged = subst (λ (ls : List Line). late_fault (look definitions) (placed_of (look definitions) ls) rest.line ≡ Some rest.found) (append_assoc before (line ∷ []) rest.front) rest.judged;
 }
 
 places_judged : (definitions : List (Name × Symbol)) (before : List Line) (p : Standing) (n : ℕ) (texts : List (List ℕ)) (line : Line) (lines : List Line) (found : Option SourceFault)
@@ -171,7 +170,7 @@ places_judged definitions before p n texts line lines (Some fault) judged rest =
   placed = tt;
   found = fault;
   is = ap (InLine fault) (first_counted n);
-  judged = ap (λ (ls : List Line). late_fault (look definitions) (placed_of (look definitions) ls) line) (no_more before) ∙ judged
+  judged = ap (λ (ls : List Line). late_fault (look definitions) (placed_of (look definitions) ls) line) (no_more before) ∙ judged;
 }
 
 -- what the second pass answers
@@ -181,7 +180,7 @@ pub places : (definitions : List (Name × Symbol)) (before : List Line) (p : Sta
 unfolding place_text
 places definitions before p n [] [] clean all at = record {
   placed = tt;
-  image = at.image ∙ ap (λ (ls : List Line). (placed_of (look definitions) ls).image) (sym (no_more before))
+  image = at.image ∙ ap (λ (ls : List Line). (placed_of (look definitions) ls).image) (sym (no_more before));
 }
 places definitions before p n [] (line ∷ lines) clean all at = absurd clean
 places definitions before p n (text ∷ texts) [] clean all at = absurd clean
@@ -190,9 +189,9 @@ places definitions before p n (text ∷ texts) (line ∷ lines) clean all at =
     let more = grows (state_of before) (line ∷ lines) in
     let known : Grows (state_of before).definitions definitions = record { more = more.more; is = all ∙ (ap (λ (s : State). s.definitions) (fold_append after start before (line ∷ lines)) ∙ more.is) } in
     let rest : Places definitions (before ++ line ∷ []) (n + 1) lines (place_texts definitions (next_standing definitions p line) (n + 1) texts) =
-        places definitions (before ++ line ∷ []) (next_standing definitions p line) (n + 1) texts lines clean.1
-        (all ∙ sym (ap (λ (ls : List Line). (state_of ls).definitions) (append_assoc before (line ∷ []) lines)))
-        (next_behind definitions before p line at known (keeps_rules before text line clean.0)) in
+    places definitions (before ++ line ∷ []) (next_standing definitions p line) (n + 1) texts lines clean.1
+    (all ∙ sym (ap (λ (ls : List Line). (state_of ls).definitions) (append_assoc before (line ∷ []) lines)))
+    (next_behind definitions before p line at known (keeps_rules before text line clean.0)) in
     subst (λ (r : Result Line SourceFault). Places definitions before n (line ∷ lines) (then_ok (place_read definitions p (n + 1) r) go)) (sym clean.0.reads)
     (places_judged definitions before p n texts line lines (spot_fault (look definitions) p.image p.spot line) (late_is definitions before p line at) rest)
 
@@ -207,7 +206,7 @@ pub placed_passes : (definitions : List (Name × Symbol)) (before : List Line) (
 unfolding place_text
 placed_passes definitions before p n [] [] clean all at placed = record {
   spot = p.spot;
-  is = ap (λ (i : List (ℕ × ℕ)). Ok (standing p.spot i)) (at.image ∙ ap (λ (ls : List Line). (placed_of (look definitions) ls).image) (sym (no_more before)))
+  is = ap (λ (i : List (ℕ × ℕ)). Ok (standing p.spot i)) (at.image ∙ ap (λ (ls : List Line). (placed_of (look definitions) ls).image) (sym (no_more before)));
 }
 placed_passes definitions before p n [] (line ∷ lines) clean all at placed = absurd clean
 placed_passes definitions before p n (text ∷ texts) [] clean all at placed = absurd clean
@@ -216,12 +215,12 @@ placed_passes definitions before p n (text ∷ texts) (line ∷ lines) clean all
     let more = grows (state_of before) (line ∷ lines) in
     let known : Grows (state_of before).definitions definitions = record { more = more.more; is = all ∙ (ap (λ (s : State). s.definitions) (fold_append after start before (line ∷ lines)) ∙ more.is) } in
     let rest : Placing definitions ((before ++ line ∷ []) ++ lines) (place_texts definitions (next_standing definitions p line) (n + 1) texts) =
-        placed_passes definitions (before ++ line ∷ []) (next_standing definitions p line) (n + 1) texts lines clean.1
-        (all ∙ sym (ap (λ (ls : List Line). (state_of ls).definitions) (append_assoc before (line ∷ []) lines)))
-        (next_behind definitions before p line at known (keeps_rules before text line clean.0)) placed.1 in
+    placed_passes definitions (before ++ line ∷ []) (next_standing definitions p line) (n + 1) texts lines clean.1
+    (all ∙ sym (ap (λ (ls : List Line). (state_of ls).definitions) (append_assoc before (line ∷ []) lines)))
+    (next_behind definitions before p line at known (keeps_rules before text line clean.0)) placed.1 in
     record {
       spot = rest.spot;
       is = ap (λ (r : Result Line SourceFault). then_ok (place_read definitions p (n + 1) r) go) clean.0.reads
-        ∙ (ap (λ (f : Option SourceFault). then_ok (unless (n + 1) f (next_standing definitions p line)) go) (sym (late_is definitions before p line at) ∙ placed.0)
-        ∙ (rest.is ∙ ap (λ (ls : List Line). Ok (standing rest.spot (placed_of (look definitions) ls).image)) (append_assoc before (line ∷ []) lines)))
+          ∙ (ap (λ (f : Option SourceFault). then_ok (unless (n + 1) f (next_standing definitions p line)) go) (sym (late_is definitions before p line at) ∙ placed.0)
+          ∙ (rest.is ∙ ap (λ (ls : List Line). Ok (standing rest.spot (placed_of (look definitions) ls).image)) (append_assoc before (line ∷ []) lines)));
     }

@@ -1,5 +1,5 @@
 -- Lines without a fault are lines that can be placed.
-use Rattle.std.proofs.Common.{◌≡◌, ℕ, ◌+◌, ◌<◌, ◌≤◌, List, [], ◌∷◌, ◌++◌, refl, sym, ap, ◌∙◌, subst, arith, Bool, true, false, ◌==◌, ◌&&◌, ◌||◌, nat_lt, Option, None, Some, is_some, if◌then◌else◌}
+use Rattle.std.proofs.Common.{◌≡◌, ℕ, ◌+◌, ◌≤◌, List, [], ◌∷◌, ◌++◌, refl, ap, ◌∙◌, arith, Bool, true, false, ◌&&◌, ◌||◌, nat_lt, Option, None, Some, is_some, if◌then◌else◌}
 use Rattle.std.specs.List.{list_any, list_all, AllByRecursion}
 use Rattle.std.proofs.lemmas.Bool.Decides.{nat_tests}
 use Rattle.board_types.specs.Image.{image_byte, IsLoadable}
@@ -8,7 +8,7 @@ use Rattle.isa.specs.declared.form.Field.{Field}
 use Rattle.isa.specs.declared.form.Field.TheVariants.{Absent, Byte, Word}
 use Rattle.isa.specs.Encoding.{FitsField, form_length, immediate_field, segment_field}
 use Rattle.pcboard_assembler.specs.declared.fault.SourceFault.{SourceFault}
-use Rattle.pcboard_assembler.specs.declared.fault.SourceFault.TheVariants.{Undefined, OutOfRange, OutOfSegment, Overlap, NotLoadable}
+use Rattle.pcboard_assembler.specs.declared.fault.SourceFault.TheVariants.{OutOfRange, OutOfSegment, Overlap, NotLoadable}
 use Rattle.pcboard_assembler.specs.declared.word.Name.{Name}
 use Rattle.pcboard_assembler.specs.declared.statement.Statement.{Statement}
 use Rattle.pcboard_assembler.specs.declared.statement.Statement.TheVariants.{Empty, Segment, Ends, Instruction}
@@ -97,7 +97,7 @@ can_stand image spot bytes size none =
     record {
       inside = at_most 65536 (spot.offset + size) parts.0;
       free = free_of image (bytes_at (address_of spot) bytes) parts.1;
-      loadable = loadable_of (bytes_at (address_of spot) bytes) parts.2
+      loadable = loadable_of (bytes_at (address_of spot) bytes) parts.2;
     }
 
 stands : (image : List (ℕ × ℕ)) (spot : Location) (bytes : List ℕ) (size : ℕ) → CanStand image spot bytes size → placing_fault image spot bytes size ≡ None

@@ -1,5 +1,5 @@
 -- The image that a source gives.
-use Rattle.std.specs.Prelude.{ℕ, ◌≡◌, ◌≤◌, ◌+◌, false, List, [], ◌∷◌, ◌++◌, length, Option, None, Some, Result, Ok, Contains}
+use Rattle.std.specs.Prelude.{ℕ, ◌≡◌, ◌≤◌, ◌+◌, false, List, [], ◌∷◌, ◌++◌, length, Option, None, Some, Ok, Contains}
 use Rattle.std.specs.List.{AllByRecursion}
 use Rattle.board_types.specs.Image.{IsLoadable, image_byte}
 use Rattle.isa.specs.declared.form.Form.{Form}
