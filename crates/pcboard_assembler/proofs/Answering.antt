@@ -18,10 +18,11 @@ use Rattle.pcboard_assembler.specs.Lexemes.{source_lines}
 use Rattle.pcboard_assembler.specs.Symbols.{State, start, state_of, after, early_fault, same_name, is_defined, label_definition, named_paragraph, segment_definition, paragraph_of, label_again, segment_again, is_label, opens_within}
 use Rattle.pcboard_assembler.specs.Placement.{Meaning, placed_of}
 use Rattle.pcboard_assembler.specs.Gives.{AreClean, IsMeaning, ArePlaced, Gives, source_limit}
-use Rattle.pcboard_assembler.specs.FirstFault.{IsFirst, IsEarlyFault, IsLateFault}
+use Rattle.pcboard_assembler.specs.FirstFault.{IsFirst}
 use Rattle.pcboard_assembler.specs.Passes.{add_texts, look, place_texts, standing, Standing, Fails}
-use Rattle.pcboard_assembler.proofs.Passing.{fold_push, no_more, reads, Reads, ReadAll, ReadUpTo, clean_passes}
-use Rattle.pcboard_assembler.proofs.Placing.{places, Places, PlacedAll, PlacedUpTo, placed_passes, Placing, lookup_stays, rules_kept}
+use Rattle.pcboard_assembler.proofs.Passing.{fold_push, no_more, reads, Reads, ReadAll, ReadUpTo, clean_passes, keeps_rules, rules_kept}
+use Rattle.pcboard_assembler.proofs.Standing.{are_placed, are_faultless}
+use Rattle.pcboard_assembler.proofs.Placing.{places, Places, PlacedAll, PlacedUpTo, placed_passes, lookup_stays}
 
 -- names with the same letters are one
 pub same_names : (a b : Name) → same_name a b ≡ true → a ≡ b
@@ -73,7 +74,7 @@ named_push definitions new value named fresh name symbol there =
           let name_is : new ≡ name = ap (λ (e : Name × Symbol). e.0) same in
           let value_is : value ≡ symbol = ap (λ (e : Name × Symbol). e.1) same in
           let missing : lookup (same_name name) definitions ≡ None =
-            subst (λ (n : Name). lookup (same_name n) definitions ≡ None) name_is (none_is (lookup (same_name new) definitions) fresh) in
+          subst (λ (n : Name). lookup (same_name n) definitions ≡ None) name_is (none_is (lookup (same_name new) definitions) fresh) in
           let here : same_name name new ≡ true = subst (λ (n : Name). same_name name n ≡ true) (sym name_is) (same_self name) in
           lookup_skips (same_name name) definitions ((new, value) ∷ []) missing ∙ (lookup_here (same_name name) new value here ∙ ap (λ (v : Symbol). Some v) value_is)
     ]
@@ -122,7 +123,7 @@ named_lines before (text ∷ texts) [] clean named = absurd clean
 named_lines before (text ∷ texts) (line ∷ lines) clean named =
     subst (λ (ls : List Line). Named (state_of ls).definitions) (append_assoc before (line ∷ []) lines)
     (named_lines (before ++ line ∷ []) texts lines clean.1
-    (subst (λ (s : State). Named s.definitions) (sym (fold_push after start before line)) (named_after (state_of before) line named clean.0.keeps_rules)))
+    (subst (λ (s : State). Named s.definitions) (sym (fold_push after start before line)) (named_after (state_of before) line named (keeps_rules before text line clean.0))))
 
 none_named : Named []
 none_named name symbol there = absurd (omega (arith, there.1))
@@ -131,7 +132,7 @@ none_named name symbol there = absurd (omega (arith, there.1))
 means_look : (texts : List (List ℕ)) (lines : List Line) → AreClean [] texts lines → IsMeaning (look (state_of lines).definitions) (state_of lines).definitions
 means_look texts lines clean = record {
   holds = named_lines [] texts lines clean none_named;
-  only = λ name symbol found. Contains-from_lookup same_names name symbol (state_of lines).definitions found
+  only = λ name symbol found. Contains-from_lookup same_names name symbol (state_of lines).definitions found;
 }
 
 -- and no other is
@@ -148,9 +149,9 @@ one_meaning : (texts : List (List ℕ)) (lines : List Line) (meaning : Meaning) 
 one_meaning texts lines meaning clean means =
     let own = means_look texts lines clean in
     let each : (name : Name) → meaning name ≡ look (state_of lines).definitions name = λ name.
-        meaning_is (look (state_of lines).definitions name) (meaning name)
-        (λ symbol is. own.holds name symbol (means.only name symbol is))
-        (λ symbol is. means.holds name symbol (own.only name symbol is)) in
+    meaning_is (look (state_of lines).definitions name) (meaning name)
+    (λ symbol is. own.holds name symbol (means.only name symbol is))
+    (λ symbol is. means.holds name symbol (own.only name symbol is)) in
     λ i name. each name i
 
 -- what the passes answer with an image
@@ -159,8 +160,8 @@ pub gives_of : (source : List ℕ) (image : List (ℕ × ℕ)) (s : State) (spot
 gives_of source image s spot within first second =
     let read : ReadAll [] (source_lines source) s = subst (Reads [] 0 (source_lines source)) first (reads [] start 0 (source_lines source) refl) in
     let placed : PlacedAll s.definitions [] read.lines (standing spot image) =
-        subst (Places s.definitions [] 0 read.lines) second
-        (places s.definitions [] (standing None []) 0 (source_lines source) read.lines read.clean (ap (λ (t : State). t.definitions) read.reached) (record { spot = refl; image = refl })) in
+    subst (Places s.definitions [] 0 read.lines) second
+    (places s.definitions [] (standing None []) 0 (source_lines source) read.lines read.clean (ap (λ (t : State). t.definitions) read.reached) (record { spot = refl; image = refl })) in
     let same : s.definitions ≡ (state_of read.lines).definitions = ap (λ (t : State). t.definitions) read.reached in
     record {
       within = within;
@@ -168,8 +169,8 @@ gives_of source image s spot within first second =
       clean = read.clean;
       meaning = look s.definitions;
       means = subst (λ (ds : List (Name × Symbol)). IsMeaning (look ds) (state_of read.lines).definitions) (sym same) (means_look (source_lines source) read.lines read.clean);
-      placed = placed.placed;
-      bytes = placed.image
+      placed = are_placed (look s.definitions) [] read.lines placed.placed;
+      bytes = placed.image;
     }
 
 early_counted : (k : ℕ) → k + 1 ≡ 0 + (k + 1)
@@ -185,17 +186,19 @@ early_of source (InLine fault number) within fails =
     let read : ReadUpTo [] 0 (source_lines source) (InLine fault number) = subst (Reads [] 0 (source_lines source)) fails (reads [] start 0 (source_lines source) refl) in
     let is : InLine fault number ≡ InLine read.found (0 + (length read.front + 1)) = read.is in
     let same_fault : read.found ≡ fault = cc in
-    let same_number : 0 + (length read.front + 1) ≡ number = cc in
-    (within, inl (record {
-      front = read.front;
-      text = read.text;
-      back = read.back;
-      texts = read.split;
-      counted = early_counted (length read.front) ∙ same_number;
-      lines = read.lines;
-      clean = read.clean;
-      found = read.judged ∙ ap (λ (f : SourceFault). Some f) same_fault
-    }))
+    let same_number : 0 + (length read.front + 1) ≡ number = cc in (
+      within,
+      inl (record {
+        front = read.front;
+        text = read.text;
+        back = read.back;
+        texts = read.split;
+        counted = early_counted (length read.front) ∙ same_number;
+        lines = read.lines;
+        clean = read.clean;
+        found = read.judged ∙ ap (λ (f : SourceFault). Some f) same_fault;
+      }),
+    )
 
 -- a fault of the second pass
 pub late_of : (source : List ℕ) (fault : AsmFault) (s : State) → length source ≤ source_limit → add_texts start 0 (source_lines source) ≡ Ok s
@@ -204,31 +207,33 @@ late_of source Memory s within first fails = tt
 late_of source SourceTooLong s within first fails =
     let read : ReadAll [] (source_lines source) s = subst (Reads [] 0 (source_lines source)) first (reads [] start 0 (source_lines source) refl) in
     let placed : PlacedUpTo s.definitions [] 0 read.lines SourceTooLong =
-        subst (Places s.definitions [] 0 read.lines) fails
-        (places s.definitions [] (standing None []) 0 (source_lines source) read.lines read.clean (ap (λ (t : State). t.definitions) read.reached) (record { spot = refl; image = refl })) in
+    subst (Places s.definitions [] 0 read.lines) fails
+    (places s.definitions [] (standing None []) 0 (source_lines source) read.lines read.clean (ap (λ (t : State). t.definitions) read.reached) (record { spot = refl; image = refl })) in
     let wrong : SourceTooLong ≡ InLine placed.found (0 + (length placed.front + 1)) = placed.is in cc
 late_of source (InLine fault number) s within first fails =
     let read : ReadAll [] (source_lines source) s = subst (Reads [] 0 (source_lines source)) first (reads [] start 0 (source_lines source) refl) in
     let placed : PlacedUpTo s.definitions [] 0 read.lines (InLine fault number) =
-        subst (Places s.definitions [] 0 read.lines) fails
-        (places s.definitions [] (standing None []) 0 (source_lines source) read.lines read.clean (ap (λ (t : State). t.definitions) read.reached) (record { spot = refl; image = refl })) in
+    subst (Places s.definitions [] 0 read.lines) fails
+    (places s.definitions [] (standing None []) 0 (source_lines source) read.lines read.clean (ap (λ (t : State). t.definitions) read.reached) (record { spot = refl; image = refl })) in
     let same : s.definitions ≡ (state_of read.lines).definitions = ap (λ (t : State). t.definitions) read.reached in
     let is : InLine fault number ≡ InLine placed.found (0 + (length placed.front + 1)) = placed.is in
     let same_fault : placed.found ≡ fault = cc in
-    let same_number : 0 + (length placed.front + 1) ≡ number = cc in
-    (within, inr (record {
-      lines = read.lines;
-      clean = read.clean;
-      meaning = look s.definitions;
-      means = subst (λ (ds : List (Name × Symbol)). IsMeaning (look ds) (state_of read.lines).definitions) (sym same) (means_look (source_lines source) read.lines read.clean);
-      front = placed.front;
-      line = placed.line;
-      back = placed.back;
-      split = placed.split;
-      counted = early_counted (length placed.front) ∙ same_number;
-      placed = placed.placed;
-      found = placed.judged ∙ ap (λ (f : SourceFault). Some f) same_fault
-    }))
+    let same_number : 0 + (length placed.front + 1) ≡ number = cc in (
+      within,
+      inr (record {
+        lines = read.lines;
+        clean = read.clean;
+        meaning = look s.definitions;
+        means = subst (λ (ds : List (Name × Symbol)). IsMeaning (look ds) (state_of read.lines).definitions) (sym same) (means_look (source_lines source) read.lines read.clean);
+        front = placed.front;
+        line = placed.line;
+        back = placed.back;
+        split = placed.split;
+        counted = early_counted (length placed.front) ∙ same_number;
+        placed = are_placed (look s.definitions) [] placed.front placed.placed;
+        found = placed.judged ∙ ap (λ (f : SourceFault). Some f) same_fault;
+      }),
+    )
 
 -- where the source gives an image, both passes run through and make it
 pub record Runs (source : List ℕ) (image : List (ℕ × ℕ)) : Type 0 where
@@ -241,13 +246,13 @@ pub runs_of : (source : List ℕ) (image : List (ℕ × ℕ)) → Gives source i
 runs_of source image g =
     let same : g.meaning ≡ look (state_of g.lines).definitions = one_meaning (source_lines source) g.lines g.meaning g.clean g.means in
     let passes = placed_passes (state_of g.lines).definitions [] (standing None []) 0 (source_lines source) g.lines g.clean refl (record { spot = refl; image = refl })
-        (subst (λ (m : Meaning). ArePlaced m [] g.lines) same g.placed) in
+    (are_faultless (look (state_of g.lines).definitions) [] g.lines (subst (λ (m : Meaning). ArePlaced m [] g.lines) same g.placed)) in
     let image_is : (placed_of (look (state_of g.lines).definitions) g.lines).image ≡ image = ap (λ (m : Meaning). (placed_of m g.lines).image) (sym same) ∙ sym g.bytes in
     record {
       s = state_of g.lines;
       spot = passes.spot;
       first = clean_passes [] start 0 (source_lines source) g.lines refl g.clean;
-      second = passes.is ∙ ap (λ (i : List (ℕ × ℕ)). Ok (standing passes.spot i)) image_is
+      second = passes.is ∙ ap (λ (i : List (ℕ × ℕ)). Ok (standing passes.spot i)) image_is;
     }
 
 -- then the first pass has no fault
@@ -264,12 +269,12 @@ second_fails source SourceTooLong s image first fails g =
     let run = runs_of source image g in
     let same : s ≡ run.s = ok_same (sym first ∙ run.first) in
     let second : place_texts s.definitions (standing None []) 0 (source_lines source) ≡ Ok (standing run.spot image) =
-        ap (λ (t : State). place_texts t.definitions (standing None []) 0 (source_lines source)) same ∙ run.second in cc
+    ap (λ (t : State). place_texts t.definitions (standing None []) 0 (source_lines source)) same ∙ run.second in cc
 second_fails source (InLine fault number) s image first fails g =
     let run = runs_of source image g in
     let same : s ≡ run.s = ok_same (sym first ∙ run.first) in
     let second : place_texts s.definitions (standing None []) 0 (source_lines source) ≡ Ok (standing run.spot image) =
-        ap (λ (t : State). place_texts t.definitions (standing None []) 0 (source_lines source)) same ∙ run.second in cc
+    ap (λ (t : State). place_texts t.definitions (standing None []) 0 (source_lines source)) same ∙ run.second in cc
 
 second_gives : (source : List ℕ) (s : State) (spot : Option Location) (given image : List (ℕ × ℕ)) → add_texts start 0 (source_lines source) ≡ Ok s
     → place_texts s.definitions (standing None []) 0 (source_lines source) ≡ Ok (standing spot given) → Gives source image → given ≡ image
@@ -277,7 +282,7 @@ second_gives source s spot given image first is g =
     let run = runs_of source image g in
     let same : s ≡ run.s = ok_same (sym first ∙ run.first) in
     let second : place_texts s.definitions (standing None []) 0 (source_lines source) ≡ Ok (standing run.spot image) =
-        ap (λ (t : State). place_texts t.definitions (standing None []) 0 (source_lines source)) same ∙ run.second in
+    ap (λ (t : State). place_texts t.definitions (standing None []) 0 (source_lines source)) same ∙ run.second in
     ap (λ (p : Standing). p.image) (ok_same (sym is ∙ second))
 
 -- what the second pass's answer says of the whole

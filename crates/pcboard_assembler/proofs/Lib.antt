@@ -2,4 +2,5 @@ pub mod Scanning
 pub mod Wording
 pub mod Passing
 pub mod Placing
+pub mod Standing
 pub mod Answering

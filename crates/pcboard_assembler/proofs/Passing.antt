@@ -1,11 +1,12 @@
 -- What the two passes answer is what the definitions of the image and of the first fault say.
-use Rattle.std.proofs.Common.{◌≡◌, ℕ, ◌+◌, suc, List, [], ◌∷◌, ◌++◌, length, refl, sym, ap, ◌∙◌, subst, arith, Option, None, Some, Result, Ok, Err, fold, append_assoc}
+use Rattle.std.proofs.Common.{◌≡◌, ℕ, ◌+◌, suc, List, [], ◌∷◌, ◌++◌, length, refl, sym, ap, ◌∙◌, subst, arith, Bool, true, false, ◌||◌, if◌then◌else◌, Option, None, Some, Result, Ok, Err, fold, append_assoc}
 use Rattle.pcboard_assembler.specs.declared.fault.SourceFault.{SourceFault}
+use Rattle.pcboard_assembler.specs.declared.fault.SourceFault.TheVariants.{BadLine, UnknownName, TwiceDefined, NoSegment}
 use Rattle.pcboard_assembler.specs.declared.fault.AsmFault.{AsmFault}
 use Rattle.pcboard_assembler.specs.declared.fault.AsmFault.TheVariants.{InLine}
 use Rattle.pcboard_assembler.specs.declared.statement.Line.{Line}
 use Rattle.pcboard_assembler.specs.Lines.{read_line}
-use Rattle.pcboard_assembler.specs.Symbols.{State, start, state_of, after, early_fault}
+use Rattle.pcboard_assembler.specs.Symbols.{State, start, state_of, after, early_fault, opens_within, lacks_paragraph, label_again, segment_again, stands_outside}
 use Rattle.pcboard_assembler.specs.Gives.{AreClean, IsCleanLine}
 use Rattle.pcboard_assembler.specs.FirstFault.{read_fault}
 use Rattle.pcboard_assembler.specs.Passes.{add_text, add_texts, add_read, unless, then_ok}
@@ -17,6 +18,47 @@ fold_push f b (y ∷ ys) x = fold_push f (f b y) ys x
 pub no_more : {A : Type 0} (xs : List A) → xs ++ [] ≡ xs
 no_more [] = refl
 no_more {A} (x ∷ xs) = ap (λ (r : List A). x ∷ r) (no_more xs)
+
+-- each test of a chain that finds nothing was false
+pub record AllFalse (a b c d : Bool) : Type 0 where
+  pub first : a ≡ false
+  pub second : b ≡ false
+  pub third : c ≡ false
+  pub fourth : d ≡ false
+
+chain_none : (a b c d : Bool) → (if a then Some BadLine else (if b then Some UnknownName else (if c then Some TwiceDefined else (if d then Some NoSegment else None)))) ≡ None → AllFalse a b c d
+chain_none true b c d none = cc
+chain_none false true c d none = cc
+chain_none false false true d none = cc
+chain_none false false false true none = cc
+chain_none false false false false none = record { first = refl; second = refl; third = refl; fourth = refl }
+
+pub rules_kept : (s : State) (line : Line) → early_fault s line ≡ None
+    → AllFalse (opens_within s.spot line.statement) (lacks_paragraph s.definitions line.statement) (label_again s.definitions line.label || segment_again s.definitions line.label line.statement) (stands_outside s.spot line)
+unfolding early_fault
+rules_kept s line none = chain_none (opens_within s.spot line.statement) (lacks_paragraph s.definitions line.statement) (label_again s.definitions line.label || segment_again s.definitions line.label line.statement) (stands_outside s.spot line) none
+
+or_false : (a b : Bool) → (a || b) ≡ false → (a ≡ false) × (b ≡ false)
+or_false true b none = cc
+or_false false b none = (refl, none)
+
+chain_finds_none : (a b c d e : Bool) → a ≡ false → b ≡ false → c ≡ false → d ≡ false → e ≡ false
+    → (if a then Some BadLine else (if b then Some UnknownName else (if c || d then Some TwiceDefined else (if e then Some NoSegment else None)))) ≡ None
+chain_finds_none a b c d e p q r s t = rw (p, q, r, s, t) refl
+
+-- a line that reads is clean where it has no fault
+pub keeps_rules : (before : List Line) (text : List ℕ) (line : Line) → IsCleanLine before text line → early_fault (state_of before) line ≡ None
+unfolding early_fault
+keeps_rules before text line clean =
+    chain_finds_none (opens_within (state_of before).spot line.statement) (lacks_paragraph (state_of before).definitions line.statement)
+    (label_again (state_of before).definitions line.label) (segment_again (state_of before).definitions line.label line.statement) (stands_outside (state_of before).spot line)
+    clean.closed clean.known clean.new_label clean.new_segment clean.inside
+
+is_clean : (before : List Line) (text : List ℕ) (line : Line) → read_line text ≡ Ok line → early_fault (state_of before) line ≡ None → IsCleanLine before text line
+is_clean before text line is none =
+    let kept = rules_kept (state_of before) line none in
+    let fresh = or_false (label_again (state_of before).definitions line.label) (segment_again (state_of before).definitions line.label line.statement) kept.third in
+    record { reads = is; closed = kept.first; known = kept.second; new_label = fresh.0; new_segment = fresh.1; inside = kept.fourth }
 
 -- lines that were read from the texts, and what stands behind them
 pub record ReadAll (before : List Line) (texts : List (List ℕ)) (s : State) : Type 0 where
@@ -48,7 +90,7 @@ reads_more : (before : List Line) (line : Line) (text : List ℕ) (n : ℕ) (tex
 reads_more before line text n texts (Ok s) clean rest = record {
   lines = line ∷ rest.lines;
   clean = (clean, rest.clean);
-  reached = rest.reached ∙ ap state_of (append_assoc before (line ∷ []) rest.lines)
+  reached = rest.reached ∙ ap state_of (append_assoc before (line ∷ []) rest.lines);
 }
 reads_more before line text n texts (Err fault) clean rest = record {
   front = text ∷ rest.front;
@@ -59,7 +101,7 @@ reads_more before line text n texts (Err fault) clean rest = record {
   clean = (clean, rest.clean);
   found = rest.found;
   is = rest.is ∙ ap (InLine rest.found) (counted_more n (length rest.front));
-  judged = subst (λ (ls : List Line). read_fault (state_of ls) (read_line rest.text) ≡ Some rest.found) (append_assoc before (line ∷ []) rest.lines) rest.judged
+  judged = subst (λ (ls : List Line). read_fault (state_of ls) (read_line rest.text) ≡ Some rest.found) (append_assoc before (line ∷ []) rest.lines) rest.judged;
 }
 
 first_counted : (n : ℕ) → n + 1 ≡ n + (0 + 1)
@@ -71,7 +113,7 @@ reads_judged : (before : List Line) (s0 : State) (n : ℕ) (text : List ℕ) (te
     → Reads before n (text ∷ texts) (then_ok (unless (n + 1) found (after s0 line)) (λ next. add_texts next (n + 1) texts))
 reads_judged before s0 n text texts line None at is judged rest =
     reads_more before line text n texts (add_texts (after s0 line) (n + 1) texts)
-    (record { reads = is; keeps_rules = ap (λ (s : State). early_fault s line) (sym at) ∙ judged }) rest
+    (is_clean before text line is (ap (λ (s : State). early_fault s line) (sym at) ∙ judged)) rest
 reads_judged before s0 n text texts line (Some fault) at is judged rest = record {
   front = [];
   text = text;
@@ -81,7 +123,7 @@ reads_judged before s0 n text texts line (Some fault) at is judged rest = record
   clean = tt;
   found = fault;
   is = ap (InLine fault) (first_counted n);
-  judged = ap (read_fault (state_of (before ++ []))) is ∙ (ap (λ (s : State). early_fault s line) (ap state_of (no_more before) ∙ sym at) ∙ judged)
+  judged = ap (read_fault (state_of (before ++ []))) is ∙ (ap (λ (s : State). early_fault s line) (ap state_of (no_more before) ∙ sym at) ∙ judged);
 }
 
 reads_line : (before : List Line) (s0 : State) (n : ℕ) (text : List ℕ) (texts : List (List ℕ)) (read : Result Line SourceFault)
@@ -98,7 +140,7 @@ reads_line before s0 n text texts (Err fault) at is rest = record {
   clean = tt;
   found = fault;
   is = ap (InLine fault) (first_counted n);
-  judged = ap (read_fault (state_of (before ++ []))) is
+  judged = ap (read_fault (state_of (before ++ []))) is;
 }
 
 -- what the first pass answers
@@ -119,6 +161,6 @@ clean_passes before s0 n (text ∷ texts) [] at clean = absurd clean
 clean_passes before s0 n (text ∷ texts) (line ∷ lines) at clean =
     let go : State → Result State AsmFault = λ next. add_texts next (n + 1) texts in
     ap (λ (r : Result Line SourceFault). then_ok (add_read s0 (n + 1) r) go) clean.0.reads
-    ∙ (ap (λ (f : Option SourceFault). then_ok (unless (n + 1) f (after s0 line)) go) (ap (λ (s : State). early_fault s line) at ∙ clean.0.keeps_rules)
+    ∙ (ap (λ (f : Option SourceFault). then_ok (unless (n + 1) f (after s0 line)) go) (ap (λ (s : State). early_fault s line) at ∙ keeps_rules before text line clean.0)
     ∙ (clean_passes (before ++ line ∷ []) (after s0 line) (n + 1) texts lines (ap (λ (s : State). after s line) at ∙ sym (fold_push after start before line)) clean.1
     ∙ ap (λ (ls : List Line). Ok (state_of ls)) (append_assoc before (line ∷ []) lines)))

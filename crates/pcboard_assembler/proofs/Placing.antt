@@ -1,8 +1,7 @@
 -- What the second pass answers is what the definitions of the image and of the first fault say.
-use Rattle.std.proofs.Common.{◌≡◌, ℕ, ◌+◌, suc, List, [], ◌∷◌, ◌++◌, length, refl, sym, ap, ◌∙◌, subst, arith, Bool, true, false, cond, Option, None, Some, Result, Ok, Err, fold, append_assoc, is_none, ◌||◌, if◌then◌else◌}
+use Rattle.std.proofs.Common.{◌≡◌, ℕ, ◌+◌, suc, List, [], ◌∷◌, ◌++◌, length, refl, sym, ap, ◌∙◌, subst, arith, Bool, true, false, cond, Option, None, Some, Result, Ok, Err, fold, append_assoc, is_none}
 use Rattle.std.specs.Map.{lookup}
 use Rattle.pcboard_assembler.specs.declared.fault.SourceFault.{SourceFault}
-use Rattle.pcboard_assembler.specs.declared.fault.SourceFault.TheVariants.{BadLine, UnknownName, TwiceDefined, NoSegment}
 use Rattle.pcboard_assembler.specs.declared.fault.AsmFault.{AsmFault}
 use Rattle.pcboard_assembler.specs.declared.fault.AsmFault.TheVariants.{InLine}
 use Rattle.pcboard_assembler.specs.declared.word.Name.{Name}
@@ -14,31 +13,11 @@ use Rattle.pcboard_assembler.specs.declared.statement.Line.{Line}
 use Rattle.pcboard_assembler.specs.declared.symbol.Location.{Location}
 use Rattle.pcboard_assembler.specs.declared.symbol.Symbol.{Symbol}
 use Rattle.pcboard_assembler.specs.declared.symbol.Symbol.TheVariants.{Label, Paragraph}
-use Rattle.pcboard_assembler.specs.Lines.{read_line}
-use Rattle.pcboard_assembler.specs.Symbols.{State, start, state_of, after, early_fault, same_name, paragraph_of, paragraph_in, opened, spot_after, label_definition, segment_definition, opens_within, lacks_paragraph, label_again, segment_again, stands_outside}
+use Rattle.pcboard_assembler.specs.Symbols.{State, start, state_of, after, early_fault, same_name, paragraph_of, paragraph_in, opened, spot_after, label_definition, segment_definition, lacks_paragraph}
 use Rattle.pcboard_assembler.specs.Placement.{Meaning, Placed, late_fault, placed_of, placing, spot_fault, start_placed, with_bytes, spot_bytes}
-use Rattle.pcboard_assembler.specs.Gives.{AreClean, IsCleanLine, ArePlaced}
+use Rattle.pcboard_assembler.specs.Gives.{AreClean}
 use Rattle.pcboard_assembler.specs.Passes.{look, next_standing, place_read, place_text, place_texts, standing, Standing, then_ok, unless}
-use Rattle.pcboard_assembler.proofs.Passing.{fold_push, no_more}
-
--- each test of a chain that finds nothing was false
-pub record AllFalse (a b c d : Bool) : Type 0 where
-  pub first : a ≡ false
-  pub second : b ≡ false
-  pub third : c ≡ false
-  pub fourth : d ≡ false
-
-chain_none : (a b c d : Bool) → (if a then Some BadLine else (if b then Some UnknownName else (if c then Some TwiceDefined else (if d then Some NoSegment else None)))) ≡ None → AllFalse a b c d
-chain_none true b c d none = cc
-chain_none false true c d none = cc
-chain_none false false true d none = cc
-chain_none false false false true none = cc
-chain_none false false false false none = record { first = refl; second = refl; third = refl; fourth = refl }
-
-pub rules_kept : (s : State) (line : Line) → early_fault s line ≡ None
-    → AllFalse (opens_within s.spot line.statement) (lacks_paragraph s.definitions line.statement) (label_again s.definitions line.label || segment_again s.definitions line.label line.statement) (stands_outside s.spot line)
-unfolding early_fault
-rules_kept s line none = chain_none (opens_within s.spot line.statement) (lacks_paragraph s.definitions line.statement) (label_again s.definitions line.label || segment_again s.definitions line.label line.statement) (stands_outside s.spot line) none
+use Rattle.pcboard_assembler.proofs.Passing.{fold_push, no_more, keeps_rules, rules_kept}
 
 -- a name that is found stays what it is when more names follow
 cond_stays : {A : Type 0} (test : Bool) (x v : A) (o p : Option A) → (o ≡ Some v → p ≡ Some v) → cond test (Some x) o ≡ Some v → cond test (Some x) p ≡ Some v
@@ -80,7 +59,7 @@ grows s (line ∷ lines) =
     let names : List (Name × Symbol) = segment_definition s.definitions line.statement in
     record {
       more = labels ++ (names ++ rest.more);
-      is = rest.is ∙ (append_assoc (s.definitions ++ labels) names rest.more ∙ append_assoc s.definitions labels (names ++ rest.more))
+      is = rest.is ∙ (append_assoc (s.definitions ++ labels) names rest.more ∙ append_assoc s.definitions labels (names ++ rest.more));
     }
 
 fold_append : {A B : Type 0} (f : B → A → B) (b : B) (xs ys : List A) → fold f b (xs ++ ys) ≡ fold f (fold f b xs) ys
@@ -95,9 +74,15 @@ fold_state meaning p (line ∷ lines) = fold_state meaning (placing meaning p li
 state_is : (meaning : Meaning) (lines : List Line) → (placed_of meaning lines).state ≡ state_of lines
 state_is meaning lines = fold_state meaning start_placed lines
 
+-- none of these lines has a fault of placing
+abbrev pub AreFaultless : Meaning → List Line → List Line → Type 0
+AreFaultless meaning before [] = Unit {0}
+AreFaultless meaning before (line ∷ lines) =
+    (late_fault meaning (placed_of meaning before) line ≡ None) × AreFaultless meaning (before ++ line ∷ []) lines
+
 -- the lines that were placed, and the image that they made
 pub record PlacedAll (definitions : List (Name × Symbol)) (before lines : List Line) (p : Standing) : Type 0 where
-  pub placed : ArePlaced (look definitions) before lines
+  pub placed : AreFaultless (look definitions) before lines
   pub image : p.image ≡ (placed_of (look definitions) (before ++ lines)).image
 
 -- the lines that were placed before one with a fault
@@ -106,7 +91,7 @@ pub record PlacedUpTo (definitions : List (Name × Symbol)) (before : List Line)
   pub line : Line
   pub back : List Line
   pub split : lines ≡ front ++ line ∷ back
-  pub placed : ArePlaced (look definitions) before front
+  pub placed : AreFaultless (look definitions) before front
   pub found : SourceFault
   pub is : fault ≡ InLine found (number + (length front + 1))
   pub judged : late_fault (look definitions) (placed_of (look definitions) (before ++ front)) line ≡ Some found
@@ -134,17 +119,17 @@ next_behind : (definitions : List (Name × Symbol)) (before : List Line) (p : St
 unfolding after placing
 next_behind definitions before p line at all clean =
     let spot : spot_after (record { spot = p.spot; definitions = definitions }) line.statement ≡ spot_after (state_of before) line.statement =
-        ap (λ (o : Option Location). spot_after (record { spot = o; definitions = definitions }) line.statement) at.spot
-        ∙ (ap (λ (ds : List (Name × Symbol)). spot_after (record { spot = (state_of before).spot; definitions = ds }) line.statement) all.is
-        ∙ same_spot (state_of before) all.more line.statement (rules_kept (state_of before) line clean).second) in
+    ap (λ (o : Option Location). spot_after (record { spot = o; definitions = definitions }) line.statement) at.spot
+    ∙ (ap (λ (ds : List (Name × Symbol)). spot_after (record { spot = (state_of before).spot; definitions = ds }) line.statement) all.is
+    ∙ same_spot (state_of before) all.more line.statement (rules_kept (state_of before) line clean).second) in
     let image : with_bytes p.image (spot_bytes (look definitions) p.spot line.statement)
-            ≡ with_bytes (placed_of (look definitions) before).image (spot_bytes (look definitions) (placed_of (look definitions) before).state.spot line.statement) =
-        ap (λ (i : List (ℕ × ℕ)). with_bytes i (spot_bytes (look definitions) p.spot line.statement)) at.image
-        ∙ ap (λ (o : Option Location). with_bytes (placed_of (look definitions) before).image (spot_bytes (look definitions) o line.statement))
-          (at.spot ∙ sym (ap (λ (s : State). s.spot) (state_is (look definitions) before))) in
+    ≡ with_bytes (placed_of (look definitions) before).image (spot_bytes (look definitions) (placed_of (look definitions) before).state.spot line.statement) =
+    ap (λ (i : List (ℕ × ℕ)). with_bytes i (spot_bytes (look definitions) p.spot line.statement)) at.image
+    ∙ ap (λ (o : Option Location). with_bytes (placed_of (look definitions) before).image (spot_bytes (look definitions) o line.statement))
+    (at.spot ∙ sym (ap (λ (s : State). s.spot) (state_is (look definitions) before))) in
     record {
       spot = spot ∙ sym (ap (λ (s : State). s.spot) (fold_push after start before line));
-      image = image ∙ sym (ap (λ (q : Placed). q.image) (fold_push (placing (look definitions)) start_placed before line))
+      image = image ∙ sym (ap (λ (q : Placed). q.image) (fold_push (placing (look definitions)) start_placed before line));
     }
 
 counted_more : (n k : ℕ) → (n + 1) + (k + 1) ≡ n + (suc k + 1)
@@ -158,7 +143,7 @@ places_more : (definitions : List (Name × Symbol)) (before : List Line) (line :
     → Places definitions (before ++ line ∷ []) (n + 1) lines r → Places definitions before n (line ∷ lines) r
 places_more definitions before line n lines (Ok p) none rest = record {
   placed = (none, rest.placed);
-  image = rest.image ∙ ap (λ (ls : List Line). (placed_of (look definitions) ls).image) (append_assoc before (line ∷ []) lines)
+  image = rest.image ∙ ap (λ (ls : List Line). (placed_of (look definitions) ls).image) (append_assoc before (line ∷ []) lines);
 }
 places_more definitions before line n lines (Err fault) none rest = record {
   front = line ∷ rest.front;
@@ -168,7 +153,7 @@ places_more definitions before line n lines (Err fault) none rest = record {
   placed = (none, rest.placed);
   found = rest.found;
   is = rest.is ∙ ap (InLine rest.found) (counted_more n (length rest.front));
-  judged = subst (λ (ls : List Line). late_fault (look definitions) (placed_of (look definitions) ls) rest.line ≡ Some rest.found) (append_assoc before (line ∷ []) rest.front) rest.judged
+  judged = subst (λ (ls : List Line). late_fault (look definitions) (placed_of (look definitions) ls) rest.line ≡ Some rest.found) (append_assoc before (line ∷ []) rest.front) rest.judged;
 }
 
 places_judged : (definitions : List (Name × Symbol)) (before : List Line) (p : Standing) (n : ℕ) (texts : List (List ℕ)) (line : Line) (lines : List Line) (found : Option SourceFault)
@@ -185,7 +170,7 @@ places_judged definitions before p n texts line lines (Some fault) judged rest =
   placed = tt;
   found = fault;
   is = ap (InLine fault) (first_counted n);
-  judged = ap (λ (ls : List Line). late_fault (look definitions) (placed_of (look definitions) ls) line) (no_more before) ∙ judged
+  judged = ap (λ (ls : List Line). late_fault (look definitions) (placed_of (look definitions) ls) line) (no_more before) ∙ judged;
 }
 
 -- what the second pass answers
@@ -195,7 +180,7 @@ pub places : (definitions : List (Name × Symbol)) (before : List Line) (p : Sta
 unfolding place_text
 places definitions before p n [] [] clean all at = record {
   placed = tt;
-  image = at.image ∙ ap (λ (ls : List Line). (placed_of (look definitions) ls).image) (sym (no_more before))
+  image = at.image ∙ ap (λ (ls : List Line). (placed_of (look definitions) ls).image) (sym (no_more before));
 }
 places definitions before p n [] (line ∷ lines) clean all at = absurd clean
 places definitions before p n (text ∷ texts) [] clean all at = absurd clean
@@ -204,9 +189,9 @@ places definitions before p n (text ∷ texts) (line ∷ lines) clean all at =
     let more = grows (state_of before) (line ∷ lines) in
     let known : Grows (state_of before).definitions definitions = record { more = more.more; is = all ∙ (ap (λ (s : State). s.definitions) (fold_append after start before (line ∷ lines)) ∙ more.is) } in
     let rest : Places definitions (before ++ line ∷ []) (n + 1) lines (place_texts definitions (next_standing definitions p line) (n + 1) texts) =
-        places definitions (before ++ line ∷ []) (next_standing definitions p line) (n + 1) texts lines clean.1
-        (all ∙ sym (ap (λ (ls : List Line). (state_of ls).definitions) (append_assoc before (line ∷ []) lines)))
-        (next_behind definitions before p line at known clean.0.keeps_rules) in
+    places definitions (before ++ line ∷ []) (next_standing definitions p line) (n + 1) texts lines clean.1
+    (all ∙ sym (ap (λ (ls : List Line). (state_of ls).definitions) (append_assoc before (line ∷ []) lines)))
+    (next_behind definitions before p line at known (keeps_rules before text line clean.0)) in
     subst (λ (r : Result Line SourceFault). Places definitions before n (line ∷ lines) (then_ok (place_read definitions p (n + 1) r) go)) (sym clean.0.reads)
     (places_judged definitions before p n texts line lines (spot_fault (look definitions) p.image p.spot line) (late_is definitions before p line at) rest)
 
@@ -216,12 +201,12 @@ pub record Placing (definitions : List (Name × Symbol)) (lines : List Line) (r 
   pub is : r ≡ Ok (standing spot (placed_of (look definitions) lines).image)
 
 pub placed_passes : (definitions : List (Name × Symbol)) (before : List Line) (p : Standing) (n : ℕ) (texts : List (List ℕ)) (lines : List Line)
-    → AreClean before texts lines → definitions ≡ (state_of (before ++ lines)).definitions → StandsBehind definitions before p → ArePlaced (look definitions) before lines
+    → AreClean before texts lines → definitions ≡ (state_of (before ++ lines)).definitions → StandsBehind definitions before p → AreFaultless (look definitions) before lines
     → Placing definitions (before ++ lines) (place_texts definitions p n texts)
 unfolding place_text
 placed_passes definitions before p n [] [] clean all at placed = record {
   spot = p.spot;
-  is = ap (λ (i : List (ℕ × ℕ)). Ok (standing p.spot i)) (at.image ∙ ap (λ (ls : List Line). (placed_of (look definitions) ls).image) (sym (no_more before)))
+  is = ap (λ (i : List (ℕ × ℕ)). Ok (standing p.spot i)) (at.image ∙ ap (λ (ls : List Line). (placed_of (look definitions) ls).image) (sym (no_more before)));
 }
 placed_passes definitions before p n [] (line ∷ lines) clean all at placed = absurd clean
 placed_passes definitions before p n (text ∷ texts) [] clean all at placed = absurd clean
@@ -230,12 +215,12 @@ placed_passes definitions before p n (text ∷ texts) (line ∷ lines) clean all
     let more = grows (state_of before) (line ∷ lines) in
     let known : Grows (state_of before).definitions definitions = record { more = more.more; is = all ∙ (ap (λ (s : State). s.definitions) (fold_append after start before (line ∷ lines)) ∙ more.is) } in
     let rest : Placing definitions ((before ++ line ∷ []) ++ lines) (place_texts definitions (next_standing definitions p line) (n + 1) texts) =
-        placed_passes definitions (before ++ line ∷ []) (next_standing definitions p line) (n + 1) texts lines clean.1
-        (all ∙ sym (ap (λ (ls : List Line). (state_of ls).definitions) (append_assoc before (line ∷ []) lines)))
-        (next_behind definitions before p line at known clean.0.keeps_rules) placed.1 in
+    placed_passes definitions (before ++ line ∷ []) (next_standing definitions p line) (n + 1) texts lines clean.1
+    (all ∙ sym (ap (λ (ls : List Line). (state_of ls).definitions) (append_assoc before (line ∷ []) lines)))
+    (next_behind definitions before p line at known (keeps_rules before text line clean.0)) placed.1 in
     record {
       spot = rest.spot;
       is = ap (λ (r : Result Line SourceFault). then_ok (place_read definitions p (n + 1) r) go) clean.0.reads
-        ∙ (ap (λ (f : Option SourceFault). then_ok (unless (n + 1) f (next_standing definitions p line)) go) (sym (late_is definitions before p line at) ∙ placed.0)
-        ∙ (rest.is ∙ ap (λ (ls : List Line). Ok (standing rest.spot (placed_of (look definitions) ls).image)) (append_assoc before (line ∷ []) lines)))
+          ∙ (ap (λ (f : Option SourceFault). then_ok (unless (n + 1) f (next_standing definitions p line)) go) (sym (late_is definitions before p line at) ∙ placed.0)
+          ∙ (rest.is ∙ ap (λ (ls : List Line). Ok (standing rest.spot (placed_of (look definitions) ls).image)) (append_assoc before (line ∷ []) lines)));
     }

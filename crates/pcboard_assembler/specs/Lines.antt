@@ -1,10 +1,9 @@
 -- A line: an optional label, and a statement.
-use Rattle.std.specs.Prelude.{ℕ, Bool, ◌&&◌, if◌then◌else◌, List, [], ◌∷◌, Option, None, Some, Result, Ok, Err}
+use Rattle.std.specs.Prelude.{ℕ, ◌&&◌, if◌then◌else◌, List, ◌∷◌, Option, None, Some, Result, Ok, Err}
 use Rattle.std.specs.List.{list_all}
 use Rattle.pcboard_assembler.specs.declared.fault.SourceFault.{SourceFault}
 use Rattle.pcboard_assembler.specs.declared.fault.SourceFault.TheVariants.{BadLine, BadCharacter}
 use Rattle.pcboard_assembler.specs.declared.word.Name.{Name}
-use Rattle.pcboard_assembler.specs.declared.statement.Statement.{Statement}
 use Rattle.pcboard_assembler.specs.declared.statement.Line.{Line}
 use Rattle.pcboard_assembler.specs.Lexemes.{is_character, lexemes}
 use Rattle.pcboard_assembler.specs.Words.{is_name, name_of, is_well_formed}

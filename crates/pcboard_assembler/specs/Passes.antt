@@ -69,7 +69,7 @@ Refuses (InLine fault line) number found = (line ≡ number) × (found ≡ Some 
 abbrev pub next_standing : List (Name × Symbol) → Standing → Line → Standing
 next_standing definitions p line = record {
   spot = spot_after (record { spot = p.spot; definitions = definitions }) line.statement;
-  image = with_bytes p.image (spot_bytes (look definitions) p.spot line.statement)
+  image = with_bytes p.image (spot_bytes (look definitions) p.spot line.statement);
 }
 
 abbrev pub place_read : List (Name × Symbol) → Standing → ℕ → Result Line SourceFault → Result Standing AsmFault

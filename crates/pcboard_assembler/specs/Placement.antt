@@ -1,14 +1,13 @@
 -- The bytes of the lines at their addresses, and the faults that they may have.
-use Rattle.std.specs.Prelude.{ℕ, ◌+◌, ◌*◌, ◌%◌, Bool, true, false, ◌==◌, ◌&&◌, ◌||◌, not, nat_le, nat_lt, if◌then◌else◌, List, [], ◌∷◌, Option, None, Some, is_some, fold, option_and_then}
+use Rattle.std.specs.Prelude.{ℕ, ◌+◌, ◌*◌, ◌%◌, Bool, ◌==◌, ◌&&◌, ◌||◌, nat_le, nat_lt, if◌then◌else◌, List, [], ◌∷◌, Option, None, Some, is_some, fold, option_and_then}
 use Rattle.std.specs.List.{list_any, list_all}
-use Rattle.std.specs.Option.{option_map, option_map_or}
+use Rattle.std.specs.Option.{option_map}
 use Rattle.std.specs.Ordering.{nat_cmp}
 use Rattle.std.specs.BTreeMap.{insert_entry}
 use Rattle.board_types.specs.Image.{image_byte}
 use Rattle.isa.specs.declared.form.Form.{Form}
 use Rattle.isa.specs.declared.form.Field.{Field}
 use Rattle.isa.specs.declared.form.Field.TheVariants.{Absent, Byte, Word}
-use Rattle.isa.specs.declared.form.Values.{Values}
 use Rattle.isa.specs.Encoding.{encoding, form_length, immediate_field, segment_field}
 use Rattle.pcboard_assembler.specs.declared.fault.SourceFault.{SourceFault}
 use Rattle.pcboard_assembler.specs.declared.fault.SourceFault.TheVariants.{Undefined, OutOfRange, OutOfSegment, Overlap, NotLoadable}
@@ -17,7 +16,6 @@ use Rattle.pcboard_assembler.specs.declared.statement.Expression.{Expression}
 use Rattle.pcboard_assembler.specs.declared.statement.Expression.TheVariants.{Number, Named}
 use Rattle.pcboard_assembler.specs.declared.statement.Fields.{Fields}
 use Rattle.pcboard_assembler.specs.declared.statement.Fields.TheVariants.{Nothing, Immediate, FarLabel, FarPointer}
-use Rattle.pcboard_assembler.specs.declared.statement.Operation.{Operation}
 use Rattle.pcboard_assembler.specs.declared.statement.Statement.{Statement}
 use Rattle.pcboard_assembler.specs.declared.statement.Statement.TheVariants.{Empty, Segment, Ends, Instruction}
 use Rattle.pcboard_assembler.specs.declared.statement.Line.{Line}
@@ -143,7 +141,7 @@ spot_bytes meaning (Some spot) statement = statement_bytes meaning spot statemen
 unfoldable pub placing : Meaning → Placed → Line → Placed
 placing meaning placed line = record {
   state = after placed.state line;
-  image = with_bytes placed.image (spot_bytes meaning placed.state.spot line.statement)
+  image = with_bytes placed.image (spot_bytes meaning placed.state.spot line.statement);
 }
 
 -- what stands after these lines

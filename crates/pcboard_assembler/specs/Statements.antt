@@ -1,5 +1,5 @@
 -- The statements: what each of them is spelled like, as a list of lexemes.
-use Rattle.std.specs.Prelude.{ℕ, Bool, true, false, ◌==◌, ◌&&◌, if◌then◌else◌, nat_lt, List, [], ◌∷◌, codes, Option, None, Some, Result, Ok, Err}
+use Rattle.std.specs.Prelude.{ℕ, Bool, ◌&&◌, if◌then◌else◌, nat_lt, List, [], ◌∷◌, codes, Option, None, Some, Result, Ok, Err}
 use Rattle.std.specs.Option.{option_map_or}
 use Rattle.std.specs.Str.{bytes_eq}
 use Rattle.isa.specs.declared.form.Form.{Form}
@@ -7,7 +7,7 @@ use Rattle.isa.specs.declared.form.Form.TheVariants.{MoveByte, MoveWord, MoveToS
 use Rattle.isa.specs.declared.form.Place.TheVariants.{Register}
 use Rattle.isa.specs.declared.register.SegmentRegister.{SegmentRegister}
 use Rattle.pcboard_assembler.specs.declared.fault.SourceFault.{SourceFault}
-use Rattle.pcboard_assembler.specs.declared.fault.SourceFault.TheVariants.{BadLine, UnknownName, BadCharacter}
+use Rattle.pcboard_assembler.specs.declared.fault.SourceFault.TheVariants.{BadLine, UnknownName}
 use Rattle.pcboard_assembler.specs.declared.word.Name.{Name}
 use Rattle.pcboard_assembler.specs.declared.statement.Expression.{Expression}
 use Rattle.pcboard_assembler.specs.declared.statement.Expression.TheVariants.{Number, Named}
@@ -15,10 +15,8 @@ use Rattle.pcboard_assembler.specs.declared.statement.Base.{Base}
 use Rattle.pcboard_assembler.specs.declared.statement.Base.TheVariants.{Fixed, OfSegment}
 use Rattle.pcboard_assembler.specs.declared.statement.Fields.{Fields}
 use Rattle.pcboard_assembler.specs.declared.statement.Fields.TheVariants.{Nothing, Immediate, FarLabel, FarPointer}
-use Rattle.pcboard_assembler.specs.declared.statement.Operation.{Operation}
 use Rattle.pcboard_assembler.specs.declared.statement.Statement.{Statement}
 use Rattle.pcboard_assembler.specs.declared.statement.Statement.TheVariants.{Empty, Segment, Ends, Instruction}
-use Rattle.pcboard_assembler.specs.declared.statement.Line.{Line}
 use Rattle.pcboard_assembler.specs.Lexemes.{begins_with, is_letter}
 use Rattle.pcboard_assembler.specs.Words.{spells, is_name, name_of, expression_of, byte_register_of, word_register_of, loaded_segment_of}
 

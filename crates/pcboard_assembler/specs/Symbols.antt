@@ -1,6 +1,5 @@
 -- Segments and names: what stands when some lines have been read, and the faults of a line in its light.
-use Rattle.std.specs.Prelude.{ℕ, ◌+◌, Bool, true, false, ◌&&◌, ◌||◌, if◌then◌else◌, List, [], ◌∷◌, ◌++◌, Option, None, Some, is_some, is_none, fold, Result, Ok, Err}
-use Rattle.std.specs.List.{list_any}
+use Rattle.std.specs.Prelude.{ℕ, ◌+◌, Bool, true, false, ◌||◌, if◌then◌else◌, List, [], ◌∷◌, ◌++◌, Option, None, Some, is_some, is_none, fold}
 use Rattle.std.specs.Map.{lookup}
 use Rattle.std.specs.Str.{bytes_eq}
 use Rattle.isa.specs.Encoding.{form_length}
@@ -74,7 +73,7 @@ spot_after s (Segment name n) = opened (paragraph_of s.definitions n)
 unfoldable pub after : State → Line → State
 after s line = record {
   spot = spot_after s line.statement;
-  definitions = (s.definitions ++ label_definition s.spot line.label) ++ segment_definition s.definitions line.statement
+  definitions = (s.definitions ++ label_definition s.spot line.label) ++ segment_definition s.definitions line.statement;
 }
 
 -- what stands after these lines

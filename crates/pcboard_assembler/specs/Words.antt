@@ -1,5 +1,5 @@
 -- What the lexemes of a line are: words, names, numbers, quoted texts and marks.
-use Rattle.std.specs.Prelude.{ℕ, ◌+◌, ◌*◌, ◌-◌, Bool, true, false, ◌==◌, ◌&&◌, ◌||◌, not, nat_le, nat_lt, if◌then◌else◌, List, [], ◌∷◌, ◌++◌, length, map, take, slice_index, replicate, codes, Option, None, Some, is_some, option_and_then}
+use Rattle.std.specs.Prelude.{ℕ, ◌+◌, ◌*◌, ◌-◌, Bool, ◌==◌, ◌&&◌, ◌||◌, not, nat_le, nat_lt, if◌then◌else◌, List, [], ◌∷◌, ◌++◌, length, map, take, slice_index, replicate, codes, Option, None, Some, is_some, option_and_then}
 use Rattle.std.specs.List.{list_any}
 use Rattle.std.specs.Option.{option_map}
 use Rattle.std.specs.Char.{to_ascii_lowercase, to_ascii_uppercase}
@@ -9,7 +9,7 @@ use Rattle.isa.specs.declared.register.ByteRegister.TheVariants.{Al, Cl, Dl, Bl,
 use Rattle.isa.specs.declared.register.WordRegister.{WordRegister}
 use Rattle.isa.specs.declared.register.WordRegister.TheVariants.{Ax, Cx, Dx, Bx, Sp, Bp, Si, Di}
 use Rattle.isa.specs.declared.register.SegmentRegister.{SegmentRegister}
-use Rattle.isa.specs.declared.register.SegmentRegister.TheVariants.{Es, Cs, Ss, Ds}
+use Rattle.isa.specs.declared.register.SegmentRegister.TheVariants.{Es, Ss, Ds}
 use Rattle.pcboard_assembler.specs.declared.word.Name.{Name}
 use Rattle.pcboard_assembler.specs.declared.statement.Expression.{Expression}
 use Rattle.pcboard_assembler.specs.declared.statement.Expression.TheVariants.{Number, Named}

@@ -10,7 +10,6 @@ mod placement;
 mod reading;
 pub mod statement;
 pub mod symbol;
-pub mod word;
-
 #[cfg(test)]
 mod tests;
+pub mod word;

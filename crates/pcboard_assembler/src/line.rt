@@ -10,8 +10,8 @@ use crate::fault::SourceFault;
 use crate::lexeme::{is_character, next_lexeme};
 use crate::statement::{Base, Expression, Fields, Line, Operation, Statement};
 use crate::word::{
-    Name, begins_with_letter, byte_register_of, expression_of, is_name, is_well_formed, loaded_segment_of, name_of,
-    spells, word_register_of,
+    Name, begins_with_letter, byte_register_of, expression_of, is_name, is_well_formed,
+    loaded_segment_of, name_of, spells, word_register_of,
 };
 use isa::form::{Form, Place};
 
@@ -182,7 +182,9 @@ fn base_of(base: Expression) -> Option<Base>
     ensures { result ≡ base_of base }
 {
     match base {
-        Expression::Number(number) if number <= u32::from(u16::MAX) => Some(Base::Fixed(number as u16)),
+        Expression::Number(number) if number <= u32::from(u16::MAX) => Some(Base::Fixed(
+            number as u16,
+        )),
         Expression::Number(_) => None,
         Expression::Named(name) => Some(Base::OfSegment(name)),
     }
@@ -214,7 +216,10 @@ fn move_to(target: &[u8], source: &[u8]) -> Result<Statement, SourceFault>
     }
     match (loaded_segment_of(target), word_register_of(source)) {
         (Some(segment), Some(register)) => {
-            Ok(instruction(Form::MoveToSegment(segment, Place::Register(register)), Fields::Nothing))
+            Ok(instruction(
+                Form::MoveToSegment(segment, Place::Register(register)),
+                Fields::Nothing,
+            ))
         }
         _ => Err(SourceFault::BadLine),
     }
@@ -232,7 +237,8 @@ fn read_out(operands: &[u8]) -> Result<Statement, SourceFault>
     ensures { result ≡ out_of (lexemes operands.now) }
 {
     match three_lexemes(operands) {
-        Some((port, comma, source)) if spells(port, b"DX") && is_mark(b',', comma) && spells(source, b"AL") => {
+        Some((port, comma, source))
+            if spells(port, b"DX") && is_mark(b',', comma) && spells(source, b"AL") => {
             Ok(instruction(Form::OutByte, Fields::Nothing))
         }
         _ => Err(SourceFault::BadLine),

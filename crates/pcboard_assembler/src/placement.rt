@@ -81,7 +81,9 @@ fn bytes_of(form: Form, numbers: Numbers) -> Option<ArrayVec<u8, 14>>
     ensures some { IfSome result (λ bytes. (fits_form form numbers ≡ true) × (bytes.items ≡ bytes_of form numbers) × (length bytes.items ≡ form_length form)) }
     ensures none { IfNone result (fits_form form numbers ≡ false) }
 {
-    if fits_field(form.immediate_field(), numbers.immediate) && fits_field(form.segment_field(), numbers.segment) {
+    if fits_field(form.immediate_field(), numbers.immediate)
+        && fits_field(form.segment_field(), numbers.segment)
+    {
         let values = Values {
             immediate: numbers.immediate as u16,
             segment: numbers.segment as u16,
@@ -174,11 +176,20 @@ fn placing_fault(image: &Image, spot: Location, bytes: &[u8]) -> Option<SourceFa
     if overlaps(image, address, bytes) {
         return Some(SourceFault::Overlap);
     }
-    if are_loadable(address, bytes) { None } else { Some(SourceFault::NotLoadable) }
+    if are_loadable(address, bytes) {
+        None
+    } else {
+        Some(SourceFault::NotLoadable)
+    }
 }
 
 /// The bytes of an instruction that can be placed here, or the fault that it has.
-fn operation_bytes(image: &Image, symbols: &Symbols, spot: Location, operation: Operation) -> Result<ArrayVec<u8, 14>, SourceFault>
+fn operation_bytes(
+    image: &Image,
+    symbols: &Symbols,
+    spot: Location,
+    operation: Operation,
+) -> Result<ArrayVec<u8, 14>, SourceFault>
     requires { spot.offset < 2 ^ 24 }
     ensures clean { OnOk result (numbers_fault image.now spot operation.form (numbers_of (look symbols.now.entries) operation.fields) ≡ None) }
     ensures bytes { IfOk result (λ bytes. bytes_at (address_of spot) bytes.items ≡ numbers_bytes spot operation.form (numbers_of (look symbols.now.entries) operation.fields)) }
@@ -197,7 +208,13 @@ fn operation_bytes(image: &Image, symbols: &Symbols, spot: Location, operation: 
     }
 }
 
-fn place_operation(image: &mut Image, symbols: &Symbols, spot: Location, operation: Operation, number: u32) -> Result<(), AsmFault>
+fn place_operation(
+    image: &mut Image,
+    symbols: &Symbols,
+    spot: Location,
+    operation: Operation,
+    number: u32,
+) -> Result<(), AsmFault>
     requires { spot.offset < 2 ^ 24 }
     ensures clean { OnOk result (numbers_fault image.old spot operation.form (numbers_of (look symbols.now.entries) operation.fields) ≡ None) }
     ensures placed { OnOk result (image.new ≡ with_bytes image.old (numbers_bytes spot operation.form (numbers_of (look symbols.now.entries) operation.fields))) }
@@ -214,14 +231,22 @@ fn place_operation(image: &mut Image, symbols: &Symbols, spot: Location, operati
 }
 
 /// Places the bytes of a line.
-fn place_line(image: &mut Image, symbols: &Symbols, spot: Location, line: Line, number: u32) -> Result<(), AsmFault>
+fn place_line(
+    image: &mut Image,
+    symbols: &Symbols,
+    spot: Location,
+    line: Line,
+    number: u32,
+) -> Result<(), AsmFault>
     requires { spot.offset < 2 ^ 24 }
     ensures clean { OnOk result (statement_fault (look symbols.now.entries) image.old spot line.label line.statement ≡ None) }
     ensures placed { OnOk result (image.new ≡ with_bytes image.old (statement_bytes (look symbols.now.entries) spot line.statement)) }
     ensures err { IfErr result (λ fault. Refuses fault number (statement_fault (look symbols.now.entries) image.old spot line.label line.statement)) }
 {
     match line.statement {
-        Statement::Instruction(operation) => place_operation(image, symbols, spot, operation, number),
+        Statement::Instruction(operation) => place_operation(
+            image, symbols, spot, operation, number,
+        ),
         Statement::Empty | Statement::Ends | Statement::Segment(..) => {
             if line.label.is_some() && spot.offset > 0xFFFF {
                 Err(AsmFault::InLine(SourceFault::OutOfSegment, number))
@@ -234,7 +259,13 @@ fn place_line(image: &mut Image, symbols: &Symbols, spot: Location, line: Line, 
 
 /// Places a line of the source, and answers where the next byte goes.
 #[tactic(auto, unfolding(crate::specs::Passes::place_text))]
-fn place_text(image: &mut Image, symbols: &Symbols, spot: Option<Location>, text: &[u8], number: u32) -> Result<Option<Location>, AsmFault>
+fn place_text(
+    image: &mut Image,
+    symbols: &Symbols,
+    spot: Option<Location>,
+    text: &[u8],
+    number: u32,
+) -> Result<Option<Location>, AsmFault>
     requires { offset_of spot < 2 ^ 24 }
     ensures ok { IfOk result (λ next. place_text symbols.now.entries (standing spot image.old) number text.now ≡ Ok (standing next image.new)) }
     ensures err { IfErr result (λ fault. Fails fault (place_text symbols.now.entries (standing spot image.old) number text.now)) }
@@ -251,7 +282,11 @@ fn place_text(image: &mut Image, symbols: &Symbols, spot: Option<Location>, text
 }
 
 /// Places all lines of the source, whose names are these.
-pub(crate) fn place_source(alloc: Global, symbols: &Symbols, source: &[u8]) -> Result<Image, AsmFault>
+pub(crate) fn place_source(
+    alloc: Global,
+    symbols: &Symbols,
+    source: &[u8],
+) -> Result<Image, AsmFault>
     requires { length source.now ≤ 1048576 }
     ensures ok { IfOk result (λ image. (spot : Option Location) × (place_texts symbols.now.entries (standing None []) 0 (source_lines source.now) ≡ Ok (standing spot image))) }
     ensures err { IfErr result (λ fault. Fails fault (place_texts symbols.now.entries (standing None []) 0 (source_lines source.now))) }

@@ -51,7 +51,11 @@ fn paragraph_of(symbols: &Symbols, base: Base) -> Option<u16>
 }
 
 /// Where the next byte goes after the statement.
-pub(crate) fn spot_after(symbols: &Symbols, spot: Option<Location>, statement: Statement) -> Option<Location>
+pub(crate) fn spot_after(
+    symbols: &Symbols,
+    spot: Option<Location>,
+    statement: Statement,
+) -> Option<Location>
     requires { offset_of spot < 2 ^ 24 }
     ensures value { result ≡ spot_after (record { spot = spot; definitions = symbols.now.entries }) statement }
     ensures grows { offset_of result ≤ offset_of spot + 8 }
@@ -126,7 +130,9 @@ fn early_fault(reading: &Reading, line: Line) -> Option<SourceFault>
 fn stands_outside(spot: Option<Location>, line: Line) -> bool
     ensures { result ≡ stands_outside spot line }
 {
-    spot.is_none() && (line.label.is_some() || matches!(line.statement, Statement::Ends | Statement::Instruction(_)))
+    spot.is_none()
+        && (line.label.is_some()
+            || matches!(line.statement, Statement::Ends | Statement::Instruction(_)))
 }
 
 /// Adds a name that isn't defined yet.
@@ -151,7 +157,11 @@ fn add_line(reading: &mut Reading, line: Line) -> Result<(), AllocError>
     let next = spot_after(&reading.symbols, reading.spot, line.statement);
     match (line.statement, next) {
         (Statement::Segment(name, _), Some(opened)) => {
-            define(&mut reading.symbols, name, Symbol::Paragraph(opened.segment))?;
+            define(
+                &mut reading.symbols,
+                name,
+                Symbol::Paragraph(opened.segment),
+            )?;
         }
         _ => {
             if let (Some(label), Some(spot)) = (line.label, reading.spot) {

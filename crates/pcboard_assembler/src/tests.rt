@@ -1,7 +1,6 @@
 use crate::assembly::assemble;
 use crate::fault::{AsmFault, SourceFault};
 use board_types::image::Image;
-use std::process::HostRuntime;
 use std::test::Fail;
 
 /// Writes HI into text memory, enables the video and halts, from the processor's first instruction on.
@@ -25,7 +24,10 @@ ENDS
 
 /// The data bytes of the Intel HEX records that the program's print shows, with their addresses.
 const HELLO_BYTES: [(u32, &[u8]); 3] = [
-    (0xF_0000, b"\xB8\x00\xB0\x8E\xC0\xBF\x00\x00\xB8\x48\x07\xAB\xB8\x49\x07\xAB"),
+    (
+        0xF_0000,
+        b"\xB8\x00\xB0\x8E\xC0\xBF\x00\x00\xB8\x48\x07\xAB\xB8\x49\x07\xAB",
+    ),
     (0xF_0010, b"\xBA\xB8\x03\xB0\x08\xEE\xF4"),
     (0xF_FFF0, b"\xEA\x00\x00\x00\xF0"),
 ];
@@ -78,7 +80,11 @@ fn reads_the_dialect(rt: HostRuntime) -> Result<(), Fail> {
         b"SEGMENT A AT 1\nMOV BL,00000000000000000000000000000000255\nMOV AX,0ffffH",
     ];
     for (number, source) in cases.iter().enumerate() {
-        let wanted = if number == 1 { Some(AsmFault::InLine(SourceFault::UnknownName, 2)) } else { None };
+        let wanted = if number == 1 {
+            Some(AsmFault::InLine(SourceFault::UnknownName, 2))
+        } else {
+            None
+        };
         assert_eq!(rt; fault_of(&rt, source), wanted, "case {number}");
     }
     Ok(())
@@ -88,17 +94,29 @@ fn reads_the_dialect(rt: HostRuntime) -> Result<(), Fail> {
 fn the_first_fault_is_told_with_its_line(rt: HostRuntime) -> Result<(), Fail> {
     let cases: [(&[u8], SourceFault, u32); 24] = [
         (b"\n\n\0", SourceFault::BadCharacter, 3),
-        (b"; a carriage return\r, then more", SourceFault::BadCharacter, 1),
+        (
+            b"; a carriage return\r, then more",
+            SourceFault::BadCharacter,
+            1,
+        ),
         (b"SEGMENT A AT 0\nHLT\r", SourceFault::BadCharacter, 2),
         (b"SEGMENT A AT 0\nDB 'a", SourceFault::BadLine, 2),
         (b"FROB 'a", SourceFault::BadLine, 1),
         (b"FROB @", SourceFault::BadLine, 1),
         (b"FROB ''", SourceFault::BadLine, 1),
         (b"FROB 4294967296", SourceFault::BadLine, 1),
-        (b"FROB abcdefghijklmnopqrstuvwxyzabcdef", SourceFault::BadLine, 1),
+        (
+            b"FROB abcdefghijklmnopqrstuvwxyzabcdef",
+            SourceFault::BadLine,
+            1,
+        ),
         (b"SEGMENT A AT 65536", SourceFault::BadLine, 1),
         (b"SEGMENT A AT 0\n\nSEGMENT B AT 1", SourceFault::BadLine, 3),
-        (b"SEGMENT A AT 0\nx: SEGMENT B AT y", SourceFault::BadLine, 2),
+        (
+            b"SEGMENT A AT 0\nx: SEGMENT B AT y",
+            SourceFault::BadLine,
+            2,
+        ),
         (b"SEGMENT A AT 0\nMOV CS,AX", SourceFault::BadLine, 2),
         (b"SEGMENT A AT 0\nMOV AX,1+1", SourceFault::BadLine, 2),
         (b"SEGMENT A AT 0\nJMP FAR x+0", SourceFault::BadLine, 2),
@@ -108,8 +126,16 @@ fn the_first_fault_is_told_with_its_line(rt: HostRuntime) -> Result<(), Fail> {
         (b"DB 1", SourceFault::UnknownName, 1),
         (b"AX: HLT", SourceFault::UnknownName, 1),
         (b"SEGMENT A AT A", SourceFault::UnknownName, 1),
-        (b"SEGMENT A AT 0\nx: ENDS\nSEGMENT B AT x", SourceFault::UnknownName, 3),
-        (b"SEGMENT A AT 0\nMOV AX,y\nFROB", SourceFault::UnknownName, 3),
+        (
+            b"SEGMENT A AT 0\nx: ENDS\nSEGMENT B AT x",
+            SourceFault::UnknownName,
+            3,
+        ),
+        (
+            b"SEGMENT A AT 0\nMOV AX,y\nFROB",
+            SourceFault::UnknownName,
+            3,
+        ),
         (b"x: SEGMENT A AT y", SourceFault::UnknownName, 1),
     ];
     for (source, fault, line) in cases {
@@ -121,11 +147,23 @@ fn the_first_fault_is_told_with_its_line(rt: HostRuntime) -> Result<(), Fail> {
 #[test]
 fn names_and_places_are_judged(rt: HostRuntime) -> Result<(), Fail> {
     let cases: [(&[u8], SourceFault, u32); 21] = [
-        (b"SEGMENT A AT 0\nx: HLT\nX: HLT\n", SourceFault::TwiceDefined, 3),
+        (
+            b"SEGMENT A AT 0\nx: HLT\nX: HLT\n",
+            SourceFault::TwiceDefined,
+            3,
+        ),
         (b"SEGMENT A AT 0\na:", SourceFault::TwiceDefined, 2),
-        (b"SEGMENT A AT 0\nENDS\nSEGMENT a AT 1", SourceFault::TwiceDefined, 3),
+        (
+            b"SEGMENT A AT 0\nENDS\nSEGMENT a AT 1",
+            SourceFault::TwiceDefined,
+            3,
+        ),
         (b"x: SEGMENT x AT 0", SourceFault::TwiceDefined, 1),
-        (b"SEGMENT A AT 0\nMOV AX,y\nx:\nx:", SourceFault::TwiceDefined, 4),
+        (
+            b"SEGMENT A AT 0\nMOV AX,y\nx:\nx:",
+            SourceFault::TwiceDefined,
+            4,
+        ),
         (b"HLT", SourceFault::NoSegment, 1),
         (b"x:", SourceFault::NoSegment, 1),
         (b"\nENDS", SourceFault::NoSegment, 2),
@@ -136,12 +174,28 @@ fn names_and_places_are_judged(rt: HostRuntime) -> Result<(), Fail> {
         (b"SEGMENT A AT 0\nJMP FAR 0:y", SourceFault::Undefined, 2),
         (b"SEGMENT A AT 0\nMOV AL,256", SourceFault::OutOfRange, 2),
         (b"SEGMENT A AT 0\nMOV AX,65536", SourceFault::OutOfRange, 2),
-        (b"SEGMENT A AT 0\nJMP FAR 10000h:0", SourceFault::OutOfRange, 2),
+        (
+            b"SEGMENT A AT 0\nJMP FAR 10000h:0",
+            SourceFault::OutOfRange,
+            2,
+        ),
         (b"SEGMENT A AT 100h\nMOV AL,A", SourceFault::OutOfRange, 2),
-        (b"SEGMENT A AT 0A000h\nMOV AL,256\nMOV AX,y", SourceFault::OutOfRange, 2),
-        (b"SEGMENT A AT 0\nSTOSW\nENDS\nSEGMENT B AT 0\nHLT", SourceFault::Overlap, 5),
+        (
+            b"SEGMENT A AT 0A000h\nMOV AL,256\nMOV AX,y",
+            SourceFault::OutOfRange,
+            2,
+        ),
+        (
+            b"SEGMENT A AT 0\nSTOSW\nENDS\nSEGMENT B AT 0\nHLT",
+            SourceFault::Overlap,
+            5,
+        ),
         (b"SEGMENT V AT 0A000h\nHLT", SourceFault::NotLoadable, 2),
-        (b"SEGMENT V AT 09FFFh\nJMP FAR 0:0\nJMP FAR 0:0\nJMP FAR 0:0\nMOV AX,0", SourceFault::NotLoadable, 5),
+        (
+            b"SEGMENT V AT 09FFFh\nJMP FAR 0:0\nJMP FAR 0:0\nJMP FAR 0:0\nMOV AX,0",
+            SourceFault::NotLoadable,
+            5,
+        ),
     ];
     for (source, fault, line) in cases {
         assert_eq!(rt; fault_of(&rt, source), Some(AsmFault::InLine(fault, line)));
@@ -150,7 +204,13 @@ fn names_and_places_are_judged(rt: HostRuntime) -> Result<(), Fail> {
 }
 
 /// A text of these many copies of a line, between a front and an end.
-fn repeated(rt: &HostRuntime, front: &[u8], line: &[u8], count: usize, end: &[u8]) -> Result<Vec<u8>, Fail> {
+fn repeated(
+    rt: &HostRuntime,
+    front: &[u8],
+    line: &[u8],
+    count: usize,
+    end: &[u8],
+) -> Result<Vec<u8>, Fail> {
     let mut source = Vec::new(rt.alloc());
     source.extend_from_slice(front)?;
     for _ in 0..count {
@@ -174,9 +234,18 @@ fn a_segment_ends_at_ffff(rt: HostRuntime) -> Result<(), Fail> {
     // 13,107 far jumps of five bytes fill a segment up to its last byte.
     let cases: [(&[u8], Option<AsmFault>); 4] = [
         (b"HLT\nENDS\n", None),
-        (b"HLT\nx: ENDS\n", Some(AsmFault::InLine(SourceFault::OutOfSegment, 13_110))),
-        (b"x: STOSW\nMOV DX,0\n", Some(AsmFault::InLine(SourceFault::OutOfSegment, 13_110))),
-        (b"MOV AX,x\nx: HLT\n", Some(AsmFault::InLine(SourceFault::OutOfRange, 13_109))),
+        (
+            b"HLT\nx: ENDS\n",
+            Some(AsmFault::InLine(SourceFault::OutOfSegment, 13_110)),
+        ),
+        (
+            b"x: STOSW\nMOV DX,0\n",
+            Some(AsmFault::InLine(SourceFault::OutOfSegment, 13_110)),
+        ),
+        (
+            b"MOV AX,x\nx: HLT\n",
+            Some(AsmFault::InLine(SourceFault::OutOfRange, 13_109)),
+        ),
     ];
     for (end, wanted) in cases {
         let source = repeated(&rt, b"SEGMENT A AT 0\n", b"JMP FAR 0:0\n", 13_107, end)?;
@@ -187,7 +256,7 @@ fn a_segment_ends_at_ffff(rt: HostRuntime) -> Result<(), Fail> {
 
 #[test]
 fn addresses_begin_again_past_the_last(rt: HostRuntime) -> Result<(), Fail> {
-    let source = repeated(&rt, b"SEGMENT A AT 0FFFFh\n", b"STOSW\n", 8, b"HLT\n")?;
+    let source = repeated(&rt, b"SEGMENT A AT 0FFFFh\n", b"STOSW\n", 16, b"HLT\n")?;
     let image = assemble(rt.alloc(), &source)?;
     assert_eq!(rt; image.get(0xF_FFFF), Some(0xAB));
     assert_eq!(rt; image.get(0), Some(0xF4));
@@ -202,7 +271,10 @@ fn every_front_of_the_example_is_judged(rt: HostRuntime) -> Result<(), Fail> {
         let lines = 1 + front.iter().filter(|byte| **byte == b'\n').count();
         match fault_of(&rt, front) {
             None => {}
-            Some(AsmFault::InLine(_, line)) => assert!(rt; line >= 1 && line as usize <= lines, "front {end}"),
+            Some(AsmFault::InLine(_, line)) => assert!(rt;
+                line >= 1 && line as usize <= lines,
+                "front {end}"
+            ),
             Some(fault) => assert_eq!(rt; Some(fault), None, "front {end}"),
         }
     }
@@ -213,8 +285,18 @@ fn every_front_of_the_example_is_judged(rt: HostRuntime) -> Result<(), Fail> {
 fn faults_have_numbers_and_names(rt: HostRuntime) -> Result<(), Fail> {
     let cases = [
         (AsmFault::SourceTooLong, 1, "SourceTooLong", None),
-        (AsmFault::InLine(SourceFault::BadLine, 3), 3, "BadLine", Some(3)),
-        (AsmFault::InLine(SourceFault::NotLoadable, 2), 12, "NotLoadable", Some(2)),
+        (
+            AsmFault::InLine(SourceFault::BadLine, 3),
+            3,
+            "BadLine",
+            Some(3),
+        ),
+        (
+            AsmFault::InLine(SourceFault::NotLoadable, 2),
+            12,
+            "NotLoadable",
+            Some(2),
+        ),
         (AsmFault::Memory, 13, "Memory", None),
     ];
     for (fault, number, name, line) in cases {

@@ -15,25 +15,20 @@ pub struct Name {
 
 /// The words of the whole dialect, which no name may be.
 const RESERVED: [&[u8]; 152] = [
-    b"ADD", b"OR", b"ADC", b"SBB", b"AND", b"SUB", b"XOR", b"CMP",
-    b"PUSH", b"POP", b"DAA", b"DAS", b"AAA", b"AAS", b"INC", b"DEC",
-    b"JO", b"JNO", b"JB", b"JC", b"JNAE", b"JNB", b"JNC", b"JAE",
-    b"JZ", b"JE", b"JNZ", b"JNE", b"JBE", b"JNA", b"JA", b"JNBE",
-    b"JS", b"JNS", b"JP", b"JPE", b"JNP", b"JPO", b"JL", b"JNGE",
-    b"JGE", b"JNL", b"JLE", b"JNG", b"JG", b"JNLE", b"TEST", b"XCHG",
-    b"NOP", b"MOV", b"LEA", b"LES", b"LDS", b"CBW", b"CWD", b"WAIT",
-    b"PUSHF", b"POPF", b"SAHF", b"LAHF", b"MOVSB", b"MOVSW", b"CMPSB", b"CMPSW",
-    b"STOSB", b"STOSW", b"LODSB", b"LODSW", b"SCASB", b"SCASW", b"RET", b"RETF",
-    b"INT3", b"INT", b"INTO", b"IRET", b"ROL", b"ROR", b"RCL", b"RCR",
-    b"SHL", b"SHR", b"SAR", b"SAL", b"AAM", b"AAD", b"XLAT", b"ESC",
-    b"LOOPNE", b"LOOPE", b"LOOP", b"JCXZ", b"LOOPNZ", b"LOOPZ", b"IN", b"OUT",
-    b"CALL", b"JMP", b"HLT", b"CMC", b"CLC", b"STC", b"CLI", b"STI",
-    b"CLD", b"STD", b"NOT", b"NEG", b"MUL", b"IMUL", b"DIV", b"IDIV",
-    b"AL", b"CL", b"DL", b"BL", b"AH", b"CH", b"DH", b"BH",
-    b"AX", b"CX", b"DX", b"BX", b"SP", b"BP", b"SI", b"DI",
-    b"ES", b"CS", b"SS", b"DS", b"LOCK", b"REPNE", b"REPNZ", b"REP",
-    b"REPE", b"REPZ", b"SEGMENT", b"AT", b"ENDS", b"EQU", b"ORG", b"DB",
-    b"DW", b"DD", b"DUP", b"SEG", b"BYTE", b"WORD", b"FAR", b"SHORT",
+    b"ADD", b"OR", b"ADC", b"SBB", b"AND", b"SUB", b"XOR", b"CMP", b"PUSH", b"POP", b"DAA", b"DAS",
+    b"AAA", b"AAS", b"INC", b"DEC", b"JO", b"JNO", b"JB", b"JC", b"JNAE", b"JNB", b"JNC", b"JAE",
+    b"JZ", b"JE", b"JNZ", b"JNE", b"JBE", b"JNA", b"JA", b"JNBE", b"JS", b"JNS", b"JP", b"JPE",
+    b"JNP", b"JPO", b"JL", b"JNGE", b"JGE", b"JNL", b"JLE", b"JNG", b"JG", b"JNLE", b"TEST",
+    b"XCHG", b"NOP", b"MOV", b"LEA", b"LES", b"LDS", b"CBW", b"CWD", b"WAIT", b"PUSHF", b"POPF",
+    b"SAHF", b"LAHF", b"MOVSB", b"MOVSW", b"CMPSB", b"CMPSW", b"STOSB", b"STOSW", b"LODSB",
+    b"LODSW", b"SCASB", b"SCASW", b"RET", b"RETF", b"INT3", b"INT", b"INTO", b"IRET", b"ROL",
+    b"ROR", b"RCL", b"RCR", b"SHL", b"SHR", b"SAR", b"SAL", b"AAM", b"AAD", b"XLAT", b"ESC",
+    b"LOOPNE", b"LOOPE", b"LOOP", b"JCXZ", b"LOOPNZ", b"LOOPZ", b"IN", b"OUT", b"CALL", b"JMP",
+    b"HLT", b"CMC", b"CLC", b"STC", b"CLI", b"STI", b"CLD", b"STD", b"NOT", b"NEG", b"MUL",
+    b"IMUL", b"DIV", b"IDIV", b"AL", b"CL", b"DL", b"BL", b"AH", b"CH", b"DH", b"BH", b"AX", b"CX",
+    b"DX", b"BX", b"SP", b"BP", b"SI", b"DI", b"ES", b"CS", b"SS", b"DS", b"LOCK", b"REPNE",
+    b"REPNZ", b"REP", b"REPE", b"REPZ", b"SEGMENT", b"AT", b"ENDS", b"EQU", b"ORG", b"DB", b"DW",
+    b"DD", b"DUP", b"SEG", b"BYTE", b"WORD", b"FAR", b"SHORT",
 ];
 
 pub(crate) fn is_letter(byte: u8) -> bool
@@ -157,7 +152,10 @@ fn number_of(word: &[u8]) -> Option<u32>
 fn is_mark(byte: u8) -> bool
     ensures { result ≡ is_mark byte }
 {
-    matches!(byte, b',' | b':' | b'+' | b'-' | b'[' | b']' | b'(' | b')' | b'$')
+    matches!(
+        byte,
+        b',' | b':' | b'+' | b'-' | b'[' | b']' | b'(' | b')' | b'$'
+    )
 }
 
 /// Whether the lexeme is a word of the dialect's length, a number, a quoted text or a mark.

@@ -1,4 +1,4 @@
-use Rattle.std.proofs.Common.{◌≡◌, ◌+◌, ℕ, length}
+use Rattle.std.proofs.Common.{◌≡◌, ◌+◌, length}
 use Rattle.pcboard_assembler.specs.Lexemes.{line_size}
 use Rattle.pcboard_assembler.proofs.lexeme.line_length.Given as goal
 

@@ -1,4 +1,4 @@
-use Rattle.std.proofs.Common.{◌≡◌, ℕ, get_or, arith, sym, ◌∙◌, true}
+use Rattle.std.proofs.Common.{◌≡◌, get_or, arith, sym, ◌∙◌, true}
 use Rattle.pcboard_assembler.specs.Lexemes.{lexemes, is_word_byte}
 use Rattle.pcboard_assembler.proofs.Scanning.{word_at, text_at}
 use Rattle.pcboard_assembler.proofs.lexeme.next_lexeme.Goals as goal

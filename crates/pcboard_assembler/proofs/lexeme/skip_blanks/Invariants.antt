@@ -1,4 +1,4 @@
-use Rattle.std.proofs.Common.{◌≡◌, ◌≤◌, ℕ, length}
+use Rattle.std.proofs.Common.{◌≡◌, ◌≤◌, length}
 use Rattle.pcboard_assembler.specs.Lexemes.{lexemes_from}
 use Rattle.std.proofs.Common.{false}
 use Rattle.pcboard_assembler.proofs.lexeme.skip_blanks.Given as goal

@@ -1,4 +1,4 @@
-use Rattle.std.proofs.Common.{◌≡◌, ◌+◌, ℕ, length}
+use Rattle.std.proofs.Common.{◌≡◌, ◌+◌, length}
 use Rattle.pcboard_assembler.specs.Lexemes.{text_size}
 use Rattle.pcboard_assembler.proofs.lexeme.text_length.Given as goal
 

@@ -1,4 +1,4 @@
-use Rattle.std.proofs.Common.{◌≡◌, ℕ, length}
+use Rattle.std.proofs.Common.{◌≡◌, length}
 use Rattle.std.specs.List.{list_all}
 use Rattle.pcboard_assembler.specs.Lexemes.{lexemes}
 use Rattle.pcboard_assembler.specs.Words.{is_well_formed}

@@ -1,12 +1,12 @@
 use Rattle.std.proofs.Common.{◌≡◌, ◌<◌, ◌+◌, ◌^◌, ℕ, length}
-use Rattle.std.specs.List.{list_any, list_all}
-use Rattle.pcboard_assembler.specs.Placement.{bytes_at, is_loadable, is_placed}
+use Rattle.std.specs.List.{list_all}
+use Rattle.pcboard_assembler.specs.Placement.{bytes_at, is_loadable}
 use Rattle.pcboard_assembler.proofs.placement.are_loadable.Given as goal
 
 abbrev pub invariant-loop-rest : goal.invariant-loop-rest
 invariant-loop-rest l = record {
   left : list_all (λ (entry : ℕ × ℕ). is_loadable entry.0) (bytes_at l.at l.rest) ≡ list_all (λ (entry : ℕ × ℕ). is_loadable entry.0) (bytes_at l.fn.address l.fn.bytes);
-  fits : l.at + length l.rest < 2 ^ 32
+  fits : l.at + length l.rest < 2 ^ 32;
 }
 
 abbrev pub decreases-loop-rest : goal.decreases-loop-rest

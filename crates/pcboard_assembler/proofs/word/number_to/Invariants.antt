@@ -1,4 +1,4 @@
-use Rattle.std.proofs.Common.{◌≡◌, ◌<◌, ℕ, length, drop}
+use Rattle.std.proofs.Common.{◌≡◌, ◌<◌, drop}
 use Rattle.pcboard_assembler.specs.Words.{spelled}
 use Rattle.pcboard_assembler.proofs.word.number_to.Given as goal
 
