@@ -14,9 +14,8 @@ use crate::program::program;
 use board::board::BoardFault;
 use std::alloc::AllocError;
 use std::fs::File;
-use std::io;
 use std::process::ExitCode;
-use std::{env, fs};
+use std::{env, fs, io};
 
 /// The files of the system.
 #[derive(Clone, Copy)]
@@ -59,3 +58,6 @@ fn status_of(rt: &HostRuntime) -> io::Result<u8> {
     );
     Ok(status)
 }
+
+#[cfg(test)]
+mod tests;

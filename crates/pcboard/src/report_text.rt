@@ -109,7 +109,11 @@ fn change_line(alloc: Global, change: SpeakerChange) -> Result<String, AllocErro
     format!(in alloc; "{clock} {level}\n")
 }
 
-fn push_changes(alloc: Global, text: &mut String, changes: &[SpeakerChange]) -> Result<(), AllocError>
+fn push_changes(
+    alloc: Global,
+    text: &mut String,
+    changes: &[SpeakerChange],
+) -> Result<(), AllocError>
     ensures { OnOk result (string_bytes text.new ≡ string_bytes text.old ++ flat_map change_line changes.now) }
 {
     for change in changes {
