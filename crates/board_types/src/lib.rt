@@ -2,6 +2,8 @@
 //! image, the stamped key codes and the 8086's register file.
 #![tactic(auto)]
 
+pub mod address;
+pub mod bytes;
 pub mod clock;
 pub mod image;
 pub mod keys;
