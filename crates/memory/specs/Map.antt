@@ -47,7 +47,7 @@ pub record IsMap (memory : MemoryMap) : Type 0 where
   pub bytes : length memory.cells ≡ 1048576
   pub ram : memory.ram_size ≤ 0xA0000
 
--- RAM is 0 and the ROM FFh, but for the image's bytes
+-- RAM and text memory are 0 and the ROM FFh, but for the image's bytes (this board's choice)
 abbrev pub byte_of_kind : Kind → Option ℕ → ℕ
 byte_of_kind Ram given = unwrap_or given 0
 byte_of_kind Text given = 0

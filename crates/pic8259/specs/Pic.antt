@@ -26,7 +26,7 @@ pub record PicState : Type 0 where
   pub is_cascaded : Bool
   pub asks_icw4 : Bool
   pub is_level_triggered : Bool
-  -- ICW2: the vector of level 0 (T7 to T3)
+  -- ICW2: the vector of level 0, in bits 7 to 3; it stays over an ICW1 (this board's choice)
   pub vector : ℕ
   -- ICW3: the levels that have a slave
   pub slaves : ℕ

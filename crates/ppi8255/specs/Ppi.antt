@@ -77,7 +77,8 @@ read_of s port inputs =
 abbrev pub direction_of : ℕ → Direction
 direction_of bit = if bit == 1 then Input else Output
 
--- a mode word sets the directions and clears all output latches; its mode bits 6, 5 and 2 are ignored
+-- a mode word sets the directions and clears all output latches; its mode bits 6, 5 and 2 are ignored (this
+-- board's choice)
 abbrev pub after_mode_word : PpiState → ℕ → PpiState
 after_mode_word s word = record s {
   a = direction_of (bit_at word 4);
