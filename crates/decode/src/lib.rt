@@ -1,0 +1,8 @@
+//! The instruction decoder: what the bytes at CS:IP say (8086 Family User's Manual, "Machine Instruction Encoding
+//! and Decoding").
+#![tactic(auto)]
+
+pub mod decode;
+pub mod decoded;
+#[cfg(test)]
+mod tests;
