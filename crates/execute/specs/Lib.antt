@@ -1,0 +1,5 @@
+pub mod FlagState
+pub mod Bus
+pub mod Cpu
+pub mod Meaning
+pub mod PortWrites
