@@ -1,0 +1,15 @@
+pub mod Gates
+pub mod Requests
+pub mod Settling
+pub mod Clocks
+pub mod Latch
+pub mod Speaker
+pub mod Alike
+pub mod Entries
+pub mod Agreement
+pub mod HighLines
+pub mod TimerGates
+pub mod FixedWires
+pub mod Unread
+pub mod PortReads
+pub mod PowerOn

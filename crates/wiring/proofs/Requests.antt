@@ -1,0 +1,73 @@
+-- The two request lines that the board drives, settled twice to the same levels.
+use Rattle.std.proofs.Common.{◌≡◌, ◌≢◌, ℕ, Bool, true, false, if◌then◌else◌, length, get_or, slice_set, refl, sym, ap, ◌∙◌, inl, inr, arith}
+use Rattle.std.proofs.lemmas.Bool.{cases_lt}
+use Rattle.std.proofs.lemmas.List.{get_or_past, get_or-set_same, get_or-set_other, set-get_or, set_comm, length-set}
+use Rattle.board_types.specs.declared.line.Line.{Line}
+use Rattle.board_types.specs.declared.line.Line.TheVariants.{Low, High}
+use Rattle.pic8259.specs.Levels.{Levels, contains, with_level, without_level}
+use Rattle.pic8259.specs.Pic.{PicState, with_line}
+
+-- a place that is written holds what was written, and one past the end shows what is asked for
+shows_written : (set : Levels) (level : ℕ) (b : Bool) → get_or (slice_set set level b) level b ≡ b
+shows_written set level b =
+    elim (cases_lt level (length set)) [
+      | inl within ↦ get_or-set_same set level b b within
+      | inr past ↦ let size = length-set set level b in get_or_past (slice_set set level b) level b (omega arith)
+    ]
+
+written_twice : (set : Levels) (level : ℕ) (b : Bool) → slice_set (slice_set set level b) level b ≡ slice_set set level b
+written_twice set level b =
+    ap (λ c. slice_set (slice_set set level b) level c) (sym (shows_written set level b)) ∙ set-get_or (slice_set set level b) level b
+
+-- the levels that have risen, once a line has gone high
+abbrev pub risen_by : Bool → ℕ → Levels → Levels
+risen_by was_high level risen = if was_high then risen else with_level risen level
+
+risen_twice : (was_high now_high : Bool) (level : ℕ) (risen : Levels) → (was_high ≡ true → now_high ≡ true) → risen_by now_high level (risen_by was_high level risen) ≡ risen_by was_high level risen
+risen_twice true now_high level risen stays = ap (λ b. risen_by b level risen) (stays refl)
+risen_twice false true level risen stays = refl
+risen_twice false false level risen stays = written_twice risen level true
+
+still_high : (set : Levels) (level : ℕ) → contains set level ≡ true → contains (with_level set level) level ≡ true
+still_high set level is_in =
+    elim (cases_lt level (length set)) [
+      | inl within ↦ get_or-set_same set level true false within
+      | inr past ↦ let out : contains set level ≡ false = get_or_past set level false past in absurd (cc)
+    ]
+
+-- a line that takes the same level again
+line_twice : (level : ℕ) (line : Line) (s : PicState) → with_line level line (with_line level line s) ≡ with_line level line s
+unfolding with_line
+line_twice level Low s = ap (λ high. record s { high = high }) (written_twice s.high level false)
+line_twice level High s =
+    let risen : Levels = risen_by (contains s.high level) level s.risen in
+    ap (λ high. record s { high = high; risen = risen_by (contains (with_level s.high level) level) level risen }) (written_twice s.high level true)
+    ∙ ap (λ risen. record s { high = with_level s.high level; risen = risen })
+    (risen_twice (contains s.high level) (contains (with_level s.high level) level) level s.risen (still_high s.high level))
+
+risen_either : (a b : Bool) (n m : ℕ) (risen : Levels) → n ≢ m → risen_by a n (risen_by b m risen) ≡ risen_by b m (risen_by a n risen)
+risen_either true b n m risen differ = refl
+risen_either false true n m risen differ = refl
+risen_either false false n m risen differ = sym (set_comm risen n m true true differ)
+
+-- two lines in either order
+lines_either : (n m : ℕ) (a b : Line) (s : PicState) → n ≢ m → m ≢ n → with_line n a (with_line m b s) ≡ with_line m b (with_line n a s)
+unfolding with_line
+lines_either n m Low Low s differ back = ap (λ high. record s { high = high }) (sym (set_comm s.high n m false false differ))
+lines_either n m Low High s differ back =
+    ap (λ high. record s { high = high; risen = risen_by (contains s.high m) m s.risen }) (sym (set_comm s.high n m false true differ))
+    ∙ ap (λ b. record s { high = with_level (without_level s.high n) m; risen = risen_by b m s.risen }) (sym (get_or-set_other s.high n m false false back))
+lines_either n m High Low s differ back =
+    ap (λ high. record s { high = high; risen = risen_by (contains (without_level s.high m) n) n s.risen }) (sym (set_comm s.high n m true false differ))
+    ∙ ap (λ b. record s { high = without_level (with_level s.high n) m; risen = risen_by b n s.risen }) (get_or-set_other s.high m n false false differ)
+lines_either n m High High s differ back =
+    ap (λ high. record s { high = high; risen = risen_by (contains (with_level s.high m) n) n (risen_by (contains s.high m) m s.risen) }) (sym (set_comm s.high n m true true differ))
+    ∙ ap (λ b. record s { high = with_level (with_level s.high n) m; risen = risen_by b n (risen_by (contains s.high m) m s.risen) }) (get_or-set_other s.high m n true false differ)
+    ∙ ap (λ risen. record s { high = with_level (with_level s.high n) m; risen = risen }) (risen_either (contains s.high n) (contains s.high m) n m s.risen differ)
+    ∙ ap (λ b. record s { high = with_level (with_level s.high n) m; risen = risen_by b m (risen_by (contains s.high n) n s.risen) }) (sym (get_or-set_other s.high n m true false back))
+
+pub both_lines_twice : (n m : ℕ) (a b : Line) (s : PicState) → n ≢ m → m ≢ n → with_line n a (with_line m b (with_line n a (with_line m b s))) ≡ with_line n a (with_line m b s)
+both_lines_twice n m a b s differ back =
+    ap (with_line n a) (lines_either m n b a (with_line m b s) back differ)
+    ∙ line_twice n a (with_line m b (with_line m b s))
+    ∙ ap (with_line n a) (line_twice m b s)

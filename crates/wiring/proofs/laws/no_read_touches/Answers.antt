@@ -1,0 +1,5 @@
+use Rattle.wiring.proofs.PortReads.{no_read_touches}
+use Rattle.wiring.proofs.laws.no_read_touches.Goals as goal
+
+pub returns : goal.returns
+returns c = no_read_touches

@@ -1,0 +1,32 @@
+-- What the system board holds beside the processor: its memory, its chips and the clock that they stand at (IBM PC
+-- Technical Reference, "System Board"). Each chip is as its own definition says.
+use Rattle.std.specs.Prelude.{ℕ, List}
+use Rattle.memory.specs.Map.{MemoryMap}
+use Rattle.memory.specs.Map as map
+use Rattle.pic8259.specs.Pic.{PicState}
+use Rattle.pic8259.specs.Pic as pic
+use Rattle.pit8253.specs.Pit.{PitState, power_on_pit}
+use Rattle.ppi8255.specs.Ppi.{PpiState}
+use Rattle.ppi8255.specs.Ppi as ppi
+use Rattle.keyboard.specs.Keyboard.{KeyboardState}
+use Rattle.keyboard.specs.Keyboard as keyboard
+
+pub record ChipsState : Type 0 where
+  -- processor clocks since power-on
+  pub clock : ℕ
+  pub memory : MemoryMap
+  pub pic : PicState
+  pub pit : PitState
+  pub ppi : PpiState
+  pub keyboard : KeyboardState
+
+-- power-on, with an image's bytes in memory and the two switch blocks
+unfoldable pub power_on : List (ℕ × ℕ) → ℕ → ℕ → ℕ → ChipsState
+power_on image ram_size sw1 sw2 = record {
+  clock = 0;
+  memory = map.power_on image ram_size;
+  pic = pic.power_on;
+  pit = power_on_pit;
+  ppi = ppi.power_on sw1 sw2;
+  keyboard = keyboard.power_on;
+}

@@ -1,0 +1,81 @@
+-- The addresses and the ports of the chips (IBM PC Technical Reference, "System Memory Map" and "I/O Address Map").
+-- That FFh is read and a write is lost where nothing answers is this board's choice.
+use Rattle.std.specs.Prelude.{ℕ, ◌-◌, ◌==◌, Bool, true, false, not, ◌&&◌, if◌then◌else◌, nat_le}
+use Rattle.memory.specs.Kinds.{is_text_address}
+use Rattle.memory.specs.Map as map
+use Rattle.pic8259.specs.Pic as pic
+use Rattle.pit8253.specs.Pit.{pit_written, pit_read_byte, pit_after_read}
+use Rattle.ppi8255.specs.Ppi as ppi
+use Rattle.ppi8255.specs.declared.ppi.Inputs.{Inputs}
+use Rattle.execute.specs.Bus.{BusMeaning}
+use Rattle.wiring.specs.declared.port.Port.{Port}
+use Rattle.wiring.specs.declared.port.Port.TheVariants.{Controller, Timer, Parallel, Nothing}
+use Rattle.wiring.specs.Chips.{ChipsState}
+use Rattle.wiring.specs.Wires.{settled}
+
+-- the byte at an address; text memory isn't on the system board
+unfoldable pub byte_at : ChipsState → ℕ → ℕ
+byte_at s address = if is_text_address address then 0xFF else map.byte_at s.memory address
+
+unfoldable pub with_byte : ChipsState → ℕ → ℕ → ChipsState
+with_byte s address byte = if is_text_address address then s else record s { memory = map.with_byte s.memory address byte }
+
+unfoldable pub is_writable : ChipsState → ℕ → Bool
+is_writable s address = not (is_text_address address) && map.is_writable s.memory address
+
+-- what answers at a port: the interrupt controller at 20h and 21h, which are its A0 = 0 and 1, the timer at 40h to
+-- 43h, the parallel port at 60h to 63h. That the chips don't answer at further ports too is this board's choice
+unfoldable pub port_at : ℕ → Port
+port_at n =
+    if n == 0x20 then Controller false
+    else if n == 0x21 then Controller true
+    else if nat_le 0x40 n && nat_le n 0x43 then Timer (n - 0x40)
+    else if nat_le 0x60 n && nat_le n 0x63 then Parallel (n - 0x60)
+    else Nothing
+
+-- what the board brings to the parallel port's pins
+abbrev pub inputs_of : ChipsState → Inputs
+inputs_of s = record { latch = s.keyboard.latch; out2 = s.pit.counter_2.out }
+
+-- the byte that a read gives
+abbrev pub byte_read : ChipsState → Port → ℕ
+byte_read s (Controller a0) = pic.read_of a0 s.pic
+byte_read s (Timer n) = pit_read_byte n s.pit
+byte_read s (Parallel n) = ppi.read_of s.ppi n (inputs_of s)
+byte_read s Nothing = 0xFF
+
+-- what the read changes
+abbrev pub after_read_at : ChipsState → Port → ChipsState
+after_read_at s (Controller a0) = record s { pic = pic.after_read s.pic }
+after_read_at s (Timer n) = record s { pit = pit_after_read n s.pit }
+after_read_at s (Parallel n) = s
+after_read_at s Nothing = s
+
+-- what a write changes
+abbrev pub after_write_at : ChipsState → Port → ℕ → ChipsState
+after_write_at s (Controller a0) byte = record s { pic = pic.written a0 byte s.pic }
+after_write_at s (Timer n) byte = record s { pit = pit_written n byte s.pit }
+after_write_at s (Parallel n) byte = record s { ppi = ppi.after_write s.ppi n byte }
+after_write_at s Nothing byte = s
+
+-- the byte that a port gives
+unfoldable pub input_at : ChipsState → ℕ → ℕ
+input_at s port = byte_read s (port_at port)
+
+-- after each port access the wires settle (this board's choice)
+unfoldable pub after_input : ChipsState → ℕ → ChipsState
+after_input s port = settled (after_read_at s (port_at port))
+
+unfoldable pub after_output : ChipsState → ℕ → ℕ → ChipsState
+after_output s port byte = settled (after_write_at s (port_at port) byte)
+
+-- the bus of the system board
+abbrev pub chips_bus : BusMeaning ChipsState
+chips_bus = record {
+  read = byte_at;
+  write = with_byte;
+  writable = is_writable;
+  input = input_at;
+  after_input = after_input;
+  output = after_output;
+}

@@ -1,0 +1,39 @@
+//! What holds of the wires whatever the chips' states are. Each is an empty function whose contract states it.
+ghost use Rattle.wiring.specs.Laws.{SettlesOnce, SettledAgree, WiresStay, DependsOnWrites, NoKeyTouches, NoEntryTouches, NoReadTouches};
+
+/// Wires that have settled stay as they are when they settle again.
+pub fn settles_once()
+    ensures { SettlesOnce }
+{}
+
+/// Settled wires, at a controller of eight lines, are as the board draws them: gate 2 is line 0 of port B, IR0 is OUT0,
+/// IR1 is high while the keyboard's latch is full, and the latch is empty while line 7 of port B is 1.
+pub fn settled_agree()
+    ensures { SettledAgree }
+{}
+
+/// The wires that nothing drives: gates 0 and 1 are high, and of the controller's eight lines IR2 to IR7 are low. They
+/// are so at power-on, and stay so at each byte written, port read or written, clock, key and interrupt taken.
+pub fn wires_stay()
+    ensures { WiresStay }
+{}
+
+/// The speaker's next level depends on the parallel port, counter 2, the clock and the port writes alone.
+pub fn depends_on_writes()
+    ensures { DependsOnWrites }
+{}
+
+/// No key that arrives touches the speaker's next level.
+pub fn no_key_touches()
+    ensures { NoKeyTouches }
+{}
+
+/// No interrupt that the processor takes touches the speaker's next level.
+pub fn no_entry_touches()
+    ensures { NoEntryTouches }
+{}
+
+/// Where the wires have settled, no read of a port touches the speaker's next level.
+pub fn no_read_touches()
+    ensures { NoReadTouches }
+{}

@@ -1,0 +1,32 @@
+//! What answers at a port (IBM PC Technical Reference, "I/O Address Map").
+ghost use Rattle.std.specs.Prelude.{◌≡◌};
+ghost use Rattle.wiring.specs.Ports.{port_at};
+ghost use Rattle.wiring.specs.Sound.{HasNumber};
+
+/// What answers at a port.
+#[derive(Clone, Copy, Debug, PartialEq, Eq)]
+pub enum Port {
+    /// The interrupt controller, at its address line A0.
+    Controller(bool),
+    /// The timer, at one of its ports 0 to 3.
+    Timer(u8),
+    /// The parallel port, at one of its ports 0 to 3.
+    Parallel(u8),
+    /// Nothing: FFh is read, and a write is lost.
+    Nothing,
+}
+
+/// What answers at the port `number`.
+#[tactic(auto, unfolding(crate::specs::Ports::port_at))]
+pub(crate) fn port_at(number: u16) -> Port
+    ensures port { result ≡ port_at number }
+    ensures number { HasNumber result }
+{
+    match number {
+        0x20 => Port::Controller(false),
+        0x21 => Port::Controller(true),
+        0x40..=0x43 => Port::Timer((number - 0x40) as u8),
+        0x60..=0x63 => Port::Parallel((number - 0x60) as u8),
+        _ => Port::Nothing,
+    }
+}
