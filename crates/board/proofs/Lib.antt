@@ -1,7 +1,7 @@
-pub mod Find
-pub mod Row
 pub mod Text
-pub mod Silent
+pub mod Runs
 pub mod Writes
-pub mod Exact
-pub mod Clock
+pub mod KeyOrder
+pub mod Clocks
+pub mod Foreseen
+pub mod Wires

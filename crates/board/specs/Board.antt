@@ -1,10 +1,10 @@
 -- What a board shows: the plain board at its clock, the speaker's changes so far, and the room that is kept
 -- for further ones.
-use Rattle.std.specs.Prelude.{ℕ, ◌<◌, ◌≡◌, ◌≢◌, List, ◌++◌, codes}
+use Rattle.std.specs.Prelude.{ℕ, ◌+◌, ◌<◌, ◌≤◌, ◌≡◌, ◌≢◌, List, ◌++◌, codes, length}
 use Rattle.board.specs.declared.board.BoardFault.{BoardFault}
 use Rattle.board.specs.declared.board.BoardFault.TheVariants.{RamSize, Memory, ClockLimit}
 use Rattle.board.specs.declared.board.SpeakerChange.{SpeakerChange}
-use Rattle.board.specs.Plain.{Plain, clocks, one_clock, changes_in, speaker_level}
+use Rattle.board.specs.Plain.{Plain, clock_of, clocks, one_clock, change_next, changes_in, speaker_level}
 
 pub record BoardState : Type 0 where
   pub plain : Plain
@@ -16,6 +16,7 @@ pub record StoppedEarly (n : ℕ) (old new : BoardState) : Type 0 where
   pub passed : ℕ
   pub before_end : passed < n
   pub plain : new.plain ≡ clocks passed old.plain
+  pub clock : clock_of new.plain ≡ clock_of old.plain + passed
   pub changes : new.changes ≡ old.changes ++ changes_in passed old.plain
   pub changes_next : speaker_level (one_clock new.plain) ≢ speaker_level new.plain
   pub full : new.room ≡ 0
@@ -29,3 +30,9 @@ abbrev pub board_fault_name : BoardFault → List ℕ
 board_fault_name RamSize = codes "RamSize"
 board_fault_name Memory = codes "Memory"
 board_fault_name ClockLimit = codes "ClockLimit"
+
+-- the next clock brings a change that there is no room for, and nothing is done
+pub record IsHeldBack (old new : BoardState) : Type 0 where
+  pub kept : new ≡ old
+  pub changes_next : speaker_level (one_clock old.plain) ≢ speaker_level old.plain
+  pub full : old.room ≡ 0

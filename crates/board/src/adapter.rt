@@ -65,10 +65,10 @@ impl TextAdapter {
 
     /// The 25 rows of 80 characters, each ended by a line feed.
     #[tactic(auto, unfolding(crate::specs::Adapter::screen_text))]
-    pub fn screen(&self, alloc: Global) -> Result<String, AllocError>
+    pub fn screen(&self) -> Result<String, AllocError>
         ensures { IfOk result (λ text. string_bytes text ≡ screen_text self.now) }
     {
-        let mut text = String::new(alloc);
+        let mut text = String::new(*self.bytes.allocator());
         self.push_rows(&mut text, row_count())?;
         Ok(text)
     }

@@ -1,14 +1,12 @@
 //! The board: run for a number of clocks, and read.
-ghost use Rattle.std.specs.Prelude.{◌≡◌, ◌+◌, ◌*◌, ◌<◌, ◌≤◌, ◌^◌, [], ◌++◌, length, OnOk, IfOk, IsOk, ◌↔◌};
+ghost use Rattle.std.specs.Prelude.{◌≡◌, ◌+◌, ◌*◌, ◌<◌, ◌≤◌, ◌^◌, [], ◌∷◌, ◌++◌, length, OnErr, OnOk, IfOk, IsOk, ◌↔◌};
 ghost use Rattle.std.specs.Result.{IfErr, IsErrOf};
 ghost use Rattle.std.specs.String.{string_bytes};
 ghost use Rattle.memory.specs.Map.{IsRamSize, FitsRam};
-ghost use Rattle.board.specs.Board.{StoppedEarly, board_fault_name, board_fault_number};
-ghost use Rattle.board.specs.Plain.{byte_of, changes_in, clocks, lost_codes, power_on, registers_of, screen_of, state_of};
+ghost use Rattle.board.specs.Board.{IsHeldBack, StoppedEarly, board_fault_name, board_fault_number};
+ghost use Rattle.board.specs.Plain.{byte_of, change_next, changes_in, clock_of, clocks, lost_codes, one_clock, power_on, registers_of, screen_of, speaker_level, state_of};
+ghost use Rattle.wiring.specs.Wires.{line_of};
 
-use crate::adapter::TextAdapter;
-use crate::devices::Devices;
-use crate::processor::Processor;
 use crate::system::System;
 use board_types::clock::Clock;
 use board_types::image::Image;
@@ -16,8 +14,8 @@ use board_types::keys::Keys;
 use board_types::line::Line;
 use board_types::regs::Regs;
 use board_types::state::State;
-use memory::map::{Memory, MemoryFault};
-use std::alloc::Global;
+use memory::map::MemoryFault;
+use std::alloc::{Allocator, Global};
 use std::marker::Model;
 use thiserror::Error;
 
@@ -56,9 +54,6 @@ impl BoardFault {
     }
 }
 
-/// No key codes arrive yet, so none is lost.
-const LOST_CODES: u64 = 0;
-
 /// How a board is fitted out.
 #[derive(Clone, Copy, Debug, PartialEq, Eq)]
 pub struct Config {
@@ -77,86 +72,168 @@ pub struct SpeakerChange {
     pub level: Line,
 }
 
-/// A board at a clock, with the changes of its speaker's level since power-on.
+/// A board at a clock, with the changes of its speaker's level since power-on. The list of changes grows in
+/// memory of its own allocator, `A`.
 #[derive(Drop)]
-pub struct Board {
+pub struct Board<A: Allocator = Global> {
     system: System,
-    changes: Vec<SpeakerChange>,
+    changes: Vec<SpeakerChange, A>,
 }
 
-impl Model for Board {
+impl<A: Allocator> Model for Board<A> {
     ghost use Rattle.std.specs.Prelude.{◌≤◌, ◌^◌, ◌-◌, length};
     ghost use Rattle.std.specs.Vec.{vec_capacity};
     ghost use Rattle.board.specs.Board.{BoardState};
+    ghost use Rattle.board.specs.Plain.{clock_of};
 
     ghost Value = { BoardState };
 
     ghost view = { λ b. record { plain = b.system; changes = b.changes.items; room = vec_capacity b.changes - length b.changes.items } };
 
-    ghost invariant = { λ b. b.system.clock ≤ 2 ^ 40 };
+    ghost invariant = { λ b. clock_of b.system ≤ 2 ^ 40 };
 }
 
 impl Board {
-    /// A board at power-on with the image's bytes in its memory. So far no key codes are taken: `keys` has
-    /// none. Refused as `RamSize` where the RAM's size isn't a multiple of 16 KB from 16 to 640 or the image
+    /// A board at power-on with the image's bytes in its memory and these keys to come; those stamped 0 have
+    /// arrived. Refused as `RamSize` where the RAM's size isn't a multiple of 16 KB from 16 to 640 or the image
     /// has a byte between the RAM's end and A0000h, and as `Memory` where there is none to make the board in;
     /// the keys are dropped then.
-    #[tactic(auto, unfolding(crate::specs::Plain::power_on))]
     pub fn new(
         alloc: Global,
         image: &Image,
         config: Config,
         keys: Keys,
     ) -> Result<Board, BoardFault>
-        requires { keys ≡ [] }
         ensures plain { IfOk result (λ board. board.plain ≡ power_on image.now config keys) }
-        ensures clock { IfOk result (λ board. board.plain.clock ≡ 0) }
+        ensures clock { IfOk result (λ board. clock_of board.plain ≡ 0) }
         ensures changes { IfOk result (λ board. board.changes ≡ []) }
         ensures size { OnOk result (IsRamSize config.ram_kb × FitsRam image.now (1024 * config.ram_kb)) }
         ensures ram_size { IsErrOf result BoardFault.RamSize ↔ (¬ (IsRamSize config.ram_kb × FitsRam image.now (1024 * config.ram_kb))) }
         ensures no_limit { ¬ (IsErrOf result BoardFault.ClockLimit) }
     {
-        let memory = match Memory::new(alloc, config.ram_kb, image) {
-            Ok(memory) => memory,
-            Err(MemoryFault::RamSize) => return Err(BoardFault::RamSize),
-            Err(MemoryFault::OutOfMemory) => return Err(BoardFault::Memory),
-        };
-        let adapter = match TextAdapter::new(alloc) {
-            Ok(adapter) => adapter,
-            Err(_) => return Err(BoardFault::Memory),
-        };
-        Ok(Board {
-            system: System::new(Processor::new(), Devices { memory, adapter }),
-            changes: Vec::new(alloc),
-        })
+        match System::new(alloc, image, config, keys) {
+            Ok(system) => Ok(Board {
+                system,
+                changes: Vec::new(alloc),
+            }),
+            Err(MemoryFault::RamSize) => Err(BoardFault::RamSize),
+            Err(MemoryFault::OutOfMemory) => Err(BoardFault::Memory),
+        }
     }
 
+    /// The same board, whose list of changes goes on in the memory of another allocator.
+    #[cfg(test)]
+    pub(crate) fn with_changes<A: Allocator>(self, changes: Vec<SpeakerChange, A>) -> Board<A>
+        requires { changes.items ≡ self.changes }
+        ensures plain { result.plain ≡ self.plain }
+        ensures changes { result.changes ≡ self.changes }
+    {
+        Board {
+            system: self.system,
+            changes,
+        }
+    }
+}
+
+impl<A: Allocator> Board<A> {
     /// Runs the board for `count` processor clocks. Refused as `ClockLimit`, with nothing changed, where it
     /// would go past clock 2^40. As `Memory` only where the next clock changes the speaker's level and the
-    /// list of changes can't grow: the board then stands at that clock, and a new run goes on from there.
+    /// list of changes has no room and can't grow: the board then stands at that clock, and a new run goes on
+    /// from there.
     pub fn run(&mut self, count: u64) -> Result<(), BoardFault>
         ensures plain { OnOk result (self.new.plain ≡ clocks count self.old.plain) }
-        ensures clock { OnOk result (self.new.plain.clock ≡ self.old.plain.clock + count) }
+        ensures clock { OnOk result (clock_of self.new.plain ≡ clock_of self.old.plain + count) }
         ensures changes { OnOk result (self.new.changes ≡ self.old.changes ++ changes_in count self.old.plain) }
-        ensures limit { IsErrOf result BoardFault.ClockLimit ↔ (2 ^ 40 < self.old.plain.clock + count) }
+        ensures limit { IsErrOf result BoardFault.ClockLimit ↔ (2 ^ 40 < clock_of self.old.plain + count) }
         ensures limit_kept { IsErrOf result BoardFault.ClockLimit → self.new ≡ self.old }
         ensures memory { IsErrOf result BoardFault.Memory → StoppedEarly count self.old self.new }
         ensures no_ram_size { ¬ (IsErrOf result BoardFault.RamSize) }
-        ensures succeeds { self.old.plain.clock + count ≤ 2 ^ 40 → length (changes_in count self.old.plain) ≤ self.old.room → IsOk result }
+        ensures succeeds { clock_of self.old.plain + count ≤ 2 ^ 40 → length (changes_in count self.old.plain) ≤ self.old.room → IsOk result }
         ensures room { self.old.room + length self.old.changes ≤ self.new.room + length self.new.changes }
     {
-        if Clock::LAST - self.system.clock() < count {
+        if Clock::LAST - self.system.clock().get() < count {
             return Err(BoardFault::ClockLimit);
         }
-        self.system.run(count);
+        for _passed in 0..count {
+            self.run_clock()?;
+        }
         Ok(())
+    }
+
+    /// Makes room for `n` more changes of the speaker's level. Refused as `Memory`, with nothing changed, where
+    /// the list can't grow; never where it has the room.
+    pub fn reserve_speaker(&mut self, n: usize) -> Result<(), BoardFault>
+        ensures ok { OnOk result (n ≤ self.new.room) }
+        ensures plain { self.new.plain ≡ self.old.plain }
+        ensures changes { self.new.changes ≡ self.old.changes }
+        ensures room { self.old.room ≤ self.new.room }
+        ensures err { IfErr result (λ fault. fault ≡ BoardFault.Memory) }
+        ensures err_kept { OnErr result (self.new ≡ self.old) }
+        ensures succeeds { n ≤ self.old.room → IsOk result }
+    {
+        match self.changes.try_reserve(n) {
+            Ok(()) => Ok(()),
+            Err(_) => Err(BoardFault::Memory),
+        }
+    }
+
+    /// One processor clock. The list of changes grows before anything else changes.
+    fn run_clock(&mut self) -> Result<(), BoardFault>
+        requires { clock_of self.old.plain < 2 ^ 40 }
+        ensures plain { OnOk result (self.new.plain ≡ one_clock self.old.plain) }
+        ensures clock { OnOk result (clock_of self.new.plain ≡ clock_of self.old.plain + 1) }
+        ensures changes { OnOk result (self.new.changes ≡ self.old.changes ++ change_next self.old.plain) }
+        ensures room { OnOk result (self.old.room + length self.old.changes ≤ self.new.room + length self.new.changes) }
+        ensures err { OnErr result (IsHeldBack self.old self.new) }
+        ensures fault { IfErr result (λ fault. fault ≡ BoardFault.Memory) }
+    {
+        let next = self.system.next_step();
+        let high = self.system.is_high_next(&next);
+        self.list_change(high)?;
+        self.system.tick(&next);
+        Ok(())
+    }
+
+    /// Lists the change that the next clock brings, if it brings one; at it the speaker is `high`.
+    fn list_change(&mut self, high: bool) -> Result<(), BoardFault>
+        requires within { clock_of self.old.plain < 2 ^ 40 }
+        requires next { line_of high ≡ speaker_level (one_clock self.old.plain) }
+        ensures plain { self.new.plain ≡ self.old.plain }
+        ensures changes { OnOk result (self.new.changes ≡ self.old.changes ++ change_next self.old.plain) }
+        ensures room { OnOk result (self.old.room + length self.old.changes ≤ self.new.room + length self.new.changes) }
+        ensures err { OnErr result (IsHeldBack self.old self.new) }
+        ensures fault { IfErr result (λ fault. fault ≡ BoardFault.Memory) }
+    {
+        if high == self.system.is_high() {
+            return Ok(());
+        }
+        self.add_change(high)
+    }
+
+    /// Adds a change of the speaker's level at the next clock.
+    fn add_change(&mut self, high: bool) -> Result<(), BoardFault>
+        requires { clock_of self.old.plain < 2 ^ 40 }
+        ensures plain { self.new.plain ≡ self.old.plain }
+        ensures ok { OnOk result (self.new.changes ≡ self.old.changes ++ (record { clock = clock_of self.old.plain + 1; level = line_of high }) ∷ []) }
+        ensures room { OnOk result (self.old.room + length self.old.changes ≤ self.new.room + length self.new.changes) }
+        ensures err { OnErr result (self.new ≡ self.old) }
+        ensures full { OnErr result (self.old.room ≡ 0) }
+        ensures fault { IfErr result (λ fault. fault ≡ BoardFault.Memory) }
+    {
+        let level = if high { Line::High } else { Line::Low };
+        let clock = Clock::new(self.system.clock().get() + 1).unwrap();
+        self.reserve_speaker(1)?;
+        match self.changes.push(SpeakerChange { clock, level }) {
+            Ok(()) => Ok(()),
+            Err(_) => Err(BoardFault::Memory),
+        }
     }
 
     /// The board's clock.
     pub fn clock(&self) -> Clock
-        ensures { result ≡ self.now.plain.clock }
+        ensures { result ≡ clock_of self.now.plain }
     {
-        Clock::new(self.system.clock()).unwrap()
+        self.system.clock()
     }
 
     /// The processor's registers.
@@ -181,12 +258,11 @@ impl Board {
         self.system.state()
     }
 
-    #[tactic(auto, unfolding(crate::specs::Plain::lost_codes))]
     /// How many key codes were lost because the keyboard's queue was full.
     pub fn lost(&self) -> u64
         ensures { result ≡ lost_codes self.now.plain }
     {
-        LOST_CODES
+        self.system.lost()
     }
 
     /// The changes of the speaker's level since power-on, where it is low.
@@ -201,7 +277,7 @@ impl Board {
         ensures ok { IfOk result (λ text. string_bytes text ≡ screen_of self.now.plain) }
         ensures err { IfErr result (λ fault. fault ≡ BoardFault.Memory) }
     {
-        match self.system.screen(*self.changes.allocator()) {
+        match self.system.screen() {
             Ok(text) => Ok(text),
             Err(_) => Err(BoardFault::Memory),
         }

@@ -1,12 +1,11 @@
-//! The system board: processor, memory and text adapter, run clock by clock.
+//! The system board: processor, chips and text adapter, run clock by clock.
 #![tactic(auto)]
 
 mod adapter;
+mod arrivals;
 pub mod board;
-pub mod decode;
 pub mod devices;
-pub mod processor;
-mod step;
+pub mod laws;
 mod system;
 #[cfg(test)]
 mod tests;

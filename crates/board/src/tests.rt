@@ -1,10 +1,13 @@
 //! Programs whose runs are known clock by clock, as images.
 use crate::board::{Board, BoardFault, Config};
+use board_types::clock::Clock;
 use board_types::image::{Image, is_loadable};
-use board_types::keys::Keys;
+use board_types::keys::{KeyFault, Keys};
+use board_types::line::Line;
 use board_types::regs::Regs;
 use board_types::state::State;
-use std::alloc::{AllocError, Global};
+use linked_list_allocator::LocalHeap;
+use std::alloc::{AllocError, Allocator, Global};
 use std::process::Abort;
 use std::test::Fail;
 
@@ -232,4 +235,174 @@ fn attributes_and_codes_show_as_on_the_adapter(rt: HostRuntime) -> Result<(), Fa
     assert_eq!(rt; board.state(), State::Halted);
     assert!(rt; board.screen()?.as_str().starts_with("    AAA . ~.. "));
     Ok(())
+}
+
+/// Programs counter 2 to divide by 2, and lets it through to the speaker.
+const TONE: [u8; 25] = [
+    0xB0, 0x94, 0xBA, 0x43, 0x00, 0xEE, 0xB0, 0x02, 0xBA, 0x42, 0x00, 0xEE, 0xB0, 0x99, 0xBA, 0x63,
+    0x00, 0xEE, 0xB0, 0x03, 0xBA, 0x61, 0x00, 0xEE, 0xF4,
+];
+
+/// The clocks at which the speaker changes while `TONE` runs, each with whether it goes high.
+const TONE_CHANGES: [(u64, bool); 8] = [
+    (72, true),
+    (76, false),
+    (80, true),
+    (84, false),
+    (88, true),
+    (92, false),
+    (96, true),
+    (100, false),
+];
+
+/// Whether the board after 100 clocks of `TONE` shows what it has to.
+fn assert_tone<A: Allocator>(rt: &impl Abort, board: &Board<A>) {
+    let wanted = Regs {
+        ax: 0x0003,
+        dx: 0x0061,
+        cs: 0xF000,
+        ip: 0x0019,
+        ..Regs::default()
+    };
+    assert_eq!(rt; board.clock().get(), 100);
+    assert_eq!(rt; board.regs(), wanted);
+    assert_eq!(rt; board.state(), State::Halted);
+    assert_changes(rt, board, &TONE_CHANGES);
+}
+
+fn assert_changes<A: Allocator>(rt: &impl Abort, board: &Board<A>, wanted: &[(u64, bool)]) {
+    let changes = board.speaker_changes();
+    assert_eq!(rt; changes.len(), wanted.len());
+    for (change, (clock, high)) in changes.iter().zip(wanted) {
+        assert_eq!(rt; change.clock.get(), *clock);
+        assert_eq!(rt; change.level == Line::High, *high, "at {clock}");
+    }
+}
+
+#[test]
+fn the_speaker_follows_counter_2(rt: HostRuntime) -> Result<(), Fail> {
+    let image = image_of(&rt, rt.alloc(), &TONE)?;
+    let mut board = Board::new(rt.alloc(), &image, CONFIG, Keys::new(rt.alloc()))?;
+    // the last OUT begins in clock 71, and HLT in 79
+    board.run(71)?;
+    assert_eq!(rt; board.regs().ip, 0x0017);
+    assert_changes(&rt, &board, &[]);
+    board.run(1)?;
+    assert_eq!(rt; board.regs().ip, 0x0018);
+    assert_changes(&rt, &board, &TONE_CHANGES[..1]);
+    board.run(7)?;
+    assert_eq!(rt; board.state(), State::Running);
+    board.run(1)?;
+    assert_eq!(rt; board.state(), State::Halted);
+    board.run(20)?;
+    assert_tone(&rt, &board);
+    Ok(())
+}
+
+#[test]
+fn a_change_without_memory_stops_the_run_before_it(rt: HostRuntime) -> Result<(), Fail> {
+    let heap = LocalHeap::new(rt.alloc(), 4_096)?;
+    let image = image_of(&rt, rt.alloc(), &TONE)?;
+    let board = Board::new(rt.alloc(), &image, CONFIG, Keys::new(rt.alloc()))?;
+    let mut board = board.with_changes(Vec::with_capacity(&heap, 2)?);
+    // all the rest of the heap is taken but for 32 bytes, and four changes need 64
+    let filler: Vec<u8, &LocalHeap> = Vec::with_capacity(&heap, heap.free().saturating_sub(32))?;
+    assert_eq!(rt; board.reserve_speaker(9), Err(BoardFault::Memory));
+    assert_eq!(rt; board.run(100), Err(BoardFault::Memory));
+    assert_eq!(rt; board.clock().get(), 79);
+    assert_eq!(rt; board.state(), State::Running);
+    assert_eq!(rt; board.regs().ip, 0x0018);
+    assert_changes(&rt, &board, &TONE_CHANGES[..2]);
+    // refused again where nothing has changed
+    assert_eq!(rt; board.run(21), Err(BoardFault::Memory));
+    assert_eq!(rt; board.clock().get(), 79);
+    drop(filler);
+    board.run(21)?;
+    assert_tone(&rt, &board);
+    Ok(())
+}
+
+#[test]
+fn room_that_is_reserved_needs_no_memory(rt: HostRuntime) -> Result<(), Fail> {
+    let heap = LocalHeap::new(rt.alloc(), 4_096)?;
+    let image = image_of(&rt, rt.alloc(), &TONE)?;
+    let board = Board::new(rt.alloc(), &image, CONFIG, Keys::new(rt.alloc()))?;
+    let mut board = board.with_changes(Vec::new(&heap));
+    board.reserve_speaker(8)?;
+    let filler: Vec<u8, &LocalHeap> = Vec::with_capacity(&heap, heap.free().saturating_sub(64))?;
+    board.run(100)?;
+    assert_tone(&rt, &board);
+    drop(filler);
+    Ok(())
+}
+
+/// Makes port B an output and lets the keyboard send.
+const LISTEN: [u8; 13] = [
+    0xB0, 0x99, 0xBA, 0x63, 0x00, 0xEE, 0xB0, 0x40, 0xBA, 0x61, 0x00, 0xEE, 0xF4,
+];
+
+/// Keys with these stamps, so many of each, with the code 1Eh.
+fn keys_at(alloc: Global, stamps: &[(u64, usize)]) -> Result<Keys, KeyFault> {
+    let mut keys = Keys::new(alloc);
+    for (stamp, count) in stamps {
+        push_keys(&mut keys, *stamp, *count)?;
+    }
+    Ok(keys)
+}
+
+fn push_keys(keys: &mut Keys, stamp: u64, count: usize) -> Result<(), KeyFault> {
+    if let Some(stamp) = Clock::new(stamp) {
+        for _ in 0..count {
+            keys.push(stamp, 0x1E)?;
+        }
+    }
+    Ok(())
+}
+
+/// Runs `code` with keys at these stamps, and asks at each of these clocks how many codes are lost.
+fn assert_lost(
+    rt: &impl Abort,
+    alloc: Global,
+    code: &[u8],
+    stamps: &[(u64, usize)],
+    lost: &[(u64, u64)],
+) -> Result<(), Fail> {
+    let image = image_of(rt, alloc, code)?;
+    let keys = keys_at(alloc, stamps)?;
+    let mut board = Board::new(alloc, &image, CONFIG, keys)?;
+    for (clock, count) in lost {
+        board.run(clock.saturating_sub(board.clock().get()))?;
+        assert_eq!(rt; board.lost(), *count, "at {clock}");
+    }
+    Ok(())
+}
+
+#[test]
+fn keys_arrive_at_their_clocks(rt: HostRuntime) -> Result<(), Fail> {
+    // while nothing lets the keyboard send, sixteen codes wait
+    let stamps = [(0, 17), (5, 1), (6, 1)];
+    assert_lost(
+        &rt,
+        rt.alloc(),
+        &[0xF4],
+        &stamps,
+        &[(0, 1), (4, 1), (5, 2), (6, 3), (100, 3)],
+    )?;
+    // line 6 of port B rises in clock 39: at clock 40 a key arrives, and then the first code moves into the latch
+    let stamps = [(39, 16), (40, 1), (41, 2)];
+    assert_lost(
+        &rt,
+        rt.alloc(),
+        &LISTEN,
+        &stamps,
+        &[(39, 0), (40, 1), (41, 2), (100, 2)],
+    )?;
+    let stamps = [(40, 16), (41, 1), (99, 1)];
+    assert_lost(
+        &rt,
+        rt.alloc(),
+        &LISTEN,
+        &stamps,
+        &[(40, 0), (41, 0), (98, 0), (99, 1)],
+    )
 }

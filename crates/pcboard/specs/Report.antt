@@ -5,7 +5,7 @@ use Rattle.std.specs.String.{string_bytes}
 use Rattle.memory.specs.Map.{IsRamSize, FitsRam}
 use Rattle.board_types.specs.declared.keys.StampedKey.{StampedKey}
 use Rattle.board.specs.declared.board.Config.{Config}
-use Rattle.board.specs.Plain.{Plain, board_after, byte_of, changes_in, power_on, registers_of, screen_of, state_of}
+use Rattle.board.specs.Plain.{Plain, board_after, byte_of, changes_in, clock_of, power_on, registers_of, screen_of, state_of}
 use Rattle.pcboard_assembler.specs.Gives.{Gives}
 use Rattle.pcboard_runfile.specs.declared.run_file.RunFile.{RunFile}
 use Rattle.pcboard.specs.declared.report.Report.{Report}
@@ -22,7 +22,7 @@ plain_of image run = board_after image (config_of run) run.keys run.budget
 -- The report's board is the plain board of an image at the budget: its registers, its state, the byte at each
 -- of the 1,048,576 addresses, its screen and the speaker's changes; and the text is the one of that board.
 pub record ReportsImage (image : List (ℕ × ℕ)) (run : RunFile) (report : Report) : Type 0 where
-  pub clock : report.board.plain.clock ≡ run.budget
+  pub clock : clock_of report.board.plain ≡ run.budget
   pub plain : report.board.plain ≡ plain_of image run
   pub registers : registers_of report.board.plain ≡ registers_of (plain_of image run)
   pub state : state_of report.board.plain ≡ state_of (plain_of image run)

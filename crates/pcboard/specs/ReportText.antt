@@ -11,7 +11,7 @@ use Rattle.board_types.specs.Flags.{flags_word}
 use Rattle.board_types.specs.declared.state.State.{State}
 use Rattle.board_types.specs.declared.state.State.TheVariants.{Running, Halted, Jammed}
 use Rattle.board.specs.declared.board.SpeakerChange.{SpeakerChange}
-use Rattle.board.specs.Plain.{Plain, registers_of, state_of, lost_codes, screen_of}
+use Rattle.board.specs.Plain.{Plain, clock_of, registers_of, state_of, lost_codes, screen_of}
 
 -- two and four hexadecimal digits, in upper case
 abbrev pub hex_byte_text : ℕ → List ℕ
@@ -58,7 +58,7 @@ change_line change = decimal change.clock ++ (codes " " ++ (decimal (level_digit
 -- the whole report
 unfoldable pub report_text : Plain → List SpeakerChange → List ℕ
 report_text s changes =
-    clock_line s.clock
+    clock_line (clock_of s)
     ++ (register_lines (registers_of s)
     ++ (state_lines (state_of s) (lost_codes s) (length changes)
     ++ (flat_map change_line changes

@@ -1,7 +1,7 @@
 //! Running a source for a number of clocks.
 ghost use Rattle.std.specs.Prelude.{◌≡◌, ℕ, List, [], IfOk, MatchResult, ⊤};
 ghost use Rattle.std.specs.Result.{IfErr};
-ghost use Rattle.board.specs.Plain.{changes_in, power_on};
+ghost use Rattle.board.specs.Plain.{changes_in, clock_of, power_on};
 ghost use Rattle.pcboard_assembler.specs.Gives.{Gives};
 ghost use Rattle.pcboard.specs.Report.{FitsBoard, ReportsImage, ReportsSource, config_of, plain_of};
 ghost use Rattle.pcboard.specs.Faults.{IsTrueOfBoard, IsTrueOfSource, IsWantOfMemory};
@@ -15,11 +15,10 @@ use pcboard_assembler::assembly::assemble;
 use pcboard_runfile::run_file::RunFile;
 use std::alloc::Global;
 
-/// Assembles `source`, runs its image on the board that the run file describes for the file's budget, and
-/// reports that board. So far the run file has no key codes. Refused with the source's first fault, with
-/// `RamSize` where the board can't have that RAM or the image doesn't keep within it, and for want of memory.
+/// Assembles `source`, runs its image on the board that the run file describes, with the file's stamped key codes,
+/// for the file's budget, and reports that board. Refused with the source's first fault, with `RamSize` where the
+/// board can't have that RAM or the image doesn't keep within it, and for want of memory.
 pub fn run_source(alloc: Global, source: &[u8], run: &RunFile) -> Result<Report, Fault>
-    requires { run.now.keys ≡ [] }
     ensures report { IfOk result (λ report. ReportsSource source.now run.now report) }
     ensures fault { IfErr result (λ fault. IsTrueOfSource source.now run.now fault) }
 
@@ -38,7 +37,6 @@ pub fn run_source(alloc: Global, source: &[u8], run: &RunFile) -> Result<Report,
 
 /// Runs an image on the board that the run file describes for the file's budget, and reports that board.
 fn run_image(alloc: Global, image: &Image, run: &RunFile) -> Result<Report, BoardFault>
-    requires { run.now.keys ≡ [] }
     ensures report { IfOk result (λ report. ReportsImage image.now run.now report) }
     ensures fault { IfErr result (λ fault. IsTrueOfBoard image.now run.now fault) }
 {
@@ -51,8 +49,7 @@ fn run_image(alloc: Global, image: &Image, run: &RunFile) -> Result<Report, Boar
 
 /// The board of an image at the run file's budget.
 fn run_board(alloc: Global, image: &Image, run: &RunFile) -> Result<Board, BoardFault>
-    requires { run.now.keys ≡ [] }
-    ensures clock { IfOk result (λ board. board.plain.clock ≡ run.now.budget) }
+    ensures clock { IfOk result (λ board. clock_of board.plain ≡ run.now.budget) }
     ensures plain { IfOk result (λ board. board.plain ≡ plain_of image.now run.now) }
     ensures changes { IfOk result (λ board. board.changes ≡ changes_in run.now.budget (power_on image.now (config_of run.now) run.now.keys)) }
     ensures fault { IfErr result (λ fault. IsTrueOfBoard image.now run.now fault) }

@@ -1,7 +1,13 @@
-use Rattle.std.proofs.Common.{ap, ◌∙◌}
-use Rattle.board.specs.Board.{BoardState}
-use Rattle.board.proofs.Silent.{same_changes}
+use Rattle.board.proofs.Runs.{ran_none, ran_more, stopped, not_held}
 use Rattle.board.proofs.board.Board.run.Goals as goal
 
-pub returns-clause-changes : goal.returns-clause-changes
-returns-clause-changes c = ap (λ (b : BoardState). b.changes) c.self.view_is ∙ same_changes _ c.args.count c.args.self.now.plain
+pub loop-passed-init : goal.loop-passed-init
+loop-passed-init g c = ran_none _
+
+pub loop-passed-preserved : goal.loop-passed-preserved
+loop-passed-preserved g c =
+    let on = c.in_ok-run_clock.ensures in
+    ran_more _ _ _ _ c.loop-passed.invariant (record { plain = on.plain; clock = on.clock; changes = on.changes; room = on.room })
+
+pub returns-in_err-run_clock-clause-succeeds : goal.returns-in_err-run_clock-clause-succeeds
+returns-in_err-run_clock-clause-succeeds g c = λ within enough. absurd (not_held _ _ _ _ _ c.loop-passed-test.true c.loop-passed.invariant c.in_err-run_clock.ensures.err enough)

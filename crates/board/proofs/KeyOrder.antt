@@ -1,0 +1,145 @@
+-- Keys that arrive one by one: those before a place in the list, and those from it on.
+use Rattle.std.proofs.Common.{◌≡◌, ◌≢◌, ℕ, zero, suc, ◌+◌, ◌-◌, ◌<◌, ◌≤◌, ◌⊎◌, inl, inr, List, [], ◌∷◌, ◌++◌, length, take, drop, map, filter, get_or, nat_eq, min, refl, sym, ap, ◌∙◌, subst, arith, append-nil}
+use Rattle.std.proofs.lemmas.Grind.{common_steps}
+use Rattle.std.proofs.lemmas.Bool.Decides.{eqb_tells}
+use Rattle.std.proofs.lemmas.List.Sums.{fold-append}
+use Rattle.std.proofs.Math.Seq.{drop-length}
+use Rattle.std.proofs.lemmas.List.{take_more, get_or-drop, get_or-take, get_or_default, length-take, length-drop, map-append, take-append-drop}
+use Rattle.std.proofs.lemmas.List.Elements.{filter-append}
+use Rattle.board_types.specs.declared.keys.StampedKey.{StampedKey}
+use Rattle.board_types.specs.Keys.{IsInOrder}
+use Rattle.board.specs.Arrivals.{Awaits}
+use Rattle.wiring.specs.Chips.{ChipsState}
+use Rattle.wiring.specs.Wires.{arrived, after_arrivals}
+use Rattle.board.specs.Plain.{codes_at}
+
+none_due : (c : ℕ) (ks : List StampedKey) → ((i : ℕ) (d : StampedKey) → i < length ks → (get_or ks i d).stamp ≢ c) → codes_at c ks ≡ []
+none_due c [] all = refl
+none_due c (k ∷ ks) all =
+    let first : k.stamp ≢ c = all 0 k (omega arith) in
+    let rest : codes_at c ks ≡ [] = none_due c ks (λ i d within. all (suc i) d (omega (arith, within))) in
+    grind (arith, common_steps)
+
+codes_append : (c : ℕ) (xs ys : List StampedKey) → codes_at c (xs ++ ys) ≡ codes_at c xs ++ codes_at c ys
+codes_append c xs ys =
+    ap (map (λ (k : StampedKey). k.code)) (filter-append (λ (k : StampedKey). nat_eq k.stamp c) xs ys)
+    ∙ map-append (λ (k : StampedKey). k.code) (filter (λ (k : StampedKey). nat_eq k.stamp c) xs) (filter (λ (k : StampedKey). nat_eq k.stamp c) ys)
+
+one_due : (c : ℕ) (k : StampedKey) → k.stamp ≡ c → codes_at c (k ∷ []) ≡ k.code ∷ []
+one_due c k is = grind (arith, common_steps)
+
+pub codes_more : (c : ℕ) (ks : List StampedKey) (i : ℕ) (d : StampedKey) → i < length ks → (get_or ks i d).stamp ≡ c → codes_at c (take (i + 1) ks) ≡ codes_at c (take i ks) ++ (get_or ks i d).code ∷ []
+codes_more c ks i d within is =
+    ap (codes_at c) (take_more ks i d within)
+    ∙ codes_append c (take i ks) (get_or ks i d ∷ [])
+    ∙ ap (λ xs. codes_at c (take i ks) ++ xs) (one_due c (get_or ks i d) is)
+
+-- `index` keys have arrived at a clock, `next` of them before it
+pub record Arrived (next index clock : ℕ) (keys : List StampedKey) : Type 0 where
+  pub from : next ≤ index
+  pub within : index ≤ length keys
+  pub due : (j : ℕ) (d : StampedKey) → j < index → (get_or keys j d).stamp < clock + 1
+
+in_take : (n j : ℕ) (ks : List StampedKey) → j < n → n ≤ length ks → j < length (take n ks)
+in_take n j ks within long = let size = length-take n ks in let least : min n (length ks) ≡ n = omega (arith, long) in omega arith
+
+in_drop : (n j : ℕ) (ks : List StampedKey) → n ≤ j → j < length ks → j - n < length (drop n ks)
+in_drop n j ks from within = let size = length-drop n ks in omega arith
+
+past_at : (next clock : ℕ) (keys : List StampedKey) → Awaits next clock keys → (j : ℕ) (d : StampedKey) → j < next → (get_or keys j d).stamp < clock
+past_at next clock keys awaits j d within =
+    subst (λ (k : StampedKey). k.stamp < clock) (get_or-take next keys j d within) (awaits.past j d (in_take next j keys within awaits.within))
+
+to_come_at : (next clock : ℕ) (keys : List StampedKey) → Awaits next clock keys → (j : ℕ) (d : StampedKey) → next ≤ j → j < length keys → clock ≤ (get_or keys j d).stamp
+to_come_at next clock keys awaits j d from within =
+    let place : next + (j - next) ≡ j = omega (arith, from) in
+    subst (λ (k : StampedKey). clock ≤ k.stamp) (get_or-drop next keys (j - next) d ∙ ap (λ i. get_or keys i d) place) (awaits.to_come (j - next) d (in_drop next j keys from within))
+
+awaits_from : (next clock : ℕ) (keys : List StampedKey) → next ≤ length keys → ((j : ℕ) (d : StampedKey) → j < next → (get_or keys j d).stamp < clock) → ((j : ℕ) (d : StampedKey) → next ≤ j → j < length keys → clock ≤ (get_or keys j d).stamp) → Awaits next clock keys
+awaits_from next clock keys within past to_come = record {
+  within = within;
+  past = λ j d inside.
+      let size = length-take next keys in
+      let small : j < next = omega (arith, inside, size) in
+      subst (λ (k : StampedKey). k.stamp < clock) (sym (get_or-take next keys j d small)) (past j d small);
+  to_come = λ j d inside.
+      let size = length-drop next keys in
+      subst (λ (k : StampedKey). clock ≤ k.stamp) (sym (get_or-drop next keys j d)) (to_come (next + j) d (omega arith) (omega (arith, inside, size)));
+}
+
+-- before any of a clock's keys has arrived
+pub arrived_none : (next clock : ℕ) (keys : List StampedKey) → Awaits next clock keys → Arrived next next clock keys
+arrived_none next clock keys awaits = record {
+  from = omega arith;
+  within = awaits.within;
+  due = λ j d within. let past = past_at next clock keys awaits j d within in omega arith;
+}
+
+pub codes_none : (next clock : ℕ) (keys : List StampedKey) → Awaits next clock keys → codes_at clock (take next keys) ≡ []
+codes_none next clock keys awaits =
+    none_due clock (take next keys) (λ i d within e. let past = awaits.past i d within in absurd (omega (arith, past, e)))
+
+-- one more of them has arrived
+pub arrived_more : (next index clock : ℕ) (keys : List StampedKey) (d : StampedKey) → Arrived next index clock keys → index < length keys → (get_or keys index d).stamp ≡ clock → Arrived next (index + 1) clock keys
+arrived_more next index clock keys d so_far within is = record {
+  from = let f = so_far.from in omega arith;
+  within = omega (arith, within);
+  due = λ j e inside.
+      elim (eqb_tells j index) [
+        | inl here ↦
+            let stamp : (get_or keys j e).stamp ≡ clock =
+            ap (λ i. (get_or keys i e).stamp) here.1 ∙ ap (λ (k : StampedKey). k.stamp) (get_or_default keys index e d within) ∙ is in
+            omega arith
+        | inr before ↦ so_far.due j e (omega (arith, inside, before.1))
+      ];
+}
+
+-- the key at `index` isn't due, so none after it is
+later_than : (next index clock : ℕ) (keys : List StampedKey) (d : StampedKey) → IsInOrder keys → Awaits next clock keys → next ≤ index → index < length keys → (get_or keys index d).stamp ≢ clock → (j : ℕ) (e : StampedKey) → index ≤ j → j < length keys → clock + 1 ≤ (get_or keys j e).stamp
+later_than next index clock keys d in_order awaits from within differs j e after inside =
+    let here = to_come_at next clock keys awaits index d from within in
+    let same : (get_or keys index e).stamp ≡ (get_or keys index d).stamp = ap (λ (k : StampedKey). k.stamp) (get_or_default keys index e d within) in
+    let first : clock + 1 ≤ (get_or keys index e).stamp = omega (arith, here, differs, same) in
+    elim (eqb_tells j index) [
+      | inl at ↦ subst (λ i. clock + 1 ≤ (get_or keys i e).stamp) (sym at.1) first
+      | inr past ↦ let order = in_order.stamps index j e (omega (arith, after, past.1)) inside in omega arith
+    ]
+
+none_after : (index clock : ℕ) (keys : List StampedKey) → ((j : ℕ) (e : StampedKey) → index ≤ j → j < length keys → clock + 1 ≤ (get_or keys j e).stamp) → codes_at clock keys ≡ codes_at clock (take index keys)
+none_after index clock keys later =
+    ap (codes_at clock) (sym (take-append-drop index keys))
+    ∙ codes_append clock (take index keys) (drop index keys)
+    ∙ ap (λ xs. codes_at clock (take index keys) ++ xs)
+    (none_due clock (drop index keys) (λ i d within e.
+    let size = length-drop index keys in
+    let place = later (index + i) d (omega arith) (omega (arith, within, size)) in
+    let same : (get_or (drop index keys) i d).stamp ≡ (get_or keys (index + i) d).stamp = ap (λ (k : StampedKey). k.stamp) (get_or-drop index keys i d) in
+    absurd (omega (arith, place, same, e))))
+    ∙ append-nil (codes_at clock (take index keys))
+
+-- all of a clock's keys have arrived
+pub record AllArrived (next clock : ℕ) (keys : List StampedKey) : Type 0 where
+  pub awaits : Awaits next (clock + 1) keys
+  pub codes : codes_at clock keys ≡ codes_at clock (take next keys)
+
+pub arrived_before : (next index clock : ℕ) (keys : List StampedKey) (d : StampedKey) → IsInOrder keys → Awaits next clock keys → Arrived next index clock keys → index < length keys → (get_or keys index d).stamp ≢ clock → AllArrived index clock keys
+arrived_before next index clock keys d in_order awaits so_far within differs =
+    let later = later_than next index clock keys d in_order awaits so_far.from within differs in record {
+      awaits = awaits_from index (clock + 1) keys so_far.within so_far.due later;
+      codes = none_after index clock keys later;
+    }
+
+pub arrived_all : (next clock : ℕ) (keys : List StampedKey) → Arrived next (length keys) clock keys → AllArrived (length keys) clock keys
+arrived_all next clock keys so_far =
+    let later : (j : ℕ) (e : StampedKey) → length keys ≤ j → j < length keys → clock + 1 ≤ (get_or keys j e).stamp = λ j e after inside. absurd (omega (arith, after, inside)) in record {
+      awaits = awaits_from (length keys) (clock + 1) keys so_far.within so_far.due later;
+      codes = none_after (length keys) clock keys later;
+    }
+
+-- before clock 0 nothing has arrived
+pub awaits_first : (keys : List StampedKey) → Awaits 0 0 keys
+awaits_first keys = awaits_from 0 0 keys (omega arith) (λ j d within. absurd (omega (arith, within))) (λ j d from within. omega arith)
+
+-- codes that arrive behind others
+pub arrived_after : (s t : ChipsState) (codes : List ℕ) (code : ℕ) → t ≡ after_arrivals codes s → arrived t code ≡ after_arrivals (codes ++ code ∷ []) s
+arrived_after s t codes code so_far = ap (λ u. arrived u code) so_far ∙ sym (fold-append arrived s codes (code ∷ []))

@@ -1,0 +1,9 @@
+use Rattle.std.proofs.Common.{◌≡◌, take}
+use Rattle.wiring.specs.Wires.{after_arrivals}
+use Rattle.board.specs.Plain.{codes_at}
+use Rattle.board.proofs.KeyOrder.{Arrived}
+use Rattle.board.proofs.arrivals.arrive_at.Given as goal
+
+abbrev pub invariant-loop-index : goal.invariant-loop-index
+invariant-loop-index l =
+    (l.chips ≡ after_arrivals (codes_at l.clock (take l.index l.keys)) l.fn.chips) × (l.chips.clock ≡ l.fn.chips.clock) × Arrived l.next l.index l.clock l.keys

@@ -1,0 +1,5 @@
+use Rattle.board.proofs.Runs.{Ran}
+use Rattle.board.proofs.board.Board.run.Given as goal
+
+abbrev pub invariant-loop-passed : goal.invariant-loop-passed
+invariant-loop-passed g l = Ran l._passed l.fn.self l.self

@@ -1,0 +1,45 @@
+//! Keys that reach the keyboard at their clocks.
+ghost use Rattle.std.specs.Prelude.{◌≡◌, ◌+◌, ◌<◌, ◌^◌};
+ghost use Rattle.board_types.specs.Keys.{IsInOrder};
+ghost use Rattle.board.specs.Arrivals.{Awaits};
+ghost use Rattle.wiring.specs.Wires.{after_arrivals};
+ghost use Rattle.board.specs.Plain.{chips_clocked, codes_at};
+
+use board_types::clock::Clock;
+use board_types::keys::StampedKey;
+use wiring::chips::Chips;
+
+/// The keys that are stamped `clock` arrive; `next` have arrived before. Answers how many have arrived then.
+pub(crate) fn arrive_at(chips: &mut Chips, keys: &[StampedKey], next: usize, clock: u64) -> usize
+    requires in_order { IsInOrder keys.now }
+    requires awaits { Awaits next clock keys.now }
+    ensures chips { chips.new ≡ after_arrivals (codes_at clock keys.now) chips.old }
+    ensures clock { chips.new.clock ≡ chips.old.clock }
+    ensures awaits { Awaits result (clock + 1) keys.now }
+{
+    for index in next..keys.len() {
+        let key = keys[index];
+        if key.stamp.get() != clock {
+            return index;
+        }
+        chips.arrive(key.code);
+    }
+    keys.len()
+}
+
+/// The chips' part of a clock; `next` keys have arrived before. Answers how many have arrived then.
+#[tactic(auto, unfolding(crate::specs::Plain::chips_clocked))]
+pub(crate) fn pass_clock(chips: &mut Chips, keys: &[StampedKey], next: usize) -> usize
+    requires within { chips.old.clock < 2 ^ 40 }
+    requires in_order { IsInOrder keys.now }
+    requires awaits { Awaits next (chips.old.clock + 1) keys.now }
+    ensures chips { chips.new ≡ chips_clocked keys.now chips.old }
+    ensures clock { chips.new.clock ≡ chips.old.clock + 1 }
+    ensures awaits { Awaits result (chips.old.clock + 2) keys.now }
+{
+    let clock = chips.clock().get() + 1;
+    chips.sync(Clock::new(clock).unwrap());
+    let arrived = arrive_at(chips, keys, next, clock);
+    chips.settle();
+    arrived
+}

@@ -1,0 +1,13 @@
+//! What holds of every plain board, over the definitions alone.
+ghost use Rattle.board.specs.Laws.{LevelIsForeseen, WiresAlwaysHold};
+
+/// The speaker's level at the next clock is known from the port writes of the step that is about to be made, before
+/// it is made.
+pub fn level_is_foreseen()
+    ensures { LevelIsForeseen }
+{}
+
+/// At every clock of every board the wires have settled, gates 0 and 1 are high, and IR2 to IR7 are low.
+pub fn wires_always_hold()
+    ensures { WiresAlwaysHold }
+{}
