@@ -4,6 +4,7 @@ ghost use Rattle.std.specs.Ordering.{nat_cmp};
 ghost use Rattle.std.specs.BTreeMap.{insert_entry};
 ghost use Rattle.board_types.specs.Image.{IsImage, IsLoadable, image_byte};
 
+use crate::address::{ADDRESS_COUNT, RAM_LIMIT, ROM_START};
 use std::alloc::{AllocError, Global};
 use std::collections::BTreeMap;
 use std::marker::Model;
@@ -30,7 +31,7 @@ impl Model for Image {
 pub fn is_loadable(addr: u32) -> bool
     ensures { IsTrue result ↔ IsLoadable addr }
 {
-    addr < 0xA0000 || 0xF0000 <= addr && addr < 0x10_0000
+    addr < RAM_LIMIT || ROM_START <= addr && addr < ADDRESS_COUNT
 }
 
 impl Image {

@@ -1,8 +1,9 @@
-//! The words that every part of the board shares: the processor clock, a wire's level, the bytes of an
-//! image, the stamped key codes and the 8086's register file.
+//! The words that every part of the board shares: the processor clock, a wire's level, the bits of a byte, addresses,
+//! the bytes of an image, the stamped key codes and the 8086's register file.
 #![tactic(auto)]
 
 pub mod address;
+pub mod bits;
 pub mod bytes;
 pub mod clock;
 pub mod image;

@@ -31,19 +31,19 @@ impl Flags {
         ensures { result ≡ flags_word self }
     {
         0xF002
-            + bit(self.carry, 1)
-            + bit(self.parity, 1 << 2)
-            + bit(self.auxiliary_carry, 1 << 4)
-            + bit(self.zero, 1 << 6)
-            + bit(self.sign, 1 << 7)
-            + bit(self.trap, 1 << 8)
-            + bit(self.interrupt_enable, 1 << 9)
-            + bit(self.direction, 1 << 10)
-            + bit(self.overflow, 1 << 11)
+            + flag_bit(self.carry, 1)
+            + flag_bit(self.parity, 1 << 2)
+            + flag_bit(self.auxiliary_carry, 1 << 4)
+            + flag_bit(self.zero, 1 << 6)
+            + flag_bit(self.sign, 1 << 7)
+            + flag_bit(self.trap, 1 << 8)
+            + flag_bit(self.interrupt_enable, 1 << 9)
+            + flag_bit(self.direction, 1 << 10)
+            + flag_bit(self.overflow, 1 << 11)
     }
 }
 
-fn bit(flag: bool, value: u16) -> u16
+fn flag_bit(flag: bool, value: u16) -> u16
     ensures value { result ≡ flag_bit flag value }
     ensures bound { result ≤ value }
 {
