@@ -9,8 +9,8 @@ use Rattle.board_types.specs.declared.keys.StampedKey.{StampedKey}
 use Rattle.board_types.specs.declared.regs.Regs.{Regs}
 use Rattle.decode.specs.declared.decoded.Decoded.{Decoded}
 use Rattle.decode.specs.Decoding.{code_at, decoded_from}
-use Rattle.execute.specs.Cpu.{CpuState, running_from, registers_shown}
-use Rattle.execute.specs.Meaning.{Stepped, stepped, after_step}
+use Rattle.execute.specs.Cpu.{CpuState, initial_cpu, regs_of}
+use Rattle.execute.specs.Meaning.{StepResult, step_result, after_step}
 use Rattle.wiring.specs.Chips as chips
 use Rattle.wiring.specs.Chips.{ChipsState}
 use Rattle.wiring.specs.Wires.{line_of, clocked, after_arrivals, keys_settled}
@@ -52,8 +52,8 @@ unfoldable pub next_step : Plain → Option Decoded
 next_step s = if is_free s && is_running s.cpu.state then Some (decoded_at s.cpu s.devices) else None
 
 -- the processor's part of a clock: a step, at once and whole (this board's choice), or none
-abbrev pub acted : CpuState → ℕ → Devices → Option Decoded → Stepped Devices
-acted p busy d None = stepped p d busy
+abbrev pub acted : CpuState → ℕ → Devices → Option Decoded → StepResult Devices
+acted p busy d None = step_result p d busy
 acted p busy d (Some decoded) = after_step board_bus p d decoded
 
 -- the codes of the keys that are stamped with a clock, in order
@@ -69,7 +69,7 @@ chips_clocked keys s = keys_settled (after_arrivals (codes_at (s.clock + 1) keys
 -- board's choice)
 unfoldable pub one_clock : Plain → Plain
 one_clock s =
-    let after : Stepped Devices = acted s.cpu s.busy s.devices (next_step s) in
+    let after : StepResult Devices = acted s.cpu s.busy s.devices (next_step s) in
     record {
       cpu = after.cpu;
       busy = after.clocks - 1;
@@ -83,7 +83,7 @@ clocks n s = iterate one_clock n s
 -- the board at power-on with an image's bytes in its memory; keys stamped 0 have arrived
 unfoldable pub power_on : List (ℕ × ℕ) → Config → List StampedKey → Plain
 power_on image config keys = record {
-  cpu = running_from reset;
+  cpu = initial_cpu reset;
   busy = 0;
   devices = record {
     chips = after_arrivals (codes_at 0 keys) (chips.power_on image (1024 * config.ram_kb) config.sw1 config.sw2);
@@ -98,7 +98,7 @@ board_after image config keys n = clocks n (power_on image config keys)
 
 -- what a board shows of itself
 unfoldable pub registers_of : Plain → Regs
-registers_of s = registers_shown s.cpu.registers
+registers_of s = regs_of s.cpu.registers
 
 unfoldable pub state_of : Plain → State
 state_of s = s.cpu.state

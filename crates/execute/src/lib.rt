@@ -1,10 +1,9 @@
 //! The processor's instructions, each an exact step over any bus (8086 Family User's Manual, "Instruction Set").
 #![tactic(auto)]
 
-pub mod bus;
 pub mod cpu;
 pub mod laws;
 pub mod registers;
 mod step;
-#[cfg(test)]
-mod tests;
+
+pub use bus::Bus;

@@ -1,6 +1,6 @@
 //! The processor's registers.
 ghost use Rattle.std.specs.Prelude.{◌≡◌, ◌≤◌, ◌<◌};
-ghost use Rattle.execute.specs.Cpu.{flags_from, flags_shown, registers_from, registers_shown, with_low, with_high, with_byte_register, word_register, with_word_register, with_segment_register, word_in, string_offset_after};
+ghost use Rattle.execute.specs.Cpu.{flag_state, flags_of, register_file, regs_of, with_low, with_high, with_byte_register, word_register, with_word_register, with_segment_register, word_in, string_offset_after};
 
 use board_types::regs::{Flags, Regs};
 use isa::form::Place;
@@ -33,14 +33,14 @@ impl Model for FlagRegister {
 
 impl FlagRegister {
     pub(crate) fn new(flags: Flags) -> FlagRegister
-        ensures { result ≡ flags_from flags }
+        ensures { result ≡ flag_state flags }
     {
         FlagRegister { flags }
     }
 
     /// The flags as they are now.
     pub fn get(&self) -> Flags
-        ensures { result ≡ flags_shown self.now }
+        ensures { result ≡ flags_of self.now }
     {
         self.flags
     }
@@ -74,7 +74,7 @@ pub struct Registers {
 
 impl Registers {
     pub(crate) fn new(regs: Regs) -> Registers
-        ensures { result ≡ registers_from regs }
+        ensures { result ≡ register_file regs }
     {
         Registers {
             ax: regs.ax,
@@ -96,7 +96,7 @@ impl Registers {
 
     /// The registers as they are shown.
     pub fn get(&self) -> Regs
-        ensures { result ≡ registers_shown self.now }
+        ensures { result ≡ regs_of self.now }
     {
         Regs {
             ax: self.ax,
