@@ -2,8 +2,10 @@
 ghost use Rattle.std.specs.Prelude.{◌≡◌};
 ghost use Rattle.memory.specs.Kinds.{is_text_address, kind_of};
 
+use board_types::address::{ROM_START, TEXT_SIZE, TEXT_START};
+
 /// What answers at an address.
-#[derive(Clone, Copy, Debug, PartialEq, Eq)]
+#[derive(Clone, Copy)]
 pub enum Kind {
     /// Memory that a write changes.
     Ram,
@@ -19,7 +21,7 @@ pub enum Kind {
 pub fn is_text_address(addr: u32) -> bool
     ensures { result ≡ is_text_address addr }
 {
-    0xB0000 <= addr && addr < 0xB1000
+    TEXT_START <= addr && addr < TEXT_START + TEXT_SIZE
 }
 
 /// What answers at the physical address `addr` of a board with `ram_size` bytes of RAM.
@@ -30,7 +32,7 @@ pub fn kind_of(ram_size: u32, addr: u32) -> Kind
         Kind::Ram
     } else if is_text_address(addr) {
         Kind::Text
-    } else if addr >= 0xF0000 {
+    } else if addr >= ROM_START {
         Kind::Rom
     } else {
         Kind::Nothing

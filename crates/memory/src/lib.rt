@@ -4,5 +4,3 @@
 
 pub mod kind;
 pub mod map;
-#[cfg(test)]
-mod tests;

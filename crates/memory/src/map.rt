@@ -6,6 +6,7 @@ ghost use Rattle.memory.specs.Kinds.{IsTextAddress};
 ghost use Rattle.memory.specs.Map.{address_count, byte_at, with_byte, power_on, power_on_byte, memory_fault_number, IsRamSize, FitsRam, IsMap, PowerOnBytes, RamIsWritable, WriteChangesRamAlone};
 
 use crate::kind::{Kind, kind_of};
+use board_types::address::RAM_LIMIT;
 use board_types::image::Image;
 use std::alloc::{AllocError, Global};
 use std::marker::Model;
@@ -31,9 +32,6 @@ impl MemoryFault {
         }
     }
 }
-
-/// Where loadable addresses end below the text adapter.
-const RAM_LIMIT: u32 = 0xA0000;
 
 /// The board's memory: a byte for each address outside the text adapter's.
 #[derive(Drop)]
