@@ -7,8 +7,9 @@ use Rattle.pit8253.specs.declared.program.Mode.{Mode}
 use Rattle.pit8253.specs.declared.program.Mode.TheVariants.{TerminalCount, OneShot, RateGenerator, SquareWave, SoftwareStrobe, HardwareStrobe}
 use Rattle.pit8253.specs.declared.program.Access.{Access}
 use Rattle.pit8253.specs.declared.program.Access.TheVariants.{LowThenHigh}
-use Rattle.pit8253.specs.Program.{digits_of, lowered, is_high, turned}
-use Rattle.pit8253.specs.Counter.{CounterState, loaded, out_at_load, is_loaded, counted, counted_out, rate_generated, half_step, square_waved, strobed, rested, tick, after_ticks, shown, latched, reads_high, read_byte, read_by, after_read}
+use Rattle.board_types.specs.Lines.{is_high, opposite}
+use Rattle.pit8253.specs.Program.{digits_of, count_minus}
+use Rattle.pit8253.specs.Counter.{CounterState, after_load, out_at_load, is_loaded, after_count, after_countdown, after_rate_count, half_step, after_square_count, after_strobe_count, after_rest, after_tick, after_ticks, reading, after_latch, reads_high, next_byte, after_read_by, after_read}
 use Rattle.pit8253.specs.Laws.{LatchHolds, LatchHoldsBoth, LatchIsHeld, CountsInDecimal}
 use Rattle.pit8253.proofs.Falls.{keeping}
 
@@ -25,122 +26,122 @@ choose false c x y first second = second
 none_changed : (c : CounterState) → Kept c c
 none_changed c = record { latch = refl; access = refl; high_next = refl }
 
-loaded_keeps : (out : Line) (c : CounterState) → Kept c (loaded out c)
+loaded_keeps : (out : Line) (c : CounterState) → Kept c (after_load c out)
 loaded_keeps out c = record { latch = refl; access = refl; high_next = refl }
 
 -- a state with another count, strobe and OUT
 moved_keeps : (c : CounterState) (count : ℕ) (due : Bool) (out : Line) → Kept c (record c { count = count; strobe_due = due; out = out })
 moved_keeps c count due out = record { latch = refl; access = refl; high_next = refl }
 
-rate_keeps : (c : CounterState) → Kept c (rate_generated c)
+rate_keeps : (c : CounterState) → Kept c (after_rate_count c)
 rate_keeps c =
-    let count : ℕ = lowered c.count_base 1 c.count in
+    let count : ℕ = count_minus c.count_base c.count 1 in
     let out : Line = (if count == 1 then Low else c.out) in
-    choose (c.count == 1) c (loaded High c) (record c { count = count; out = out }) (loaded_keeps High c) (moved_keeps c count c.strobe_due out)
+    choose (c.count == 1) c (after_load c High) (record c { count = count; out = out }) (loaded_keeps High c) (moved_keeps c count c.strobe_due out)
 
-square_keeps : (c : CounterState) → Kept c (square_waved c)
+square_keeps : (c : CounterState) → Kept c (after_square_count c)
 square_keeps c =
-    let count : ℕ = lowered c.count_base (half_step c.count c.out) c.count in
-    let turn : Line = (if c.newest == 1 then High else turned c.out) in
-    choose (c.count == 1) c (loaded High c) (if count == 0 then loaded turn c else record c { count = count }) (loaded_keeps High c)
-    (choose (count == 0) c (loaded turn c) (record c { count = count }) (loaded_keeps turn c) (moved_keeps c count c.strobe_due c.out))
+    let count : ℕ = count_minus c.count_base c.count (half_step c.count c.out) in
+    let turn : Line = (if c.newest == 1 then High else opposite c.out) in
+    choose (c.count == 1) c (after_load c High) (if count == 0 then after_load c turn else record c { count = count }) (loaded_keeps High c)
+    (choose (count == 0) c (after_load c turn) (record c { count = count }) (loaded_keeps turn c) (moved_keeps c count c.strobe_due c.out))
 
-out_keeps : (c : CounterState) → Kept c (counted_out c)
+out_keeps : (c : CounterState) → Kept c (after_countdown c)
 out_keeps c = record { latch = refl; access = refl; high_next = refl }
 
-strobed_keeps : (c : CounterState) → Kept c (strobed c)
+strobed_keeps : (c : CounterState) → Kept c (after_strobe_count c)
 strobed_keeps c = record { latch = refl; access = refl; high_next = refl }
 
-rested_keeps : (c : CounterState) → Kept c (rested c)
+rested_keeps : (c : CounterState) → Kept c (after_rest c)
 rested_keeps c = record { latch = refl; access = refl; high_next = refl }
 
-counted_keeps : (mode : Mode) (c : CounterState) → Kept c (counted mode c)
-counted_keeps TerminalCount c = choose (is_loaded c.progress && is_high c.gate && is_none c.first_byte) c (counted_out c) c (out_keeps c) (none_changed c)
-counted_keeps OneShot c = choose (is_loaded c.progress) c (counted_out c) c (out_keeps c) (none_changed c)
-counted_keeps RateGenerator c = choose (is_loaded c.progress && is_high c.gate) c (rate_generated c) c (rate_keeps c) (none_changed c)
-counted_keeps SquareWave c = choose (is_loaded c.progress && is_high c.gate) c (square_waved c) c (square_keeps c) (none_changed c)
-counted_keeps SoftwareStrobe c = choose (is_loaded c.progress && is_high c.gate) c (strobed c) (rested c) (strobed_keeps c) (rested_keeps c)
-counted_keeps HardwareStrobe c = choose (is_loaded c.progress) c (strobed c) (rested c) (strobed_keeps c) (rested_keeps c)
+counted_keeps : (mode : Mode) (c : CounterState) → Kept c (after_count c mode)
+counted_keeps TerminalCount c = choose (is_loaded c.progress && is_high c.gate && is_none c.first_byte) c (after_countdown c) c (out_keeps c) (none_changed c)
+counted_keeps OneShot c = choose (is_loaded c.progress) c (after_countdown c) c (out_keeps c) (none_changed c)
+counted_keeps RateGenerator c = choose (is_loaded c.progress && is_high c.gate) c (after_rate_count c) c (rate_keeps c) (none_changed c)
+counted_keeps SquareWave c = choose (is_loaded c.progress && is_high c.gate) c (after_square_count c) c (square_keeps c) (none_changed c)
+counted_keeps SoftwareStrobe c = choose (is_loaded c.progress && is_high c.gate) c (after_strobe_count c) (after_rest c) (strobed_keeps c) (rested_keeps c)
+counted_keeps HardwareStrobe c = choose (is_loaded c.progress) c (after_strobe_count c) (after_rest c) (strobed_keeps c) (rested_keeps c)
 
-tick_keeps : (c : CounterState) → Kept c (tick c)
-unfolding tick
-tick_keeps c = choose c.load_due c (loaded (out_at_load c.mode c.out) c) (counted c.mode c) (loaded_keeps (out_at_load c.mode c.out) c) (counted_keeps c.mode c)
+tick_keeps : (c : CounterState) → Kept c (after_tick c)
+unfolding after_tick
+tick_keeps c = choose c.load_due c (after_load c (out_at_load c.mode c.out)) (after_count c c.mode) (loaded_keeps (out_at_load c.mode c.out) c) (counted_keeps c.mode c)
 
-more_kept : (c d : CounterState) → Kept c d → Kept c (tick d)
+more_kept : (c d : CounterState) → Kept c d → Kept c (after_tick d)
 more_kept c d kept = record {
   latch = (tick_keeps d).latch ∙ kept.latch;
   access = (tick_keeps d).access ∙ kept.access;
   high_next = (tick_keeps d).high_next ∙ kept.high_next;
 }
 
-ticks_keep : (c : CounterState) (n : ℕ) → Kept c (after_ticks n c)
-ticks_keep c n = keeping tick (λ d. Kept c d) (more_kept c) n c (none_changed c)
+ticks_keep : (c : CounterState) (n : ℕ) → Kept c (after_ticks c n)
+ticks_keep c n = keeping after_tick (λ d. Kept c d) (more_kept c) n c (none_changed c)
 
 -- a latched counter shows what it showed
-shown_held : (c : CounterState) (k : ℕ) → shown (after_ticks k (latched c)) ≡ shown c
-unfolding latched
+shown_held : (c : CounterState) (k : ℕ) → reading (after_ticks (after_latch c) k) ≡ reading c
+unfolding after_latch
 shown_held c k =
-    ap (λ o. unwrap_or o (digits_of (after_ticks k (latched c)).count_base (after_ticks k (latched c)).count)) (ticks_keep (latched c) k).latch
+    ap (λ o. unwrap_or o (digits_of (after_ticks (after_latch c) k).count_base (after_ticks (after_latch c) k).count)) (ticks_keep (after_latch c) k).latch
 
 byte_of : Access → Bool → ℕ → ℕ
 byte_of access high_next word = if reads_high access high_next then word / 256 else word % 256
 
-read_is : (c : CounterState) → read_byte c ≡ byte_of c.access c.high_next (shown c)
-unfolding read_byte byte_of
+read_is : (c : CounterState) → next_byte c ≡ byte_of c.access c.high_next (reading c)
+unfolding next_byte byte_of
 read_is c = refl
 
-latched_access : (c : CounterState) → (latched c).access ≡ c.access
-unfolding latched
+latched_access : (c : CounterState) → (after_latch c).access ≡ c.access
+unfolding after_latch
 latched_access c = refl
 
-latched_high_next : (c : CounterState) → (latched c).high_next ≡ c.high_next
-unfolding latched
+latched_high_next : (c : CounterState) → (after_latch c).high_next ≡ c.high_next
+unfolding after_latch
 latched_high_next c = refl
 
-held_byte : (c : CounterState) (k : ℕ) → read_byte (after_ticks k (latched c)) ≡ byte_of c.access c.high_next (shown c)
+held_byte : (c : CounterState) (k : ℕ) → next_byte (after_ticks (after_latch c) k) ≡ byte_of c.access c.high_next (reading c)
 held_byte c k =
-    let kept = ticks_keep (latched c) k in
-    read_is (after_ticks k (latched c))
-    ∙ ap (λ a. byte_of a (after_ticks k (latched c)).high_next (shown (after_ticks k (latched c)))) (kept.access ∙ latched_access c)
-    ∙ ap (λ h. byte_of c.access h (shown (after_ticks k (latched c)))) (kept.high_next ∙ latched_high_next c)
+    let kept = ticks_keep (after_latch c) k in
+    read_is (after_ticks (after_latch c) k)
+    ∙ ap (λ a. byte_of a (after_ticks (after_latch c) k).high_next (reading (after_ticks (after_latch c) k))) (kept.access ∙ latched_access c)
+    ∙ ap (λ h. byte_of c.access h (reading (after_ticks (after_latch c) k))) (kept.high_next ∙ latched_high_next c)
     ∙ ap (λ w. byte_of c.access c.high_next w) (shown_held c k)
 
 pub latch_holds : LatchHolds
 latch_holds c k = held_byte c k ∙ sym (read_is c)
 
 pub latch_is_held : LatchIsHeld
-unfolding latched
+unfolding after_latch
 latch_is_held c k =
-    let held : (after_ticks k (latched c)).latch ≡ Some (shown c) = (ticks_keep (latched c) k).latch in
-    let same : Some (shown (after_ticks k (latched c))) ≡ (after_ticks k (latched c)).latch = ap (λ w. Some w) (shown_held c k) ∙ sym held in
-    ap (λ o. record (after_ticks k (latched c)) { latch = o }) same
+    let held : (after_ticks (after_latch c) k).latch ≡ Some (reading c) = (ticks_keep (after_latch c) k).latch in
+    let same : Some (reading (after_ticks (after_latch c) k)) ≡ (after_ticks (after_latch c) k).latch = ap (λ w. Some w) (shown_held c k) ∙ sym held in
+    ap (λ o. record (after_ticks (after_latch c) k) { latch = o }) same
 
 -- the first of two reads, and the second
 first_read : (c : CounterState) → c.access ≡ LowThenHigh → c.high_next ≡ false → after_read c ≡ record c { high_next = true }
 unfolding after_read
 first_read c access low =
-    ap (λ a. read_by a c) access ∙ ap (λ h. if h then record c { latch = None; high_next = false } else record c { high_next = true }) low
+    ap (λ a. after_read_by c a) access ∙ ap (λ h. if h then record c { latch = None; high_next = false } else record c { high_next = true }) low
 
 second_read : (c : CounterState) → c.access ≡ LowThenHigh → c.high_next ≡ true → after_read c ≡ record c { latch = None; high_next = false }
 unfolding after_read
 second_read c access high =
-    ap (λ a. read_by a c) access ∙ ap (λ h. if h then record c { latch = None; high_next = false } else record c { high_next = true }) high
+    ap (λ a. after_read_by c a) access ∙ ap (λ h. if h then record c { latch = None; high_next = false } else record c { high_next = true }) high
 
 pub latch_holds_both : LatchHoldsBoth
-unfolding byte_of latched
+unfolding byte_of after_latch
 latch_holds_both c access low free k m =
-    let word : shown c ≡ digits_of c.count_base c.count = ap (λ o. unwrap_or o (digits_of c.count_base c.count)) free in
-    let one : CounterState = after_ticks k (latched c) in
-    let kept : Kept (latched c) one = ticks_keep (latched c) k in
+    let word : reading c ≡ digits_of c.count_base c.count = ap (λ o. unwrap_or o (digits_of c.count_base c.count)) free in
+    let one : CounterState = after_ticks (after_latch c) k in
+    let kept : Kept (after_latch c) one = ticks_keep (after_latch c) k in
     let read : after_read one ≡ record one { high_next = true } = first_read one (kept.access ∙ access) (kept.high_next ∙ low) in
-    let two : CounterState = after_ticks m (after_read one) in
+    let two : CounterState = after_ticks (after_read one) m in
     let again : Kept (after_read one) two = ticks_keep (after_read one) m in
     let two_access : two.access ≡ LowThenHigh = again.access ∙ ap (λ s. s.access) read ∙ kept.access ∙ access in
     let two_high : two.high_next ≡ true = again.high_next ∙ ap (λ s. s.high_next) read in
-    let two_latch : two.latch ≡ Some (shown c) = again.latch ∙ ap (λ s. s.latch) read ∙ kept.latch in
-    let two_shown : shown two ≡ digits_of c.count_base c.count = ap (λ o. unwrap_or o (digits_of two.count_base two.count)) two_latch ∙ word in (
-      held_byte c k ∙ ap (λ a. byte_of a c.high_next (shown c)) access ∙ ap (λ h. byte_of LowThenHigh h (shown c)) low ∙ ap (λ w. w % 256) word,
-      read_is two ∙ ap (λ a. byte_of a two.high_next (shown two)) two_access ∙ ap (λ h. byte_of LowThenHigh h (shown two)) two_high ∙ ap (λ w. w / 256) two_shown,
+    let two_latch : two.latch ≡ Some (reading c) = again.latch ∙ ap (λ s. s.latch) read ∙ kept.latch in
+    let two_shown : reading two ≡ digits_of c.count_base c.count = ap (λ o. unwrap_or o (digits_of two.count_base two.count)) two_latch ∙ word in (
+      held_byte c k ∙ ap (λ a. byte_of a c.high_next (reading c)) access ∙ ap (λ h. byte_of LowThenHigh h (reading c)) low ∙ ap (λ w. w % 256) word,
+      read_is two ∙ ap (λ a. byte_of a two.high_next (reading two)) two_access ∙ ap (λ h. byte_of LowThenHigh h (reading two)) two_high ∙ ap (λ w. w / 256) two_shown,
       ap (λ s. s.latch) (second_read two two_access two_high),
     )
 

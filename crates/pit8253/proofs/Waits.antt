@@ -7,15 +7,16 @@ use Rattle.board_types.specs.declared.line.Line.TheVariants.{Low, High}
 use Rattle.pit8253.specs.declared.program.Mode.{Mode}
 use Rattle.pit8253.specs.declared.program.Mode.TheVariants.{TerminalCount, OneShot, RateGenerator, SquareWave, SoftwareStrobe, HardwareStrobe}
 use Rattle.pit8253.specs.declared.program.Progress.TheVariants.{Loaded}
-use Rattle.pit8253.specs.Program.{lowered, is_high, turned}
-use Rattle.pit8253.specs.Counter.{CounterState, loaded, out_at_load, is_loaded, counted, counted_out, rate_generated, half_step, square_waved, strobed, rested, tick, shown, with_full_count}
+use Rattle.board_types.specs.Lines.{is_high, opposite}
+use Rattle.pit8253.specs.Program.{count_minus}
+use Rattle.pit8253.specs.Counter.{CounterState, after_load, out_at_load, is_loaded, after_count, after_countdown, after_rate_count, half_step, after_square_count, after_strobe_count, after_rest, after_tick, reading, after_full_count}
 use Rattle.pit8253.specs.Laws.{GateStops, GateStopsStrobe, FirstByteStops, ends_half, NewCountWaits, WaitsForLoad}
 use Rattle.pit8253.proofs.Falls.{keeping, if_no}
 use Rattle.pit8253.proofs.Ticking.{differs}
 
-no_load : (c : CounterState) → c.load_due ≡ false → tick c ≡ counted c.mode c
-unfolding tick
-no_load c none = ap (λ b. if b then loaded (out_at_load c.mode c.out) c else counted c.mode c) none
+no_load : (c : CounterState) → c.load_due ≡ false → after_tick c ≡ after_count c c.mode
+unfolding after_tick
+no_load c none = ap (λ b. if b then after_load c (out_at_load c.mode c.out) else after_count c c.mode) none
 
 stopped : (b : Bool) → b && false ≡ false
 stopped true = refl
@@ -23,27 +24,27 @@ stopped false = refl
 
 pub gate_stops : GateStops
 gate_stops c none low (inl terminal) n =
-    iterate_fixed tick n c
-    (no_load c none ∙ ap (λ m. counted m c) terminal
-    ∙ ap (λ g. if is_loaded c.progress && is_high g && is_none c.first_byte then counted_out c else c) low
-    ∙ ap (λ b. if b && is_none c.first_byte then counted_out c else c) (stopped (is_loaded c.progress)))
+    iterate_fixed after_tick n c
+    (no_load c none ∙ ap (λ m. after_count c m) terminal
+    ∙ ap (λ g. if is_loaded c.progress && is_high g && is_none c.first_byte then after_countdown c else c) low
+    ∙ ap (λ b. if b && is_none c.first_byte then after_countdown c else c) (stopped (is_loaded c.progress)))
 gate_stops c none low (inr (inl rate)) n =
-    iterate_fixed tick n c
-    (no_load c none ∙ ap (λ m. counted m c) rate
-    ∙ ap (λ g. if is_loaded c.progress && is_high g then rate_generated c else c) low
-    ∙ ap (λ b. if b then rate_generated c else c) (stopped (is_loaded c.progress)))
+    iterate_fixed after_tick n c
+    (no_load c none ∙ ap (λ m. after_count c m) rate
+    ∙ ap (λ g. if is_loaded c.progress && is_high g then after_rate_count c else c) low
+    ∙ ap (λ b. if b then after_rate_count c else c) (stopped (is_loaded c.progress)))
 gate_stops c none low (inr (inr square)) n =
-    iterate_fixed tick n c
-    (no_load c none ∙ ap (λ m. counted m c) square
-    ∙ ap (λ g. if is_loaded c.progress && is_high g then square_waved c else c) low
-    ∙ ap (λ b. if b then square_waved c else c) (stopped (is_loaded c.progress)))
+    iterate_fixed after_tick n c
+    (no_load c none ∙ ap (λ m. after_count c m) square
+    ∙ ap (λ g. if is_loaded c.progress && is_high g then after_square_count c else c) low
+    ∙ ap (λ b. if b then after_square_count c else c) (stopped (is_loaded c.progress)))
 
 pub first_byte_stops : FirstByteStops
 first_byte_stops c byte none terminal first n =
-    iterate_fixed tick n c
-    (no_load c none ∙ ap (λ m. counted m c) terminal
-    ∙ ap (λ f. if is_loaded c.progress && is_high c.gate && is_none f then counted_out c else c) first
-    ∙ ap (λ b. if b then counted_out c else c) (stopped (is_loaded c.progress && is_high c.gate)))
+    iterate_fixed after_tick n c
+    (no_load c none ∙ ap (λ m. after_count c m) terminal
+    ∙ ap (λ f. if is_loaded c.progress && is_high c.gate && is_none f then after_countdown c else c) first
+    ∙ ap (λ b. if b then after_countdown c else c) (stopped (is_loaded c.progress && is_high c.gate)))
 
 -- what a strobe counter with a low gate keeps
 record Stands (c d : CounterState) : Type 0 where
@@ -52,50 +53,50 @@ record Stands (c d : CounterState) : Type 0 where
   mode : d.mode ≡ SoftwareStrobe
   same : d.count ≡ c.count
 
-rests : (d : CounterState) → d.load_due ≡ false → d.gate ≡ Low → d.mode ≡ SoftwareStrobe → tick d ≡ rested d
+rests : (d : CounterState) → d.load_due ≡ false → d.gate ≡ Low → d.mode ≡ SoftwareStrobe → after_tick d ≡ after_rest d
 rests d none low mode =
-    no_load d none ∙ ap (λ m. counted m d) mode
-    ∙ ap (λ g. if is_loaded d.progress && is_high g then strobed d else rested d) low
-    ∙ ap (λ b. if b then strobed d else rested d) (stopped (is_loaded d.progress))
+    no_load d none ∙ ap (λ m. after_count d m) mode
+    ∙ ap (λ g. if is_loaded d.progress && is_high g then after_strobe_count d else after_rest d) low
+    ∙ ap (λ b. if b then after_strobe_count d else after_rest d) (stopped (is_loaded d.progress))
 
-still_stands : (c d : CounterState) → Stands c d → Stands c (tick d)
+still_stands : (c d : CounterState) → Stands c d → Stands c (after_tick d)
 still_stands c d stands =
     rw (rests d stands.none stands.low stands.mode) (record { none = stands.none; low = stands.low; mode = stands.mode; same = stands.same })
 
 pub gate_stops_strobe : GateStopsStrobe
 gate_stops_strobe c none low mode n =
     let stands : Stands c c = record { none = none; low = low; mode = mode; same = refl } in
-    (keeping tick (λ d. Stands c d) (still_stands c) n c stands).same
+    (keeping after_tick (λ d. Stands c d) (still_stands c) n c stands).same
 
 -- a new count in the middle of a period, or of a half
 
-rate_waits : (gate : Line) (c : CounterState) (word : ℕ) → c.count ≢ 1 → tick (with_full_count word (record c { gate = gate; load_due = false; progress = Loaded; mode = RateGenerator })) ≡ with_full_count word (tick (record c { gate = gate; load_due = false; progress = Loaded; mode = RateGenerator }))
-unfolding tick
+rate_waits : (gate : Line) (c : CounterState) (word : ℕ) → c.count ≢ 1 → after_tick (after_full_count (record c { gate = gate; load_due = false; progress = Loaded; mode = RateGenerator }) word) ≡ after_full_count (after_tick (record c { gate = gate; load_due = false; progress = Loaded; mode = RateGenerator })) word
+unfolding after_tick
 rate_waits Low c word other = refl
 rate_waits High c word other =
     let d : CounterState = record c { gate = High; load_due = false; progress = Loaded; mode = RateGenerator } in
-    let count : ℕ = lowered c.count_base 1 c.count in
+    let count : ℕ = count_minus c.count_base c.count 1 in
     let out : Line = (if count == 1 then Low else c.out) in
-    if_no (c.count == 1) (loaded High (with_full_count word d)) (record (with_full_count word d) { count = count; out = out }) (differs c.count 1 other)
-    ∙ sym (ap (λ s. with_full_count word s) (if_no (c.count == 1) (loaded High d) (record d { count = count; out = out }) (differs c.count 1 other)))
+    if_no (c.count == 1) (after_load (after_full_count d word) High) (record (after_full_count d word) { count = count; out = out }) (differs c.count 1 other)
+    ∙ sym (ap (λ s. after_full_count s word) (if_no (c.count == 1) (after_load d High) (record d { count = count; out = out }) (differs c.count 1 other)))
 
 neither : (a b : Bool) → (a || b) ≡ false → (a ≡ false) × (b ≡ false)
 neither true b none = cc
 neither false b none = (refl, none)
 
-square_waits : (gate : Line) (c : CounterState) (word : ℕ) → ends_half c ≡ false → tick (with_full_count word (record c { gate = gate; load_due = false; progress = Loaded; mode = SquareWave })) ≡ with_full_count word (tick (record c { gate = gate; load_due = false; progress = Loaded; mode = SquareWave }))
-unfolding tick
+square_waits : (gate : Line) (c : CounterState) (word : ℕ) → ends_half c ≡ false → after_tick (after_full_count (record c { gate = gate; load_due = false; progress = Loaded; mode = SquareWave }) word) ≡ after_full_count (after_tick (record c { gate = gate; load_due = false; progress = Loaded; mode = SquareWave })) word
+unfolding after_tick
 square_waits Low c word goes_on = refl
 square_waits High c word goes_on =
     let d : CounterState = record c { gate = High; load_due = false; progress = Loaded; mode = SquareWave } in
-    let e : CounterState = with_full_count word d in
-    let count : ℕ = lowered c.count_base (half_step c.count c.out) c.count in
+    let e : CounterState = after_full_count d word in
+    let count : ℕ = count_minus c.count_base c.count (half_step c.count c.out) in
     let facts = neither (c.count == 1) (count == 0) goes_on in
-    if_no (c.count == 1) (loaded High e) (if count == 0 then loaded (if e.newest == 1 then High else turned c.out) e else record e { count = count }) facts.0
-    ∙ if_no (count == 0) (loaded (if e.newest == 1 then High else turned c.out) e) (record e { count = count }) facts.1
-    ∙ sym (ap (λ s. with_full_count word s)
-    (if_no (c.count == 1) (loaded High d) (if count == 0 then loaded (if d.newest == 1 then High else turned c.out) d else record d { count = count }) facts.0
-    ∙ if_no (count == 0) (loaded (if d.newest == 1 then High else turned c.out) d) (record d { count = count }) facts.1))
+    if_no (c.count == 1) (after_load e High) (if count == 0 then after_load e (if e.newest == 1 then High else opposite c.out) else record e { count = count }) facts.0
+    ∙ if_no (count == 0) (after_load e (if e.newest == 1 then High else opposite c.out)) (record e { count = count }) facts.1
+    ∙ sym (ap (λ s. after_full_count s word)
+    (if_no (c.count == 1) (after_load d High) (if count == 0 then after_load d (if d.newest == 1 then High else opposite c.out) else record d { count = count }) facts.0
+    ∙ if_no (count == 0) (after_load d (if d.newest == 1 then High else opposite c.out)) (record d { count = count }) facts.1))
 
 -- the state with its known parts written out
 written_out : (c : CounterState) (mode : Mode) → c.load_due ≡ false → c.progress ≡ Loaded → c.mode ≡ mode → record c { load_due = false; progress = Loaded; mode = mode } ≡ c
@@ -106,15 +107,15 @@ written_out c mode none loaded_once is =
 
 pub new_count_waits : NewCountWaits
 new_count_waits c word none loaded_once (inl rate) =
-    subst (λ d. tick (with_full_count word d) ≡ with_full_count word (tick d)) (written_out c RateGenerator none loaded_once rate.0) (rate_waits c.gate c word rate.1)
+    subst (λ d. after_tick (after_full_count d word) ≡ after_full_count (after_tick d) word) (written_out c RateGenerator none loaded_once rate.0) (rate_waits c.gate c word rate.1)
 new_count_waits c word none loaded_once (inr square) =
-    subst (λ d. tick (with_full_count word d) ≡ with_full_count word (tick d)) (written_out c SquareWave none loaded_once square.0) (square_waits c.gate c word square.1)
+    subst (λ d. after_tick (after_full_count d word) ≡ after_full_count (after_tick d) word) (written_out c SquareWave none loaded_once square.0) (square_waits c.gate c word square.1)
 
 -- what a counter that waits for its first load keeps
 record Waits (c d : CounterState) : Type 0 where
   none : d.load_due ≡ false
   unloaded : is_loaded d.progress ≡ false
-  same : shown d ≡ shown c
+  same : reading d ≡ reading c
 
 -- a tick of a waiting counter, by its mode
 idle : Mode → CounterState → CounterState
@@ -122,17 +123,17 @@ idle TerminalCount c = c
 idle OneShot c = c
 idle RateGenerator c = c
 idle SquareWave c = c
-idle SoftwareStrobe c = rested c
-idle HardwareStrobe c = rested c
+idle SoftwareStrobe c = after_rest c
+idle HardwareStrobe c = after_rest c
 
-idle_is : (mode : Mode) (c : CounterState) → is_loaded c.progress ≡ false → counted mode c ≡ idle mode c
+idle_is : (mode : Mode) (c : CounterState) → is_loaded c.progress ≡ false → after_count c mode ≡ idle mode c
 unfolding idle
-idle_is TerminalCount c unloaded = ap (λ b. if b && is_high c.gate && is_none c.first_byte then counted_out c else c) unloaded
-idle_is OneShot c unloaded = ap (λ b. if b then counted_out c else c) unloaded
-idle_is RateGenerator c unloaded = ap (λ b. if b && is_high c.gate then rate_generated c else c) unloaded
-idle_is SquareWave c unloaded = ap (λ b. if b && is_high c.gate then square_waved c else c) unloaded
-idle_is SoftwareStrobe c unloaded = ap (λ b. if b && is_high c.gate then strobed c else rested c) unloaded
-idle_is HardwareStrobe c unloaded = ap (λ b. if b then strobed c else rested c) unloaded
+idle_is TerminalCount c unloaded = ap (λ b. if b && is_high c.gate && is_none c.first_byte then after_countdown c else c) unloaded
+idle_is OneShot c unloaded = ap (λ b. if b then after_countdown c else c) unloaded
+idle_is RateGenerator c unloaded = ap (λ b. if b && is_high c.gate then after_rate_count c else c) unloaded
+idle_is SquareWave c unloaded = ap (λ b. if b && is_high c.gate then after_square_count c else c) unloaded
+idle_is SoftwareStrobe c unloaded = ap (λ b. if b && is_high c.gate then after_strobe_count c else after_rest c) unloaded
+idle_is HardwareStrobe c unloaded = ap (λ b. if b then after_strobe_count c else after_rest c) unloaded
 
 idle_waits : (mode : Mode) (c d : CounterState) → Waits c d → Waits c (idle mode d)
 unfolding idle
@@ -143,11 +144,11 @@ idle_waits SquareWave c d waits = waits
 idle_waits SoftwareStrobe c d waits = record { none = waits.none; unloaded = waits.unloaded; same = waits.same }
 idle_waits HardwareStrobe c d waits = record { none = waits.none; unloaded = waits.unloaded; same = waits.same }
 
-still_waits : (c d : CounterState) → Waits c d → Waits c (tick d)
+still_waits : (c d : CounterState) → Waits c d → Waits c (after_tick d)
 still_waits c d waits =
     rw (no_load d waits.none, idle_is d.mode d waits.unloaded) (idle_waits d.mode c d waits)
 
 pub waits_for_load : WaitsForLoad
 waits_for_load c none unloaded n =
     let waits : Waits c c = record { none = none; unloaded = unloaded; same = refl } in
-    (keeping tick (λ d. Waits c d) (still_waits c) n c waits).same
+    (keeping after_tick (λ d. Waits c d) (still_waits c) n c waits).same

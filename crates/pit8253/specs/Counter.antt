@@ -12,7 +12,8 @@ use Rattle.pit8253.specs.declared.program.Base.{Base}
 use Rattle.pit8253.specs.declared.program.Base.TheVariants.{Binary}
 use Rattle.pit8253.specs.declared.program.Progress.{Progress}
 use Rattle.pit8253.specs.declared.program.Progress.TheVariants.{Awaited, Written, Loaded}
-use Rattle.pit8253.specs.Program.{mode_of, access_of, base_of, count_of, digits_of, lowered, is_high, turned}
+use Rattle.board_types.specs.Lines.{is_high, opposite}
+use Rattle.pit8253.specs.Program.{mode_of, access_of, base_of, count_of, digits_of, count_minus}
 
 pub record CounterState : Type 0 where
   pub mode : Mode
@@ -81,8 +82,8 @@ out_at_load SoftwareStrobe out = High
 out_at_load HardwareStrobe out = High
 
 -- the newest count becomes the running count
-abbrev pub loaded : Line → CounterState → CounterState
-loaded out c = record c {
+abbrev pub after_load : CounterState → Line → CounterState
+after_load c out = record c {
   count = c.newest;
   count_base = c.base;
   progress = Loaded;
@@ -92,16 +93,16 @@ loaded out c = record c {
 }
 
 -- modes 0 and 1: the count falls by 1, and at 0 OUT goes high
-abbrev pub counted_out : CounterState → CounterState
-counted_out c =
-    let count : ℕ = lowered c.count_base 1 c.count in
+abbrev pub after_countdown : CounterState → CounterState
+after_countdown c =
+    let count : ℕ = count_minus c.count_base c.count 1 in
     record c { count = count; out = (if count == 0 then High else c.out) }
 
 -- mode 2: at 1 the newest count is loaded with OUT high; else the count falls by 1, and at 1 OUT goes low
-abbrev pub rate_generated : CounterState → CounterState
-rate_generated c =
-    let count : ℕ = lowered c.count_base 1 c.count in
-    if c.count == 1 then loaded High c else record c { count = count; out = (if count == 1 then Low else c.out) }
+abbrev pub after_rate_count : CounterState → CounterState
+after_rate_count c =
+    let count : ℕ = count_minus c.count_base c.count 1 in
+    if c.count == 1 then after_load c High else record c { count = count; out = (if count == 1 then Low else c.out) }
 
 -- mode 3: by how much a count falls. An odd one, which was loaded just before, falls by 1 in the high half
 -- and by 3 in the low one. The half is the one that OUT shows, also after a change of the gate (this board's
@@ -111,41 +112,41 @@ half_step count out = if count % 2 == 0 then 2 else (if is_high out then 1 else 
 
 -- mode 3: a fall to 0 loads the newest count instead and turns OUT; a loaded 1 leaves OUT high, and the next
 -- tick loads again with OUT high (this board's choice)
-abbrev pub square_waved : CounterState → CounterState
-square_waved c =
-    let count : ℕ = lowered c.count_base (half_step c.count c.out) c.count in
-    if c.count == 1 then loaded High c else (
-    if count == 0 then loaded (if c.newest == 1 then High else turned c.out) c else record c { count = count })
+abbrev pub after_square_count : CounterState → CounterState
+after_square_count c =
+    let count : ℕ = count_minus c.count_base c.count (half_step c.count c.out) in
+    if c.count == 1 then after_load c High else (
+    if count == 0 then after_load c (if c.newest == 1 then High else opposite c.out) else record c { count = count })
 
 -- modes 4 and 5: the count falls by 1; at 0, once for each load, OUT goes low for one tick (once: this board's
 -- choice)
-abbrev pub strobed : CounterState → CounterState
-strobed c =
-    let count : ℕ = lowered c.count_base 1 c.count in
+abbrev pub after_strobe_count : CounterState → CounterState
+after_strobe_count c =
+    let count : ℕ = count_minus c.count_base c.count 1 in
     let strobes : Bool = (count == 0) && c.strobe_due in
     record c { count = count; strobe_due = c.strobe_due && not strobes; out = (if strobes then Low else High) }
 
 -- modes 4 and 5: a tick that doesn't count ends a strobe too (this board's choice)
-abbrev pub rested : CounterState → CounterState
-rested c = record c { out = High }
+abbrev pub after_rest : CounterState → CounterState
+after_rest c = record c { out = High }
 
 -- a tick that loads nothing. Nothing counts before the first load; the gate stops counting in modes 0, 2, 3
 -- and 4, and in mode 0 the first byte of two does.
-abbrev pub counted : Mode → CounterState → CounterState
-counted TerminalCount c = if is_loaded c.progress && is_high c.gate && is_none c.first_byte then counted_out c else c
-counted OneShot c = if is_loaded c.progress then counted_out c else c
-counted RateGenerator c = if is_loaded c.progress && is_high c.gate then rate_generated c else c
-counted SquareWave c = if is_loaded c.progress && is_high c.gate then square_waved c else c
-counted SoftwareStrobe c = if is_loaded c.progress && is_high c.gate then strobed c else rested c
-counted HardwareStrobe c = if is_loaded c.progress then strobed c else rested c
+abbrev pub after_count : CounterState → Mode → CounterState
+after_count c TerminalCount = if is_loaded c.progress && is_high c.gate && is_none c.first_byte then after_countdown c else c
+after_count c OneShot = if is_loaded c.progress then after_countdown c else c
+after_count c RateGenerator = if is_loaded c.progress && is_high c.gate then after_rate_count c else c
+after_count c SquareWave = if is_loaded c.progress && is_high c.gate then after_square_count c else c
+after_count c SoftwareStrobe = if is_loaded c.progress && is_high c.gate then after_strobe_count c else after_rest c
+after_count c HardwareStrobe = if is_loaded c.progress then after_strobe_count c else after_rest c
 
 -- one tick: a falling edge of CLK. A tick that loads doesn't count.
-unfoldable pub tick : CounterState → CounterState
-tick c = if c.load_due then loaded (out_at_load c.mode c.out) c else counted c.mode c
+unfoldable pub after_tick : CounterState → CounterState
+after_tick c = if c.load_due then after_load c (out_at_load c.mode c.out) else after_count c c.mode
 
 -- n ticks, one after another
-abbrev pub after_ticks : ℕ → CounterState → CounterState
-after_ticks n c = iterate tick n c
+abbrev pub after_ticks : CounterState → ℕ → CounterState
+after_ticks c n = iterate after_tick n c
 
 -- The control word.
 
@@ -159,17 +160,17 @@ out_at_control SoftwareStrobe = High
 out_at_control HardwareStrobe = High
 
 -- what the counter shows: the latch, or else the running count in the base that it was loaded in
-abbrev pub shown : CounterState → ℕ
-shown c = unwrap_or c.latch (digits_of c.count_base c.count)
+abbrev pub reading : CounterState → ℕ
+reading c = unwrap_or c.latch (digits_of c.count_base c.count)
 
 -- a latch holds what the counter shows: what was latched before and isn't read yet stays (this board's choice)
-unfoldable pub latched : CounterState → CounterState
-latched c = record c { latch = Some (shown c) }
+unfoldable pub after_latch : CounterState → CounterState
+after_latch c = record c { latch = Some (reading c) }
 
 -- a control word that programs: the mode, the access and the base are new, OUT takes the mode's first level,
 -- and the count runs no more; it stays to be read. The gate is as before. Both byte orders begin anew.
-abbrev pub programmed : Mode → Access → Base → CounterState → CounterState
-programmed mode access base c = record c {
+abbrev pub after_program : CounterState → Mode → Access → Base → CounterState
+after_program c mode access base = record c {
   mode = mode;
   access = access;
   base = base;
@@ -184,10 +185,10 @@ programmed mode access base c = record c {
 }
 
 -- bits 5 to 0 of a control word: access 00 latches, any other programs
-unfoldable pub controlled : ℕ → CounterState → CounterState
-controlled word c =
-    if word / 16 % 4 == 0 then latched c else
-    programmed (mode_of (word / 2 % 8)) (access_of (word / 16 % 4)) (base_of (word % 2)) c
+unfoldable pub after_control_word : CounterState → ℕ → CounterState
+after_control_word c word =
+    if word / 16 % 4 == 0 then after_latch c else
+    after_program c (mode_of (word / 2 % 8)) (access_of (word / 16 % 4)) (base_of (word % 2))
 
 -- Writing a count.
 
@@ -210,8 +211,8 @@ out_at_write SoftwareStrobe out = out
 out_at_write HardwareStrobe out = out
 
 -- a full count of sixteen bits: it takes the place of the one before, also where that isn't loaded yet
-abbrev pub with_full_count : ℕ → CounterState → CounterState
-with_full_count word c = record c {
+abbrev pub after_full_count : CounterState → ℕ → CounterState
+after_full_count c word = record c {
   first_byte = None;
   newest = count_of c.base word;
   progress = (if is_loaded c.progress then Loaded else Written);
@@ -220,22 +221,22 @@ with_full_count word c = record c {
 }
 
 -- the low byte of two
-abbrev pub with_first_byte : ℕ → CounterState → CounterState
-with_first_byte byte c = record c { first_byte = Some byte; out = out_at_write c.mode c.out }
+abbrev pub after_first_byte : CounterState → ℕ → CounterState
+after_first_byte c byte = record c { first_byte = Some byte; out = out_at_write c.mode c.out }
 
 -- one of two bytes, by what was written before it
-abbrev pub with_byte_of_two : Option ℕ → ℕ → CounterState → CounterState
-with_byte_of_two None byte c = with_first_byte byte c
-with_byte_of_two (Some low) byte c = with_full_count (low + 256 * byte) c
+abbrev pub after_byte_of_two : CounterState → Option ℕ → ℕ → CounterState
+after_byte_of_two c None byte = after_first_byte c byte
+after_byte_of_two c (Some low) byte = after_full_count c (low + 256 * byte)
 
-abbrev pub written_by : Access → ℕ → CounterState → CounterState
-written_by LowByte byte c = with_full_count byte c
-written_by HighByte byte c = with_full_count (256 * byte) c
-written_by LowThenHigh byte c = with_byte_of_two c.first_byte byte c
+abbrev pub after_write_by : CounterState → Access → ℕ → CounterState
+after_write_by c LowByte byte = after_full_count c byte
+after_write_by c HighByte byte = after_full_count c (256 * byte)
+after_write_by c LowThenHigh byte = after_byte_of_two c c.first_byte byte
 
 -- a byte written to the counter: with one-byte access the other byte is 0 (this board's choice)
-unfoldable pub written : ℕ → CounterState → CounterState
-written byte c = written_by c.access byte c
+unfoldable pub after_write : CounterState → ℕ → CounterState
+after_write c byte = after_write_by c c.access byte
 
 -- Reading it.
 
@@ -246,17 +247,17 @@ reads_high HighByte high_next = true
 reads_high LowThenHigh high_next = high_next
 
 -- the byte that a read gives
-unfoldable pub read_byte : CounterState → ℕ
-read_byte c = if reads_high c.access c.high_next then shown c / 256 else shown c % 256
+unfoldable pub next_byte : CounterState → ℕ
+next_byte c = if reads_high c.access c.high_next then reading c / 256 else reading c % 256
 
 -- a read ends the latch with its last byte, and turns the order of two bytes
-abbrev pub read_by : Access → CounterState → CounterState
-read_by LowByte c = record c { latch = None }
-read_by HighByte c = record c { latch = None }
-read_by LowThenHigh c = if c.high_next then record c { latch = None; high_next = false } else record c { high_next = true }
+abbrev pub after_read_by : CounterState → Access → CounterState
+after_read_by c LowByte = record c { latch = None }
+after_read_by c HighByte = record c { latch = None }
+after_read_by c LowThenHigh = if c.high_next then record c { latch = None; high_next = false } else record c { high_next = true }
 
 unfoldable pub after_read : CounterState → CounterState
-after_read c = read_by c.access c
+after_read c = after_read_by c c.access
 
 -- The gate.
 
@@ -283,8 +284,8 @@ out_at_gate HardwareStrobe gate out = out
 
 -- the gate takes a level; in modes 1, 2, 3 and 5 its rise after a full count is a trigger, which no later fall
 -- takes back (this board's choice)
-unfoldable pub gated : Line → CounterState → CounterState
-gated gate c = record c {
+unfoldable pub after_gate : CounterState → Line → CounterState
+after_gate c gate = record c {
   gate = gate;
   load_due = c.load_due || (rises c.gate gate && is_triggered c.mode && not (is_awaited c.progress));
   out = out_at_gate c.mode gate c.out;

@@ -7,9 +7,10 @@ use Rattle.pit8253.specs.declared.program.Access.TheVariants.{LowThenHigh}
 use Rattle.pit8253.specs.declared.program.Base.{Base}
 use Rattle.pit8253.specs.declared.program.Base.TheVariants.{Binary, Decimal}
 use Rattle.pit8253.specs.declared.program.Progress.TheVariants.{Loaded}
-use Rattle.pit8253.specs.Program.{modulus, count_of, digits_of, lowered}
-use Rattle.pit8253.specs.Counter.{CounterState, is_loaded, loaded, half_step, tick, after_ticks, shown, latched, controlled, with_full_count, written, read_byte, after_read, gated}
-use Rattle.pit8253.specs.Pit.{PitState, after_pit_ticks}
+use Rattle.pit8253.specs.Program.{modulus, count_of, digits_of, count_minus}
+use Rattle.pit8253.specs.Counter.{CounterState, is_loaded, after_load, half_step, after_tick, after_ticks, reading, after_latch, after_control_word, after_full_count, after_write, next_byte, after_read, after_gate}
+use Rattle.pit8253.specs.Pit as pit
+use Rattle.pit8253.specs.Pit.{PitState}
 
 -- how many ticks a count stands for: 0 is the largest count, 65,536 or 10,000
 abbrev pub length_of : Base → ℕ → ℕ
@@ -21,66 +22,66 @@ size c = length_of c.base c.newest
 
 -- k ticks and then m ticks are k + m ticks
 abbrev pub TicksAdd : Type 0
-TicksAdd = (k m : ℕ) (c : CounterState) → after_ticks m (after_ticks k c) ≡ after_ticks (k + m) c
+TicksAdd = (k m : ℕ) (c : CounterState) → after_ticks (after_ticks c k) m ≡ after_ticks c (k + m)
 
 -- mode 0: n ticks after the load OUT is low below the count, and high from then on
 abbrev pub CountsOut : Type 0
 CountsOut =
     (c : CounterState) → c.mode ≡ TerminalCount → c.gate ≡ High → c.first_byte ≡ None → c.newest < modulus c.base → (n : ℕ)
-    → (after_ticks n (loaded Low c)).out ≡ (if nat_lt n (size c) then Low else High)
+    → (after_ticks (after_load c Low) n).out ≡ (if nat_lt n (size c) then Low else High)
 
 -- mode 1: the same, whatever the gate
 abbrev pub ShootsOnce : Type 0
 ShootsOnce =
     (c : CounterState) → c.mode ≡ OneShot → c.newest < modulus c.base → (n : ℕ)
-    → (after_ticks n (loaded Low c)).out ≡ (if nat_lt n (size c) then Low else High)
+    → (after_ticks (after_load c Low) n).out ≡ (if nat_lt n (size c) then Low else High)
 
 -- mode 2: OUT is low for the last tick of each period, whose length is the count
 abbrev pub Divides : Type 0
 Divides =
     (c : CounterState) → c.mode ≡ RateGenerator → c.gate ≡ High → c.newest < modulus c.base → c.newest ≢ 1 → (n : ℕ)
-    → (after_ticks n (loaded High c)).out ≡ (if n % size c + 1 == size c then Low else High)
+    → (after_ticks (after_load c High) n).out ≡ (if n % size c + 1 == size c then Low else High)
 
 -- mode 3: each period is high for the first half of the count and low for the second. Of an odd count N the
 -- halves are (N + 1) / 2 and (N - 1) / 2.
 abbrev pub MakesSquares : Type 0
 MakesSquares =
     (c : CounterState) → c.mode ≡ SquareWave → c.gate ≡ High → c.newest < modulus c.base → c.newest ≢ 1 → (n : ℕ)
-    → (after_ticks n (loaded High c)).out ≡ (if nat_lt (n % size c) ((size c + 1) / 2) then High else Low)
+    → (after_ticks (after_load c High) n).out ≡ (if nat_lt (n % size c) ((size c + 1) / 2) then High else Low)
 
 -- modes 2 and 3: a count of 1 keeps OUT high
 abbrev pub StaysHigh : Type 0
 StaysHigh =
     (c : CounterState) → (c.mode ≡ RateGenerator) ⊎ (c.mode ≡ SquareWave) → c.newest ≡ 1 → (n : ℕ)
-    → (after_ticks n (loaded High c)).out ≡ High
+    → (after_ticks (after_load c High) n).out ≡ High
 
 -- mode 4: OUT is low for one tick, the one that ends the count, and never again
 abbrev pub StrobesOnce : Type 0
 StrobesOnce =
     (c : CounterState) → c.mode ≡ SoftwareStrobe → c.gate ≡ High → c.newest < modulus c.base → (n : ℕ)
-    → (after_ticks n (loaded High c)).out ≡ (if n == size c then Low else High)
+    → (after_ticks (after_load c High) n).out ≡ (if n == size c then Low else High)
 
 -- mode 5: the same, whatever the gate
 abbrev pub StrobesOnTrigger : Type 0
 StrobesOnTrigger =
     (c : CounterState) → c.mode ≡ HardwareStrobe → c.newest < modulus c.base → (n : ℕ)
-    → (after_ticks n (loaded High c)).out ≡ (if n == size c then Low else High)
+    → (after_ticks (after_load c High) n).out ≡ (if n == size c then Low else High)
 
 -- a read after a latch and any ticks gives the byte that a read at the latch would have given
 abbrev pub LatchHolds : Type 0
-LatchHolds = (c : CounterState) (k : ℕ) → read_byte (after_ticks k (latched c)) ≡ read_byte c
+LatchHolds = (c : CounterState) (k : ℕ) → next_byte (after_ticks (after_latch c) k) ≡ next_byte c
 
 -- two bytes of one latch, read low then high with any ticks between, are those of one count; then the latch ends
 abbrev pub LatchHoldsBoth : Type 0
 LatchHoldsBoth =
     (c : CounterState) → c.access ≡ LowThenHigh → c.high_next ≡ false → c.latch ≡ None → (k m : ℕ)
-    → (read_byte (after_ticks k (latched c)) ≡ digits_of c.count_base c.count % 256)
-    × (read_byte (after_ticks m (after_read (after_ticks k (latched c)))) ≡ digits_of c.count_base c.count / 256)
-    × ((after_read (after_ticks m (after_read (after_ticks k (latched c))))).latch ≡ None)
+    → (next_byte (after_ticks (after_latch c) k) ≡ digits_of c.count_base c.count % 256)
+    × (next_byte (after_ticks (after_read (after_ticks (after_latch c) k)) m) ≡ digits_of c.count_base c.count / 256)
+    × ((after_read (after_ticks (after_read (after_ticks (after_latch c) k)) m)).latch ≡ None)
 
 -- a second latch before the first is read changes nothing
 abbrev pub LatchIsHeld : Type 0
-LatchIsHeld = (c : CounterState) (k : ℕ) → latched (after_ticks k (latched c)) ≡ after_ticks k (latched c)
+LatchIsHeld = (c : CounterState) (k : ℕ) → after_latch (after_ticks (after_latch c) k) ≡ after_ticks (after_latch c) k
 
 -- four decimal digits count by their weights, and are shown as they were written
 abbrev pub CountsInDecimal : Type 0
@@ -93,23 +94,23 @@ CountsInDecimal =
 abbrev pub GateStops : Type 0
 GateStops =
     (c : CounterState) → c.load_due ≡ false → c.gate ≡ Low
-    → (c.mode ≡ TerminalCount) ⊎ ((c.mode ≡ RateGenerator) ⊎ (c.mode ≡ SquareWave)) → (n : ℕ) → after_ticks n c ≡ c
+    → (c.mode ≡ TerminalCount) ⊎ ((c.mode ≡ RateGenerator) ⊎ (c.mode ≡ SquareWave)) → (n : ℕ) → after_ticks c n ≡ c
 
 -- and in mode 4, where OUT goes high, the count stays
 abbrev pub GateStopsStrobe : Type 0
 GateStopsStrobe =
     (c : CounterState) → c.load_due ≡ false → c.gate ≡ Low → c.mode ≡ SoftwareStrobe → (n : ℕ)
-    → (after_ticks n c).count ≡ c.count
+    → (after_ticks c n).count ≡ c.count
 
 -- the first byte of two stops counting in mode 0
 abbrev pub FirstByteStops : Type 0
 FirstByteStops =
     (c : CounterState) (byte : ℕ) → c.load_due ≡ false → c.mode ≡ TerminalCount → c.first_byte ≡ Some byte → (n : ℕ)
-    → after_ticks n c ≡ c
+    → after_ticks c n ≡ c
 
 -- mode 3: whether the next tick that counts ends the half
 abbrev pub ends_half : CounterState → Bool
-ends_half c = (c.count == 1) || (lowered c.count_base (half_step c.count c.out) c.count == 0)
+ends_half c = (c.count == 1) || (count_minus c.count_base c.count (half_step c.count c.out) == 0)
 
 -- modes 2 and 3: a new count waits for the end of the period, or of the half. Before that, to write it and to
 -- tick is to tick and to write it.
@@ -117,63 +118,63 @@ abbrev pub NewCountWaits : Type 0
 NewCountWaits =
     (c : CounterState) (word : ℕ) → c.load_due ≡ false → c.progress ≡ Loaded
     → ((c.mode ≡ RateGenerator) × (c.count ≢ 1)) ⊎ ((c.mode ≡ SquareWave) × (ends_half c ≡ false))
-    → tick (with_full_count word c) ≡ with_full_count word (tick c)
+    → after_tick (after_full_count c word) ≡ after_full_count (after_tick c) word
 
 -- nothing counts before the first load: with none due, the count is shown as it was, whatever ticks follow
 abbrev pub WaitsForLoad : Type 0
 WaitsForLoad =
-    (c : CounterState) → c.load_due ≡ false → is_loaded c.progress ≡ false → (n : ℕ) → shown (after_ticks n c) ≡ shown c
+    (c : CounterState) → c.load_due ≡ false → is_loaded c.progress ≡ false → (n : ℕ) → reading (after_ticks c n) ≡ reading c
 
 -- how many ticks two bytes stand for, in binary
 abbrev pub ticks_of : ℕ → ℕ → ℕ
 ticks_of low high = length_of Binary (low + 256 * high)
 
 -- a counter that is told two-byte access and a mode by a control word, and then the two bytes
-abbrev pub told : ℕ → ℕ → ℕ → CounterState → CounterState
-told word low high c = written high (written low (controlled word c))
+abbrev pub after_setup : CounterState → ℕ → ℕ → ℕ → CounterState
+after_setup c word low high = after_write (after_write (after_control_word c word) low) high
 
 -- the same, and then a fall and a rise of its gate
-abbrev pub triggered : ℕ → ℕ → ℕ → CounterState → CounterState
-triggered word low high c = gated High (gated Low (told word low high c))
+abbrev pub after_trigger : CounterState → ℕ → ℕ → ℕ → CounterState
+after_trigger c word low high = after_gate (after_gate (after_setup c word low high) Low) High
 
 -- mode 0 as a program sets it up: the first tick loads; then OUT is low for the count's ticks
 abbrev pub CountsOutAsTold : Type 0
 CountsOutAsTold =
     (c : CounterState) → c.gate ≡ High → (low high : ℕ) → low < 256 → high < 256 → (n : ℕ)
-    → (after_ticks (1 + n) (told 0x30 low high c)).out ≡ (if nat_lt n (ticks_of low high) then Low else High)
+    → (after_ticks (after_setup c 0x30 low high) (1 + n)).out ≡ (if nat_lt n (ticks_of low high) then Low else High)
 
 -- mode 1: the first tick after the trigger loads; then OUT is low for the count's ticks
 abbrev pub ShootsAsTriggered : Type 0
 ShootsAsTriggered =
     (c : CounterState) → (low high : ℕ) → low < 256 → high < 256 → (n : ℕ)
-    → (after_ticks (1 + n) (triggered 0x32 low high c)).out ≡ (if nat_lt n (ticks_of low high) then Low else High)
+    → (after_ticks (after_trigger c 0x32 low high) (1 + n)).out ≡ (if nat_lt n (ticks_of low high) then Low else High)
 
 -- mode 2: then OUT is low for the last tick of each period
 abbrev pub DividesAsTold : Type 0
 DividesAsTold =
     (c : CounterState) → c.gate ≡ High → (low high : ℕ) → low < 256 → high < 256 → ticks_of low high ≢ 1 → (n : ℕ)
-    → (after_ticks (1 + n) (told 0x34 low high c)).out ≡ (if n % ticks_of low high + 1 == ticks_of low high then Low else High)
+    → (after_ticks (after_setup c 0x34 low high) (1 + n)).out ≡ (if n % ticks_of low high + 1 == ticks_of low high then Low else High)
 
 -- mode 3: then OUT is high for the first half of each period
 abbrev pub MakesSquaresAsTold : Type 0
 MakesSquaresAsTold =
     (c : CounterState) → c.gate ≡ High → (low high : ℕ) → low < 256 → high < 256 → ticks_of low high ≢ 1 → (n : ℕ)
-    → (after_ticks (1 + n) (told 0x36 low high c)).out ≡ (if nat_lt (n % ticks_of low high) ((ticks_of low high + 1) / 2) then High else Low)
+    → (after_ticks (after_setup c 0x36 low high) (1 + n)).out ≡ (if nat_lt (n % ticks_of low high) ((ticks_of low high + 1) / 2) then High else Low)
 
 -- mode 4: then OUT is low for the one tick that ends the count
 abbrev pub StrobesAsTold : Type 0
 StrobesAsTold =
     (c : CounterState) → c.gate ≡ High → (low high : ℕ) → low < 256 → high < 256 → (n : ℕ)
-    → (after_ticks (1 + n) (told 0x38 low high c)).out ≡ (if n == ticks_of low high then Low else High)
+    → (after_ticks (after_setup c 0x38 low high) (1 + n)).out ≡ (if n == ticks_of low high then Low else High)
 
 -- mode 5: the same after a trigger
 abbrev pub StrobesAsTriggered : Type 0
 StrobesAsTriggered =
     (c : CounterState) → (low high : ℕ) → low < 256 → high < 256 → (n : ℕ)
-    → (after_ticks (1 + n) (triggered 0x3A low high c)).out ≡ (if n == ticks_of low high then Low else High)
+    → (after_ticks (after_trigger c 0x3A low high) (1 + n)).out ≡ (if n == ticks_of low high then Low else High)
 
 -- n ticks of the timer are n ticks of each counter
 abbrev pub CountersTickAlike : Type 0
 CountersTickAlike =
     (n : ℕ) (p : PitState)
-    → after_pit_ticks n p ≡ record { counter_0 = after_ticks n p.counter_0; counter_1 = after_ticks n p.counter_1; counter_2 = after_ticks n p.counter_2 }
+    → pit.after_ticks p n ≡ record { counter_0 = after_ticks p.counter_0 n; counter_1 = after_ticks p.counter_1 n; counter_2 = after_ticks p.counter_2 n }

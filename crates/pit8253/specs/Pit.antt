@@ -3,7 +3,8 @@ use Rattle.std.specs.Prelude.{ℕ, ◌/◌, ◌==◌, if◌then◌else◌}
 use Rattle.board_types.specs.Iterate.{iterate}
 use Rattle.board_types.specs.declared.line.Line.{Line}
 use Rattle.board_types.specs.declared.line.Line.TheVariants.{Low, High}
-use Rattle.pit8253.specs.Counter.{CounterState, power_on, tick, controlled, written, read_byte, after_read, gated}
+use Rattle.pit8253.specs.Counter as one
+use Rattle.pit8253.specs.Counter.{CounterState}
 
 pub record PitState : Type 0 where
   pub counter_0 : CounterState
@@ -11,44 +12,44 @@ pub record PitState : Type 0 where
   pub counter_2 : CounterState
 
 -- gates 0 and 1 are high and gate 2 is low, as this board wires them
-unfoldable pub power_on_pit : PitState
-power_on_pit = record { counter_0 = power_on High; counter_1 = power_on High; counter_2 = power_on Low }
+unfoldable pub power_on : PitState
+power_on = record { counter_0 = one.power_on High; counter_1 = one.power_on High; counter_2 = one.power_on Low }
 
 -- counter n, n below 3
-abbrev pub counter : ℕ → PitState → CounterState
-counter n p = if n == 0 then p.counter_0 else (if n == 1 then p.counter_1 else p.counter_2)
+abbrev pub counter : PitState → ℕ → CounterState
+counter p n = if n == 0 then p.counter_0 else (if n == 1 then p.counter_1 else p.counter_2)
 
 -- the timer with another state of counter n; there is none from 3 on
-abbrev pub with_counter : ℕ → CounterState → PitState → PitState
-with_counter n c p =
+abbrev pub with_counter : PitState → ℕ → CounterState → PitState
+with_counter p n c =
     if n == 0 then record p { counter_0 = c } else (
     if n == 1 then record p { counter_1 = c } else (
     if n == 2 then record p { counter_2 = c } else p))
 
 -- one tick of the three counters
-unfoldable pub pit_tick : PitState → PitState
-pit_tick p = record { counter_0 = tick p.counter_0; counter_1 = tick p.counter_1; counter_2 = tick p.counter_2 }
+unfoldable pub after_tick : PitState → PitState
+after_tick p = record { counter_0 = one.after_tick p.counter_0; counter_1 = one.after_tick p.counter_1; counter_2 = one.after_tick p.counter_2 }
 
 -- n ticks of them, one after another
-abbrev pub after_pit_ticks : ℕ → PitState → PitState
-after_pit_ticks n p = iterate pit_tick n p
+abbrev pub after_ticks : PitState → ℕ → PitState
+after_ticks p n = iterate after_tick n p
 
 -- a control word goes to the counter that its bits 7 and 6 name; 11 names none (this board's choice)
-abbrev pub pit_controlled : ℕ → PitState → PitState
-pit_controlled word p = with_counter (word / 64) (controlled word (counter (word / 64) p)) p
+abbrev pub after_control_word : PitState → ℕ → PitState
+after_control_word p word = with_counter p (word / 64) (one.after_control_word (counter p (word / 64)) word)
 
 -- a byte written to port 0, 1 or 2 goes to that counter, one written to port 3 is a control word
-unfoldable pub pit_written : ℕ → ℕ → PitState → PitState
-pit_written port byte p =
-    if port == 3 then pit_controlled byte p else with_counter port (written byte (counter port p)) p
+unfoldable pub after_write : PitState → ℕ → ℕ → PitState
+after_write p port byte =
+    if port == 3 then after_control_word p byte else with_counter p port (one.after_write (counter p port) byte)
 
 -- the byte read at a port: port 3 gives FFh, as the board's bus does where nothing answers
-unfoldable pub pit_read_byte : ℕ → PitState → ℕ
-pit_read_byte port p = if port == 3 then 0xFF else read_byte (counter port p)
+unfoldable pub byte_at : PitState → ℕ → ℕ
+byte_at p port = if port == 3 then 0xFF else one.next_byte (counter p port)
 
-unfoldable pub pit_after_read : ℕ → PitState → PitState
-pit_after_read port p = with_counter port (after_read (counter port p)) p
+unfoldable pub after_read : PitState → ℕ → PitState
+after_read p port = with_counter p port (one.after_read (counter p port))
 
 -- gate n takes a level
-unfoldable pub pit_gated : ℕ → Line → PitState → PitState
-pit_gated n line p = with_counter n (gated line (counter n p)) p
+unfoldable pub after_gate : PitState → ℕ → Line → PitState
+after_gate p n line = with_counter p n (one.after_gate (counter p n) line)

@@ -1,8 +1,6 @@
 -- What the control word and the bytes of a count mean (Intel 8253 data sheet, "Control Word Format" and
 -- "Programming the 8253").
-use Rattle.std.specs.Prelude.{ℕ, ◌+◌, ◌*◌, ◌/◌, ◌%◌, ◌-◌, ◌==◌, Bool, true, false, if◌then◌else◌, nat_lt}
-use Rattle.board_types.specs.declared.line.Line.{Line}
-use Rattle.board_types.specs.declared.line.Line.TheVariants.{Low, High}
+use Rattle.std.specs.Prelude.{ℕ, ◌+◌, ◌*◌, ◌/◌, ◌%◌, ◌-◌, ◌==◌, if◌then◌else◌, nat_lt}
 use Rattle.pit8253.specs.declared.program.Mode.{Mode}
 use Rattle.pit8253.specs.declared.program.Mode.TheVariants.{TerminalCount, OneShot, RateGenerator, SquareWave, SoftwareStrobe, HardwareStrobe}
 use Rattle.pit8253.specs.declared.program.Access.{Access}
@@ -44,13 +42,5 @@ digits_of Binary count = count
 digits_of Decimal count = 4096 * (count / 1000 % 10) + 256 * (count / 100 % 10) + 16 * (count / 10 % 10) + count % 10
 
 -- the count after counting down by some; below 0 it goes on from FFFFh or 9999
-abbrev pub lowered : Base → ℕ → ℕ → ℕ
-lowered base by count = if nat_lt count by then count + modulus base - by else count - by
-
-abbrev pub is_high : Line → Bool
-is_high High = true
-is_high Low = false
-
-abbrev pub turned : Line → Line
-turned High = Low
-turned Low = High
+abbrev pub count_minus : Base → ℕ → ℕ → ℕ
+count_minus base count by = if nat_lt count by then count + modulus base - by else count - by

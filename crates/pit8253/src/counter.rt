@@ -1,8 +1,8 @@
 //! One counter of the timer (Intel 8253 data sheet, "Mode Definition").
 ghost use Rattle.std.specs.Prelude.{◌≡◌, ◌≤◌, ◌<◌, ◌/◌, ◌%◌, ◌+◌, ◌*◌};
 ghost use Rattle.board_types.specs.declared.line.Line.{Line};
-ghost use Rattle.pit8253.specs.Program.{mode_of, access_of, base_of, count_of, digits_of, lowered, is_high, turned};
-ghost use Rattle.pit8253.specs.Counter.{power_on, is_awaited, is_loaded, out_at_load, loaded, counted_out, rate_generated, half_step, square_waved, strobed, rested, counted, tick, after_ticks, out_at_control, shown, latched, programmed, controlled, loads_when_written, out_at_write, with_full_count, with_first_byte, written, read_byte, after_read, rises, is_triggered, out_at_gate, gated};
+ghost use Rattle.pit8253.specs.Program.{mode_of, access_of, base_of, count_of, digits_of, count_minus};
+ghost use Rattle.pit8253.specs.Counter.{power_on, is_awaited, out_at_load, after_load, after_countdown, after_rate_count, half_step, after_square_count, after_strobe_count, after_count, after_tick, after_ticks, out_at_control, reading, after_latch, after_program, after_control_word, loads_when_written, after_full_count, after_first_byte, after_write, next_byte, after_read, rises, is_triggered, out_at_gate, after_gate};
 
 use crate::program::{Access, Base, Mode, Progress};
 use board_types::line::Line;
@@ -68,9 +68,9 @@ impl Counter {
     }
 
     /// One tick: a falling edge of CLK.
-    #[tactic(auto, unfolding(crate::specs::Counter::tick))]
+    #[tactic(auto, unfolding(crate::specs::Counter::after_tick))]
     pub fn tick(&mut self)
-        ensures { self.new ≡ tick self.old }
+        ensures { self.new ≡ after_tick self.old }
     {
         if self.load_due {
             let out = out_at_load(self.mode, self.out);
@@ -83,7 +83,7 @@ impl Counter {
     /// `ticks` ticks, one after another.
     #[tactic(auto, using(board_types::proofs::Iterate::iterate_steps))]
     pub fn advance(&mut self, ticks: u64)
-        ensures { self.new ≡ after_ticks ticks self.old }
+        ensures { self.new ≡ after_ticks self.old ticks }
     {
         for _i in 0..ticks {
             self.tick();
@@ -91,9 +91,9 @@ impl Counter {
     }
 
     /// A control word, of which bits 5 to 0 count here: access 00 latches, any other programs the counter anew.
-    #[tactic(auto, unfolding(crate::specs::Counter::controlled))]
+    #[tactic(auto, unfolding(crate::specs::Counter::after_control_word))]
     pub fn write_control(&mut self, word: u8)
-        ensures { self.new ≡ controlled word self.old }
+        ensures { self.new ≡ after_control_word self.old word }
     {
         let access = match word / 16 % 4 {
             0 => return self.latch(),
@@ -105,17 +105,17 @@ impl Counter {
     }
 
     /// Holds what the counter shows for the reads to come. What a latch holds already stays.
-    #[tactic(auto, unfolding(crate::specs::Counter::latched))]
+    #[tactic(auto, unfolding(crate::specs::Counter::after_latch))]
     pub fn latch(&mut self)
-        ensures { self.new ≡ latched self.old }
+        ensures { self.new ≡ after_latch self.old }
     {
-        self.latch = Some(self.shown());
+        self.latch = Some(self.reading());
     }
 
     /// A byte of a count. With two-byte access the low byte comes first; with one-byte access the other byte is 0.
-    #[tactic(auto, unfolding(crate::specs::Counter::written))]
+    #[tactic(auto, unfolding(crate::specs::Counter::after_write))]
     pub fn write(&mut self, value: u8)
-        ensures { self.new ≡ written value self.old }
+        ensures { self.new ≡ after_write self.old value }
     {
         match self.access {
             Access::LowByte => self.keep_full_count(u16::from(value)),
@@ -128,12 +128,12 @@ impl Counter {
     }
 
     /// The byte that is read: of the latch, or else of the running count, by the access.
-    #[tactic(auto, unfolding(crate::specs::Counter::read_byte, crate::specs::Counter::after_read))]
+    #[tactic(auto, unfolding(crate::specs::Counter::next_byte, crate::specs::Counter::after_read))]
     pub fn read(&mut self) -> u8
-        ensures byte { result ≡ read_byte self.old }
+        ensures byte { result ≡ next_byte self.old }
         ensures state { self.new ≡ after_read self.old }
     {
-        let word = self.shown();
+        let word = self.reading();
         match self.access {
             Access::LowByte => {
                 self.latch = None;
@@ -157,9 +157,9 @@ impl Counter {
 
     /// The gate takes the level `line`. In modes 1, 2, 3 and 5 a rise after a full count triggers a load; in
     /// modes 2 and 3 a low gate sets OUT high.
-    #[tactic(auto, unfolding(crate::specs::Counter::gated))]
+    #[tactic(auto, unfolding(crate::specs::Counter::after_gate))]
     pub fn set_gate(&mut self, line: Line)
-        ensures { self.new ≡ gated line self.old }
+        ensures { self.new ≡ after_gate self.old line }
     {
         let triggers = rises(self.gate, line)
             && is_triggered(self.mode)
@@ -170,7 +170,7 @@ impl Counter {
     }
 
     fn program(&mut self, mode: Mode, access: Access, base: Base)
-        ensures { self.new ≡ programmed mode access base self.old }
+        ensures { self.new ≡ after_program self.old mode access base }
     {
         *self = Counter {
             mode,
@@ -183,8 +183,8 @@ impl Counter {
         };
     }
 
-    fn shown(&self) -> u16
-        ensures { result ≡ shown self.now }
+    fn reading(&self) -> u16
+        ensures { result ≡ reading self.now }
     {
         match self.latch {
             Some(word) => word,
@@ -193,7 +193,7 @@ impl Counter {
     }
 
     fn keep_full_count(&mut self, word: u16)
-        ensures { self.new ≡ with_full_count word self.old }
+        ensures { self.new ≡ after_full_count self.old word }
     {
         self.first_byte = None;
         self.newest = count_of(self.base, word);
@@ -207,7 +207,7 @@ impl Counter {
     }
 
     fn keep_first_byte(&mut self, low: u8)
-        ensures { self.new ≡ with_first_byte low self.old }
+        ensures { self.new ≡ after_first_byte self.old low }
     {
         self.first_byte = Some(low);
         if self.mode == Mode::TerminalCount {
@@ -216,7 +216,7 @@ impl Counter {
     }
 
     fn load(&mut self, out: Line)
-        ensures { self.new ≡ loaded out self.old }
+        ensures { self.new ≡ after_load self.old out }
     {
         self.count = self.newest;
         self.count_base = self.base;
@@ -227,13 +227,13 @@ impl Counter {
     }
 
     fn count(&mut self)
-        ensures { self.new ≡ counted self.old.mode self.old }
+        ensures { self.new ≡ after_count self.old self.old.mode }
     {
         let loaded = self.progress == Progress::Loaded;
         let enabled = loaded && self.gate == Line::High;
         match self.mode {
-            Mode::TerminalCount if enabled && self.first_byte.is_none() => self.count_out(),
-            Mode::OneShot if loaded => self.count_out(),
+            Mode::TerminalCount if enabled && self.first_byte.is_none() => self.count_down(),
+            Mode::OneShot if loaded => self.count_down(),
             Mode::RateGenerator if enabled => self.divide(),
             Mode::SquareWave if enabled => self.square(),
             Mode::SoftwareStrobe if enabled => self.strobe(),
@@ -243,22 +243,22 @@ impl Counter {
         }
     }
 
-    fn count_out(&mut self)
-        ensures { self.new ≡ counted_out self.old }
+    fn count_down(&mut self)
+        ensures { self.new ≡ after_countdown self.old }
     {
-        self.count = lowered(self.count_base, 1, self.count);
+        self.count = count_minus(self.count_base, self.count, 1);
         if self.count == 0 {
             self.out = Line::High;
         }
     }
 
     fn divide(&mut self)
-        ensures { self.new ≡ rate_generated self.old }
+        ensures { self.new ≡ after_rate_count self.old }
     {
         if self.count == 1 {
             self.load(Line::High);
         } else {
-            self.count = lowered(self.count_base, 1, self.count);
+            self.count = count_minus(self.count_base, self.count, 1);
             if self.count == 1 {
                 self.out = Line::Low;
             }
@@ -266,16 +266,16 @@ impl Counter {
     }
 
     fn square(&mut self)
-        ensures { self.new ≡ square_waved self.old }
+        ensures { self.new ≡ after_square_count self.old }
     {
-        let count = lowered(self.count_base, half_step(self.count, self.out), self.count);
+        let count = count_minus(self.count_base, self.count, half_step(self.count, self.out));
         if self.count == 1 {
             self.load(Line::High);
         } else if count == 0 {
             let out = if self.newest == 1 {
                 Line::High
             } else {
-                turned(self.out)
+                self.out.opposite()
             };
             self.load(out);
         } else {
@@ -284,9 +284,9 @@ impl Counter {
     }
 
     fn strobe(&mut self)
-        ensures { self.new ≡ strobed self.old }
+        ensures { self.new ≡ after_strobe_count self.old }
     {
-        self.count = lowered(self.count_base, 1, self.count);
+        self.count = count_minus(self.count_base, self.count, 1);
         if self.count == 0 && self.strobe_due {
             self.strobe_due = false;
             self.out = Line::Low;
@@ -307,15 +307,6 @@ fn out_at_load(mode: Mode, out: Line) -> Line
     }
 }
 
-fn turned(line: Line) -> Line
-    ensures { result ≡ turned line }
-{
-    match line {
-        Line::Low => Line::High,
-        Line::High => Line::Low,
-    }
-}
-
 fn half_step(count: u16, out: Line) -> u16
     ensures step { result ≡ half_step count out }
     ensures bound { result ≤ 3 }
@@ -329,9 +320,9 @@ fn half_step(count: u16, out: Line) -> u16
     }
 }
 
-fn lowered(base: Base, by: u16, count: u16) -> u16
+fn count_minus(base: Base, count: u16, by: u16) -> u16
     requires { by ≤ 3 }
-    ensures { result ≡ lowered base by count }
+    ensures { result ≡ count_minus base count by }
 {
     if by <= count {
         count - by

@@ -2,7 +2,7 @@
 ghost use Rattle.std.specs.Prelude.{◌≡◌, ◌≤◌, ◌<◌};
 ghost use Rattle.board_types.specs.declared.line.Line.{Line};
 ghost use Rattle.pit8253.specs.Counter.{CounterState};
-ghost use Rattle.pit8253.specs.Pit.{power_on_pit, counter, with_counter, pit_tick, after_pit_ticks, pit_controlled, pit_written, pit_read_byte, pit_after_read, pit_gated};
+ghost use Rattle.pit8253.specs.Pit.{power_on, counter, after_ticks, after_control_word, after_write, byte_at, after_read, after_gate};
 
 use crate::counter::Counter;
 use board_types::line::Line;
@@ -28,9 +28,9 @@ impl Model for Pit {
 
 impl Pit {
     /// The timer at power-on: each counter in mode 0 with no count, gates 0 and 1 high, gate 2 low.
-    #[tactic(auto, unfolding(crate::specs::Pit::power_on_pit))]
+    #[tactic(auto, unfolding(crate::specs::Pit::power_on))]
     pub fn new() -> Self
-        ensures { result ≡ power_on_pit }
+        ensures { result ≡ power_on }
     {
         Pit {
             counter_0: Counter::new(Line::High),
@@ -40,11 +40,11 @@ impl Pit {
     }
 
     /// Reads a byte of counter `port`; port 3 gives FFh. A read ends a latch with its last byte.
-    #[tactic(auto, unfolding(crate::specs::Pit::pit_read_byte, crate::specs::Pit::pit_after_read))]
+    #[tactic(auto, unfolding(crate::specs::Pit::byte_at, crate::specs::Pit::after_read))]
     pub fn read(&mut self, port: u8) -> u8
         requires { port < 4 }
-        ensures byte { result ≡ pit_read_byte port self.old }
-        ensures state { self.new ≡ pit_after_read port self.old }
+        ensures byte { result ≡ byte_at self.old port }
+        ensures state { self.new ≡ after_read self.old port }
     {
         match port {
             0 => self.counter_0.read(),
@@ -56,10 +56,10 @@ impl Pit {
 
     /// Writes a byte of a count to counter `port`, or a control word to port 3. A control word whose bits 7
     /// and 6 are 11 does nothing.
-    #[tactic(auto, unfolding(crate::specs::Pit::pit_written))]
+    #[tactic(auto, unfolding(crate::specs::Pit::after_write))]
     pub fn write(&mut self, port: u8, value: u8)
         requires { port < 4 }
-        ensures { self.new ≡ pit_written port value self.old }
+        ensures { self.new ≡ after_write self.old port value }
     {
         match port {
             0 => self.counter_0.write(value),
@@ -70,10 +70,10 @@ impl Pit {
     }
 
     /// Gate `n` takes the level `line`; `n` is below 3.
-    #[tactic(auto, unfolding(crate::specs::Pit::pit_gated))]
+    #[tactic(auto, unfolding(crate::specs::Pit::after_gate))]
     pub fn set_gate(&mut self, n: u8, line: Line)
         requires { n < 3 }
-        ensures { self.new ≡ pit_gated n line self.old }
+        ensures { self.new ≡ after_gate self.old n line }
     {
         match n {
             0 => self.counter_0.set_gate(line),
@@ -85,7 +85,7 @@ impl Pit {
     /// The level of OUT `n`; `n` is below 3.
     pub fn out(&self, n: u8) -> Line
         requires { n < 3 }
-        ensures { result ≡ (counter n self.now).out }
+        ensures { result ≡ (counter self.now n).out }
     {
         self.counter(n).out()
     }
@@ -93,7 +93,7 @@ impl Pit {
     /// Counter `n` as it is now; `n` is below 3.
     pub fn counter(&self, n: u8) -> Counter
         requires { n < 3 }
-        ensures { result ≡ counter n self.now }
+        ensures { result ≡ counter self.now n }
     {
         match n {
             0 => self.counter_0,
@@ -105,7 +105,7 @@ impl Pit {
     /// `ticks` ticks of the three counters.
     #[tactic(auto, using(crate::proofs::PitTicks::each_counter))]
     pub fn advance(&mut self, ticks: u64)
-        ensures { self.new ≡ after_pit_ticks ticks self.old }
+        ensures { self.new ≡ after_ticks self.old ticks }
     {
         self.counter_0.advance(ticks);
         self.counter_1.advance(ticks);
@@ -113,7 +113,7 @@ impl Pit {
     }
 
     fn write_control(&mut self, word: u8)
-        ensures { self.new ≡ pit_controlled word self.old }
+        ensures { self.new ≡ after_control_word self.old word }
     {
         match word / 64 {
             0 => self.counter_0.write_control(word),
