@@ -4,18 +4,19 @@ use Rattle.std.specs.Option.{option_map_or}
 use Rattle.std.proofs.Math.Bool.{and-false, and-true}
 use Rattle.std.proofs.lemmas.Bool.{and_parts, not-true, cases_lt, cases_eq, eq-eqb}
 use Rattle.std.proofs.lemmas.List.{get_or_past, get_or-set_same, get_or-set_other}
+use Rattle.board_types.specs.Bits.{has_bit}
 use Rattle.board_types.specs.declared.line.Line.TheVariants.{Low, High}
 use Rattle.pic8259.specs.declared.controller.Expected.{Expected}
 use Rattle.pic8259.specs.declared.controller.Expected.TheVariants.{Icw2, Icw3, Icw4, Operation}
-use Rattle.pic8259.specs.Levels.{no_levels, Levels, contains, with_level, without_level, has_bit}
-use Rattle.pic8259.specs.Pic.{PicState, is_operating, asks, found, took, acknowledged, after_read, with_line, with_icw1, with_icw2, with_icw3, with_icw4, with_ocw1, with_word, ended, lowered, highest_served, with_ocw2, with_ocw3, with_command, written}
-use Rattle.pic8259.specs.Laws.{Event, line_set, read, write, acknowledge, after_event}
-use Rattle.pic8259.specs.Edges.{keeps_line, keep_line, state_after_from, AsksOnceARise}
+use Rattle.pic8259.specs.Levels.{no_levels, Levels, contains, with_level, without_level}
+use Rattle.pic8259.specs.Pic.{PicState, is_operating, asks, level_to_take, after_taking, after_acknowledge, after_read, after_line, after_icw1, after_icw2, after_icw3, after_icw4, after_ocw1, after_word, after_end, after_lowering, highest_served, after_ocw2, after_ocw3, after_command, after_write}
+use Rattle.pic8259.specs.Laws.{Event, line_change, read, write, acknowledge, after_event, after_events}
+use Rattle.pic8259.specs.Edges.{keeps_line, all_keep_line, AsksOnceARise}
 use Rattle.pic8259.proofs.Order.{by_level}
 use Rattle.pic8259.proofs.Taking.{gone}
 
 -- edge mode, the line high, and no rise since it was taken
-record IsSpent (level : ℕ) (s : PicState) : Type 0 where
+record IsSpent (s : PicState) (level : ℕ) : Type 0 where
   edge : s.is_level_triggered ≡ false
   high : contains s.high level ≡ true
   spent : contains s.risen level ≡ false
@@ -40,43 +41,43 @@ still_out set n level is_out =
       | inr differ ↦ get_or-set_other set n level false false differ ∙ is_out
     ]
 
-took_spent : (s : PicState) (level : ℕ) (o : Option ℕ) → IsSpent level s → IsSpent level (option_map_or (λ n. took n s) o s)
-unfolding took
-took_spent s level None is = is
-took_spent s level (Some n) is = record { edge = is.edge; high = is.high; spent = still_out s.risen n level is.spent }
+taking_spent : (s : PicState) (level : ℕ) (o : Option ℕ) → IsSpent s level → IsSpent (option_map_or (λ n. after_taking s n) o s) level
+unfolding after_taking
+taking_spent s level None is = is
+taking_spent s level (Some n) is = record { edge = is.edge; high = is.high; spent = still_out s.risen n level is.spent }
 
-acknowledged_spent : (s : PicState) (level : ℕ) → IsSpent level s → IsSpent level (acknowledged s)
-unfolding acknowledged
-acknowledged_spent s level is = took_spent s level (found s) is
+acknowledge_spent : (s : PicState) (level : ℕ) → IsSpent s level → IsSpent (after_acknowledge s) level
+unfolding after_acknowledge
+acknowledge_spent s level is = taking_spent s level (level_to_take s) is
 
-read_cases : (b : Bool) (s : PicState) (level : ℕ) → IsSpent level s → IsSpent level (if b then record (acknowledged s) { polled = false } else s)
+read_cases : (b : Bool) (s : PicState) (level : ℕ) → IsSpent s level → IsSpent (if b then record (after_acknowledge s) { polled = false } else s) level
 read_cases true s level is =
-    let after = acknowledged_spent s level is in record { edge = after.edge; high = after.high; spent = after.spent }
+    let after = acknowledge_spent s level is in record { edge = after.edge; high = after.high; spent = after.spent }
 read_cases false s level is = is
 
-read_spent : (s : PicState) (level : ℕ) → IsSpent level s → IsSpent level (after_read s)
+read_spent : (s : PicState) (level : ℕ) → IsSpent s level → IsSpent (after_read s) level
 unfolding after_read
 read_spent s level is = read_cases s.polled s level is
 
-word_spent : (expected : Expected) (value : ℕ) (s : PicState) (level : ℕ) → IsSpent level s → IsSpent level (with_word expected value s)
-unfolding with_word with_icw2 with_icw3 with_icw4 with_ocw1
+word_spent : (expected : Expected) (value : ℕ) (s : PicState) (level : ℕ) → IsSpent s level → IsSpent (after_word s expected value) level
+unfolding after_word after_icw2 after_icw3 after_icw4 after_ocw1
 word_spent Icw2 value s level is = record { edge = is.edge; high = is.high; spent = is.spent }
 word_spent Icw3 value s level is = record { edge = is.edge; high = is.high; spent = is.spent }
 word_spent Icw4 value s level is = record { edge = is.edge; high = is.high; spent = is.spent }
 word_spent Operation value s level is = record { edge = is.edge; high = is.high; spent = is.spent }
 
-end_spent : (s : PicState) (level : ℕ) (o : Option ℕ) → IsSpent level s → IsSpent level (option_map_or (λ n. ended n s) o s)
-unfolding ended
+end_spent : (s : PicState) (level : ℕ) (o : Option ℕ) → IsSpent s level → IsSpent (option_map_or (λ n. after_end s n) o s) level
+unfolding after_end
 end_spent s level None is = is
 end_spent s level (Some n) is = record { edge = is.edge; high = is.high; spent = is.spent }
 
-turn_spent : (s : PicState) (level : ℕ) (o : Option ℕ) → IsSpent level s → IsSpent level (option_map_or (λ n. lowered n (ended n s)) o s)
-unfolding ended lowered
+turn_spent : (s : PicState) (level : ℕ) (o : Option ℕ) → IsSpent s level → IsSpent (option_map_or (λ n. after_lowering (after_end s n) n) o s) level
+unfolding after_end after_lowering
 turn_spent s level None is = is
 turn_spent s level (Some n) is = record { edge = is.edge; high = is.high; spent = is.spent }
 
-ocw2_spent : (rotate specific end : Bool) (n : ℕ) (s : PicState) (level : ℕ) → IsSpent level s → IsSpent level (with_ocw2 rotate specific end n s)
-unfolding with_ocw2 ended lowered
+ocw2_spent : (rotate specific end : Bool) (n : ℕ) (s : PicState) (level : ℕ) → IsSpent s level → IsSpent (after_ocw2 s rotate specific end n) level
+unfolding after_ocw2 after_end after_lowering
 ocw2_spent false false true n s level is = end_spent s level (highest_served s) is
 ocw2_spent false true true n s level is = record { edge = is.edge; high = is.high; spent = is.spent }
 ocw2_spent true false true n s level is = turn_spent s level (highest_served s) is
@@ -86,8 +87,8 @@ ocw2_spent false false false n s level is = record { edge = is.edge; high = is.h
 ocw2_spent true true false n s level is = record { edge = is.edge; high = is.high; spent = is.spent }
 ocw2_spent false true false n s level is = is
 
-ocw3_spent : (value : ℕ) (s : PicState) (level : ℕ) → IsSpent level s → IsSpent level (with_ocw3 value s)
-unfolding with_ocw3
+ocw3_spent : (value : ℕ) (s : PicState) (level : ℕ) → IsSpent s level → IsSpent (after_ocw3 s value) level
+unfolding after_ocw3
 ocw3_spent value s level is = record { edge = is.edge; high = is.high; spent = is.spent }
 
 none_in : (level : ℕ) → contains no_levels level ≡ false
@@ -97,30 +98,30 @@ none_in level =
       | inr past ↦ get_or_past no_levels level false past
     ]
 
-icw1_spent : (value : ℕ) (s : PicState) (level : ℕ) → has_bit value 3 ≡ false → IsSpent level s → IsSpent level (with_icw1 value s)
-unfolding with_icw1
+icw1_spent : (value : ℕ) (s : PicState) (level : ℕ) → has_bit value 3 ≡ false → IsSpent s level → IsSpent (after_icw1 s value) level
+unfolding after_icw1
 icw1_spent value s level edge is = record { edge = edge; high = is.high; spent = none_in level }
 
 -- one of two states, by a test
-choice_spent : (b : Bool) (s t : PicState) (level : ℕ) → (b ≡ true → IsSpent level s) → IsSpent level t → IsSpent level (if b then s else t)
+choice_spent : (b : Bool) (s t : PicState) (level : ℕ) → (b ≡ true → IsSpent s level) → IsSpent t level → IsSpent (if b then s else t) level
 choice_spent true s t level first second = first refl
 choice_spent false s t level first second = second
 
-command_spent : (value : ℕ) (s : PicState) (level : ℕ) → (has_bit value 4 && has_bit value 3) ≡ false → IsSpent level s → IsSpent level (with_command value s)
-unfolding with_command
+command_spent : (value : ℕ) (s : PicState) (level : ℕ) → (has_bit value 4 && has_bit value 3) ≡ false → IsSpent s level → IsSpent (after_command s value) level
+unfolding after_command
 command_spent value s level edge is =
     let second = ocw2_spent (has_bit value 7) (has_bit value 6) (has_bit value 5) (value % 8) s level is in
-    choice_spent (has_bit value 4) (with_icw1 value s) _ level
+    choice_spent (has_bit value 4) (after_icw1 s value) _ level
     (λ begins. icw1_spent value s level (sym (ap (λ b. b && has_bit value 3) begins) ∙ edge) is)
     (choice_spent (not (is_operating s.expected)) s _ level (λ waits. is)
-    (choice_spent (has_bit value 3) (with_ocw3 value s) (with_ocw2 (has_bit value 7) (has_bit value 6) (has_bit value 5) (value % 8) s) level (λ third. ocw3_spent value s level is) second))
+    (choice_spent (has_bit value 3) (after_ocw3 s value) (after_ocw2 s (has_bit value 7) (has_bit value 6) (has_bit value 5) (value % 8)) level (λ third. ocw3_spent value s level is) second))
 
-rise_other : (b : Bool) (s : PicState) (n level : ℕ) → level ≢ n → IsSpent level s → contains (if b then s.risen else with_level s.risen n) level ≡ false
+rise_other : (b : Bool) (s : PicState) (n level : ℕ) → level ≢ n → IsSpent s level → contains (if b then s.risen else with_level s.risen n) level ≡ false
 rise_other true s n level differ is = is.spent
 rise_other false s n level differ is = get_or-set_other s.risen n level true false differ ∙ is.spent
 
 -- a line that was high doesn't rise
-rise_spent : (s : PicState) (n level : ℕ) → IsSpent level s → contains (if contains s.high n then s.risen else with_level s.risen n) level ≡ false
+rise_spent : (s : PicState) (n level : ℕ) → IsSpent s level → contains (if contains s.high n then s.risen else with_level s.risen n) level ≡ false
 rise_spent s n level is =
     elim (cases_eq level n) [
       | inl same ↦
@@ -129,11 +130,11 @@ rise_spent s n level is =
       | inr differ ↦ rise_other (contains s.high n) s n level differ is
     ]
 
-event_spent : (event : Event) (s : PicState) (level : ℕ) → keeps_line level event ≡ true → IsSpent level s → IsSpent level (after_event event s)
-unfolding with_line written
-event_spent (line_set n High) s level keeps is =
+event_spent : (event : Event) (s : PicState) (level : ℕ) → keeps_line event level ≡ true → IsSpent s level → IsSpent (after_event s event) level
+unfolding after_line after_write
+event_spent (line_change n High) s level keeps is =
     record { edge = is.edge; high = still_in s.high n level is.high; spent = rise_spent s n level is }
-event_spent (line_set n Low) s level keeps is =
+event_spent (line_change n Low) s level keeps is =
     record {
       edge = is.edge;
       high = elim (cases_eq level n) [
@@ -145,27 +146,27 @@ event_spent (line_set n Low) s level keeps is =
 event_spent read s level keeps is = read_spent s level is
 event_spent (write true value) s level keeps is = word_spent s.expected value s level is
 event_spent (write false value) s level keeps is = command_spent value s level (not-true _ keeps) is
-event_spent acknowledge s level keeps is = acknowledged_spent s level is
+event_spent acknowledge s level keeps is = acknowledge_spent s level is
 
-run_spent : (s : PicState) (level : ℕ) (later : List Event) → keep_line level later ≡ true → IsSpent level s → IsSpent level (state_after_from s later)
+run_spent : (s : PicState) (level : ℕ) (later : List Event) → all_keep_line later level ≡ true → IsSpent s level → IsSpent (after_events s later) level
 run_spent s level [] keeps is = is
 run_spent s level (event ∷ earlier) keeps is =
-    let parts = and_parts (keeps_line level event) (keep_line level earlier) keeps in
-    event_spent event (state_after_from s earlier) level parts.0 (run_spent s level earlier parts.1 is)
+    let parts = and_parts (keeps_line event level) (all_keep_line earlier level) keeps in
+    event_spent event (after_events s earlier) level parts.0 (run_spent s level earlier parts.1 is)
 
-spent_asks : (s : PicState) (level : ℕ) → IsSpent level s → asks s level ≡ false
+spent_asks : (s : PicState) (level : ℕ) → IsSpent s level → asks s level ≡ false
 spent_asks s level is =
     ap (λ b. contains s.high level && (b || contains s.risen level)) is.edge
     ∙ ap (λ b. contains s.high level && b) is.spent
     ∙ and-false (contains s.high level)
 
-just_took : (s : PicState) (level : ℕ) → s.is_level_triggered ≡ false → contains s.high level ≡ true → IsSpent level (took level s)
-unfolding took
-just_took s level edge high = record { edge = edge; high = high; spent = gone s.risen level }
+just_taken : (s : PicState) (level : ℕ) → s.is_level_triggered ≡ false → contains s.high level ≡ true → IsSpent (after_taking s level) level
+unfolding after_taking
+just_taken s level edge high = record { edge = edge; high = high; spent = gone s.risen level }
 
 pub asks_once_a_rise : AsksOnceARise
 asks_once_a_rise s level = record {
   once = λ edge high later keeps.
-      spent_asks (state_after_from (took level s) later) level (run_spent (took level s) level later keeps (just_took s level edge high));
+      spent_asks (after_events (after_taking s level) later) level (run_spent (after_taking s level) level later keeps (just_taken s level edge high));
   always = λ mode. ap (λ b. contains s.high level && (b || contains s.risen level)) mode ∙ and-true (contains s.high level);
 }

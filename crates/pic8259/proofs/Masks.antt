@@ -4,7 +4,8 @@ use Rattle.std.specs.Int.{bit_at, bit_not}
 use Rattle.std.proofs.lemmas.Nat.Bits.{bit_at_and, bit_at_set_same, bit_at_set_other, bit_at_clear_same, bit_at_clear_other, bit_at-lt}
 use Rattle.std.proofs.lemmas.Bool.{cases_eq}
 use Rattle.std.proofs.lemmas.List.{same_lists, length-set, get_or-set_same, get_or-set_other}
-use Rattle.pic8259.specs.Levels.{all_levels, contains, with_level, without_level, has_bit, levels_of, byte_of}
+use Rattle.board_types.specs.Bits.{has_bit}
+use Rattle.pic8259.specs.Levels.{all_levels, contains, with_level, without_level, levels_of, byte_of}
 use Rattle.pic8259.specs.Masks.{in_both, byte_of-levels_of}
 use Rattle.pic8259.proofs.Order.{by_level}
 

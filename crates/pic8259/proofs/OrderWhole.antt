@@ -2,13 +2,14 @@
 use Rattle.std.proofs.Common.{◌≡◌, ℕ, ◌%◌, ◌<◌, ◌==◌, Bool, true, false, not, ◌&&◌, if◌then◌else◌, List, [], ◌∷◌, ◌++◌, get_or, find, count_by, All, Option, None, Some, refl, sym, ap, ◌∙◌, arith, subst, lit<}
 use Rattle.std.specs.Option.{option_map_or}
 use Rattle.std.proofs.lemmas.List.Elements.{All-head}
+use Rattle.board_types.specs.Bits.{has_bit}
 use Rattle.board_types.specs.declared.line.Line.{Line}
 use Rattle.board_types.specs.declared.line.Line.TheVariants.{Low, High}
 use Rattle.pic8259.specs.declared.controller.Expected.{Expected}
 use Rattle.pic8259.specs.declared.controller.Expected.TheVariants.{Icw2, Icw3, Icw4, Operation}
-use Rattle.pic8259.specs.Levels.{all_levels, has_bit, made_lowest, order_with_lowest}
-use Rattle.pic8259.specs.Pic.{PicState, is_operating, is_ready, blocks, may_be_taken, found, took, acknowledged, after_read, with_line, with_icw1, with_icw2, with_icw3, with_icw4, with_ocw1, with_word, ended, lowered, highest_served, with_ocw2, with_ocw3, with_command, written}
-use Rattle.pic8259.specs.Laws.{Event, line_set, read, write, acknowledge, after_event, state_after, HoldsEachLevelOnce, IsTurn, OrderIsWhole, RotationTurns}
+use Rattle.pic8259.specs.Levels.{all_levels, with_lowest, order_with_lowest}
+use Rattle.pic8259.specs.Pic.{PicState, power_on, is_operating, is_ready, blocks, may_be_taken, level_to_take, after_taking, after_acknowledge, after_read, after_line, after_icw1, after_icw2, after_icw3, after_icw4, after_ocw1, after_word, after_end, after_lowering, highest_served, after_ocw2, after_ocw3, after_command, after_write}
+use Rattle.pic8259.specs.Laws.{Event, line_change, read, write, acknowledge, after_event, after_events, HoldsEachLevelOnce, IsTurn, OrderIsWhole, RotationTurns}
 use Rattle.pic8259.proofs.Order.{by_level, turned_to_lowest}
 use Rattle.pic8259.proofs.Places.{found_at, all_right}
 
@@ -41,14 +42,14 @@ turn_is_whole order turn =
     subst HoldsEachLevelOnce (sym turn.is) whole
 
 -- made the lowest, a level is the last of the turn
-lowest_turned : (level : ℕ) (order : List ℕ) → IsTurn order → level < 8 → made_lowest level order ≡ order_with_lowest level
-lowest_turned level order turn within = ap (made_lowest level) turn.is ∙ turned_to_lowest level turn.lowest within turn.within
+lowest_turned : (level : ℕ) (order : List ℕ) → IsTurn order → level < 8 → with_lowest order level ≡ order_with_lowest level
+lowest_turned level order turn within = ap (λ order. with_lowest order level) turn.is ∙ turned_to_lowest level turn.lowest within turn.within
 
-lowest_turn : (level : ℕ) (order : List ℕ) → level < 8 → IsTurn order → IsTurn (made_lowest level order)
+lowest_turn : (level : ℕ) (order : List ℕ) → level < 8 → IsTurn order → IsTurn (with_lowest order level)
 lowest_turn level order within turn = record { lowest = level; within = within; is = lowest_turned level order turn within }
 
 pub rotation_turns : RotationTurns
-unfolding lowered
+unfolding after_lowering
 rotation_turns s level turn within = lowest_turned level s.order turn within
 
 -- what a change of the state does to the order
@@ -73,72 +74,72 @@ found_cases : (b : Bool) (p : ℕ → Bool) (order : List ℕ) (level : ℕ) →
 found_cases true p order level is = is
 found_cases false p order level is = absurd (cc)
 
-took_turn : (s : PicState) (o : Option ℕ) → found s ≡ o → IsTurn s.order → IsTurn (option_map_or (λ level. took level s) o s).order
-unfolding found took
-took_turn s None is turn = turn
-took_turn s (Some level) is turn =
+taking_turn : (s : PicState) (o : Option ℕ) → level_to_take s ≡ o → IsTurn s.order → IsTurn (option_map_or (λ level. after_taking s level) o s).order
+unfolding level_to_take after_taking
+taking_turn s None is turn = turn
+taking_turn s (Some level) is turn =
     let there = in_order (may_be_taken s) s.order level turn (found_cases (is_ready s) (may_be_taken s) s.order level is) in
-    choice_turn (s.auto_end && s.rotates) (made_lowest level s.order) s.order (lowest_turn level s.order there turn) turn
+    choice_turn (s.auto_end && s.rotates) (with_lowest s.order level) s.order (lowest_turn level s.order there turn) turn
 
-acknowledged_turn : KeepsTurn acknowledged
-unfolding acknowledged
-acknowledged_turn s turn = took_turn s (found s) refl turn
+acknowledge_turn : KeepsTurn after_acknowledge
+unfolding after_acknowledge
+acknowledge_turn s turn = taking_turn s (level_to_take s) refl turn
 
-read_cases : (b : Bool) (s : PicState) → IsTurn s.order → IsTurn (if b then record (acknowledged s) { polled = false } else s).order
-read_cases true s turn = acknowledged_turn s turn
+read_cases : (b : Bool) (s : PicState) → IsTurn s.order → IsTurn (if b then record (after_acknowledge s) { polled = false } else s).order
+read_cases true s turn = acknowledge_turn s turn
 read_cases false s turn = turn
 
 read_turn : KeepsTurn after_read
 unfolding after_read
 read_turn s turn = read_cases s.polled s turn
 
-line_turn : (level : ℕ) (line : Line) → KeepsTurn (with_line level line)
-unfolding with_line
+line_turn : (level : ℕ) (line : Line) → KeepsTurn (λ s. after_line s level line)
+unfolding after_line
 line_turn level Low s turn = turn
 line_turn level High s turn = turn
 
-lowered_turn : (level : ℕ) → level < 8 → KeepsTurn (lowered level)
-unfolding lowered
-lowered_turn level within s turn = lowest_turn level s.order within turn
+lowering_turn : (level : ℕ) → level < 8 → KeepsTurn (λ s. after_lowering s level)
+unfolding after_lowering
+lowering_turn level within s turn = lowest_turn level s.order within turn
 
-ended_turn : (level : ℕ) → KeepsTurn (ended level)
-unfolding ended
-ended_turn level s turn = turn
+end_turn : (level : ℕ) → KeepsTurn (λ s. after_end s level)
+unfolding after_end
+end_turn level s turn = turn
 
-ended_highest_turn : (s : PicState) (o : Option ℕ) → IsTurn s.order → IsTurn (option_map_or (λ highest. ended highest s) o s).order
-ended_highest_turn s None turn = turn
-ended_highest_turn s (Some level) turn = ended_turn level s turn
+end_highest_turn : (s : PicState) (o : Option ℕ) → IsTurn s.order → IsTurn (option_map_or (λ highest. after_end s highest) o s).order
+end_highest_turn s None turn = turn
+end_highest_turn s (Some level) turn = end_turn level s turn
 
-lowered_highest_turn : (s : PicState) (o : Option ℕ) → highest_served s ≡ o → IsTurn s.order → IsTurn (option_map_or (λ highest. lowered highest (ended highest s)) o s).order
-unfolding highest_served ended lowered
-lowered_highest_turn s None is turn = turn
-lowered_highest_turn s (Some level) is turn = lowest_turn level s.order (in_order (blocks s) s.order level turn is) turn
+lower_highest_turn : (s : PicState) (o : Option ℕ) → highest_served s ≡ o → IsTurn s.order → IsTurn (option_map_or (λ highest. after_lowering (after_end s highest) highest) o s).order
+unfolding highest_served after_end after_lowering
+lower_highest_turn s None is turn = turn
+lower_highest_turn s (Some level) is turn = lowest_turn level s.order (in_order (blocks s) s.order level turn is) turn
 
-ocw2_turn : (rotate specific end : Bool) (level : ℕ) → level < 8 → KeepsTurn (with_ocw2 rotate specific end level)
-unfolding with_ocw2
-ocw2_turn false false true level within s turn = ended_highest_turn s (highest_served s) turn
-ocw2_turn false true true level within s turn = ended_turn level s turn
-ocw2_turn true false true level within s turn = lowered_highest_turn s (highest_served s) refl turn
-ocw2_turn true true true level within s turn = lowered_turn level within (ended level s) (ended_turn level s turn)
+ocw2_turn : (rotate specific end : Bool) (level : ℕ) → level < 8 → KeepsTurn (λ s. after_ocw2 s rotate specific end level)
+unfolding after_ocw2
+ocw2_turn false false true level within s turn = end_highest_turn s (highest_served s) turn
+ocw2_turn false true true level within s turn = end_turn level s turn
+ocw2_turn true false true level within s turn = lower_highest_turn s (highest_served s) refl turn
+ocw2_turn true true true level within s turn = lowering_turn level within (after_end s level) (end_turn level s turn)
 ocw2_turn true false false level within s turn = turn
 ocw2_turn false false false level within s turn = turn
-ocw2_turn true true false level within s turn = lowered_turn level within s turn
+ocw2_turn true true false level within s turn = lowering_turn level within s turn
 ocw2_turn false true false level within s turn = turn
 
 all_levels_turn : IsTurn all_levels
 unfolding order_with_lowest
 all_levels_turn = record { lowest = 7; within = lit< tt; is = refl }
 
-icw1_turn : (value : ℕ) → KeepsTurn (with_icw1 value)
-unfolding with_icw1
+icw1_turn : (value : ℕ) → KeepsTurn (λ s. after_icw1 s value)
+unfolding after_icw1
 icw1_turn value s turn = all_levels_turn
 
-ocw3_turn : (value : ℕ) → KeepsTurn (with_ocw3 value)
-unfolding with_ocw3
+ocw3_turn : (value : ℕ) → KeepsTurn (λ s. after_ocw3 s value)
+unfolding after_ocw3
 ocw3_turn value s turn = turn
 
-word_turn : (expected : Expected) (value : ℕ) → KeepsTurn (with_word expected value)
-unfolding with_word with_icw2 with_icw3 with_icw4 with_ocw1
+word_turn : (expected : Expected) (value : ℕ) → KeepsTurn (λ s. after_word s expected value)
+unfolding after_word after_icw2 after_icw3 after_icw4 after_ocw1
 word_turn Icw2 value s turn = turn
 word_turn Icw3 value s turn = turn
 word_turn Icw4 value s turn = turn
@@ -148,31 +149,30 @@ state_choice_turn : (b : Bool) (s t : PicState) → IsTurn s.order → IsTurn t.
 state_choice_turn true s t x y = x
 state_choice_turn false s t x y = y
 
-command_turn : (value : ℕ) → KeepsTurn (with_command value)
-unfolding with_command
+command_turn : (value : ℕ) → KeepsTurn (λ s. after_command s value)
+unfolding after_command
 command_turn value s turn =
-    let third : IsTurn (with_ocw3 value s).order = ocw3_turn value s turn in
+    let third : IsTurn (after_ocw3 s value).order = ocw3_turn value s turn in
     let second = ocw2_turn (has_bit value 7) (has_bit value 6) (has_bit value 5) (value % 8) (omega arith) s turn in
-    state_choice_turn (has_bit value 4) (with_icw1 value s) _ (icw1_turn value s turn)
+    state_choice_turn (has_bit value 4) (after_icw1 s value) _ (icw1_turn value s turn)
     (state_choice_turn (not (is_operating s.expected)) s _ turn
-    (state_choice_turn (has_bit value 3) (with_ocw3 value s) (with_ocw2 (has_bit value 7) (has_bit value 6) (has_bit value 5) (value % 8) s) third second))
+    (state_choice_turn (has_bit value 3) (after_ocw3 s value) (after_ocw2 s (has_bit value 7) (has_bit value 6) (has_bit value 5) (value % 8)) third second))
 
-written_turn : (a0 : Bool) (value : ℕ) → KeepsTurn (written a0 value)
-unfolding written
-written_turn true value s turn = word_turn s.expected value s turn
-written_turn false value s turn = command_turn value s turn
+write_turn : (a0 : Bool) (value : ℕ) → KeepsTurn (λ s. after_write s a0 value)
+unfolding after_write
+write_turn true value s turn = word_turn s.expected value s turn
+write_turn false value s turn = command_turn value s turn
 
-event_turn : (event : Event) → KeepsTurn (after_event event)
-event_turn (line_set level line) s turn = line_turn level line s turn
+event_turn : (event : Event) → KeepsTurn (λ s. after_event s event)
+event_turn (line_change level line) s turn = line_turn level line s turn
 event_turn read s turn = read_turn s turn
-event_turn (write a0 value) s turn = written_turn a0 value s turn
-event_turn acknowledge s turn = acknowledged_turn s turn
+event_turn (write a0 value) s turn = write_turn a0 value s turn
+event_turn acknowledge s turn = acknowledge_turn s turn
 
-turn_after : (events : List Event) → IsTurn (state_after events).order
-unfolding state_after
+turn_after : (events : List Event) → IsTurn (after_events power_on events).order
 turn_after [] = all_levels_turn
-turn_after (event ∷ earlier) = event_turn event (state_after earlier) (turn_after earlier)
+turn_after (event ∷ earlier) = event_turn event (after_events power_on earlier) (turn_after earlier)
 
 pub order_is_whole : OrderIsWhole
 order_is_whole events =
-    let turn = turn_after events in record { turn = turn; whole = turn_is_whole (state_after events).order turn }
+    let turn = turn_after events in record { turn = turn; whole = turn_is_whole (after_events power_on events).order turn }

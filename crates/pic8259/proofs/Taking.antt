@@ -7,8 +7,9 @@ use Rattle.std.proofs.lemmas.Bool.Decides.{eqb_tells}
 use Rattle.std.proofs.Math.Bool.{and-false}
 use Rattle.std.proofs.lemmas.List.{get_or_past, get_or-set_same, get_or-set_other, length-set}
 use Rattle.std.proofs.lemmas.List.Elements.{All-cons, All-tail, All-same, All-weaker, All-from_get_or}
-use Rattle.pic8259.specs.Levels.{has_bit, Levels, contains, without_level, up_to}
-use Rattle.pic8259.specs.Pic.{PicState, is_operating, is_ready, asks, is_pending, blocks, may_be_taken, found, took, acknowledged, ended, highest_served, power_on, with_ocw2, with_ocw3, with_icw1, with_command, written}
+use Rattle.board_types.specs.Bits.{has_bit}
+use Rattle.pic8259.specs.Levels.{Levels, contains, without_level, up_to}
+use Rattle.pic8259.specs.Pic.{PicState, is_operating, is_ready, asks, is_pending, blocks, may_be_taken, level_to_take, after_taking, after_acknowledge, after_end, highest_served, power_on, after_ocw2, after_ocw3, after_icw1, after_command, after_write}
 use Rattle.pic8259.specs.Laws.{HoldsEachLevelOnce, IsFirstToTake, Takes, TakesNone, AcknowledgeTakesFirst, ServiceBlocks, SpecialMaskExcepts, Ends, EndsNone, EndsFirstInService, BeginsAnew, WaitsForSequence}
 use Rattle.pic8259.proofs.Places.{found_at, none_found, before_first_past, before_first_here, any_here, none_where_any_fails, none_counted, counted_here, count_at_place, all_right}
 
@@ -23,12 +24,12 @@ other_level s level other may may_not =
 first_to_take : (s : PicState) (level : ℕ) → find (may_be_taken s) s.order ≡ Some level → IsFirstToTake s level
 first_to_take s level is =
     let at = found_at (may_be_taken s) s.order level is in
-    let parts = and_parts (is_pending s level) (not (list_any (blocks s) (up_to level s.order))) at.passes in
+    let parts = and_parts (is_pending s level) (not (list_any (blocks s) (up_to s.order level))) at.passes in
     let pending = and_parts (asks s level) (not (contains s.masked level)) parts.0 in
     let others : All (λ other. (other == level) ≡ false) at.before =
     All-weaker (λ other. may_be_taken s other ≡ false) (λ other. (other == level) ≡ false) (λ other. other_level s level other at.passes) at.before at.none_before in
-    let reach : up_to level s.order ≡ at.before ++ level ∷ [] =
-    ap (λ xs. up_to level xs) at.placed
+    let reach : up_to s.order level ≡ at.before ++ level ∷ [] =
+    ap (λ xs. up_to xs level) at.placed
     ∙ ap (λ xs. xs ++ level ∷ []) (before_first_here (λ other. other == level) at.before level at.after others (eq-eqb level level refl)) in
     let unblocked : list_any (blocks s) (at.before ++ level ∷ []) ≡ false =
     ap (list_any (blocks s)) (sym reach) ∙ not-true _ parts.1 in
@@ -54,27 +55,27 @@ none_ready : (b : Bool) (p : ℕ → Bool) (order : List ℕ) → (if b then fin
 none_ready true p order is ready = is
 none_ready false p order is ready = absurd (cc)
 
-taking : (s : PicState) (o : Option ℕ) → found s ≡ o → MatchOption o (TakesNone s) (λ level. Takes s level)
-unfolding found acknowledged
+taking : (s : PicState) (o : Option ℕ) → level_to_take s ≡ o → MatchOption o (TakesNone s) (λ level. Takes s level)
+unfolding level_to_take after_acknowledge
 taking s None is = record {
   none = λ ready. none_found (may_be_taken s) s.order (none_ready (is_ready s) (may_be_taken s) s.order is ready);
-  vector = ap (λ o. s.vector + unwrap_or o 7) is;
-  state = ap (λ o. option_map_or (λ level. took level s) o s) is;
+  vector = ap (λ o. s.vector_base + unwrap_or o 7) is;
+  state = ap (λ o. option_map_or (λ level. after_taking s level) o s) is;
 }
 taking s (Some level) is = record {
   ready = some_ready (is_ready s) (may_be_taken s) s.order level is;
   first = first_to_take s level (some_found (is_ready s) (may_be_taken s) s.order level is);
-  vector = ap (λ o. s.vector + unwrap_or o 7) is;
-  state = ap (λ o. option_map_or (λ level. took level s) o s) is;
+  vector = ap (λ o. s.vector_base + unwrap_or o 7) is;
+  state = ap (λ o. option_map_or (λ level. after_taking s level) o s) is;
 }
 
 pub acknowledge_takes_first : AcknowledgeTakesFirst
-acknowledge_takes_first s = taking s (found s) refl
+acknowledge_takes_first s = taking s (level_to_take s) refl
 
 -- a level at or before which one stands that blocks may not be taken
-blocked : (s : PicState) (level other : ℕ) (before between : List ℕ) → blocks s level ≡ true → up_to other s.order ≡ before ++ level ∷ between → may_be_taken s other ≡ false
+blocked : (s : PicState) (level other : ℕ) (before between : List ℕ) → blocks s level ≡ true → up_to s.order other ≡ before ++ level ∷ between → may_be_taken s other ≡ false
 blocked s level other before between here reach =
-    let some : list_any (blocks s) (up_to other s.order) ≡ true = ap (list_any (blocks s)) reach ∙ any_here (blocks s) before level between here in
+    let some : list_any (blocks s) (up_to s.order other) ≡ true = ap (list_any (blocks s)) reach ∙ any_here (blocks s) before level between here in
     ap (λ b. is_pending s other && not b) some ∙ and-false (is_pending s other)
 
 -- one after it in an order that holds each once
@@ -93,7 +94,7 @@ blocked_after s level other before after whole placed here within later =
       | inr differ ↦ differ
     ]
     in
-    let reach : up_to other s.order ≡ before ++ level ∷ (before_first p after ++ other ∷ []) =
+    let reach : up_to s.order other ≡ before ++ level ∷ (before_first p after ++ other ∷ []) =
     ap (λ xs. before_first p xs ++ other ∷ []) placed
     ∙ ap (λ xs. xs ++ other ∷ []) (before_first_past p before (level ∷ after) fails ∙ ap (λ xs. before ++ xs) (before_first_past p (level ∷ []) after (All-cons (λ n. p n ≡ false) level [] differs (none_counted p [] 0 refl))))
     ∙ append_assoc before (level ∷ before_first p after) (other ∷ []) in
@@ -129,8 +130,8 @@ excepted_blocks s level special masked =
     ∙ ap (λ b. contains s.served level && not b) masked
     ∙ and-false (contains s.served level)
 
-blocks_as_ended : (s : PicState) (level : ℕ) → s.special_mask ≡ true → contains s.masked level ≡ true → (other : ℕ) → blocks s other ≡ blocks (ended level s) other
-unfolding ended
+blocks_as_ended : (s : PicState) (level : ℕ) → s.special_mask ≡ true → contains s.masked level ≡ true → (other : ℕ) → blocks s other ≡ blocks (after_end s level) other
+unfolding after_end
 blocks_as_ended s level special masked other =
     let free : ℕ → Bool = λ n. not (s.special_mask && contains s.masked n) in
     elim (eqb_tells other level) [
@@ -142,22 +143,22 @@ blocks_as_ended s level special masked other =
     ]
 
 pub special_mask_excepts : SpecialMaskExcepts
-unfolding ended highest_served
+unfolding after_end highest_served
 special_mask_excepts s level special masked =
     let same = blocks_as_ended s level special masked in
     record {
-      others = λ other. λ i. is_pending s other && not (list_any (λ n. same n i) (up_to other s.order));
+      others = λ other. λ i. is_pending s other && not (list_any (λ n. same n i) (up_to s.order other));
       kept = λ is.
           let at = found_at (blocks s) s.order level is in
           let never = excepted_blocks s level special masked in
           let passes = at.passes in cc;
     }
 
-plain_end : (s : PicState) (o : Option ℕ) → highest_served s ≡ o → is_operating s.expected ≡ true → written false 0x20 s ≡ option_map_or (λ highest. ended highest s) o s
-unfolding written with_command with_ocw2
+plain_end : (s : PicState) (o : Option ℕ) → highest_served s ≡ o → is_operating s.expected ≡ true → after_write s false 0x20 ≡ option_map_or (λ highest. after_end s highest) o s
+unfolding after_write after_command after_ocw2
 plain_end s o is operating =
-    ap (λ b. if not b then s else option_map_or (λ highest. ended highest s) (highest_served s) s) operating
-    ∙ ap (λ o. option_map_or (λ highest. ended highest s) o s) is
+    ap (λ b. if not b then s else option_map_or (λ highest. after_end s highest) (highest_served s) s) operating
+    ∙ ap (λ o. option_map_or (λ highest. after_end s highest) o s) is
 
 ending : (s : PicState) (o : Option ℕ) → highest_served s ≡ o → is_operating s.expected ≡ true → MatchOption o (EndsNone s) (λ level. Ends s level)
 unfolding highest_served
@@ -181,21 +182,21 @@ pub ends_first_in_service : EndsFirstInService
 ends_first_in_service s operating = ending s (highest_served s) refl operating
 
 pub begins_anew : BeginsAnew
-unfolding written with_command with_icw1
+unfolding after_write after_command after_icw1
 begins_anew s value begins =
-    let t : PicState = record power_on { high = s.high; vector = s.vector; slaves = s.slaves } in
-    let heard : (u : PicState) → written false value u ≡ with_icw1 value u =
-    λ u. ap (λ b. if b then with_icw1 value u else if not (is_operating u.expected) then u else if has_bit value 3 then with_ocw3 value u else with_ocw2 (has_bit value 7) (has_bit value 6) (has_bit value 5) (value % 8) u) begins in
+    let t : PicState = record power_on { high = s.high; vector_base = s.vector_base; slaves = s.slaves } in
+    let heard : (u : PicState) → after_write u false value ≡ after_icw1 u value =
+    λ u. ap (λ b. if b then after_icw1 u value else if not (is_operating u.expected) then u else if has_bit value 3 then after_ocw3 u value else after_ocw2 u (has_bit value 7) (has_bit value 6) (has_bit value 5) (value % 8)) begins in
     heard s ∙ sym (heard t)
 
 pub waits_for_sequence : WaitsForSequence
-unfolding found written with_command
+unfolding level_to_take after_write after_command
 waits_for_sequence s = (
   (λ waits. record {
     none = ap (λ b. if b && s.is_8086 then find (may_be_taken s) s.order else None) waits;
     unheard = λ value later.
-        ap (λ b. if b then with_icw1 value s else if not (is_operating s.expected) then s else if has_bit value 3 then with_ocw3 value s else with_ocw2 (has_bit value 7) (has_bit value 6) (has_bit value 5) (value % 8) s) later
-        ∙ ap (λ b. if not b then s else if has_bit value 3 then with_ocw3 value s else with_ocw2 (has_bit value 7) (has_bit value 6) (has_bit value 5) (value % 8) s) waits;
+        ap (λ b. if b then after_icw1 s value else if not (is_operating s.expected) then s else if has_bit value 3 then after_ocw3 s value else after_ocw2 s (has_bit value 7) (has_bit value 6) (has_bit value 5) (value % 8)) later
+        ∙ ap (λ b. if not b then s else if has_bit value 3 then after_ocw3 s value else after_ocw2 s (has_bit value 7) (has_bit value 6) (has_bit value 5) (value % 8)) waits;
   }),
   (λ other. ap (λ b. if is_operating s.expected && b then find (may_be_taken s) s.order else None) other ∙ ap (λ b. if b then find (may_be_taken s) s.order else None) (and-false (is_operating s.expected))),
 )

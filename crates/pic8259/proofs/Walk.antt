@@ -18,9 +18,9 @@ found_next p xs i d within none passes =
     ap (find p) (sym (take-append-drop (i + 1) xs)) ∙ find-append p (take (i + 1) xs) (drop (i + 1) xs) ∙ ap (λ o. option_or o (find p (drop (i + 1) xs))) upto
 
 -- whether the level at a place may be taken, by what blocks up to it
-pub may_be_taken_at : (s : PicState) (xs : List ℕ) (i : ℕ) (is_blocked : Bool) → xs ≡ s.order → up_to (get_or xs i 0) xs ≡ take (i + 1) xs → is_blocked ≡ list_any (blocks s) (take (i + 1) xs) → may_be_taken s (get_or xs i 0) ≡ (is_pending s (get_or xs i 0) && not is_blocked)
+pub may_be_taken_at : (s : PicState) (xs : List ℕ) (i : ℕ) (is_blocked : Bool) → xs ≡ s.order → up_to xs (get_or xs i 0) ≡ take (i + 1) xs → is_blocked ≡ list_any (blocks s) (take (i + 1) xs) → may_be_taken s (get_or xs i 0) ≡ (is_pending s (get_or xs i 0) && not is_blocked)
 may_be_taken_at s xs i is_blocked items place blocked =
-    ap (λ order. is_pending s (get_or xs i 0) && not (list_any (blocks s) order)) (ap (up_to (get_or xs i 0)) (sym items) ∙ place)
+    ap (λ order. is_pending s (get_or xs i 0) && not (list_any (blocks s) order)) (ap (λ order. up_to order (get_or xs i 0)) (sym items) ∙ place)
     ∙ ap (λ b. is_pending s (get_or xs i 0) && not b) (sym blocked)
 
 pub blocked_more : (s : PicState) (xs : List ℕ) (i : ℕ) (before here : Bool) → i < length xs → before ≡ list_any (blocks s) (take i xs) → here ≡ blocks s (get_or xs i 0) → (before || here) ≡ list_any (blocks s) (take (i + 1) xs)

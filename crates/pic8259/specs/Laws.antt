@@ -1,26 +1,27 @@
 -- What holds of the controller whatever happens to it, in the words of the Intel 8259A data sheet.
 use Rattle.std.specs.Prelude.{◌≡◌, ◌≢◌, ℕ, ◌+◌, ◌<◌, ◌==◌, Bool, true, false, ◌&&◌, List, [], ◌∷◌, ◌++◌, count_by, All, MatchOption, None, Some}
+use Rattle.board_types.specs.Bits.{has_bit}
 use Rattle.board_types.specs.declared.line.Line.{Line}
-use Rattle.pic8259.specs.Levels.{contains, has_bit, order_with_lowest}
-use Rattle.pic8259.specs.Pic.{PicState, power_on, is_operating, is_ready, asks, blocks, may_be_taken, found, took, acknowledged, vector_of, after_read, with_line, written, ended, lowered, highest_served}
+use Rattle.pic8259.specs.Levels.{contains, order_with_lowest}
+use Rattle.pic8259.specs.Pic.{PicState, power_on, is_operating, is_ready, asks, blocks, may_be_taken, level_to_take, after_taking, after_acknowledge, vector, after_read, after_line, after_write, after_end, after_lowering, highest_served}
 
 -- what can happen to a controller: a line changes, it is read or written, or an acknowledge comes
 pub data Event : Type 0 where
-  line_set : ℕ → Line → Event
+  line_change : ℕ → Line → Event
   read : Event
   write : Bool → ℕ → Event
   acknowledge : Event
 
-abbrev pub after_event : Event → PicState → PicState
-after_event (line_set n line) s = with_line n line s
-after_event read s = after_read s
-after_event (write a0 value) s = written a0 value s
-after_event acknowledge s = acknowledged s
+abbrev pub after_event : PicState → Event → PicState
+after_event s (line_change n line) = after_line s n line
+after_event s read = after_read s
+after_event s (write a0 value) = after_write s a0 value
+after_event s acknowledge = after_acknowledge s
 
--- the state that events make of the one at power-on, the newest event first
-unfoldable pub state_after : List Event → PicState
-state_after [] = power_on
-state_after (event ∷ earlier) = after_event event (state_after earlier)
+-- the state after events, the newest first
+abbrev pub after_events : PicState → List Event → PicState
+after_events s [] = s
+after_events s (event ∷ earlier) = after_event (after_events s earlier) event
 
 -- the eight levels, each once
 pub record HoldsEachLevelOnce (order : List ℕ) : Type 0 where
@@ -40,27 +41,27 @@ pub record IsWhole (order : List ℕ) : Type 0 where
 -- "Priority Resolver", "Automatic Rotation", "Specific Rotation": at any time each level has one place in the order of
 -- priority, which is a turn of the circle of levels
 abbrev pub OrderIsWhole : Type 0
-OrderIsWhole = (events : List Event) → IsWhole (state_after events).order
+OrderIsWhole = (events : List Event) → IsWhole (after_events power_on events).order
 
 -- a level that is made the lowest is the last of the circle
 abbrev pub RotationTurns : Type 0
 RotationTurns =
-    (s : PicState) (level : ℕ) → IsTurn s.order → level < 8 → (lowered level s).order ≡ order_with_lowest level
+    (s : PicState) (level : ℕ) → IsTurn s.order → level < 8 → (after_lowering s level).order ≡ order_with_lowest level
 
 -- "Initialization Command Words 1 and 2": ICW1 begins anew, from power-on but for the lines, the vector's bits and ICW3
 abbrev pub BeginsAnew : Type 0
 BeginsAnew =
     (s : PicState) (value : ℕ) → has_bit value 4 ≡ true
-    → written false value s ≡ written false value (record power_on { high = s.high; vector = s.vector; slaves = s.slaves })
+    → after_write s false value ≡ after_write (record power_on { high = s.high; vector_base = s.vector_base; slaves = s.slaves }) false value
 
 -- nothing is taken before 8086 mode has been chosen, nor in mid-sequence, where no operation word is heard at A0 = 0
 pub record IsDeafInSequence (s : PicState) : Type 0 where
-  pub none : found s ≡ None
-  pub unheard : (value : ℕ) → has_bit value 4 ≡ false → written false value s ≡ s
+  pub none : level_to_take s ≡ None
+  pub unheard : (value : ℕ) → has_bit value 4 ≡ false → after_write s false value ≡ s
 
 abbrev pub WaitsForSequence : Type 0
 WaitsForSequence =
-    (s : PicState) → (is_operating s.expected ≡ false → IsDeafInSequence s) × (s.is_8086 ≡ false → found s ≡ None)
+    (s : PicState) → (is_operating s.expected ≡ false → IsDeafInSequence s) × (s.is_8086 ≡ false → level_to_take s ≡ None)
 
 -- the level asks, is unmasked, nothing that blocks stands at or before its place, and none before it may be taken
 pub record IsFirstToTake (s : PicState) (level : ℕ) : Type 0 where
@@ -76,18 +77,18 @@ pub record IsFirstToTake (s : PicState) (level : ℕ) : Type 0 where
 pub record Takes (s : PicState) (level : ℕ) : Type 0 where
   pub ready : is_ready s ≡ true
   pub first : IsFirstToTake s level
-  pub vector : vector_of s ≡ s.vector + level
-  pub state : acknowledged s ≡ took level s
+  pub vector : vector s ≡ s.vector_base + level
+  pub state : after_acknowledge s ≡ after_taking s level
 
 -- an acknowledge finds nothing to take: it answers level 7 and changes nothing
 pub record TakesNone (s : PicState) : Type 0 where
   pub none : is_ready s ≡ true → All (λ level. may_be_taken s level ≡ false) s.order
-  pub vector : vector_of s ≡ s.vector + 7
-  pub state : acknowledged s ≡ s
+  pub vector : vector s ≡ s.vector_base + 7
+  pub state : after_acknowledge s ≡ s
 
 -- "Interrupt Sequence"
 abbrev pub AcknowledgeTakesFirst : Type 0
-AcknowledgeTakesFirst = (s : PicState) → MatchOption (found s) (TakesNone s) (λ level. Takes s level)
+AcknowledgeTakesFirst = (s : PicState) → MatchOption (level_to_take s) (TakesNone s) (λ level. Takes s level)
 
 -- "Fully Nested Mode": a level in service that special mask mode doesn't except blocks itself and all after it
 abbrev pub ServiceBlocks : Type 0
@@ -99,7 +100,7 @@ ServiceBlocks =
 -- "Special Mask Mode": one that it excepts stands in no level's way, as if it weren't in service, and a plain end of
 -- interrupt doesn't end it
 pub record IsExcepted (s : PicState) (level : ℕ) : Type 0 where
-  pub others : (other : ℕ) → may_be_taken s other ≡ may_be_taken (ended level s) other
+  pub others : (other : ℕ) → may_be_taken s other ≡ may_be_taken (after_end s level) other
   pub kept : highest_served s ≢ Some level
 
 abbrev pub SpecialMaskExcepts : Type 0
@@ -118,12 +119,12 @@ pub record IsFirstInService (s : PicState) (level : ℕ) : Type 0 where
 -- a plain end of interrupt, the word 20h, ends this level
 pub record Ends (s : PicState) (level : ℕ) : Type 0 where
   pub first : IsFirstInService s level
-  pub state : written false 0x20 s ≡ ended level s
+  pub state : after_write s false 0x20 ≡ after_end s level
 
 -- it finds no level in service, and changes nothing
 pub record EndsNone (s : PicState) : Type 0 where
   pub none : All (λ level. blocks s level ≡ false) s.order
-  pub state : written false 0x20 s ≡ s
+  pub state : after_write s false 0x20 ≡ s
 
 -- "End of Interrupt (EOI)"
 abbrev pub EndsFirstInService : Type 0

@@ -2,6 +2,7 @@
 -- (Intel 8259A data sheet, "Interrupt Request Register (IRR) and In-Service Register (ISR)", "Priority Resolver").
 use Rattle.std.specs.Prelude.{ℕ, ◌+◌, ◌/◌, ◌%◌, ◌^◌, ◌==◌, Bool, true, false, if◌then◌else◌, List, [], ◌∷◌, ◌++◌, map, sum_by, slice_index_or, slice_set}
 use Rattle.std.specs.List.{before_first, after_first}
+use Rattle.board_types.specs.Bits.{has_bit}
 
 -- the levels by number: after initialisation IR0 has the highest priority and IR7 the lowest
 abbrev pub all_levels : List ℕ
@@ -23,10 +24,6 @@ with_level set level = slice_set set level true
 abbrev pub without_level : Levels → ℕ → Levels
 without_level set level = slice_set set level false
 
--- whether bit n of a byte is 1
-abbrev pub has_bit : ℕ → ℕ → Bool
-has_bit byte n = byte / 2 ^ n % 2 == 1
-
 -- a set as a register shows it: bit n stands for level n
 abbrev pub byte_of : Levels → ℕ
 byte_of set = sum_by (λ level. if contains set level then 2 ^ level else 0) all_levels
@@ -35,12 +32,12 @@ abbrev pub levels_of : ℕ → Levels
 levels_of byte = map (has_bit byte) all_levels
 
 -- the levels of the list up to this one, itself among them
-abbrev pub up_to : ℕ → List ℕ → List ℕ
-up_to level order = before_first (λ other. other == level) order ++ level ∷ []
+abbrev pub up_to : List ℕ → ℕ → List ℕ
+up_to order level = before_first (λ other. other == level) order ++ level ∷ []
 
 -- the list turned until this level is the last, and so has the lowest priority ("Specific Rotation")
-unfoldable pub made_lowest : ℕ → List ℕ → List ℕ
-made_lowest level order =
+unfoldable pub with_lowest : List ℕ → ℕ → List ℕ
+with_lowest order level =
     after_first (λ other. other == level) order ++ (before_first (λ other. other == level) order ++ level ∷ [])
 
 -- the list that has this level as its last: the numbers rise from the one after it, and 0 follows 7

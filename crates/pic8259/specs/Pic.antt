@@ -1,13 +1,14 @@
 -- The interrupt controller: what it remembers, and how each command and each acknowledge changes that.
 -- The headings named are those of the Intel 8259A data sheet.
-use Rattle.std.specs.Prelude.{ℕ, ◌+◌, ◌*◌, ◌/◌, ◌%◌, Bool, true, false, not, ◌&&◌, ◌||◌, if◌then◌else◌, List, map, find, Option, None, unwrap_or}
+use Rattle.std.specs.Prelude.{ℕ, ◌+◌, ◌*◌, ◌/◌, ◌%◌, Bool, true, false, not, ◌&&◌, ◌||◌, if◌then◌else◌, List, map, find, Option, None, unwrap_or, is_some}
 use Rattle.std.specs.Option.{option_map_or}
 use Rattle.std.specs.List.{list_any}
+use Rattle.board_types.specs.Bits.{has_bit}
 use Rattle.board_types.specs.declared.line.Line.{Line}
 use Rattle.board_types.specs.declared.line.Line.TheVariants.{Low, High}
 use Rattle.pic8259.specs.declared.controller.Expected.{Expected}
 use Rattle.pic8259.specs.declared.controller.Expected.TheVariants.{Icw2, Icw3, Icw4, Operation}
-use Rattle.pic8259.specs.Levels.{all_levels, Levels, no_levels, contains, with_level, without_level, has_bit, byte_of, levels_of, up_to, made_lowest}
+use Rattle.pic8259.specs.Levels.{all_levels, Levels, no_levels, contains, with_level, without_level, byte_of, levels_of, up_to, with_lowest}
 
 pub record PicState : Type 0 where
   -- the levels, the highest priority first
@@ -27,7 +28,7 @@ pub record PicState : Type 0 where
   pub asks_icw4 : Bool
   pub is_level_triggered : Bool
   -- ICW2: the vector of level 0, in bits 7 to 3; it stays over an ICW1 (this board's choice)
-  pub vector : ℕ
+  pub vector_base : ℕ
   -- ICW3: the levels that have a slave
   pub slaves : ℕ
   -- ICW4: 8086 mode, its bit 0; automatic end of interrupt, bit 1 (AEOI); special fully nested mode, bit 4 (SFNM)
@@ -54,7 +55,7 @@ power_on = record {
   is_cascaded = false;
   asks_icw4 = false;
   is_level_triggered = false;
-  vector = 0;
+  vector_base = 0;
   slaves = 0;
   is_8086 = false;
   auto_end = false;
@@ -93,58 +94,62 @@ is_pending s level = asks s level && not (contains s.masked level)
 
 -- "Priority Resolver": and no level that blocks stands in the list at or before its place
 abbrev pub may_be_taken : PicState → ℕ → Bool
-may_be_taken s level = is_pending s level && not (list_any (blocks s) (up_to level s.order))
+may_be_taken s level = is_pending s level && not (list_any (blocks s) (up_to s.order level))
 
--- the level that an acknowledge or a poll finds
-unfoldable pub found : PicState → Option ℕ
-found s = if is_ready s then find (may_be_taken s) s.order else None
+-- the level that an acknowledge or a poll takes
+unfoldable pub level_to_take : PicState → Option ℕ
+level_to_take s = if is_ready s then find (may_be_taken s) s.order else None
+
+-- the interrupt output, INT ("Interrupt Sequence")
+abbrev pub is_requesting : PicState → Bool
+is_requesting s = is_some (level_to_take s)
 
 -- "Interrupt Sequence": its edge bit goes and it comes into service; "Automatic End of Interrupt (AEOI) Mode": or it
 -- doesn't; "Automatic Rotation": and then becomes the lowest
-unfoldable pub took : ℕ → PicState → PicState
-took level s = record s {
+unfoldable pub after_taking : PicState → ℕ → PicState
+after_taking s level = record s {
   risen = without_level s.risen level;
   served = if s.auto_end then s.served else with_level s.served level;
-  order = if s.auto_end && s.rotates then made_lowest level s.order else s.order;
+  order = if s.auto_end && s.rotates then with_lowest s.order level else s.order;
 }
 
--- an acknowledge or a poll takes the level that it finds; a pending poll stays pending (this board's choice)
-unfoldable pub acknowledged : PicState → PicState
-acknowledged s = option_map_or (λ level. took level s) (found s) s
+-- an acknowledge or a poll takes that level, if there is one; a pending poll stays pending (this board's choice)
+unfoldable pub after_acknowledge : PicState → PicState
+after_acknowledge s = option_map_or (λ level. after_taking s level) (level_to_take s) s
 
 -- "Interrupt Sequence": the vector's upper bits and the level, or level 7 where the request has gone
-abbrev pub vector_of : PicState → ℕ
-vector_of s = s.vector + unwrap_or (found s) 7
+abbrev pub vector : PicState → ℕ
+vector s = s.vector_base + unwrap_or (level_to_take s) 7
 
--- "Poll Command": bit 7 and the level, or 0 where none is found (this board's choice)
-abbrev pub poll_of : PicState → ℕ
-poll_of s = option_map_or (λ level. 0x80 + level) (found s) 0
+-- "Poll Command": bit 7 and the level, or 0 where there is none (this board's choice)
+abbrev pub poll_byte : PicState → ℕ
+poll_byte s = option_map_or (λ level. 0x80 + level) (level_to_take s) 0
 
 -- "Reading the 8259A Status": a pending poll is answered at either port (this board's choice); else A0 = 1 reads the
 -- mask, in mid-sequence too (this board's choice), and A0 = 0 the register that was chosen
-unfoldable pub read_of : Bool → PicState → ℕ
-read_of a0 s =
-    if s.polled then poll_of s
+unfoldable pub byte_at : PicState → Bool → ℕ
+byte_at s a0 =
+    if s.polled then poll_byte s
     else if a0 then byte_of s.masked
     else if s.reads_served then byte_of s.served
     else byte_of (requests s)
 
 -- a read changes something only where it answers a poll
 unfoldable pub after_read : PicState → PicState
-after_read s = if s.polled then record (acknowledged s) { polled = false } else s
+after_read s = if s.polled then record (after_acknowledge s) { polled = false } else s
 
 -- "Edge and Level Triggered Modes": a line that goes high has risen
-unfoldable pub with_line : ℕ → Line → PicState → PicState
-with_line level Low s = record s { high = without_level s.high level }
-with_line level High s = record s {
+unfoldable pub after_line : PicState → ℕ → Line → PicState
+after_line s level Low = record s { high = without_level s.high level }
+after_line s level High = record s {
   high = with_level s.high level;
   risen = if contains s.high level then s.risen else with_level s.risen level;
 }
 
 -- "Initialization Command Words 1 and 2": ICW1 begins a sequence. That it also clears the levels in service, a pending
 -- poll and rotation under automatic end of interrupt is this board's choice
-unfoldable pub with_icw1 : ℕ → PicState → PicState
-with_icw1 value s = record {
+unfoldable pub after_icw1 : PicState → ℕ → PicState
+after_icw1 s value = record {
   order = all_levels;
   high = s.high;
   risen = no_levels;
@@ -154,7 +159,7 @@ with_icw1 value s = record {
   is_cascaded = not (has_bit value 1);
   asks_icw4 = has_bit value 0;
   is_level_triggered = has_bit value 3;
-  vector = s.vector;
+  vector_base = s.vector_base;
   slaves = s.slaves;
   is_8086 = false;
   auto_end = false;
@@ -173,16 +178,16 @@ abbrev pub expected_after_icw2 : PicState → Expected
 expected_after_icw2 s = if s.is_cascaded then Icw3 else expected_after_icw3 s
 
 -- ICW2: bits 7 to 3 are those of the vector
-unfoldable pub with_icw2 : ℕ → PicState → PicState
-with_icw2 value s = record s { vector = 8 * (value / 8); expected = expected_after_icw2 s }
+unfoldable pub after_icw2 : PicState → ℕ → PicState
+after_icw2 s value = record s { vector_base = 8 * (value / 8); expected = expected_after_icw2 s }
 
 -- "Initialization Command Word 3 (ICW3)": no slave hangs on this board, so it is kept without effect (this board's choice)
-unfoldable pub with_icw3 : ℕ → PicState → PicState
-with_icw3 value s = record s { slaves = value; expected = expected_after_icw3 s }
+unfoldable pub after_icw3 : PicState → ℕ → PicState
+after_icw3 s value = record s { slaves = value; expected = expected_after_icw3 s }
 
 -- "Initialization Command Word 4 (ICW4)": special fully nested mode is kept without effect (this board's choice)
-unfoldable pub with_icw4 : ℕ → PicState → PicState
-with_icw4 value s = record s {
+unfoldable pub after_icw4 : PicState → ℕ → PicState
+after_icw4 s value = record s {
   is_8086 = has_bit value 0;
   auto_end = has_bit value 1;
   is_specially_nested = has_bit value 4;
@@ -190,23 +195,23 @@ with_icw4 value s = record s {
 }
 
 -- "Operation Control Word 1 (OCW1)": the mask
-unfoldable pub with_ocw1 : ℕ → PicState → PicState
-with_ocw1 value s = record s { masked = levels_of value }
+unfoldable pub after_ocw1 : PicState → ℕ → PicState
+after_ocw1 s value = record s { masked = levels_of value }
 
 -- A0 = 1: the word that the sequence waits for, and the mask outside a sequence
-unfoldable pub with_word : Expected → ℕ → PicState → PicState
-with_word Icw2 value s = with_icw2 value s
-with_word Icw3 value s = with_icw3 value s
-with_word Icw4 value s = with_icw4 value s
-with_word Operation value s = with_ocw1 value s
+unfoldable pub after_word : PicState → Expected → ℕ → PicState
+after_word s Icw2 value = after_icw2 s value
+after_word s Icw3 value = after_icw3 s value
+after_word s Icw4 value = after_icw4 s value
+after_word s Operation value = after_ocw1 s value
 
 -- "Specific EOI": this level is no longer in service
-unfoldable pub ended : ℕ → PicState → PicState
-ended level s = record s { served = without_level s.served level }
+unfoldable pub after_end : PicState → ℕ → PicState
+after_end s level = record s { served = without_level s.served level }
 
 -- "Specific Rotation": this level becomes the lowest
-unfoldable pub lowered : ℕ → PicState → PicState
-lowered level s = record s { order = made_lowest level s.order }
+unfoldable pub after_lowering : PicState → ℕ → PicState
+after_lowering s level = record s { order = with_lowest s.order level }
 
 -- "Nonspecific EOI" ends this level: the highest in service; in special mask mode a masked one counts as none
 unfoldable pub highest_served : PicState → Option ℕ
@@ -214,20 +219,20 @@ highest_served s = find (blocks s) s.order
 
 -- "Operation Control Word 2 (OCW2)", by its bits R, SL and EOI, and the level in its bits 2 to 0. That R, SL and EOI
 -- together make the level the lowest even where it wasn't in service is this board's choice
-unfoldable pub with_ocw2 : Bool → Bool → Bool → ℕ → PicState → PicState
-with_ocw2 false false true level s = option_map_or (λ highest. ended highest s) (highest_served s) s
-with_ocw2 false true true level s = ended level s
-with_ocw2 true false true level s = option_map_or (λ highest. lowered highest (ended highest s)) (highest_served s) s
-with_ocw2 true true true level s = lowered level (ended level s)
-with_ocw2 true false false level s = record s { rotates = true }
-with_ocw2 false false false level s = record s { rotates = false }
-with_ocw2 true true false level s = lowered level s
-with_ocw2 false true false level s = s
+unfoldable pub after_ocw2 : PicState → Bool → Bool → Bool → ℕ → PicState
+after_ocw2 s false false true level = option_map_or (λ highest. after_end s highest) (highest_served s) s
+after_ocw2 s false true true level = after_end s level
+after_ocw2 s true false true level = option_map_or (λ highest. after_lowering (after_end s highest) highest) (highest_served s) s
+after_ocw2 s true true true level = after_lowering (after_end s level) level
+after_ocw2 s true false false level = record s { rotates = true }
+after_ocw2 s false false false level = record s { rotates = false }
+after_ocw2 s true true false level = after_lowering s level
+after_ocw2 s false true false level = s
 
 -- "Operation Control Word 3 (OCW3)": ESMM and SMM, RR and RIS, and P; each such word without P
 -- withdraws a poll (this board's choice)
-unfoldable pub with_ocw3 : ℕ → PicState → PicState
-with_ocw3 value s = record s {
+unfoldable pub after_ocw3 : PicState → ℕ → PicState
+after_ocw3 s value = record s {
   special_mask = if has_bit value 6 then has_bit value 5 else s.special_mask;
   reads_served = if has_bit value 1 then has_bit value 0 else s.reads_served;
   polled = has_bit value 2;
@@ -235,13 +240,13 @@ with_ocw3 value s = record s {
 
 -- A0 = 0: bit 4 makes it ICW1, which is heard at any time. In mid-sequence an operation word is ignored (this board's
 -- choice); else bit 3 tells OCW3 from OCW2
-unfoldable pub with_command : ℕ → PicState → PicState
-with_command value s =
-    if has_bit value 4 then with_icw1 value s
+unfoldable pub after_command : PicState → ℕ → PicState
+after_command s value =
+    if has_bit value 4 then after_icw1 s value
     else if not (is_operating s.expected) then s
-    else if has_bit value 3 then with_ocw3 value s
-    else with_ocw2 (has_bit value 7) (has_bit value 6) (has_bit value 5) (value % 8) s
+    else if has_bit value 3 then after_ocw3 s value
+    else after_ocw2 s (has_bit value 7) (has_bit value 6) (has_bit value 5) (value % 8)
 
 -- a write at either port
-unfoldable pub written : Bool → ℕ → PicState → PicState
-written a0 value s = if a0 then with_word s.expected value s else with_command value s
+unfoldable pub after_write : PicState → Bool → ℕ → PicState
+after_write s a0 value = if a0 then after_word s s.expected value else after_command s value

@@ -1,8 +1,9 @@
 //! The controller's registers and the commands that change them. The headings named are those of the Intel
 //! 8259A data sheet.
-ghost use Rattle.std.specs.Prelude.{◌≡◌, ◌<◌, ◌≤◌, is_some, IfSome, length, slice_index_or, take, ◌+◌, ℕ, All, true, false};
+ghost use Rattle.std.specs.Prelude.{◌≡◌, ◌<◌, ◌≤◌, IfSome, length, slice_index_or, take, ◌+◌, ℕ, All, true, false};
 
-use crate::levels::{LevelSet, bit};
+use crate::levels::LevelSet;
+use board_types::bits::bit;
 use board_types::line::Line;
 use std::marker::Model;
 
@@ -29,7 +30,7 @@ pub struct Pic {
     is_cascaded: bool,
     asks_icw4: bool,
     is_level_triggered: bool,
-    vector: u8,
+    vector_base: u8,
     slaves: u8,
     is_8086: bool,
     auto_end: bool,
@@ -59,7 +60,7 @@ impl Model for Pic {
       is_cascaded = a.is_cascaded;
       asks_icw4 = a.asks_icw4;
       is_level_triggered = a.is_level_triggered;
-      vector = a.vector;
+      vector_base = a.vector_base;
       slaves = a.slaves;
       is_8086 = a.is_8086;
       auto_end = a.auto_end;
@@ -70,7 +71,7 @@ impl Model for Pic {
       reads_served = a.reads_served;
     } };
 
-    ghost invariant = { λ a. (a.lowest < 8) × (a.vector ≤ 248) };
+    ghost invariant = { λ a. (a.lowest < 8) × (a.vector_base ≤ 248) };
 
     ghost inverse = { λ s. record {
       lowest = slice_index s.order 7;
@@ -82,7 +83,7 @@ impl Model for Pic {
       is_cascaded = s.is_cascaded;
       asks_icw4 = s.asks_icw4;
       is_level_triggered = s.is_level_triggered;
-      vector = s.vector;
+      vector_base = s.vector_base;
       slaves = s.slaves;
       is_8086 = s.is_8086;
       auto_end = s.auto_end;
@@ -98,7 +99,7 @@ impl Model for Pic {
 
 impl Pic {
     ghost use Rattle.pic8259.specs.Levels.{up_to};
-    ghost use Rattle.pic8259.specs.Pic.{power_on, is_ready, asks, is_pending, requests, blocks, found, took, acknowledged, vector_of, poll_of, read_of, after_read, with_line, with_icw1, with_icw2, with_icw3, with_icw4, with_ocw1, with_word, ended, lowered, highest_served, with_ocw2, with_ocw3, with_command, written, is_operating, expected_after_icw3};
+    ghost use Rattle.pic8259.specs.Pic.{power_on, is_requesting, is_ready, asks, is_pending, requests, blocks, level_to_take, after_taking, after_acknowledge, vector, poll_byte, byte_at, after_read, after_line, after_icw1, after_icw2, after_icw3, after_icw4, after_ocw1, after_word, after_end, after_lowering, highest_served, after_ocw2, after_ocw3, after_command, after_write, is_operating, expected_after_icw3};
 
     /// A controller at power-on: every line low, nothing masked or in service, edge mode, no initialisation
     /// sequence begun.
@@ -116,7 +117,7 @@ impl Pic {
             is_cascaded: false,
             asks_icw4: false,
             is_level_triggered: false,
-            vector: 0,
+            vector_base: 0,
             slaves: 0,
             is_8086: false,
             auto_end: false,
@@ -130,10 +131,10 @@ impl Pic {
 
     /// Sets the request line of level `n`, from 0 to 7. A line that goes from low to high has risen, and stays so
     /// until its level is taken or ICW1 is written ("Edge and Level Triggered Modes").
-    #[tactic(auto, unfolding(crate::specs::Pic::with_line))]
+    #[tactic(auto, unfolding(crate::specs::Pic::after_line))]
     pub fn set_line(&mut self, n: u8, line: Line)
         requires { n < 8 }
-        ensures { self.new ≡ with_line n line self.old }
+        ensures { self.new ≡ after_line self.old n line }
     {
         match line {
             Line::Low => self.high.remove(n),
@@ -149,9 +150,9 @@ impl Pic {
     /// Reads at address line A0. A pending poll is answered at either port: it takes a level as an acknowledge does
     /// and gives 80h plus it, or 0. Else A0 = 1 gives the mask, and A0 = 0 the requests or the levels in service
     /// ("Poll Command", "Reading the 8259A Status").
-    #[tactic(auto, unfolding(crate::specs::Pic::read_of, crate::specs::Pic::after_read))]
+    #[tactic(auto, unfolding(crate::specs::Pic::byte_at, crate::specs::Pic::after_read))]
     pub fn read(&mut self, a0: bool) -> u8
-        ensures value { result ≡ read_of a0 self.old }
+        ensures value { result ≡ byte_at self.old a0 }
         ensures state { self.new ≡ after_read self.old }
     {
         if self.polled {
@@ -167,9 +168,9 @@ impl Pic {
 
     /// Writes at address line A0. At A0 = 0 it is ICW1, OCW2 or OCW3, by its bits 4 and 3; at A0 = 1 the word that
     /// the initialisation sequence waits for, and else the mask ("Programming the 8259A").
-    #[tactic(auto, unfolding(crate::specs::Pic::written, crate::specs::Pic::with_word))]
+    #[tactic(auto, unfolding(crate::specs::Pic::after_write, crate::specs::Pic::after_word))]
     pub fn write(&mut self, a0: bool, value: u8)
-        ensures { self.new ≡ written a0 value self.old }
+        ensures { self.new ≡ after_write self.old a0 value }
     {
         if !a0 {
             self.write_command(value);
@@ -185,7 +186,7 @@ impl Pic {
 
     /// Whether the interrupt output is high: an acknowledge would take a level.
     pub fn request(&self) -> bool
-        ensures { result ≡ is_some (found self.now) }
+        ensures { result ≡ is_requesting self.now }
     {
         self.find_level().is_some()
     }
@@ -194,27 +195,27 @@ impl Pic {
     /// and isn't blocked, and answers its vector. Where there is none, the vector is that of level 7 and nothing
     /// changes ("Interrupt Sequence").
     pub fn acknowledge(&mut self) -> u8
-        ensures vector { result ≡ vector_of self.old }
-        ensures state { self.new ≡ acknowledged self.old }
+        ensures vector { result ≡ vector self.old }
+        ensures state { self.new ≡ after_acknowledge self.old }
     {
-        let vector = self.vector_bits();
+        let base = self.vector_base();
         match self.take_level() {
-            Some(level) => vector + level,
-            None => vector + 7,
+            Some(level) => base + level,
+            None => base + 7,
         }
     }
 
     /// Bits 7 to 3 of each vector.
-    fn vector_bits(&self) -> u8
-        ensures value { result ≡ self.now.vector }
+    fn vector_base(&self) -> u8
+        ensures value { result ≡ self.now.vector_base }
         ensures bound { result ≤ 248 }
     {
-        self.vector
+        self.vector_base
     }
 
     fn answer_poll(&mut self) -> u8
-        ensures value { result ≡ poll_of self.old }
-        ensures state { self.new ≡ record (acknowledged self.old) { polled = false } }
+        ensures value { result ≡ poll_byte self.old }
+        ensures state { self.new ≡ record (after_acknowledge self.old) { polled = false } }
     {
         let level = self.take_level();
         self.polled = false;
@@ -225,21 +226,21 @@ impl Pic {
     }
 
     /// Takes the level that has its turn, if one has.
-    #[tactic(auto, unfolding(crate::specs::Pic::acknowledged))]
+    #[tactic(auto, unfolding(crate::specs::Pic::after_acknowledge))]
     fn take_level(&mut self) -> Option<u8>
-        ensures level { result ≡ found self.old }
+        ensures level { result ≡ level_to_take self.old }
         ensures bound { IfSome result (λ level. level < 8) }
-        ensures state { self.new ≡ acknowledged self.old }
+        ensures state { self.new ≡ after_acknowledge self.old }
     {
         let level = self.find_level()?;
         self.serve(level);
         Some(level)
     }
 
-    #[tactic(auto, using(crate::proofs::Order::turned_to_lowest), unfolding(crate::specs::Pic::took))]
+    #[tactic(auto, using(crate::proofs::Order::turned_to_lowest), unfolding(crate::specs::Pic::after_taking))]
     fn serve(&mut self, level: u8)
         requires { level < 8 }
-        ensures { self.new ≡ took level self.old }
+        ensures { self.new ≡ after_taking self.old level }
     {
         self.risen.remove(level);
         if !self.auto_end {
@@ -292,7 +293,7 @@ impl Pic {
         ensures order { result ≡ self.now.order }
         ensures size { length result ≡ 8 }
         ensures levels { All (λ level. level < 8) result }
-        ensures places { (place : ℕ) → place < 8 → up_to (slice_index_or result place 0) result ≡ take (place + 1) result }
+        ensures places { (place : ℕ) → place < 8 → up_to result (slice_index_or result place 0) ≡ take (place + 1) result }
     {
         let lowest = self.lowest;
         [
@@ -307,9 +308,9 @@ impl Pic {
         ]
     }
 
-    #[tactic(auto, unfolding(crate::specs::Pic::found))]
+    #[tactic(auto, unfolding(crate::specs::Pic::level_to_take))]
     fn find_level(&self) -> Option<u8>
-        ensures level { result ≡ found self.now }
+        ensures level { result ≡ level_to_take self.now }
         ensures bound { IfSome result (λ level. level < 8) }
     {
         if !self.is_ready() {
@@ -338,9 +339,9 @@ impl Pic {
         None
     }
 
-    #[tactic(auto, unfolding(crate::specs::Pic::with_command))]
+    #[tactic(auto, unfolding(crate::specs::Pic::after_command))]
     fn write_command(&mut self, value: u8)
-        ensures { self.new ≡ with_command value self.old }
+        ensures { self.new ≡ after_command self.old value }
     {
         if bit(value, 4) {
             self.write_icw1(value);
@@ -359,9 +360,9 @@ impl Pic {
         matches!(self.expected, Expected::Operation)
     }
 
-    #[tactic(auto, unfolding(crate::specs::Pic::with_icw1, crate::specs::Levels::order_with_lowest))]
+    #[tactic(auto, unfolding(crate::specs::Pic::after_icw1, crate::specs::Levels::order_with_lowest))]
     fn write_icw1(&mut self, value: u8)
-        ensures { self.new ≡ with_icw1 value self.old }
+        ensures { self.new ≡ after_icw1 self.old value }
     {
         *self = Pic {
             high: self.high,
@@ -369,17 +370,17 @@ impl Pic {
             is_cascaded: !bit(value, 1),
             asks_icw4: bit(value, 0),
             is_level_triggered: bit(value, 3),
-            vector: self.vector,
+            vector_base: self.vector_base,
             slaves: self.slaves,
             ..Pic::new()
         };
     }
 
-    #[tactic(auto, unfolding(crate::specs::Pic::with_icw2))]
+    #[tactic(auto, unfolding(crate::specs::Pic::after_icw2))]
     fn write_icw2(&mut self, value: u8)
-        ensures { self.new ≡ with_icw2 value self.old }
+        ensures { self.new ≡ after_icw2 self.old value }
     {
-        self.vector = value / 8 * 8;
+        self.vector_base = value / 8 * 8;
         self.expected = if self.is_cascaded {
             Expected::Icw3
         } else {
@@ -387,9 +388,9 @@ impl Pic {
         };
     }
 
-    #[tactic(auto, unfolding(crate::specs::Pic::with_icw3))]
+    #[tactic(auto, unfolding(crate::specs::Pic::after_icw3))]
     fn write_icw3(&mut self, value: u8)
-        ensures { self.new ≡ with_icw3 value self.old }
+        ensures { self.new ≡ after_icw3 self.old value }
     {
         self.slaves = value;
         self.expected = self.expected_after_icw3();
@@ -405,9 +406,9 @@ impl Pic {
         }
     }
 
-    #[tactic(auto, unfolding(crate::specs::Pic::with_icw4))]
+    #[tactic(auto, unfolding(crate::specs::Pic::after_icw4))]
     fn write_icw4(&mut self, value: u8)
-        ensures { self.new ≡ with_icw4 value self.old }
+        ensures { self.new ≡ after_icw4 self.old value }
     {
         self.is_8086 = bit(value, 0);
         self.auto_end = bit(value, 1);
@@ -415,17 +416,17 @@ impl Pic {
         self.expected = Expected::Operation;
     }
 
-    #[tactic(auto, unfolding(crate::specs::Pic::with_ocw1))]
+    #[tactic(auto, unfolding(crate::specs::Pic::after_ocw1))]
     fn write_ocw1(&mut self, value: u8)
-        ensures { self.new ≡ with_ocw1 value self.old }
+        ensures { self.new ≡ after_ocw1 self.old value }
     {
         self.masked = LevelSet::from_byte(value);
     }
 
-    #[tactic(auto, unfolding(crate::specs::Pic::with_ocw2))]
+    #[tactic(auto, unfolding(crate::specs::Pic::after_ocw2))]
     fn write_ocw2(&mut self, rotate: bool, specific: bool, end: bool, level: u8)
         requires { level < 8 }
-        ensures { self.new ≡ with_ocw2 rotate specific end level self.old }
+        ensures { self.new ≡ after_ocw2 self.old rotate specific end level }
     {
         match (rotate, specific, end) {
             (false, false, true) => self.end_highest(false),
@@ -442,9 +443,9 @@ impl Pic {
         }
     }
 
-    #[tactic(auto, unfolding(crate::specs::Pic::with_ocw2))]
+    #[tactic(auto, unfolding(crate::specs::Pic::after_ocw2))]
     fn end_highest(&mut self, rotate: bool)
-        ensures { self.new ≡ with_ocw2 rotate false true 0 self.old }
+        ensures { self.new ≡ after_ocw2 self.old rotate false true 0 }
     {
         if let Some(level) = self.highest_served() {
             self.end_level(level);
@@ -454,25 +455,25 @@ impl Pic {
         }
     }
 
-    #[tactic(auto, unfolding(crate::specs::Pic::ended))]
+    #[tactic(auto, unfolding(crate::specs::Pic::after_end))]
     fn end_level(&mut self, level: u8)
         requires { level < 8 }
-        ensures { self.new ≡ ended level self.old }
+        ensures { self.new ≡ after_end self.old level }
     {
         self.served.remove(level);
     }
 
-    #[tactic(auto, using(crate::proofs::Order::turned_to_lowest), unfolding(crate::specs::Pic::lowered))]
+    #[tactic(auto, using(crate::proofs::Order::turned_to_lowest), unfolding(crate::specs::Pic::after_lowering))]
     fn make_lowest(&mut self, level: u8)
         requires { level < 8 }
-        ensures { self.new ≡ lowered level self.old }
+        ensures { self.new ≡ after_lowering self.old level }
     {
         self.lowest = level;
     }
 
-    #[tactic(auto, unfolding(crate::specs::Pic::with_ocw3))]
+    #[tactic(auto, unfolding(crate::specs::Pic::after_ocw3))]
     fn write_ocw3(&mut self, value: u8)
-        ensures { self.new ≡ with_ocw3 value self.old }
+        ensures { self.new ≡ after_ocw3 self.old value }
     {
         if bit(value, 6) {
             self.special_mask = bit(value, 5);

@@ -1,8 +1,9 @@
 //! A set of interrupt levels.
 ghost use Rattle.std.specs.Prelude.{◌≡◌, ◌<◌};
-ghost use Rattle.pic8259.specs.Levels.{contains, with_level, without_level, byte_of, levels_of, has_bit};
+ghost use Rattle.pic8259.specs.Levels.{contains, with_level, without_level, byte_of, levels_of};
 ghost use Rattle.pic8259.specs.Masks.{in_both};
 
+use board_types::bits::bit;
 use std::marker::Model;
 
 /// A set of the eight levels IR0 to IR7.
@@ -81,12 +82,4 @@ impl LevelSet {
             mask: self.mask & other.mask,
         }
     }
-}
-
-/// Whether bit `n` of `byte` is 1.
-pub fn bit(byte: u8, n: u8) -> bool
-    requires { n < 8 }
-    ensures { result ≡ has_bit byte n }
-{
-    (byte >> n) % 2 == 1
 }

@@ -1,13 +1,13 @@
 use Rattle.std.proofs.Common.{◌≡◌, ◌+◌, ◌<◌, true, false, not, ◌&&◌, ◌||◌, if◌then◌else◌, None, length, take, find, slice_index_or, sym, ap, ◌∙◌, arith}
 use Rattle.std.proofs.Math.Bool.{and-false}
 use Rattle.std.specs.List.{list_any}
-use Rattle.pic8259.specs.Pic.{blocks, is_pending, is_ready, may_be_taken, found}
+use Rattle.pic8259.specs.Pic.{blocks, is_pending, is_ready, may_be_taken, level_to_take}
 use Rattle.pic8259.proofs.Walk.{none_more, found_next, may_be_taken_at, blocked_more}
 use Rattle.pic8259.proofs.controller.Pic.find_level.Goals as goal
 use Rattle.pic8259.proofs.controller.Pic.find_level.Goals.{else-not-is_blocked-via-then-not-is_blocked+else-is_pending, else-not-is_blocked-via-else-not-is_blocked}
 
 pub returns-then-is_pending-clause-level : goal.returns-then-is_pending-clause-level
-unfolding found
+unfolding level_to_take
 returns-then-is_pending-clause-level c =
     let s = c.args.self.now in
     let xs = c.order-level-items.result in
