@@ -1,13 +1,13 @@
 -- An interrupt that is taken leaves what the speaker's next level depends on.
 use Rattle.std.proofs.Common.{refl}
 use Rattle.wiring.specs.Chips.{ChipsState}
-use Rattle.wiring.specs.Wires.{request_taken}
+use Rattle.wiring.specs.Wires.{after_acknowledge}
 use Rattle.wiring.specs.Laws.{SoundsAlike, NoEntryTouches}
 use Rattle.wiring.proofs.Alike.{depends_on_writes}
 
-taken_alike : (s : ChipsState) → SoundsAlike (request_taken s) s
-unfolding request_taken
+taken_alike : (s : ChipsState) → SoundsAlike (after_acknowledge s) s
+unfolding after_acknowledge
 taken_alike s = record { clock = refl; ppi = refl; counter_2 = refl }
 
 pub no_entry_touches : NoEntryTouches
-no_entry_touches s writes = depends_on_writes (request_taken s) s writes (taken_alike s)
+no_entry_touches s writes = depends_on_writes (after_acknowledge s) s writes (taken_alike s)

@@ -7,12 +7,12 @@ use Rattle.memory.specs.Kinds.{is_text_address}
 use Rattle.keyboard.specs.Keyboard.{KeyboardState}
 use Rattle.pic8259.specs.Levels.{Levels, all_levels, contains}
 use Rattle.pit8253.specs.Pit.{PitState, power_on_pit, pit_tick, pit_gated}
-use Rattle.pit8253.specs.Program.{is_high}
+use Rattle.board_types.specs.Lines.{is_high}
 use Rattle.wiring.specs.declared.port.Port.{Port}
 use Rattle.wiring.specs.declared.port.Port.TheVariants.{Controller, Timer, Parallel, Nothing}
 use Rattle.wiring.specs.Chips.{ChipsState, power_on}
-use Rattle.wiring.specs.Ports.{with_byte, port_at, after_read_at, after_write_at, after_input, after_output}
-use Rattle.wiring.specs.Wires.{line_of, port_b_line, latch_settled, settled, clocked, arrived, keys_settled, request_taken}
+use Rattle.wiring.specs.Ports.{with_byte, port_at, after_port_read, after_port_write, after_input, after_output}
+use Rattle.wiring.specs.Wires.{line_of, port_b_line, latch_settled, after_settling, after_clock, after_arrival, after_key_settling, after_acknowledge}
 use Rattle.wiring.specs.Laws.{FixedWires, WiresStay}
 use Rattle.wiring.proofs.Agreement.{high_of_requests}
 use Rattle.wiring.proofs.HighLines.{acknowledged_high, read_high, written_high}
@@ -39,8 +39,8 @@ other_line high zeroth first level from =
     get_or-set_other (slice_set high 0 zeroth) 1 level first false (above 1 level (omega arith))
     ∙ get_or-set_other high 0 level zeroth false (above 0 level (omega arith))
 
-settled_fixed : (s : ChipsState) → FixedWires s → FixedWires (settled s)
-unfolding settled
+settled_fixed : (s : ChipsState) → FixedWires s → FixedWires (after_settling s)
+unfolding after_settling
 settled_fixed s fixed =
     let keyboard : KeyboardState = latch_settled s.ppi s.keyboard in
     let pit : PitState = pit_gated 2 (port_b_line s.ppi 0) s.pit in
@@ -74,13 +74,13 @@ byte_fixed : (s : ChipsState) (address byte : ℕ) → FixedWires s → FixedWir
 unfolding with_byte
 byte_fixed s address byte fixed = choose (is_text_address address) s _ fixed (kept s _ fixed refl (same_gates s.pit))
 
-read_fixed : (s : ChipsState) (port : Port) → FixedWires s → FixedWires (after_read_at s port)
+read_fixed : (s : ChipsState) (port : Port) → FixedWires s → FixedWires (after_port_read s port)
 read_fixed s (Controller a0) fixed = kept s _ fixed (read_high s.pic) (same_gates s.pit)
 read_fixed s (Timer n) fixed = kept s _ fixed refl (read_gates n s.pit)
 read_fixed s (Parallel n) fixed = fixed
 read_fixed s Nothing fixed = fixed
 
-written_fixed : (s : ChipsState) (port : Port) (byte : ℕ) → FixedWires s → FixedWires (after_write_at s port byte)
+written_fixed : (s : ChipsState) (port : Port) (byte : ℕ) → FixedWires s → FixedWires (after_port_write s port byte)
 written_fixed s (Controller a0) byte fixed = kept s _ fixed (written_high a0 byte s.pic) (same_gates s.pit)
 written_fixed s (Timer n) byte fixed = kept s _ fixed refl (written_gates n byte s.pit)
 written_fixed s (Parallel n) byte fixed = kept s _ fixed refl (same_gates s.pit)
@@ -98,20 +98,20 @@ clock_gates : (b : Bool) (p : PitState) → SameGates (if b then pit_tick p else
 clock_gates true p = tick_gates p
 clock_gates false p = same_gates p
 
-clocked_fixed : (s : ChipsState) → FixedWires s → FixedWires (clocked s)
+clocked_fixed : (s : ChipsState) → FixedWires s → FixedWires (after_clock s)
 unfolding clocked
 clocked_fixed s fixed = settled_fixed _ (kept s _ fixed refl (clock_gates ((s.clock + 1) % 4 == 0) s.pit))
 
-arrived_fixed : (s : ChipsState) (code : ℕ) → FixedWires s → FixedWires (arrived s code)
+arrived_fixed : (s : ChipsState) (code : ℕ) → FixedWires s → FixedWires (after_arrival s code)
 unfolding arrived
 arrived_fixed s code fixed = kept s _ fixed refl (same_gates s.pit)
 
-keys_fixed : (s : ChipsState) → FixedWires s → FixedWires (keys_settled s)
-unfolding keys_settled
+keys_fixed : (s : ChipsState) → FixedWires s → FixedWires (after_key_settling s)
+unfolding after_key_settling
 keys_fixed s fixed = settled_fixed _ (kept s _ fixed refl (same_gates s.pit))
 
-request_fixed : (s : ChipsState) → FixedWires s → FixedWires (request_taken s)
-unfolding request_taken
+request_fixed : (s : ChipsState) → FixedWires s → FixedWires (after_acknowledge s)
+unfolding after_acknowledge
 request_fixed s fixed = kept s _ fixed (acknowledged_high s.pic) (same_gates s.pit)
 
 pub wires_stay : WiresStay

@@ -1,11 +1,14 @@
--- A gate that takes the same level twice.
-use Rattle.std.proofs.Common.{◌≡◌, Bool, true, false, not, ◌&&◌, ◌||◌, refl, ap, ◌∙◌}
+-- A gate that takes the same level twice, and one whose counter ticks in between.
+use Rattle.std.proofs.Common.{◌≡◌, ◌∷◌, Bool, true, false, not, ◌&&◌, ◌||◌, if◌then◌else◌, refl, sym, ap, ◌∙◌, cond}
+use Rattle.std.specs.Prelude.{◌==◌, is_none}
+use Rattle.board_types.specs.Lines.{is_high}
 use Rattle.board_types.specs.declared.line.Line.{Line}
 use Rattle.board_types.specs.declared.line.Line.TheVariants.{Low, High}
 use Rattle.pit8253.specs.declared.program.Mode.{Mode}
 use Rattle.pit8253.specs.declared.program.Mode.TheVariants.{TerminalCount, OneShot, RateGenerator, SquareWave, SoftwareStrobe, HardwareStrobe}
-use Rattle.pit8253.specs.Counter.{CounterState, gated, rises, is_triggered, is_awaited, out_at_gate}
-use Rattle.pit8253.specs.Pit.{PitState, pit_gated}
+use Rattle.pit8253.specs.Counter.{CounterState, after_gate, rises, is_triggered, is_awaited, out_at_gate}
+use Rattle.pit8253.specs.Pit as pit
+use Rattle.pit8253.specs.Pit.{PitState}
 
 or_none : (b : Bool) → (b || false) ≡ b
 or_none true = refl
@@ -26,14 +29,14 @@ out_twice SquareWave High out = refl
 out_twice SoftwareStrobe gate out = refl
 out_twice HardwareStrobe gate out = refl
 
-pub gated_twice : (gate : Line) (c : CounterState) → gated gate (gated gate c) ≡ gated gate c
-unfolding gated
-gated_twice gate c =
+pub gate_twice : (c : CounterState) (gate : Line) → after_gate (after_gate c gate) gate ≡ after_gate c gate
+unfolding after_gate
+gate_twice c gate =
     let due : Bool = c.load_due || (rises c.gate gate && is_triggered c.mode && not (is_awaited c.progress)) in
     ap (λ b. record c { gate = gate; load_due = b; out = out_at_gate c.mode gate (out_at_gate c.mode gate c.out) })
     (no_rise gate due (is_triggered c.mode) (not (is_awaited c.progress)))
     ∙ ap (λ out. record c { gate = gate; load_due = due; out = out }) (out_twice c.mode gate c.out)
 
-pub gate_2_twice : (line : Line) (p : PitState) → pit_gated 2 line (pit_gated 2 line p) ≡ pit_gated 2 line p
-unfolding pit_gated
-gate_2_twice line p = ap (λ c. record p { counter_2 = c }) (gated_twice line p.counter_2)
+pub gate_2_twice : (p : PitState) (line : Line) → pit.after_gate (pit.after_gate p 2 line) 2 line ≡ pit.after_gate p 2 line
+unfolding pit.after_gate
+gate_2_twice p line = ap (λ c. record p { counter_2 = c }) (gate_twice p.counter_2 line)

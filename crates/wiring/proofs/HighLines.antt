@@ -2,11 +2,11 @@
 use Rattle.std.proofs.Common.{◌≡◌, ◌%◌, ℕ, Bool, true, false, if◌then◌else◌, Option, None, Some, refl}
 use Rattle.std.specs.Prelude.{not}
 use Rattle.std.specs.Option.{option_map_or}
+use Rattle.board_types.specs.Bits.{has_bit}
 use Rattle.pic8259.specs.declared.controller.Expected.{Expected}
 use Rattle.pic8259.specs.declared.controller.Expected.TheVariants.{Icw2, Icw3, Icw4, Operation}
-use Rattle.pic8259.specs.Levels.{Levels, has_bit}
-use Rattle.pic8259.specs.Pic.{PicState, found, took, acknowledged, after_read, with_line, with_icw1, with_icw2, with_icw3, with_icw4, with_ocw1, with_ocw2, with_ocw3, with_word, with_command, ended, lowered, highest_served, is_operating}
-use Rattle.pic8259.specs.Pic as pic
+use Rattle.pic8259.specs.Levels.{Levels}
+use Rattle.pic8259.specs.Pic.{PicState, level_to_take, after_taking, after_acknowledge, after_read, after_icw1, after_icw2, after_icw3, after_icw4, after_ocw1, after_ocw2, after_ocw3, after_word, after_command, after_write, after_end, after_lowering, highest_served, is_operating}
 
 choose : (b : Bool) (high : Levels) (s t : PicState) → s.high ≡ high → t.high ≡ high → (if b then s else t).high ≡ high
 choose true high s t first second = first
@@ -17,64 +17,64 @@ by_level : (o : Option ℕ) (change : ℕ → PicState) (s : PicState) → ((lev
 by_level None change s keeps = refl
 by_level (Some level) change s keeps = keeps level
 
-took_high : (s : PicState) (level : ℕ) → (took level s).high ≡ s.high
-unfolding took
-took_high s level = refl
+high_after_taking : (s : PicState) (level : ℕ) → (after_taking s level).high ≡ s.high
+unfolding after_taking
+high_after_taking s level = refl
 
-pub acknowledged_high : (s : PicState) → (acknowledged s).high ≡ s.high
-unfolding acknowledged
-acknowledged_high s = by_level (found s) (λ level. took level s) s (took_high s)
+pub high_after_acknowledge : (s : PicState) → (after_acknowledge s).high ≡ s.high
+unfolding after_acknowledge
+high_after_acknowledge s = by_level (level_to_take s) (λ level. after_taking s level) s (high_after_taking s)
 
-pub read_high : (s : PicState) → (after_read s).high ≡ s.high
+pub high_after_read : (s : PicState) → (after_read s).high ≡ s.high
 unfolding after_read
-read_high s = choose s.polled s.high (record (acknowledged s) { polled = false }) s (acknowledged_high s) refl
+high_after_read s = choose s.polled s.high (record (after_acknowledge s) { polled = false }) s (high_after_acknowledge s) refl
 
-word_high : (expected : Expected) (value : ℕ) (s : PicState) → (with_word expected value s).high ≡ s.high
-unfolding with_word with_icw2 with_icw3 with_icw4 with_ocw1
-word_high Icw2 value s = refl
-word_high Icw3 value s = refl
-word_high Icw4 value s = refl
-word_high Operation value s = refl
+high_after_word : (s : PicState) (expected : Expected) (value : ℕ) → (after_word s expected value).high ≡ s.high
+unfolding after_word after_icw2 after_icw3 after_icw4 after_ocw1
+high_after_word s Icw2 value = refl
+high_after_word s Icw3 value = refl
+high_after_word s Icw4 value = refl
+high_after_word s Operation value = refl
 
-ended_high : (s : PicState) (level : ℕ) → (ended level s).high ≡ s.high
-unfolding ended
-ended_high s level = refl
+high_after_end : (s : PicState) (level : ℕ) → (after_end s level).high ≡ s.high
+unfolding after_end
+high_after_end s level = refl
 
-ended_lowered_high : (s : PicState) (level : ℕ) → (lowered level (ended level s)).high ≡ s.high
-unfolding ended lowered
-ended_lowered_high s level = refl
+high_after_both : (s : PicState) (level : ℕ) → (after_lowering (after_end s level) level).high ≡ s.high
+unfolding after_end after_lowering
+high_after_both s level = refl
 
-lowered_high : (s : PicState) (level : ℕ) → (lowered level s).high ≡ s.high
-unfolding lowered
-lowered_high s level = refl
+high_after_lowering : (s : PicState) (level : ℕ) → (after_lowering s level).high ≡ s.high
+unfolding after_lowering
+high_after_lowering s level = refl
 
-ocw2_high : (r sl eoi : Bool) (level : ℕ) (s : PicState) → (with_ocw2 r sl eoi level s).high ≡ s.high
-unfolding with_ocw2
-ocw2_high false false true level s = by_level (highest_served s) (λ highest. ended highest s) s (ended_high s)
-ocw2_high false true true level s = ended_high s level
-ocw2_high true false true level s = by_level (highest_served s) (λ highest. lowered highest (ended highest s)) s (ended_lowered_high s)
-ocw2_high true true true level s = ended_lowered_high s level
-ocw2_high true false false level s = refl
-ocw2_high false false false level s = refl
-ocw2_high true true false level s = lowered_high s level
-ocw2_high false true false level s = refl
+high_after_ocw2 : (s : PicState) (r sl eoi : Bool) (level : ℕ) → (after_ocw2 s r sl eoi level).high ≡ s.high
+unfolding after_ocw2
+high_after_ocw2 s false false true level = by_level (highest_served s) (λ highest. after_end s highest) s (high_after_end s)
+high_after_ocw2 s false true true level = high_after_end s level
+high_after_ocw2 s true false true level = by_level (highest_served s) (λ highest. after_lowering (after_end s highest) highest) s (high_after_both s)
+high_after_ocw2 s true true true level = high_after_both s level
+high_after_ocw2 s true false false level = refl
+high_after_ocw2 s false false false level = refl
+high_after_ocw2 s true true false level = high_after_lowering s level
+high_after_ocw2 s false true false level = refl
 
-icw1_high : (value : ℕ) (s : PicState) → (with_icw1 value s).high ≡ s.high
-unfolding with_icw1
-icw1_high value s = refl
+high_after_icw1 : (s : PicState) (value : ℕ) → (after_icw1 s value).high ≡ s.high
+unfolding after_icw1
+high_after_icw1 s value = refl
 
-ocw3_high : (value : ℕ) (s : PicState) → (with_ocw3 value s).high ≡ s.high
-unfolding with_ocw3
-ocw3_high value s = refl
+high_after_ocw3 : (s : PicState) (value : ℕ) → (after_ocw3 s value).high ≡ s.high
+unfolding after_ocw3
+high_after_ocw3 s value = refl
 
-command_high : (value : ℕ) (s : PicState) → (with_command value s).high ≡ s.high
-unfolding with_command
-command_high value s =
-    choose (has_bit value 4) s.high _ _ (icw1_high value s)
+high_after_command : (s : PicState) (value : ℕ) → (after_command s value).high ≡ s.high
+unfolding after_command
+high_after_command s value =
+    choose (has_bit value 4) s.high _ _ (high_after_icw1 s value)
     (choose (not (is_operating s.expected)) s.high _ _ refl
-    (choose (has_bit value 3) s.high _ _ (ocw3_high value s)
-    (ocw2_high (has_bit value 7) (has_bit value 6) (has_bit value 5) (value % 8) s)))
+    (choose (has_bit value 3) s.high _ _ (high_after_ocw3 s value)
+    (high_after_ocw2 s (has_bit value 7) (has_bit value 6) (has_bit value 5) (value % 8))))
 
-pub written_high : (a0 : Bool) (value : ℕ) (s : PicState) → (pic.written a0 value s).high ≡ s.high
-unfolding pic.written
-written_high a0 value s = choose a0 s.high _ _ (word_high s.expected value s) (command_high value s)
+pub high_after_write : (s : PicState) (a0 : Bool) (value : ℕ) → (after_write s a0 value).high ≡ s.high
+unfolding after_write
+high_after_write s a0 value = choose a0 s.high _ _ (high_after_word s s.expected value) (high_after_command s value)

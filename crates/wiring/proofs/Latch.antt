@@ -1,9 +1,8 @@
 -- The keyboard's own settling empties the latch where line 7 of port B is 1.
 use Rattle.std.proofs.Common.{◌≡◌, ℕ, true, if◌then◌else◌, ap}
-use Rattle.std.specs.Prelude.{◌==◌}
-use Rattle.std.specs.Int.{bit_at}
-use Rattle.keyboard.specs.Keyboard.{KeyboardState, after_settling, cleared, sends, sent}
+use Rattle.board_types.specs.Bits.{has_bit}
+use Rattle.keyboard.specs.Keyboard.{KeyboardState, after_settling, after_clearing, sends, after_sending}
 
-pub line_7_clears : (s : KeyboardState) (lines : ℕ) → (bit_at lines 7 == 1) ≡ true → after_settling s lines ≡ cleared s
+pub line_7_clears : (s : KeyboardState) (lines : ℕ) → has_bit lines 7 ≡ true → after_settling s lines ≡ after_clearing s
 unfolding after_settling
-line_7_clears s lines high = ap (λ b. if b then cleared s else (if sends s lines then sent s else s)) high
+line_7_clears s lines high = ap (λ b. if b then after_clearing s else (if sends s lines then after_sending s else s)) high

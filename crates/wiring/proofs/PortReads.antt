@@ -3,17 +3,17 @@ use Rattle.std.proofs.Common.{◌≡◌, ℕ, ◌+◌, ◌/◌, ◌%◌, Bool, t
 use Rattle.std.specs.Prelude.{◌==◌, ◌&&◌}
 use Rattle.std.specs.Int.{bit_at}
 use Rattle.pit8253.specs.Counter.{CounterState, tick, written, controlled, after_read, gated}
-use Rattle.pit8253.specs.Program.{is_high}
+use Rattle.board_types.specs.Lines.{is_high}
 use Rattle.pit8253.specs.Pit.{PitState, counter, with_counter, pit_tick, pit_written, pit_after_read, pit_gated}
 use Rattle.ppi8255.specs.Ppi.{PpiState, lines_b}
 use Rattle.ppi8255.specs.Ppi as ppi
-use Rattle.execute.specs.PortWrites.{after_port_writes}
+use Rattle.bus.specs.PortWrites.{after_port_writes}
 use Rattle.wiring.specs.declared.port.Port.{Port}
 use Rattle.wiring.specs.declared.port.Port.TheVariants.{Controller, Timer, Parallel, Nothing}
 use Rattle.wiring.specs.Chips.{ChipsState}
-use Rattle.wiring.specs.Ports.{port_at, after_read_at, after_write_at, after_input, after_output}
-use Rattle.wiring.specs.Wires.{port_b_line, pit_clocked, settled, clocked, keys_settled}
-use Rattle.wiring.specs.Speaker.{speaker_high, speaker_after}
+use Rattle.wiring.specs.Ports.{port_at, after_port_read, after_port_write, after_input, after_output}
+use Rattle.wiring.specs.Wires.{port_b_line, pit_clocked, after_settling, after_clock, after_key_settling}
+use Rattle.wiring.specs.Speaker.{is_speaker_high, is_speaker_high_after}
 use Rattle.wiring.specs.Laws.{NoReadTouches}
 use Rattle.wiring.proofs.TimerGates.{changed_at}
 use Rattle.wiring.proofs.Unread.{erased, IsUnread, tick_unread, controlled_unread, written_unread, gated_unread, read_leaves, same_rest}
@@ -47,7 +47,7 @@ clocked_rest : (clock : ℕ) (p q : PitState) → erased p.counter_2 ≡ erased 
 unfolding pit_tick
 clocked_rest clock p q same = one_of (clock % 4 == 0) _ _ _ _ (same_rest tick tick_unread p.counter_2 q.counter_2 same) same
 
-settled_alike : (s t : ChipsState) → AlikeButReads s t → AlikeButReads (settled s) (settled t)
+settled_alike : (s t : ChipsState) → AlikeButReads s t → AlikeButReads (after_settling s) (settled t)
 unfolding settled pit_gated
 settled_alike s t alike = record {
   clock = alike.clock;
@@ -56,7 +56,7 @@ settled_alike s t alike = record {
       ∙ same_rest (gated (port_b_line t.ppi 0)) (gated_unread (port_b_line t.ppi 0)) s.pit.counter_2 t.pit.counter_2 alike.counter_2;
 }
 
-written_alike : (s t : ChipsState) (port : Port) (byte : ℕ) → AlikeButReads s t → AlikeButReads (after_write_at s port byte) (after_write_at t port byte)
+written_alike : (s t : ChipsState) (port : Port) (byte : ℕ) → AlikeButReads s t → AlikeButReads (after_port_write s port byte) (after_port_write t port byte)
 written_alike s t (Controller a0) byte alike = record { clock = alike.clock; ppi = alike.ppi; counter_2 = alike.counter_2 }
 written_alike s t (Timer n) byte alike = record {
   clock = alike.clock;
@@ -78,7 +78,7 @@ writes_alike : (s t : ChipsState) (writes : List (ℕ × ℕ)) → AlikeButReads
 writes_alike s t [] alike = alike
 writes_alike s t (w ∷ writes) alike = writes_alike (after_output s w.0 w.1) (after_output t w.0 w.1) writes (output_alike s t w.0 w.1 alike)
 
-clocked_alike : (s t : ChipsState) → AlikeButReads s t → AlikeButReads (clocked s) (clocked t)
+clocked_alike : (s t : ChipsState) → AlikeButReads s t → AlikeButReads (after_clock s) (after_clock t)
 unfolding clocked
 clocked_alike s t alike = settled_alike _ _ (record {
   clock = ap (λ clock. clock + 1) alike.clock;
@@ -87,19 +87,19 @@ clocked_alike s t alike = settled_alike _ _ (record {
       ∙ clocked_rest (t.clock + 1) s.pit t.pit alike.counter_2;
 })
 
-keys_alike : (s t : ChipsState) → AlikeButReads s t → AlikeButReads (keys_settled s) (keys_settled t)
-unfolding keys_settled
+keys_alike : (s t : ChipsState) → AlikeButReads s t → AlikeButReads (after_key_settling s) (after_key_settling t)
+unfolding after_key_settling
 keys_alike s t alike = settled_alike _ _ (record { clock = alike.clock; ppi = alike.ppi; counter_2 = alike.counter_2 })
 
-high_alike : (s t : ChipsState) → AlikeButReads s t → speaker_high s ≡ speaker_high t
-unfolding speaker_high
+high_alike : (s t : ChipsState) → AlikeButReads s t → is_speaker_high s ≡ is_speaker_high t
+unfolding is_speaker_high
 high_alike s t alike =
     ap (λ ports. (bit_at (lines_b ports) 1 == 1) && is_high s.pit.counter_2.out) alike.ppi
     ∙ ap (λ (c : CounterState). (bit_at (lines_b t.ppi) 1 == 1) && is_high c.out) alike.counter_2
 
 -- the speaker's next level depends on no more than that
-pub sounds_alike : (s t : ChipsState) (writes : List (ℕ × ℕ)) → AlikeButReads s t → speaker_after writes s ≡ speaker_after writes t
-unfolding speaker_after
+pub sounds_alike : (s t : ChipsState) (writes : List (ℕ × ℕ)) → AlikeButReads s t → is_speaker_high_after s writes ≡ is_speaker_high_after t writes
+unfolding is_speaker_high_after
 sounds_alike s t writes alike = high_alike _ _ (keys_alike _ _ (clocked_alike _ _ (writes_alike s t writes alike)))
 
 -- one counter is read
@@ -113,15 +113,15 @@ timer_read : (n : ℕ) (p : PitState) → erased (pit_after_read n p).counter_2 
 unfolding pit_after_read
 timer_read n p = counter_read (n == 0) (n == 1) (n == 2) p
 
-read_alike : (s : ChipsState) (port : Port) → AlikeButReads (after_read_at s port) s
+read_alike : (s : ChipsState) (port : Port) → AlikeButReads (after_port_read s port) s
 read_alike s (Controller a0) = record { clock = refl; ppi = refl; counter_2 = refl }
 read_alike s (Timer n) = record { clock = refl; ppi = refl; counter_2 = timer_read n s.pit }
 read_alike s (Parallel n) = record { clock = refl; ppi = refl; counter_2 = refl }
 read_alike s Nothing = record { clock = refl; ppi = refl; counter_2 = refl }
 
-input_alike : (s : ChipsState) (port : ℕ) → AlikeButReads (after_input s port) (settled s)
+input_alike : (s : ChipsState) (port : ℕ) → AlikeButReads (after_input s port) (after_settling s)
 unfolding after_input
-input_alike s port = settled_alike (after_read_at s (port_at port)) s (read_alike s (port_at port))
+input_alike s port = settled_alike (after_port_read s (port_at port)) s (read_alike s (port_at port))
 
 pub no_read_touches : NoReadTouches
-no_read_touches s writes port still = sounds_alike (after_input s port) (settled s) writes (input_alike s port) ∙ ap (speaker_after writes) still
+no_read_touches s writes port still = sounds_alike (after_input s port) (after_settling s) writes (input_alike s port) ∙ ap (is_speaker_high_after writes) still

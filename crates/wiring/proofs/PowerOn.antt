@@ -1,4 +1,4 @@
--- At power-on the wires have settled, and keys that arrive before anything else leave them so.
+-- At power-on the wires have after_settling, and keys that arrive before anything else leave them so.
 use Rattle.std.proofs.Common.{◌≡◌, ℕ, Bool, true, false, if◌then◌else◌, List, [], ◌∷◌, Option, None, refl, sym, ap, ◌∙◌, arith}
 use Rattle.std.specs.Prelude.{◌==◌, is_some}
 use Rattle.std.specs.Int.{bit_at}
@@ -10,7 +10,7 @@ use Rattle.pit8253.specs.Pit.{PitState, power_on_pit, pit_gated}
 use Rattle.ppi8255.specs.Ppi.{PpiState, lines_b}
 use Rattle.keyboard.specs.Keyboard.{KeyboardState, after_arrival, cleared}
 use Rattle.wiring.specs.Chips.{ChipsState, power_on}
-use Rattle.wiring.specs.Wires.{line_of, port_b_line, latch_settled, requests_settled, settled, arrived, after_arrivals}
+use Rattle.wiring.specs.Wires.{line_of, port_b_line, latch_settled, requests_settled, after_settling, after_arrival, after_arrivals}
 
 -- a key that arrives only waits
 latch_kept : (k : KeyboardState) (code : ℕ) → (after_arrival k code).latch ≡ k.latch
@@ -34,7 +34,7 @@ with_parts s k pit pic = record s { keyboard = k; pit = pit; pic = pic }
 abbrev requests_at : PitState → Option ℕ → PicState → PicState
 requests_at pit latch pic = with_line 1 (line_of (is_some latch)) (with_line 0 pit.counter_0.out pic)
 
-arrival_settled : (s : ChipsState) (code : ℕ) → settled s ≡ s → s.keyboard.latch ≡ None → settled (arrived s code) ≡ arrived s code
+arrival_settled : (s : ChipsState) (code : ℕ) → after_settling s ≡ s → s.keyboard.latch ≡ None → after_settling (after_arrival s code) ≡ after_arrival s code
 unfolding settled arrived
 arrival_settled s code still empty =
     let after : KeyboardState = after_arrival s.keyboard code in
@@ -48,15 +48,15 @@ arrival_settled s code still empty =
     ∙ ap (λ pic. with_parts s after gated pic) pic
     ∙ ap (λ pit. with_parts s after pit s.pic) pit
 
-arrived_empty : (s : ChipsState) (code : ℕ) → s.keyboard.latch ≡ None → (arrived s code).keyboard.latch ≡ None
+arrived_empty : (s : ChipsState) (code : ℕ) → s.keyboard.latch ≡ None → (after_arrival s code).keyboard.latch ≡ None
 unfolding arrived
 arrived_empty s code empty = latch_kept s.keyboard code ∙ empty
 
-arrivals_settled : (codes : List ℕ) (s : ChipsState) → settled s ≡ s → s.keyboard.latch ≡ None → settled (after_arrivals codes s) ≡ after_arrivals codes s
+arrivals_settled : (codes : List ℕ) (s : ChipsState) → after_settling s ≡ s → s.keyboard.latch ≡ None → after_settling (after_arrivals s codes) ≡ after_arrivals s codes
 arrivals_settled [] s still empty = still
-arrivals_settled (code ∷ codes) s still empty = arrivals_settled codes (arrived s code) (arrival_settled s code still empty) (arrived_empty s code empty)
+arrivals_settled (code ∷ codes) s still empty = arrivals_settled codes (after_arrival s code) (arrival_settled s code still empty) (arrived_empty s code empty)
 
-first_settled : (image : List (ℕ × ℕ)) (size sw1 sw2 : ℕ) → settled (power_on image size sw1 sw2) ≡ power_on image size sw1 sw2
+first_settled : (image : List (ℕ × ℕ)) (size sw1 sw2 : ℕ) → after_settling (power_on image size sw1 sw2) ≡ power_on image size sw1 sw2
 unfolding settled power_on power_on_pit pit_gated gated with_line
 first_settled image size sw1 sw2 = refl
 
@@ -64,5 +64,5 @@ empty_first : (image : List (ℕ × ℕ)) (size sw1 sw2 : ℕ) → (power_on ima
 unfolding power_on
 empty_first image size sw1 sw2 = refl
 
-pub power_on_settled : (image : List (ℕ × ℕ)) (size sw1 sw2 : ℕ) (codes : List ℕ) → settled (after_arrivals codes (power_on image size sw1 sw2)) ≡ after_arrivals codes (power_on image size sw1 sw2)
+pub power_on_settled : (image : List (ℕ × ℕ)) (size sw1 sw2 : ℕ) (codes : List ℕ) → after_settling (after_arrivals (power_on image size sw1 sw2) codes) ≡ after_arrivals (power_on image size sw1 sw2) codes
 power_on_settled image size sw1 sw2 codes = arrivals_settled codes (power_on image size sw1 sw2) (first_settled image size sw1 sw2) (empty_first image size sw1 sw2)

@@ -7,7 +7,7 @@ use Rattle.keyboard.specs.Keyboard.{KeyboardState, cleared}
 use Rattle.pic8259.specs.Pic.{PicState}
 use Rattle.pit8253.specs.Pit.{PitState, pit_gated}
 use Rattle.ppi8255.specs.Ppi.{PpiState, lines_b}
-use Rattle.wiring.specs.Wires.{line_of, port_b_line, latch_settled, requests_settled, settled}
+use Rattle.wiring.specs.Wires.{line_of, port_b_line, latch_settled, requests_settled, after_settling}
 use Rattle.wiring.specs.Laws.{SettlesOnce}
 use Rattle.wiring.proofs.Gates.{gate_2_twice}
 use Rattle.wiring.proofs.Requests.{both_lines_twice}
@@ -31,7 +31,7 @@ requests_twice pit k pic =
     both_lines_twice 1 0 (line_of (is_some k.latch)) pit.counter_0.out pic (above 0 1 one) (below 0 1 one)
 
 pub settles_once : SettlesOnce
-unfolding settled
+unfolding after_settling
 settles_once s =
     let line : Line = port_b_line s.ppi 0 in
     let keyboard : KeyboardState = latch_settled s.ppi s.keyboard in

@@ -1,64 +1,67 @@
 -- The gates of counters 0 and 1, through every operation of the timer.
 use Rattle.std.proofs.Common.{◌≡◌, ℕ, ◌/◌, ◌%◌, Bool, true, false, if◌then◌else◌, Option, None, Some, refl}
 use Rattle.std.specs.Prelude.{◌==◌, ◌&&◌, is_none}
+use Rattle.board_types.specs.Lines.{is_high}
 use Rattle.board_types.specs.declared.line.Line.{Line}
 use Rattle.pit8253.specs.declared.program.Mode.{Mode}
 use Rattle.pit8253.specs.declared.program.Mode.TheVariants.{TerminalCount, OneShot, RateGenerator, SquareWave, SoftwareStrobe, HardwareStrobe}
 use Rattle.pit8253.specs.declared.program.Access.{Access}
 use Rattle.pit8253.specs.declared.program.Access.TheVariants.{LowByte, HighByte, LowThenHigh}
-use Rattle.pit8253.specs.Program.{lowered, is_high}
-use Rattle.pit8253.specs.Counter.{CounterState, is_loaded, counted, rate_generated, half_step, square_waved, tick, latched, controlled, with_byte_of_two, written_by, written, read_by, after_read}
-use Rattle.pit8253.specs.Pit.{PitState, counter, with_counter, pit_tick, pit_written, pit_after_read, pit_gated}
+use Rattle.pit8253.specs.Program.{count_minus}
+use Rattle.pit8253.specs.Counter as one
+use Rattle.pit8253.specs.Counter.{CounterState, is_loaded, after_count, after_rate_count, half_step, after_square_count, after_latch, after_byte_of_two, after_write_by, after_read_by}
+use Rattle.pit8253.specs.Pit as pit
+use Rattle.pit8253.specs.Pit.{PitState, counter, with_counter}
 
 choose : (b : Bool) (gate : Line) (c d : CounterState) → c.gate ≡ gate → d.gate ≡ gate → (if b then c else d).gate ≡ gate
 choose true gate c d first second = first
 choose false gate c d first second = second
 
-rate_gate : (c : CounterState) → (rate_generated c).gate ≡ c.gate
+rate_gate : (c : CounterState) → (after_rate_count c).gate ≡ c.gate
 rate_gate c = choose (c.count == 1) c.gate _ _ refl refl
 
-square_gate : (c : CounterState) → (square_waved c).gate ≡ c.gate
+square_gate : (c : CounterState) → (after_square_count c).gate ≡ c.gate
 square_gate c =
     choose (c.count == 1) c.gate _ _ refl
-    (choose (lowered c.count_base (half_step c.count c.out) c.count == 0) c.gate _ _ refl refl)
+    (choose (count_minus c.count_base c.count (half_step c.count c.out) == 0) c.gate _ _ refl refl)
 
-counted_gate : (mode : Mode) (c : CounterState) → (counted mode c).gate ≡ c.gate
-counted_gate TerminalCount c = choose (is_loaded c.progress && is_high c.gate && is_none c.first_byte) c.gate _ _ refl refl
-counted_gate OneShot c = choose (is_loaded c.progress) c.gate _ _ refl refl
-counted_gate RateGenerator c = choose (is_loaded c.progress && is_high c.gate) c.gate _ _ (rate_gate c) refl
-counted_gate SquareWave c = choose (is_loaded c.progress && is_high c.gate) c.gate _ _ (square_gate c) refl
-counted_gate SoftwareStrobe c = choose (is_loaded c.progress && is_high c.gate) c.gate _ _ refl refl
-counted_gate HardwareStrobe c = choose (is_loaded c.progress) c.gate _ _ refl refl
+count_gate : (c : CounterState) (mode : Mode) → (after_count c mode).gate ≡ c.gate
+count_gate c TerminalCount = choose (is_loaded c.progress && is_high c.gate && is_none c.first_byte) c.gate _ _ refl refl
+count_gate c OneShot = choose (is_loaded c.progress) c.gate _ _ refl refl
+count_gate c RateGenerator = choose (is_loaded c.progress && is_high c.gate) c.gate _ _ (rate_gate c) refl
+count_gate c SquareWave = choose (is_loaded c.progress && is_high c.gate) c.gate _ _ (square_gate c) refl
+count_gate c SoftwareStrobe = choose (is_loaded c.progress && is_high c.gate) c.gate _ _ refl refl
+count_gate c HardwareStrobe = choose (is_loaded c.progress) c.gate _ _ refl refl
 
-tick_gate : (c : CounterState) → (tick c).gate ≡ c.gate
-unfolding tick
-tick_gate c = choose c.load_due c.gate _ _ refl (counted_gate c.mode c)
+tick_gate : (c : CounterState) → (one.after_tick c).gate ≡ c.gate
+unfolding one.after_tick
+tick_gate c = choose c.load_due c.gate _ _ refl (count_gate c c.mode)
 
-controlled_gate : (word : ℕ) (c : CounterState) → (controlled word c).gate ≡ c.gate
-unfolding controlled latched
-controlled_gate word c = choose (word / 16 % 4 == 0) c.gate _ _ refl refl
+control_gate : (word : ℕ) (c : CounterState) → (one.after_control_word c word).gate ≡ c.gate
+unfolding one.after_control_word after_latch
+control_gate word c = choose (word / 16 % 4 == 0) c.gate _ _ refl refl
 
-two_gate : (first : Option ℕ) (byte : ℕ) (c : CounterState) → (with_byte_of_two first byte c).gate ≡ c.gate
-two_gate None byte c = refl
-two_gate (Some low) byte c = refl
+two_gate : (c : CounterState) (first : Option ℕ) (byte : ℕ) → (after_byte_of_two c first byte).gate ≡ c.gate
+two_gate c None byte = refl
+two_gate c (Some low) byte = refl
 
-by_access_gate : (access : Access) (byte : ℕ) (c : CounterState) → (written_by access byte c).gate ≡ c.gate
-by_access_gate LowByte byte c = refl
-by_access_gate HighByte byte c = refl
-by_access_gate LowThenHigh byte c = two_gate c.first_byte byte c
+by_access_gate : (c : CounterState) (access : Access) (byte : ℕ) → (after_write_by c access byte).gate ≡ c.gate
+by_access_gate c LowByte byte = refl
+by_access_gate c HighByte byte = refl
+by_access_gate c LowThenHigh byte = two_gate c c.first_byte byte
 
-written_gate : (byte : ℕ) (c : CounterState) → (written byte c).gate ≡ c.gate
-unfolding written
-written_gate byte c = by_access_gate c.access byte c
+write_gate : (byte : ℕ) (c : CounterState) → (one.after_write c byte).gate ≡ c.gate
+unfolding one.after_write
+write_gate byte c = by_access_gate c c.access byte
 
-by_read_gate : (access : Access) (c : CounterState) → (read_by access c).gate ≡ c.gate
-by_read_gate LowByte c = refl
-by_read_gate HighByte c = refl
-by_read_gate LowThenHigh c = choose c.high_next c.gate _ _ refl refl
+by_read_gate : (c : CounterState) (access : Access) → (after_read_by c access).gate ≡ c.gate
+by_read_gate c LowByte = refl
+by_read_gate c HighByte = refl
+by_read_gate c LowThenHigh = choose c.high_next c.gate _ _ refl refl
 
-read_gate : (c : CounterState) → (after_read c).gate ≡ c.gate
-unfolding after_read
-read_gate c = by_read_gate c.access c
+read_gate : (c : CounterState) → (one.after_read c).gate ≡ c.gate
+unfolding one.after_read
+read_gate c = by_read_gate c c.access
 
 -- gates 0 and 1 of one state are those of another
 pub record SameGates (p q : PitState) : Type 0 where
@@ -82,22 +85,22 @@ changed_by false true second rule p keeps = record { gate_0 = refl; gate_1 = kee
 changed_by false false true rule p keeps = record { gate_0 = refl; gate_1 = refl }
 changed_by false false false rule p keeps = record { gate_0 = refl; gate_1 = refl }
 
-changed : (n : ℕ) (rule : CounterState → CounterState) (p : PitState) → ((c : CounterState) → (rule c).gate ≡ c.gate) → SameGates (with_counter n (rule (counter n p)) p) p
+changed : (n : ℕ) (rule : CounterState → CounterState) (p : PitState) → ((c : CounterState) → (rule c).gate ≡ c.gate) → SameGates (with_counter p n (rule (counter p n))) p
 changed n rule p keeps = changed_by (n == 0) (n == 1) (n == 2) rule p keeps
 
-pub written_gates : (n byte : ℕ) (p : PitState) → SameGates (pit_written n byte p) p
-unfolding pit_written
-written_gates n byte p =
-    one_of (n == 3) _ _ p (changed (byte / 64) (controlled byte) p (controlled_gate byte)) (changed n (written byte) p (written_gate byte))
+pub write_gates : (p : PitState) (n byte : ℕ) → SameGates (pit.after_write p n byte) p
+unfolding pit.after_write
+write_gates p n byte =
+    one_of (n == 3) _ _ p (changed (byte / 64) (λ c. one.after_control_word c byte) p (control_gate byte)) (changed n (λ c. one.after_write c byte) p (write_gate byte))
 
-pub read_gates : (n : ℕ) (p : PitState) → SameGates (pit_after_read n p) p
-unfolding pit_after_read
-read_gates n p = changed n after_read p read_gate
+pub read_gates : (p : PitState) (n : ℕ) → SameGates (pit.after_read p n) p
+unfolding pit.after_read
+read_gates p n = changed n one.after_read p read_gate
 
-pub tick_gates : (p : PitState) → SameGates (pit_tick p) p
-unfolding pit_tick
+pub tick_gates : (p : PitState) → SameGates (pit.after_tick p) p
+unfolding pit.after_tick
 tick_gates p = record { gate_0 = tick_gate p.counter_0; gate_1 = tick_gate p.counter_1 }
 
-pub gated_gates : (line : Line) (p : PitState) → SameGates (pit_gated 2 line p) p
-unfolding pit_gated
-gated_gates line p = record { gate_0 = refl; gate_1 = refl }
+pub gate_gates : (p : PitState) (line : Line) → SameGates (pit.after_gate p 2 line) p
+unfolding pit.after_gate
+gate_gates p line = record { gate_0 = refl; gate_1 = refl }

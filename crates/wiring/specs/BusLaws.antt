@@ -6,12 +6,12 @@ use Rattle.memory.specs.Kinds.{is_text_address}
 use Rattle.memory.specs.Map.{MemoryMap}
 use Rattle.memory.specs.Map as map
 use Rattle.memory.proofs.Writes.{write_changes}
-use Rattle.execute.specs.Bus.{IsBus}
+use Rattle.bus.specs.Bus.{IsBus}
 use Rattle.wiring.specs.declared.port.Port.{Port}
 use Rattle.wiring.specs.declared.port.Port.TheVariants.{Controller, Timer, Parallel, Nothing}
 use Rattle.wiring.specs.Chips.{ChipsState}
-use Rattle.wiring.specs.Ports.{byte_at, with_byte, is_writable, port_at, after_read_at, after_write_at, after_input, after_output, chips_bus}
-use Rattle.wiring.specs.Wires.{settled}
+use Rattle.wiring.specs.Ports.{byte_at, with_byte, is_writable, port_at, after_port_read, after_port_write, after_input, after_output, chips_bus}
+use Rattle.wiring.specs.Wires.{after_settling}
 
 -- which addresses take bytes stays
 kept_writable : (memory : MemoryMap) (address byte other : ℕ) → map.is_writable (map.with_byte memory address byte) other ≡ map.is_writable memory other
@@ -43,17 +43,17 @@ same_writable : (s t : ChipsState) (address : ℕ) → s.memory ≡ t.memory →
 unfolding is_writable
 same_writable s t address same = ap (λ memory. not (is_text_address address) && map.is_writable memory address) same
 
-settled_memory : (s : ChipsState) → (settled s).memory ≡ s.memory
-unfolding settled
+settled_memory : (s : ChipsState) → (after_settling s).memory ≡ s.memory
+unfolding after_settling
 settled_memory s = refl
 
-read_memory : (s : ChipsState) (port : Port) → (after_read_at s port).memory ≡ s.memory
+read_memory : (s : ChipsState) (port : Port) → (after_port_read s port).memory ≡ s.memory
 read_memory s (Controller a0) = refl
 read_memory s (Timer n) = refl
 read_memory s (Parallel n) = refl
 read_memory s Nothing = refl
 
-written_memory : (s : ChipsState) (port : Port) (byte : ℕ) → (after_write_at s port byte).memory ≡ s.memory
+written_memory : (s : ChipsState) (port : Port) (byte : ℕ) → (after_port_write s port byte).memory ≡ s.memory
 written_memory s (Controller a0) byte = refl
 written_memory s (Timer n) byte = refl
 written_memory s (Parallel n) byte = refl
@@ -61,11 +61,11 @@ written_memory s Nothing byte = refl
 
 input_memory : (s : ChipsState) (port : ℕ) → (after_input s port).memory ≡ s.memory
 unfolding after_input
-input_memory s port = settled_memory (after_read_at s (port_at port)) ∙ read_memory s (port_at port)
+input_memory s port = settled_memory (after_port_read s (port_at port)) ∙ read_memory s (port_at port)
 
 output_memory : (s : ChipsState) (port byte : ℕ) → (after_output s port byte).memory ≡ s.memory
 unfolding after_output
-output_memory s port byte = settled_memory (after_write_at s (port_at port) byte) ∙ written_memory s (port_at port) byte
+output_memory s port byte = settled_memory (after_port_write s (port_at port) byte) ∙ written_memory s (port_at port) byte
 
 pub chips_keep_bytes : IsBus chips_bus
 chips_keep_bytes = record {

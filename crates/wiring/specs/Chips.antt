@@ -1,15 +1,16 @@
 -- What the system board holds beside the processor: its memory, its chips and the clock that they stand at (IBM PC
 -- Technical Reference, "System Board"). Each chip is as its own definition says.
 use Rattle.std.specs.Prelude.{ℕ, List}
-use Rattle.memory.specs.Map.{MemoryMap}
 use Rattle.memory.specs.Map as map
-use Rattle.pic8259.specs.Pic.{PicState}
+use Rattle.memory.specs.Map.{MemoryMap}
 use Rattle.pic8259.specs.Pic as pic
-use Rattle.pit8253.specs.Pit.{PitState, power_on_pit}
-use Rattle.ppi8255.specs.Ppi.{PpiState}
+use Rattle.pic8259.specs.Pic.{PicState}
+use Rattle.pit8253.specs.Pit as pit
+use Rattle.pit8253.specs.Pit.{PitState}
 use Rattle.ppi8255.specs.Ppi as ppi
-use Rattle.keyboard.specs.Keyboard.{KeyboardState}
+use Rattle.ppi8255.specs.Ppi.{PpiState}
 use Rattle.keyboard.specs.Keyboard as keyboard
+use Rattle.keyboard.specs.Keyboard.{KeyboardState}
 
 pub record ChipsState : Type 0 where
   -- processor clocks since power-on
@@ -26,7 +27,7 @@ power_on image ram_size sw1 sw2 = record {
   clock = 0;
   memory = map.power_on image ram_size;
   pic = pic.power_on;
-  pit = power_on_pit;
+  pit = pit.power_on;
   ppi = ppi.power_on sw1 sw2;
   keyboard = keyboard.power_on;
 }

@@ -1,19 +1,30 @@
 -- What holds of the wires whatever the chips' states are.
-use Rattle.std.specs.Prelude.{◌≡◌, ℕ, ◌<◌, ◌≤◌, false, List, length, None, is_some}
-use Rattle.std.specs.Int.{bit_at}
+use Rattle.std.specs.Prelude.{◌≡◌, ℕ, ◌+◌, ◌-◌, ◌/◌, ◌<◌, ◌≤◌, ◌&&◌, ◌||◌, not, true, false, if◌then◌else◌, List, length, None, is_some}
+use Rattle.board_types.specs.Bits.{has_bit}
+use Rattle.board_types.specs.Lines.{is_high}
 use Rattle.board_types.specs.declared.line.Line.TheVariants.{High}
+use Rattle.bus.specs.PortWrites.{after_port_writes}
+use Rattle.keyboard.specs.Keyboard as keys
 use Rattle.pic8259.specs.Levels.{contains}
-use Rattle.pit8253.specs.Program.{is_high}
+use Rattle.pit8253.specs.Counter as counter
+use Rattle.pit8253.specs.Pit as pit
 use Rattle.ppi8255.specs.Ppi.{lines_b}
-use Rattle.execute.specs.PortWrites.{after_port_writes}
 use Rattle.wiring.specs.Chips.{ChipsState, power_on}
 use Rattle.wiring.specs.Ports.{after_input, after_output, with_byte}
-use Rattle.wiring.specs.Wires.{port_b_line, settled, clocked, arrived, after_arrivals, keys_settled, request_taken}
-use Rattle.wiring.specs.Speaker.{speaker_high, speaker_after}
+use Rattle.wiring.specs.Wires.{port_b_line, after_settling, after_clock, after_clocks, after_arrival, after_arrivals, after_key_settling, after_acknowledge}
+use Rattle.wiring.specs.Speaker.{is_speaker_high, is_speaker_high_after}
 
 -- to settle again changes nothing
 abbrev pub SettlesOnce : Type 0
-SettlesOnce = (s : ChipsState) → settled (settled s) ≡ settled s
+SettlesOnce = (s : ChipsState) → after_settling (after_settling s) ≡ after_settling s
+
+-- the keyboard has settled to the lines of port B
+abbrev pub KeysSettled : ChipsState → Type 0
+KeysSettled s = keys.after_settling s.keyboard (lines_b s.ppi) ≡ s.keyboard
+
+-- so it has once it settles, and the wires after it
+abbrev pub KeysSettleOnce : Type 0
+KeysSettleOnce = (s : ChipsState) → KeysSettled (after_key_settling s)
 
 -- the wires as the board draws them: gate 2 is line 0 of port B, IR0 is OUT0, IR1 is high while the latch is full,
 -- and the latch is empty while line 7 of port B is 1
@@ -21,11 +32,35 @@ pub record WiresAgree (s : ChipsState) : Type 0 where
   pub gate_2 : s.pit.counter_2.gate ≡ port_b_line s.ppi 0
   pub ir0 : contains s.pic.high 0 ≡ is_high s.pit.counter_0.out
   pub ir1 : contains s.pic.high 1 ≡ is_some s.keyboard.latch
-  pub emptied : bit_at (lines_b s.ppi) 7 ≡ 1 → s.keyboard.latch ≡ None
+  pub emptied : has_bit (lines_b s.ppi) 7 ≡ true → s.keyboard.latch ≡ None
 
 -- settled wires agree, in a controller of eight lines
 abbrev pub SettledAgree : Type 0
-SettledAgree = (s : ChipsState) → length s.pic.high ≡ 8 → WiresAgree (settled s)
+SettledAgree = (s : ChipsState) → length s.pic.high ≡ 8 → WiresAgree (after_settling s)
+
+-- What a settling changes: the latch, which it only empties; counter 2, as its gate's new level changes it; lines 0 and
+-- 1 of the controller, with a rise that is remembered for each of the two that was low and is high; and nothing else.
+pub record SettlingChanges (s t : ChipsState) : Type 0 where
+  pub nothing_else : t ≡ record s {
+    keyboard = record s.keyboard { latch = t.keyboard.latch };
+    pit = record s.pit { counter_2 = t.pit.counter_2 };
+    pic = record s.pic { high = t.pic.high; risen = t.pic.risen };
+  }
+  pub latch : t.keyboard.latch ≡ (if has_bit (lines_b s.ppi) 7 then None else s.keyboard.latch)
+  pub counter_2 : t.pit.counter_2 ≡ counter.after_gate s.pit.counter_2 (port_b_line s.ppi 0)
+  pub other_lines : (level : ℕ) → 2 ≤ level → contains t.pic.high level ≡ contains s.pic.high level
+  pub other_rises : (level : ℕ) → 2 ≤ level → contains t.pic.risen level ≡ contains s.pic.risen level
+  pub rises : (level : ℕ) → level < 2
+      → contains t.pic.risen level ≡ (contains s.pic.risen level || (not (contains s.pic.high level) && contains t.pic.high level))
+
+abbrev pub SettlingChangesAlone : Type 0
+SettlingChangesAlone = (s : ChipsState) → length s.pic.high ≡ 8 → length s.pic.risen ≡ 8 → SettlingChanges s (after_settling s)
+
+-- while the wires have settled, n clocks tick the counters once for each number that 4 divides
+abbrev pub ClocksTick : Type 0
+ClocksTick =
+    (s : ChipsState) (n : ℕ) → after_settling s ≡ s
+    → (after_clocks s n).pit ≡ pit.after_ticks s.pit ((s.clock + n) / 4 - s.clock / 4)
 
 -- the wires that nothing drives: gates 0 and 1 are high, and IR2 to IR7 low
 pub record FixedWires (s : ChipsState) : Type 0 where
@@ -40,35 +75,36 @@ pub record WiresStay : Type 0 where
   pub byte : (s : ChipsState) (address byte : ℕ) → FixedWires s → FixedWires (with_byte s address byte)
   pub input : (s : ChipsState) (port : ℕ) → FixedWires s → FixedWires (after_input s port)
   pub output : (s : ChipsState) (port byte : ℕ) → FixedWires s → FixedWires (after_output s port byte)
-  pub clock : (s : ChipsState) → FixedWires s → FixedWires (clocked s)
-  pub key : (s : ChipsState) (code : ℕ) → FixedWires s → FixedWires (arrived s code)
-  pub keys : (s : ChipsState) → FixedWires s → FixedWires (keys_settled s)
-  pub request : (s : ChipsState) → FixedWires s → FixedWires (request_taken s)
+  pub clock : (s : ChipsState) → FixedWires s → FixedWires (after_clock s)
+  pub key : (s : ChipsState) (code : ℕ) → FixedWires s → FixedWires (after_arrival s code)
+  pub keys : (s : ChipsState) → FixedWires s → FixedWires (after_key_settling s)
+  pub request : (s : ChipsState) → FixedWires s → FixedWires (after_acknowledge s)
 
--- the parallel port, counter 2 and the clock are the same
+-- what the speaker's next level can depend on is the same: the clock, the parallel port, and of counter 2 all but what
+-- its reads change, the latch and the byte that is next
 pub record SoundsAlike (s t : ChipsState) : Type 0 where
   pub clock : s.clock ≡ t.clock
   pub ppi : s.ppi ≡ t.ppi
-  pub counter_2 : s.pit.counter_2 ≡ t.pit.counter_2
+  pub counter_2 : record s.pit.counter_2 { latch = None; high_next = false } ≡ record t.pit.counter_2 { latch = None; high_next = false }
 
 -- the speaker's next level depends on these and on the port writes alone
 abbrev pub DependsOnWrites : Type 0
 DependsOnWrites =
-    (s t : ChipsState) (writes : List (ℕ × ℕ)) → SoundsAlike s t → speaker_after writes s ≡ speaker_after writes t
+    (s t : ChipsState) (writes : List (ℕ × ℕ)) → SoundsAlike s t → is_speaker_high_after s writes ≡ is_speaker_high_after t writes
 
 -- no key that arrives touches the speaker's next level
 abbrev pub NoKeyTouches : Type 0
 NoKeyTouches =
     (s : ChipsState) (writes : List (ℕ × ℕ)) (codes : List ℕ)
-    → speaker_high (keys_settled (after_arrivals codes (clocked (after_port_writes after_output s writes)))) ≡ speaker_after writes s
+    → is_speaker_high (after_key_settling (after_arrivals (after_clock (after_port_writes after_output s writes)) codes)) ≡ is_speaker_high_after s writes
 
 -- nor does an interrupt that the processor takes
 abbrev pub NoEntryTouches : Type 0
 NoEntryTouches =
-    (s : ChipsState) (writes : List (ℕ × ℕ)) → speaker_after writes (request_taken s) ≡ speaker_after writes s
+    (s : ChipsState) (writes : List (ℕ × ℕ)) → is_speaker_high_after (after_acknowledge s) writes ≡ is_speaker_high_after s writes
 
 -- nor, where the wires have settled, a read of any port
 abbrev pub NoReadTouches : Type 0
 NoReadTouches =
-    (s : ChipsState) (writes : List (ℕ × ℕ)) (port : ℕ) → settled s ≡ s
-    → speaker_after writes (after_input s port) ≡ speaker_after writes s
+    (s : ChipsState) (writes : List (ℕ × ℕ)) (port : ℕ) → after_settling s ≡ s
+    → is_speaker_high_after (after_input s port) writes ≡ is_speaker_high_after s writes

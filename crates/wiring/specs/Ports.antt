@@ -1,17 +1,17 @@
 -- The addresses and the ports of the chips (IBM PC Technical Reference, "System Memory Map" and "I/O Address Map").
 -- That FFh is read and a write is lost where nothing answers is this board's choice.
 use Rattle.std.specs.Prelude.{ℕ, ◌-◌, ◌==◌, Bool, true, false, not, ◌&&◌, if◌then◌else◌, nat_le}
+use Rattle.bus.specs.Bus.{BusMeaning}
 use Rattle.memory.specs.Kinds.{is_text_address}
 use Rattle.memory.specs.Map as map
 use Rattle.pic8259.specs.Pic as pic
-use Rattle.pit8253.specs.Pit.{pit_written, pit_read_byte, pit_after_read}
+use Rattle.pit8253.specs.Pit as pit
 use Rattle.ppi8255.specs.Ppi as ppi
 use Rattle.ppi8255.specs.declared.ppi.Inputs.{Inputs}
-use Rattle.execute.specs.Bus.{BusMeaning}
 use Rattle.wiring.specs.declared.port.Port.{Port}
 use Rattle.wiring.specs.declared.port.Port.TheVariants.{Controller, Timer, Parallel, Nothing}
 use Rattle.wiring.specs.Chips.{ChipsState}
-use Rattle.wiring.specs.Wires.{settled}
+use Rattle.wiring.specs.Wires.{after_settling}
 
 -- the byte at an address; text memory isn't on the system board
 unfoldable pub byte_at : ChipsState → ℕ → ℕ
@@ -38,44 +38,44 @@ abbrev pub inputs_of : ChipsState → Inputs
 inputs_of s = record { latch = s.keyboard.latch; out2 = s.pit.counter_2.out }
 
 -- the byte that a read gives
-abbrev pub byte_read : ChipsState → Port → ℕ
-byte_read s (Controller a0) = pic.read_of a0 s.pic
-byte_read s (Timer n) = pit_read_byte n s.pit
-byte_read s (Parallel n) = ppi.read_of s.ppi n (inputs_of s)
-byte_read s Nothing = 0xFF
+abbrev pub port_byte : ChipsState → Port → ℕ
+port_byte s (Controller a0) = pic.byte_at s.pic a0
+port_byte s (Timer n) = pit.byte_at s.pit n
+port_byte s (Parallel n) = ppi.byte_at s.ppi n (inputs_of s)
+port_byte s Nothing = 0xFF
 
 -- what the read changes
-abbrev pub after_read_at : ChipsState → Port → ChipsState
-after_read_at s (Controller a0) = record s { pic = pic.after_read s.pic }
-after_read_at s (Timer n) = record s { pit = pit_after_read n s.pit }
-after_read_at s (Parallel n) = s
-after_read_at s Nothing = s
+abbrev pub after_port_read : ChipsState → Port → ChipsState
+after_port_read s (Controller a0) = record s { pic = pic.after_read s.pic }
+after_port_read s (Timer n) = record s { pit = pit.after_read s.pit n }
+after_port_read s (Parallel n) = s
+after_port_read s Nothing = s
 
 -- what a write changes
-abbrev pub after_write_at : ChipsState → Port → ℕ → ChipsState
-after_write_at s (Controller a0) byte = record s { pic = pic.written a0 byte s.pic }
-after_write_at s (Timer n) byte = record s { pit = pit_written n byte s.pit }
-after_write_at s (Parallel n) byte = record s { ppi = ppi.after_write s.ppi n byte }
-after_write_at s Nothing byte = s
+abbrev pub after_port_write : ChipsState → Port → ℕ → ChipsState
+after_port_write s (Controller a0) byte = record s { pic = pic.after_write s.pic a0 byte }
+after_port_write s (Timer n) byte = record s { pit = pit.after_write s.pit n byte }
+after_port_write s (Parallel n) byte = record s { ppi = ppi.after_write s.ppi n byte }
+after_port_write s Nothing byte = s
 
 -- the byte that a port gives
-unfoldable pub input_at : ChipsState → ℕ → ℕ
-input_at s port = byte_read s (port_at port)
+unfoldable pub input : ChipsState → ℕ → ℕ
+input s port = port_byte s (port_at port)
 
 -- after each port access the wires settle (this board's choice)
 unfoldable pub after_input : ChipsState → ℕ → ChipsState
-after_input s port = settled (after_read_at s (port_at port))
+after_input s port = after_settling (after_port_read s (port_at port))
 
 unfoldable pub after_output : ChipsState → ℕ → ℕ → ChipsState
-after_output s port byte = settled (after_write_at s (port_at port) byte)
+after_output s port byte = after_settling (after_port_write s (port_at port) byte)
 
 -- the bus of the system board
 abbrev pub chips_bus : BusMeaning ChipsState
 chips_bus = record {
-  read = byte_at;
-  write = with_byte;
-  writable = is_writable;
-  input = input_at;
+  byte_at = byte_at;
+  after_write = with_byte;
+  is_writable = is_writable;
+  input = input;
   after_input = after_input;
-  output = after_output;
+  after_output = after_output;
 }

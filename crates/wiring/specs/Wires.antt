@@ -1,65 +1,67 @@
 -- The wires between the chips, and a clock of theirs (IBM PC Technical Reference, "System Board": IR0 is OUT0, IR1
 -- the full keyboard latch, the other request lines are low; gates 0 and 1 are high and gate 2 is port B bit 0; port
 -- B bit 7 clears the latch). When they settle is this board's choice.
-use Rattle.std.specs.Prelude.{ℕ, ◌+◌, ◌%◌, ◌==◌, Bool, true, false, if◌then◌else◌, List, fold, is_some}
-use Rattle.std.specs.Int.{bit_at}
+use Rattle.std.specs.Prelude.{ℕ, ◌+◌, ◌%◌, ◌==◌, if◌then◌else◌, List, fold, is_some}
+use Rattle.board_types.specs.Bits.{has_bit}
 use Rattle.board_types.specs.Iterate.{iterate}
+use Rattle.board_types.specs.Lines.{from_bool}
 use Rattle.board_types.specs.declared.line.Line.{Line}
-use Rattle.board_types.specs.declared.line.Line.TheVariants.{Low, High}
-use Rattle.pic8259.specs.Pic.{PicState, with_line, acknowledged}
-use Rattle.pit8253.specs.Pit.{PitState, pit_tick, pit_gated}
+use Rattle.pic8259.specs.Pic as pic
+use Rattle.pic8259.specs.Pic.{PicState, after_line}
+use Rattle.pit8253.specs.Pit.{PitState, after_tick, after_gate}
 use Rattle.ppi8255.specs.Ppi.{PpiState, lines_b}
-use Rattle.keyboard.specs.Keyboard.{KeyboardState, after_arrival, after_settling, cleared}
+use Rattle.keyboard.specs.Keyboard as keys
+use Rattle.keyboard.specs.Keyboard.{KeyboardState, after_clearing}
 use Rattle.wiring.specs.Chips.{ChipsState}
-
-abbrev pub line_of : Bool → Line
-line_of true = High
-line_of false = Low
 
 -- a line of port B, by its number
 abbrev pub port_b_line : PpiState → ℕ → Line
-port_b_line ppi k = line_of (bit_at (lines_b ppi) k == 1)
+port_b_line ppi k = from_bool (has_bit (lines_b ppi) k)
 
 -- the latch is emptied while line 7 of port B is 1
-abbrev pub latch_settled : PpiState → KeyboardState → KeyboardState
-latch_settled ppi keyboard = if bit_at (lines_b ppi) 7 == 1 then cleared keyboard else keyboard
+abbrev pub after_latch_wire : KeyboardState → PpiState → KeyboardState
+after_latch_wire keyboard ppi = if has_bit (lines_b ppi) 7 then after_clearing keyboard else keyboard
+
+-- gate 2 is line 0 of port B
+abbrev pub after_gate_wire : PitState → PpiState → PitState
+after_gate_wire pit ppi = after_gate pit 2 (port_b_line ppi 0)
 
 -- IR0 is OUT0, and IR1 is high while the latch is full
-abbrev pub requests_settled : PitState → KeyboardState → PicState → PicState
-requests_settled pit keyboard pic = with_line 1 (line_of (is_some keyboard.latch)) (with_line 0 pit.counter_0.out pic)
+abbrev pub after_request_wires : PicState → PitState → KeyboardState → PicState
+after_request_wires pic pit keyboard = after_line (after_line pic 0 pit.counter_0.out) 1 (from_bool (is_some keyboard.latch))
 
 -- the wires settle: the latch, then gate 2, then the request lines
-unfoldable pub settled : ChipsState → ChipsState
-settled s =
-    let keyboard : KeyboardState = latch_settled s.ppi s.keyboard in
-    let pit : PitState = pit_gated 2 (port_b_line s.ppi 0) s.pit in
-    record s { keyboard = keyboard; pit = pit; pic = requests_settled pit keyboard s.pic }
+unfoldable pub after_settling : ChipsState → ChipsState
+after_settling s =
+    let keyboard : KeyboardState = after_latch_wire s.keyboard s.ppi in
+    let pit : PitState = after_gate_wire s.pit s.ppi in
+    record s { keyboard = keyboard; pit = pit; pic = after_request_wires s.pic pit keyboard }
 
 -- the counters tick where 4 divides the number of the clock that is reached; which of four clocks it is, is this
 -- board's choice
-abbrev pub pit_clocked : ℕ → PitState → PitState
-pit_clocked clock pit = if clock % 4 == 0 then pit_tick pit else pit
+abbrev pub pit_after_clock : PitState → ℕ → PitState
+pit_after_clock pit clock = if clock % 4 == 0 then after_tick pit else pit
 
 -- one clock goes by, and the wires settle
-unfoldable pub clocked : ChipsState → ChipsState
-clocked s = settled (record s { clock = s.clock + 1; pit = pit_clocked (s.clock + 1) s.pit })
+unfoldable pub after_clock : ChipsState → ChipsState
+after_clock s = after_settling (record s { clock = s.clock + 1; pit = pit_after_clock s.pit (s.clock + 1) })
 
 -- n clocks, one after another, in which no key arrives and the keyboard doesn't settle
-abbrev pub after_clocks : ℕ → ChipsState → ChipsState
-after_clocks n s = iterate clocked n s
+abbrev pub after_clocks : ChipsState → ℕ → ChipsState
+after_clocks s n = iterate after_clock n s
 
 -- a key code reaches the keyboard
-unfoldable pub arrived : ChipsState → ℕ → ChipsState
-arrived s code = record s { keyboard = after_arrival s.keyboard code }
+unfoldable pub after_arrival : ChipsState → ℕ → ChipsState
+after_arrival s code = record s { keyboard = keys.after_arrival s.keyboard code }
 
 -- codes reach it, one after another
-abbrev pub after_arrivals : List ℕ → ChipsState → ChipsState
-after_arrivals codes s = fold arrived s codes
+abbrev pub after_arrivals : ChipsState → List ℕ → ChipsState
+after_arrivals s codes = fold after_arrival s codes
 
 -- the keyboard settles to the lines of port B, and then the wires settle
-unfoldable pub keys_settled : ChipsState → ChipsState
-keys_settled s = settled (record s { keyboard = after_settling s.keyboard (lines_b s.ppi) })
+unfoldable pub after_key_settling : ChipsState → ChipsState
+after_key_settling s = after_settling (record s { keyboard = keys.after_settling s.keyboard (lines_b s.ppi) })
 
 -- the processor acknowledges a request; where no level may be taken nothing changes
-unfoldable pub request_taken : ChipsState → ChipsState
-request_taken s = record s { pic = acknowledged s.pic }
+unfoldable pub after_acknowledge : ChipsState → ChipsState
+after_acknowledge s = record s { pic = pic.after_acknowledge s.pic }

@@ -1,9 +1,14 @@
 //! What holds of the wires whatever the chips' states are. Each is an empty function whose contract states it.
-ghost use Rattle.wiring.specs.Laws.{SettlesOnce, SettledAgree, WiresStay, DependsOnWrites, NoKeyTouches, NoEntryTouches, NoReadTouches};
+ghost use Rattle.wiring.specs.Laws.{SettlesOnce, KeysSettleOnce, SettledAgree, SettlingChangesAlone, ClocksTick, WiresStay, DependsOnWrites, NoKeyTouches, NoEntryTouches, NoReadTouches};
 
 /// Wires that have settled stay as they are when they settle again.
 pub fn settles_once()
     ensures { SettlesOnce }
+{}
+
+/// Once the keyboard and then the wires have settled, the keyboard settles to nothing else.
+pub fn keys_settle_once()
+    ensures { KeysSettleOnce }
 {}
 
 /// Settled wires, at a controller of eight lines, are as the board draws them: gate 2 is line 0 of port B, IR0 is OUT0,
@@ -12,13 +17,26 @@ pub fn settled_agree()
     ensures { SettledAgree }
 {}
 
+/// A settling changes the latch, gate 2 with what that does to counter 2, and lines 0 and 1 of the controller with the
+/// rises that are remembered for them, and nothing else.
+pub fn settling_changes_alone()
+    ensures { SettlingChangesAlone }
+{}
+
+/// From clock c on, n clocks tick the counters (c + n)/4 - c/4 times, both quotients rounded down, while the wires have
+/// settled.
+pub fn clocks_tick()
+    ensures { ClocksTick }
+{}
+
 /// The wires that nothing drives: gates 0 and 1 are high, and of the controller's eight lines IR2 to IR7 are low. They
 /// are so at power-on, and stay so at each byte written, port read or written, clock, key and interrupt taken.
 pub fn wires_stay()
     ensures { WiresStay }
 {}
 
-/// The speaker's next level depends on the parallel port, counter 2, the clock and the port writes alone.
+/// The speaker's next level depends on the parallel port, counter 2 but for what its reads change, the clock and the
+/// port writes alone.
 pub fn depends_on_writes()
     ensures { DependsOnWrites }
 {}

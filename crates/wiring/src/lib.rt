@@ -6,5 +6,3 @@ pub mod chips;
 pub mod laws;
 pub mod port;
 mod sound;
-#[cfg(test)]
-mod tests;

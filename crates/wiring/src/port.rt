@@ -4,7 +4,7 @@ ghost use Rattle.wiring.specs.Ports.{port_at};
 ghost use Rattle.wiring.specs.Sound.{HasNumber};
 
 /// What answers at a port.
-#[derive(Clone, Copy, Debug, PartialEq, Eq)]
+#[derive(Clone, Copy)]
 pub enum Port {
     /// The interrupt controller, at its address line A0.
     Controller(bool),

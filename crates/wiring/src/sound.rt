@@ -1,17 +1,16 @@
 //! The timer and the parallel port, on which alone the speaker depends.
-ghost use Rattle.std.specs.Prelude.{◌≡◌, ◌==◌, ◌<◌};
-ghost use Rattle.std.specs.Int.{bit_at};
-ghost use Rattle.ppi8255.specs.Ppi as ppi;
-ghost use Rattle.wiring.specs.Wires.{line_of, pit_clocked};
-ghost use Rattle.wiring.specs.Sound.{HasNumber, sound_settled, sound_written, sound_high};
+ghost use Rattle.std.specs.Prelude.{◌≡◌};
+ghost use Rattle.wiring.specs.Wires.{pit_after_clock};
+ghost use Rattle.wiring.specs.Sound.{HasNumber, sound_after_settling, sound_after_write, is_sound_high};
 
 use crate::port::Port;
+use board_types::bits::bit;
 use board_types::line::Line;
 use pit8253::pit::Pit;
 use ppi8255::ppi::Ppi;
 
 /// The timer and the parallel port.
-#[derive(Clone, Copy, Debug)]
+#[derive(Clone, Copy)]
 pub struct Sound {
     pub(crate) pit: Pit,
     pub(crate) ppi: Ppi,
@@ -20,16 +19,16 @@ pub struct Sound {
 impl Sound {
     /// Gate 2 follows port B bit 0.
     pub(crate) fn settle(&mut self)
-        ensures { self.new ≡ sound_settled self.old }
+        ensures { self.new ≡ sound_after_settling self.old }
     {
-        let line = line_of(bit(self.ppi.port_b(), 0));
+        let line = Line::from_bool(bit(self.ppi.port_b(), 0));
         self.pit.set_gate(2, line);
     }
 
     /// The clock `clock` is reached: the counters tick where 4 divides its number.
     #[tactic(auto, using(crate::proofs::Speaker::one_tick))]
     pub(crate) fn tick(&mut self, clock: u64)
-        ensures { self.new ≡ record self.old { pit = pit_clocked clock self.old.pit } }
+        ensures { self.new ≡ record self.old { pit = pit_after_clock self.old.pit clock } }
     {
         if clock % 4 == 0 {
             self.pit.advance(1);
@@ -39,7 +38,7 @@ impl Sound {
     /// Writes `value` to `port`, where that is the timer's or the parallel port's.
     pub(crate) fn write(&mut self, port: Port, value: u8)
         requires { HasNumber port }
-        ensures { self.new ≡ sound_written self.old port value }
+        ensures { self.new ≡ sound_after_write self.old port value }
     {
         match port {
             Port::Timer(number) => self.pit.write(number, value),
@@ -49,24 +48,9 @@ impl Sound {
     }
 
     /// Whether the speaker is high.
-    pub(crate) fn high(&self) -> bool
-        ensures { result ≡ sound_high self.now }
+    pub(crate) fn is_high(&self) -> bool
+        ensures { result ≡ is_sound_high self.now }
     {
-        bit(self.ppi.port_b(), 1) && self.pit.out(2) == Line::High
+        bit(self.ppi.port_b(), 1) && self.pit.out(2).is_high()
     }
-}
-
-/// The level of a wire that is high where `high` holds.
-pub(crate) fn line_of(high: bool) -> Line
-    ensures { result ≡ line_of high }
-{
-    if high { Line::High } else { Line::Low }
-}
-
-/// Whether bit `k` of `byte` is 1.
-pub(crate) fn bit(byte: u8, k: u8) -> bool
-    requires { k < 8 }
-    ensures { result ≡ (bit_at byte k == 1) }
-{
-    byte >> k & 1 == 1
 }
