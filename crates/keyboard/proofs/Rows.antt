@@ -1,15 +1,15 @@
 -- The definitions on worked values: sixteen codes wait, one is lost, and they come in their order.
 use Rattle.std.proofs.Common.{◌≡◌, Some, None, List, [], ◌∷◌, refl}
 use Rattle.keyboard.specs.Keyboard.{KeyboardState, power_on, after_arrival, after_settling}
-use Rattle.keyboard.specs.Runs.{Event, Arrives, Settles, after_events}
+use Rattle.keyboard.specs.Runs.{Event, arrival, settling, after_events}
 
 seventeen : List Event
 seventeen =
-    Arrives 0x01 ∷ Arrives 0x02 ∷ Arrives 0x03 ∷ Arrives 0x04 ∷ Arrives 0x05 ∷ Arrives 0x06 ∷ Arrives 0x07 ∷ Arrives 0x08 ∷ Arrives 0x09
-    ∷ Arrives 0x0A ∷ Arrives 0x0B ∷ Arrives 0x0C ∷ Arrives 0x0D ∷ Arrives 0x0E ∷ Arrives 0x0F ∷ Arrives 0x10 ∷ Arrives 0x11 ∷ []
+    arrival 0x01 ∷ arrival 0x02 ∷ arrival 0x03 ∷ arrival 0x04 ∷ arrival 0x05 ∷ arrival 0x06 ∷ arrival 0x07 ∷ arrival 0x08 ∷ arrival 0x09
+    ∷ arrival 0x0A ∷ arrival 0x0B ∷ arrival 0x0C ∷ arrival 0x0D ∷ arrival 0x0E ∷ arrival 0x0F ∷ arrival 0x10 ∷ arrival 0x11 ∷ []
 
 full : KeyboardState
-full = after_events power_on (Settles 0xC0 ∷ seventeen)
+full = after_events power_on (settling 0xC0 ∷ seventeen)
 
 sixteen_wait : full.waiting ≡ 1 ∷ 2 ∷ 3 ∷ 4 ∷ 5 ∷ 6 ∷ 7 ∷ 8 ∷ 9 ∷ 10 ∷ 11 ∷ 12 ∷ 13 ∷ 14 ∷ 15 ∷ 16 ∷ []
 unfolding full seventeen after_events after_arrival after_settling
@@ -19,14 +19,14 @@ one_is_lost : full.lost ≡ 1
 unfolding full seventeen after_events after_arrival after_settling
 one_is_lost = refl
 
-the_first_moves : (after_events full (Settles 0x40 ∷ [])).latch ≡ Some 1
+the_first_moves : (after_events full (settling 0x40 ∷ [])).latch ≡ Some 1
 unfolding full seventeen after_events after_arrival after_settling
 the_first_moves = refl
 
-it_is_cleared : (after_events full (Settles 0x40 ∷ Settles 0xC0 ∷ [])).latch ≡ None
+it_is_cleared : (after_events full (settling 0x40 ∷ settling 0xC0 ∷ [])).latch ≡ None
 unfolding full seventeen after_events after_arrival after_settling
 it_is_cleared = refl
 
-the_second_moves : (after_events full (Settles 0x40 ∷ Settles 0xC0 ∷ Settles 0x40 ∷ [])).latch ≡ Some 2
+the_second_moves : (after_events full (settling 0x40 ∷ settling 0xC0 ∷ settling 0x40 ∷ [])).latch ≡ Some 2
 unfolding full seventeen after_events after_arrival after_settling
 the_second_moves = refl

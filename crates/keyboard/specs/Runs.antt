@@ -1,17 +1,17 @@
 -- Runs of arrivals and settlings, and what becomes of each code.
-use Rattle.std.specs.Prelude.{◌≡◌, ℕ, ◌+◌, ◌-◌, ◌^◌, ◌<◌, ◌≤◌, ◌==◌, min, if◌then◌else◌, List, [], ◌∷◌, ◌++◌, length}
-use Rattle.std.specs.Int.{bit_at}
+use Rattle.std.specs.Prelude.{◌≡◌, ℕ, ◌+◌, ◌-◌, ◌^◌, ◌<◌, ◌≤◌, min, if◌then◌else◌, List, [], ◌∷◌, ◌++◌, length}
 use Rattle.std.specs.Option.{option_to_list}
+use Rattle.board_types.specs.Bits.{has_bit}
 use Rattle.keyboard.specs.Keyboard.{KeyboardState, has_room, after_arrival, after_settling}
 
 -- what happens to a keyboard: a code arrives, or it settles to the lines of port B
 pub data Event : Type 0 where
-  Arrives : (code : ℕ) → Event
-  Settles : (port_b : ℕ) → Event
+  arrival : (code : ℕ) → Event
+  settling : (port_b : ℕ) → Event
 
 abbrev pub after_event : KeyboardState → Event → KeyboardState
-after_event s (Arrives code) = after_arrival s code
-after_event s (Settles port_b) = after_settling s port_b
+after_event s (arrival code) = after_arrival s code
+after_event s (settling port_b) = after_settling s port_b
 
 unfoldable pub after_events : KeyboardState → List Event → KeyboardState
 after_events s [] = s
@@ -23,28 +23,28 @@ codes_along codes s [] = []
 codes_along codes s (e ∷ es) = codes s e ++ codes_along codes (after_event s e) es
 
 -- the code that arrives
-abbrev pub arriving : KeyboardState → Event → List ℕ
-arriving s (Arrives code) = code ∷ []
-arriving s (Settles port_b) = []
+abbrev pub arriving_codes : KeyboardState → Event → List ℕ
+arriving_codes s (arrival code) = code ∷ []
+arriving_codes s (settling port_b) = []
 
 -- the code that arrives and finds room
-abbrev pub accepted : KeyboardState → Event → List ℕ
-accepted s (Arrives code) = if has_room s then code ∷ [] else []
-accepted s (Settles port_b) = []
+abbrev pub accepted_codes : KeyboardState → Event → List ℕ
+accepted_codes s (arrival code) = if has_room s then code ∷ [] else []
+accepted_codes s (settling port_b) = []
 
 -- the code that arrives and finds none
-abbrev pub refused : KeyboardState → Event → List ℕ
-refused s (Arrives code) = if has_room s then [] else code ∷ []
-refused s (Settles port_b) = []
+abbrev pub lost_codes : KeyboardState → Event → List ℕ
+lost_codes s (arrival code) = if has_room s then [] else code ∷ []
+lost_codes s (settling port_b) = []
 
 -- the code that leaves the latch as line 7 of port B empties it
-abbrev pub taken : KeyboardState → Event → List ℕ
-taken s (Arrives code) = []
-taken s (Settles port_b) = if bit_at port_b 7 == 1 then option_to_list s.latch else []
+abbrev pub taken_codes : KeyboardState → Event → List ℕ
+taken_codes s (arrival code) = []
+taken_codes s (settling port_b) = if has_bit port_b 7 then option_to_list s.latch else []
 
 -- the codes in a keyboard, the oldest first
-abbrev pub held : KeyboardState → List ℕ
-held s = option_to_list s.latch ++ s.waiting
+abbrev pub held_codes : KeyboardState → List ℕ
+held_codes s = option_to_list s.latch ++ s.waiting
 
 -- a list is two lists merged: each of its items is the next of exactly one of them
 pub data IsMerge : List ℕ → List ℕ → List ℕ → Type 0 where
@@ -55,11 +55,11 @@ pub data IsMerge : List ℕ → List ℕ → List ℕ → Type 0 where
 -- what becomes of the codes of a run from a keyboard
 pub record AccountsForCodes (s : KeyboardState) (es : List Event) : Type 0 where
   -- first in, first out: those taken and then those still held are those held at first and then those accepted
-  pub in_order : codes_along taken s es ++ held (after_events s es) ≡ held s ++ codes_along accepted s es
-  -- each code that arrives is accepted or refused, and none is both
-  pub once : IsMerge (codes_along arriving s es) (codes_along accepted s es) (codes_along refused s es)
-  -- the refused ones are counted, up to the greatest u64
-  pub counted : s.lost < 2 ^ 64 → (after_events s es).lost ≡ min (s.lost + length (codes_along refused s es)) (2 ^ 64 - 1)
+  pub in_order : codes_along taken_codes s es ++ held_codes (after_events s es) ≡ held_codes s ++ codes_along accepted_codes s es
+  -- each code that arrives is accepted or lost, and none is both
+  pub once : IsMerge (codes_along arriving_codes s es) (codes_along accepted_codes s es) (codes_along lost_codes s es)
+  -- the lost ones are counted, up to the greatest u64
+  pub counted : s.lost < 2 ^ 64 → (after_events s es).lost ≡ min (s.lost + length (codes_along lost_codes s es)) (2 ^ 64 - 1)
   -- no more than sixteen ever wait
   pub within : length s.waiting ≤ 16 → length (after_events s es).waiting ≤ 16
 

@@ -1,8 +1,8 @@
 //! The keyboard and its latch (IBM PC Technical Reference, "Keyboard"; "System Board I/O", ports 60h and 61h).
-ghost use Rattle.std.specs.Prelude.{◌≡◌, ◌<◌, ◌==◌, IfOk};
-ghost use Rattle.std.specs.Int.{bit_at};
+ghost use Rattle.std.specs.Prelude.{◌≡◌, IfOk};
 ghost use Rattle.keyboard.specs.Keyboard.{power_on, after_arrival, after_settling};
 
+use board_types::bits::bit;
 use circular_buffer::HeapCircularBuffer;
 use std::alloc::{AllocError, Global};
 use std::marker::Model;
@@ -100,13 +100,6 @@ impl Keyboard {
     {
         self.lost
     }
-}
-
-fn bit(byte: u8, k: u8) -> bool
-    requires { k < 8 }
-    ensures { result ≡ (bit_at byte k == 1) }
-{
-    byte >> k & 1 == 1
 }
 
 #[cfg(test)]

@@ -1,24 +1,24 @@
 -- What holds of every parallel port and every access, in the words of the data sheet.
-use Rattle.std.specs.Prelude.{◌≡◌, ℕ, ◌/◌, ◌%◌, ◌<◌, ◌==◌, if◌then◌else◌, List, [], ◌∷◌}
-use Rattle.std.specs.Int.{bit_at}
+use Rattle.std.specs.Prelude.{◌≡◌, ℕ, ◌/◌, ◌%◌, ◌<◌, ◌==◌, true, if◌then◌else◌, List, [], ◌∷◌}
+use Rattle.board_types.specs.Bits.{has_bit}
 use Rattle.ppi8255.specs.declared.ppi.Direction.TheVariants.{Output}
 use Rattle.ppi8255.specs.declared.ppi.Inputs.{Inputs}
-use Rattle.ppi8255.specs.Ppi.{PpiState, power_on, lines_b, read_of, after_write}
+use Rattle.ppi8255.specs.Ppi.{PpiState, power_on, lines_b, byte_at, after_write}
 
 -- a port that is an output reads what was last written to it, and port B's lines carry it
 pub record ReadsBack (s : PpiState) (byte : ℕ) (inputs : Inputs) : Type 0 where
-  pub port_a : s.a ≡ Output → read_of (after_write s 0 byte) 0 inputs ≡ byte
-  pub port_b : s.b ≡ Output → read_of (after_write s 1 byte) 1 inputs ≡ byte
+  pub port_a : s.a ≡ Output → byte_at (after_write s 0 byte) 0 inputs ≡ byte
+  pub port_b : s.b ≡ Output → byte_at (after_write s 1 byte) 1 inputs ≡ byte
   pub lines : s.b ≡ Output → lines_b (after_write s 1 byte) ≡ byte
-  pub port_c : s.c_upper ≡ Output → s.c_lower ≡ Output → read_of (after_write s 2 byte) 2 inputs ≡ byte
+  pub port_c : s.c_upper ≡ Output → s.c_lower ≡ Output → byte_at (after_write s 2 byte) 2 inputs ≡ byte
 
 -- a mode word, bit 7 of which is 1, leaves nothing of what was written before it
 abbrev pub BeginsAnew : PpiState → ℕ → Type 0
-BeginsAnew s word = bit_at word 7 ≡ 1 → after_write s 3 word ≡ after_write (power_on s.sw1 s.sw2) 3 word
+BeginsAnew s word = has_bit word 7 ≡ true → after_write s 3 word ≡ after_write (power_on s.sw1 s.sw2) 3 word
 
 -- a control word whose bit 7 is 0 sets the bit of port C that its bits 3 to 1 name to its bit 0, and nothing else
 pub record SetsOneBit (s : PpiState) (word : ℕ) : Type 0 where
-  pub bits : (k : ℕ) → k < 8 → bit_at (after_write s 3 word).c_latch k ≡ (if k == word / 2 % 8 then bit_at word 0 else bit_at s.c_latch k)
+  pub bits : (k : ℕ) → k < 8 → has_bit (after_write s 3 word).c_latch k ≡ (if k == word / 2 % 8 then has_bit word 0 else has_bit s.c_latch k)
   pub others : record (after_write s 3 word) { c_latch = s.c_latch } ≡ s
 
 -- writes in their order, each with its port
@@ -28,7 +28,7 @@ after_writes s (w ∷ ws) = after_writes (after_write s w.0 w.1) ws
 
 -- after the same writes two ports give the same reads, and the same levels of port B
 pub record LooksAlike (s t : PpiState) (writes : List (ℕ × ℕ)) : Type 0 where
-  pub reads : (port : ℕ) (inputs : Inputs) → read_of (after_writes s writes) port inputs ≡ read_of (after_writes t writes) port inputs
+  pub reads : (port : ℕ) (inputs : Inputs) → byte_at (after_writes s writes) port inputs ≡ byte_at (after_writes t writes) port inputs
   pub lines : lines_b (after_writes s writes) ≡ lines_b (after_writes t writes)
 
 -- two ports that differ only in what the latches of inputs hold

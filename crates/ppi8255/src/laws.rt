@@ -1,6 +1,6 @@
 //! What holds of every parallel port and every access, over the definitions alone.
-ghost use Rattle.std.specs.Prelude.{◌≡◌, ℕ, List};
-ghost use Rattle.std.specs.Int.{bit_at};
+ghost use Rattle.std.specs.Prelude.{◌≡◌, ℕ, false, List};
+ghost use Rattle.board_types.specs.Bits.{has_bit};
 ghost use Rattle.ppi8255.specs.declared.ppi.Inputs.{Inputs};
 ghost use Rattle.ppi8255.specs.Ppi.{PpiState};
 ghost use Rattle.ppi8255.specs.Laws.{ReadsBack, BeginsAnew, SetsOneBit, DiffersUnseen, LooksAlike};
@@ -17,7 +17,7 @@ pub fn begins_anew()
 
 /// The bit set/reset word changes the bit of port C that it names, and nothing else.
 pub fn sets_one_bit()
-    ensures { (s : PpiState) (word : ℕ) → bit_at word 7 ≡ 0 → SetsOneBit s word }
+    ensures { (s : PpiState) (word : ℕ) → has_bit word 7 ≡ false → SetsOneBit s word }
 {}
 
 /// What the latch of an input holds is never seen: ports that differ in nothing else give the same reads, and the

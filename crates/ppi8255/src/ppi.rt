@@ -1,9 +1,9 @@
 //! The parallel port: three ports with an output latch each, and the switches, the keyboard's latch and
 //! counter 2's output on their pins (Intel 8255A data sheet; IBM PC Technical Reference, "System Board I/O").
-ghost use Rattle.std.specs.Prelude.{◌≡◌, ◌<◌, ◌==◌};
-ghost use Rattle.std.specs.Int.{bit_at};
-ghost use Rattle.ppi8255.specs.Ppi.{power_on, shown, lines_b, pins_a, pins_c, shown_c, read_of, direction_of, after_mode_word, after_bit_word, after_write};
+ghost use Rattle.std.specs.Prelude.{◌≡◌, ◌<◌};
+ghost use Rattle.ppi8255.specs.Ppi.{power_on, port_byte, lines_b, pins_a, pins_c, port_c_byte, byte_at, direction_of, after_mode_word, after_bit_word, after_write};
 
+use board_types::bits::bit;
 use board_types::line::Line;
 use std::marker::Model;
 
@@ -88,13 +88,13 @@ impl Ppi {
 
     /// The byte that a read of `port` gives: 0 to 2 are ports A to C, 3 is the control register, which can't be
     /// read and gives FFh.
-    #[tactic(auto, unfolding(crate::specs::Ppi::read_of))]
+    #[tactic(auto, unfolding(crate::specs::Ppi::byte_at))]
     pub fn read(&self, port: u8, inputs: Inputs) -> u8
         requires { port < 4 }
-        ensures { result ≡ read_of self.now port inputs }
+        ensures { result ≡ byte_at self.now port inputs }
     {
         match port {
-            0 => self.a.shown(self.a_latch, self.pins_a(inputs)),
+            0 => self.a.port_byte(self.a_latch, self.pins_a(inputs)),
             1 => self.port_b(),
             2 => self.port_c(self.pins_c(inputs)),
             _ => 0xFF,
@@ -120,7 +120,7 @@ impl Ppi {
     pub fn port_b(&self) -> u8
         ensures { result ≡ lines_b self.now }
     {
-        self.b.shown(self.b_latch, 0)
+        self.b.port_byte(self.b_latch, 0)
     }
 
     fn pins_a(&self, inputs: Inputs) -> u8
@@ -148,10 +148,10 @@ impl Ppi {
     }
 
     fn port_c(&self, pins: u8) -> u8
-        ensures { result ≡ shown_c self.now pins }
+        ensures { result ≡ port_c_byte self.now pins }
     {
-        let upper = self.c_upper.shown(self.c_latch, pins);
-        let lower = self.c_lower.shown(self.c_latch, pins);
+        let upper = self.c_upper.port_byte(self.c_latch, pins);
+        let lower = self.c_lower.port_byte(self.c_latch, pins);
         upper / 16 * 16 + lower % 16
     }
 
@@ -181,8 +181,8 @@ impl Ppi {
 
 impl Direction {
     // what a group of lines with this direction shows
-    fn shown(self, latch: u8, pins: u8) -> u8
-        ensures { result ≡ shown self latch pins }
+    fn port_byte(self, latch: u8, pins: u8) -> u8
+        ensures { result ≡ port_byte self latch pins }
     {
         match self {
             Direction::Input => pins,
@@ -194,20 +194,13 @@ impl Direction {
 // the direction that bit `k` of a mode word gives
 fn direction_of(word: u8, k: u8) -> Direction
     requires { k < 8 }
-    ensures { result ≡ direction_of (bit_at word k) }
+    ensures { result ≡ direction_of word k }
 {
     if bit(word, k) {
         Direction::Input
     } else {
         Direction::Output
     }
-}
-
-fn bit(byte: u8, k: u8) -> bool
-    requires { k < 8 }
-    ensures { result ≡ (bit_at byte k == 1) }
-{
-    byte >> k & 1 == 1
 }
 
 #[cfg(test)]

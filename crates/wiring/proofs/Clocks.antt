@@ -15,7 +15,7 @@ unfolding after_settling
 clock_of_settled s = refl
 
 pub clock_of_clocked : (s : ChipsState) → (after_clock s).clock ≡ s.clock + 1
-unfolding clocked after_settling
+unfolding after_clock after_settling
 clock_of_clocked s = refl
 
 pub clock_of_clocks : (n : ℕ) (s : ChipsState) → (after_clocks s n).clock ≡ s.clock + n
@@ -24,11 +24,11 @@ clock_of_clocks zero s =
 clock_of_clocks (suc n) s =
     let more : suc n ≡ n + 1 = omega arith in
     let one : s.clock + n + 1 ≡ s.clock + suc n = omega arith in
-    ap (λ k. (after_clocks s k).clock) more ∙ ap (λ t. t.clock) (iterate_more clocked n s) ∙ clock_of_clocked (after_clocks s n)
+    ap (λ k. (after_clocks s k).clock) more ∙ ap (λ t. t.clock) (iterate_more after_clock n s) ∙ clock_of_clocked (after_clocks s n)
     ∙ ap (λ k. k + 1) (clock_of_clocks n s) ∙ one
 
 pub clock_of_arrived : (s : ChipsState) (code : ℕ) → (after_arrival s code).clock ≡ s.clock
-unfolding arrived
+unfolding after_arrival
 clock_of_arrived s code = refl
 
 pub clock_of_arrivals : (s : ChipsState) (codes : List ℕ) → (after_arrivals s codes).clock ≡ s.clock

@@ -5,9 +5,9 @@ use Rattle.wiring.specs.Wires.{after_acknowledge}
 use Rattle.wiring.specs.Laws.{SoundsAlike, NoEntryTouches}
 use Rattle.wiring.proofs.Alike.{depends_on_writes}
 
-taken_alike : (s : ChipsState) → SoundsAlike (after_acknowledge s) s
+alike_after_acknowledge : (s : ChipsState) → SoundsAlike (after_acknowledge s) s
 unfolding after_acknowledge
-taken_alike s = record { clock = refl; ppi = refl; counter_2 = refl }
+alike_after_acknowledge s = record { clock = refl; ppi = refl; counter_2 = refl }
 
 pub no_entry_touches : NoEntryTouches
-no_entry_touches s writes = depends_on_writes (after_acknowledge s) s writes (taken_alike s)
+no_entry_touches s writes = depends_on_writes (after_acknowledge s) s writes (alike_after_acknowledge s)

@@ -4,19 +4,20 @@ use Rattle.std.specs.Prelude.{◌==◌, is_some}
 use Rattle.std.proofs.lemmas.List.{get_or-set_other, length-set}
 use Rattle.std.proofs.Math.ListN.{get_or-map}
 use Rattle.memory.specs.Kinds.{is_text_address}
+use Rattle.board_types.specs.Lines.{from_bool, is_high}
 use Rattle.keyboard.specs.Keyboard.{KeyboardState}
 use Rattle.pic8259.specs.Levels.{Levels, all_levels, contains}
-use Rattle.pit8253.specs.Pit.{PitState, power_on_pit, pit_tick, pit_gated}
-use Rattle.board_types.specs.Lines.{is_high}
+use Rattle.pit8253.specs.Pit.{PitState}
+use Rattle.pit8253.specs.Pit as pit
 use Rattle.wiring.specs.declared.port.Port.{Port}
 use Rattle.wiring.specs.declared.port.Port.TheVariants.{Controller, Timer, Parallel, Nothing}
 use Rattle.wiring.specs.Chips.{ChipsState, power_on}
 use Rattle.wiring.specs.Ports.{with_byte, port_at, after_port_read, after_port_write, after_input, after_output}
-use Rattle.wiring.specs.Wires.{line_of, port_b_line, latch_settled, after_settling, after_clock, after_arrival, after_key_settling, after_acknowledge}
+use Rattle.wiring.specs.Wires.{port_b_line, after_latch_wire, after_gate_wire, after_settling, after_clock, after_arrival, after_key_settling, after_acknowledge}
 use Rattle.wiring.specs.Laws.{FixedWires, WiresStay}
-use Rattle.wiring.proofs.Agreement.{high_of_requests}
-use Rattle.wiring.proofs.HighLines.{acknowledged_high, read_high, written_high}
-use Rattle.wiring.proofs.TimerGates.{SameGates, written_gates, read_gates, tick_gates, gated_gates}
+use Rattle.wiring.proofs.Agreement.{high_after_requests}
+use Rattle.wiring.proofs.HighLines.{high_after_acknowledge, high_after_read, high_after_write}
+use Rattle.wiring.proofs.TimerGates.{SameGates, write_gates, read_gates, tick_gates, gate_gates}
 
 same_gates : (p : PitState) → SameGates p p
 same_gates p = record { gate_0 = refl; gate_1 = refl }
@@ -42,12 +43,12 @@ other_line high zeroth first level from =
 settled_fixed : (s : ChipsState) → FixedWires s → FixedWires (after_settling s)
 unfolding after_settling
 settled_fixed s fixed =
-    let keyboard : KeyboardState = latch_settled s.ppi s.keyboard in
-    let pit : PitState = pit_gated 2 (port_b_line s.ppi 0) s.pit in
-    let zeroth : Bool = is_high pit.counter_0.out in
-    let first : Bool = is_high (line_of (is_some keyboard.latch)) in
-    let gates : SameGates pit s.pit = gated_gates (port_b_line s.ppi 0) s.pit in
-    let high = high_of_requests pit keyboard s.pic in
+    let keyboard : KeyboardState = after_latch_wire s.keyboard s.ppi in
+    let timer : PitState = after_gate_wire s.pit s.ppi in
+    let zeroth : Bool = is_high timer.counter_0.out in
+    let first : Bool = is_high (from_bool (is_some keyboard.latch)) in
+    let gates : SameGates timer s.pit = gate_gates s.pit (port_b_line s.ppi 0) in
+    let high = high_after_requests s.pic timer keyboard in
     record {
       lines = ap length high ∙ length-set (slice_set s.pic.high 0 zeroth) 1 first ∙ length-set s.pic.high 0 zeroth ∙ fixed.lines;
       gate_0 = gates.gate_0 ∙ fixed.gate_0;
@@ -58,7 +59,7 @@ settled_fixed s fixed =
     }
 
 first_fixed : (image : List (ℕ × ℕ)) (ram_size sw1 sw2 : ℕ) → FixedWires (power_on image ram_size sw1 sw2)
-unfolding power_on power_on_pit
+unfolding power_on pit.power_on
 first_fixed image ram_size sw1 sw2 = record {
   lines = refl;
   gate_0 = refl;
@@ -75,14 +76,14 @@ unfolding with_byte
 byte_fixed s address byte fixed = choose (is_text_address address) s _ fixed (kept s _ fixed refl (same_gates s.pit))
 
 read_fixed : (s : ChipsState) (port : Port) → FixedWires s → FixedWires (after_port_read s port)
-read_fixed s (Controller a0) fixed = kept s _ fixed (read_high s.pic) (same_gates s.pit)
-read_fixed s (Timer n) fixed = kept s _ fixed refl (read_gates n s.pit)
+read_fixed s (Controller a0) fixed = kept s _ fixed (high_after_read s.pic) (same_gates s.pit)
+read_fixed s (Timer n) fixed = kept s _ fixed refl (read_gates s.pit n)
 read_fixed s (Parallel n) fixed = fixed
 read_fixed s Nothing fixed = fixed
 
 written_fixed : (s : ChipsState) (port : Port) (byte : ℕ) → FixedWires s → FixedWires (after_port_write s port byte)
-written_fixed s (Controller a0) byte fixed = kept s _ fixed (written_high a0 byte s.pic) (same_gates s.pit)
-written_fixed s (Timer n) byte fixed = kept s _ fixed refl (written_gates n byte s.pit)
+written_fixed s (Controller a0) byte fixed = kept s _ fixed (high_after_write s.pic a0 byte) (same_gates s.pit)
+written_fixed s (Timer n) byte fixed = kept s _ fixed refl (write_gates s.pit n byte)
 written_fixed s (Parallel n) byte fixed = kept s _ fixed refl (same_gates s.pit)
 written_fixed s Nothing byte fixed = fixed
 
@@ -94,16 +95,16 @@ output_fixed : (s : ChipsState) (port byte : ℕ) → FixedWires s → FixedWire
 unfolding after_output
 output_fixed s port byte fixed = settled_fixed _ (written_fixed s (port_at port) byte fixed)
 
-clock_gates : (b : Bool) (p : PitState) → SameGates (if b then pit_tick p else p) p
+clock_gates : (b : Bool) (p : PitState) → SameGates (if b then pit.after_tick p else p) p
 clock_gates true p = tick_gates p
 clock_gates false p = same_gates p
 
 clocked_fixed : (s : ChipsState) → FixedWires s → FixedWires (after_clock s)
-unfolding clocked
+unfolding after_clock
 clocked_fixed s fixed = settled_fixed _ (kept s _ fixed refl (clock_gates ((s.clock + 1) % 4 == 0) s.pit))
 
 arrived_fixed : (s : ChipsState) (code : ℕ) → FixedWires s → FixedWires (after_arrival s code)
-unfolding arrived
+unfolding after_arrival
 arrived_fixed s code fixed = kept s _ fixed refl (same_gates s.pit)
 
 keys_fixed : (s : ChipsState) → FixedWires s → FixedWires (after_key_settling s)
@@ -112,7 +113,7 @@ keys_fixed s fixed = settled_fixed _ (kept s _ fixed refl (same_gates s.pit))
 
 request_fixed : (s : ChipsState) → FixedWires s → FixedWires (after_acknowledge s)
 unfolding after_acknowledge
-request_fixed s fixed = kept s _ fixed (acknowledged_high s.pic) (same_gates s.pit)
+request_fixed s fixed = kept s _ fixed (high_after_acknowledge s.pic) (same_gates s.pit)
 
 pub wires_stay : WiresStay
 wires_stay = record {

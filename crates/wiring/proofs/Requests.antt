@@ -5,7 +5,7 @@ use Rattle.std.proofs.lemmas.List.{get_or_past, get_or-set_same, get_or-set_othe
 use Rattle.board_types.specs.declared.line.Line.{Line}
 use Rattle.board_types.specs.declared.line.Line.TheVariants.{Low, High}
 use Rattle.pic8259.specs.Levels.{Levels, contains, with_level, without_level}
-use Rattle.pic8259.specs.Pic.{PicState, with_line}
+use Rattle.pic8259.specs.Pic.{PicState, after_line}
 
 -- a place that is written holds what was written, and one past the end shows what is asked for
 shows_written : (set : Levels) (level : ℕ) (b : Bool) → get_or (slice_set set level b) level b ≡ b
@@ -36,10 +36,10 @@ still_high set level is_in =
     ]
 
 -- a line that takes the same level again
-line_twice : (level : ℕ) (line : Line) (s : PicState) → with_line level line (with_line level line s) ≡ with_line level line s
-unfolding with_line
-line_twice level Low s = ap (λ high. record s { high = high }) (written_twice s.high level false)
-line_twice level High s =
+line_twice : (s : PicState) (level : ℕ) (line : Line) → after_line (after_line s level line) level line ≡ after_line s level line
+unfolding after_line
+line_twice s level Low = ap (λ high. record s { high = high }) (written_twice s.high level false)
+line_twice s level High =
     let risen : Levels = risen_by (contains s.high level) level s.risen in
     ap (λ high. record s { high = high; risen = risen_by (contains (with_level s.high level) level) level risen }) (written_twice s.high level true)
     ∙ ap (λ risen. record s { high = with_level s.high level; risen = risen })
@@ -51,23 +51,23 @@ risen_either false true n m risen differ = refl
 risen_either false false n m risen differ = sym (set_comm risen n m true true differ)
 
 -- two lines in either order
-lines_either : (n m : ℕ) (a b : Line) (s : PicState) → n ≢ m → m ≢ n → with_line n a (with_line m b s) ≡ with_line m b (with_line n a s)
-unfolding with_line
-lines_either n m Low Low s differ back = ap (λ high. record s { high = high }) (sym (set_comm s.high n m false false differ))
-lines_either n m Low High s differ back =
+lines_either : (s : PicState) (n m : ℕ) (a b : Line) → n ≢ m → m ≢ n → after_line (after_line s m b) n a ≡ after_line (after_line s n a) m b
+unfolding after_line
+lines_either s n m Low Low differ back = ap (λ high. record s { high = high }) (sym (set_comm s.high n m false false differ))
+lines_either s n m Low High differ back =
     ap (λ high. record s { high = high; risen = risen_by (contains s.high m) m s.risen }) (sym (set_comm s.high n m false true differ))
     ∙ ap (λ b. record s { high = with_level (without_level s.high n) m; risen = risen_by b m s.risen }) (sym (get_or-set_other s.high n m false false back))
-lines_either n m High Low s differ back =
+lines_either s n m High Low differ back =
     ap (λ high. record s { high = high; risen = risen_by (contains (without_level s.high m) n) n s.risen }) (sym (set_comm s.high n m true false differ))
     ∙ ap (λ b. record s { high = without_level (with_level s.high n) m; risen = risen_by b n s.risen }) (get_or-set_other s.high m n false false differ)
-lines_either n m High High s differ back =
+lines_either s n m High High differ back =
     ap (λ high. record s { high = high; risen = risen_by (contains (with_level s.high m) n) n (risen_by (contains s.high m) m s.risen) }) (sym (set_comm s.high n m true true differ))
     ∙ ap (λ b. record s { high = with_level (with_level s.high n) m; risen = risen_by b n (risen_by (contains s.high m) m s.risen) }) (get_or-set_other s.high m n true false differ)
     ∙ ap (λ risen. record s { high = with_level (with_level s.high n) m; risen = risen }) (risen_either (contains s.high n) (contains s.high m) n m s.risen differ)
     ∙ ap (λ b. record s { high = with_level (with_level s.high n) m; risen = risen_by b m (risen_by (contains s.high n) n s.risen) }) (sym (get_or-set_other s.high n m true false back))
 
-pub both_lines_twice : (n m : ℕ) (a b : Line) (s : PicState) → n ≢ m → m ≢ n → with_line n a (with_line m b (with_line n a (with_line m b s))) ≡ with_line n a (with_line m b s)
-both_lines_twice n m a b s differ back =
-    ap (with_line n a) (lines_either m n b a (with_line m b s) back differ)
-    ∙ line_twice n a (with_line m b (with_line m b s))
-    ∙ ap (with_line n a) (line_twice m b s)
+pub both_lines_twice : (s : PicState) (n m : ℕ) (a b : Line) → n ≢ m → m ≢ n → after_line (after_line (after_line (after_line s m b) n a) m b) n a ≡ after_line (after_line s m b) n a
+both_lines_twice s n m a b differ back =
+    ap (λ t. after_line t n a) (lines_either (after_line s m b) m n b a back differ)
+    ∙ line_twice (after_line (after_line s m b) m b) n a
+    ∙ ap (λ t. after_line t n a) (line_twice s m b)

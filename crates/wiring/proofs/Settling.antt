@@ -1,23 +1,24 @@
--- The wires settle once and for all.
-use Rattle.std.proofs.Common.{◌≡◌, ◌≢◌, ◌<◌, ℕ, Bool, true, false, if◌then◌else◌, refl, ap, ◌∙◌, arith}
-use Rattle.std.specs.Prelude.{◌==◌, is_some}
-use Rattle.std.specs.Int.{bit_at}
-use Rattle.board_types.specs.declared.line.Line.{Line}
-use Rattle.keyboard.specs.Keyboard.{KeyboardState, cleared}
+-- The wires, and the keyboard before them, settle once and for all.
+use Rattle.std.proofs.Common.{◌≡◌, ◌≢◌, ◌<◌, ℕ, Bool, true, false, if◌then◌else◌, List, Option, None, Some, refl, sym, ap, ◌∙◌, arith}
+use Rattle.std.specs.Prelude.{◌&&◌, is_some, is_none, drop, slice_get}
+use Rattle.board_types.specs.Bits.{has_bit}
+use Rattle.board_types.specs.Lines.{from_bool}
+use Rattle.keyboard.specs.Keyboard as keys
+use Rattle.keyboard.specs.Keyboard.{KeyboardState, after_clearing, after_sending}
 use Rattle.pic8259.specs.Pic.{PicState}
-use Rattle.pit8253.specs.Pit.{PitState, pit_gated}
+use Rattle.pit8253.specs.Pit.{PitState}
 use Rattle.ppi8255.specs.Ppi.{PpiState, lines_b}
-use Rattle.wiring.specs.Wires.{line_of, port_b_line, latch_settled, requests_settled, after_settling}
-use Rattle.wiring.specs.Laws.{SettlesOnce}
+use Rattle.wiring.specs.Wires.{port_b_line, after_latch_wire, after_gate_wire, after_request_wires, after_settling, after_key_settling}
+use Rattle.wiring.specs.Laws.{SettlesOnce, KeysSettleOnce}
 use Rattle.wiring.proofs.Gates.{gate_2_twice}
 use Rattle.wiring.proofs.Requests.{both_lines_twice}
 
-cleared_twice : (b : Bool) (k : KeyboardState) → (if b then cleared (if b then cleared k else k) else (if b then cleared k else k)) ≡ (if b then cleared k else k)
+cleared_twice : (b : Bool) (k : KeyboardState) → (if b then after_clearing (if b then after_clearing k else k) else (if b then after_clearing k else k)) ≡ (if b then after_clearing k else k)
 cleared_twice true k = refl
 cleared_twice false k = refl
 
-latch_twice : (ppi : PpiState) (k : KeyboardState) → latch_settled ppi (latch_settled ppi k) ≡ latch_settled ppi k
-latch_twice ppi k = cleared_twice (bit_at (lines_b ppi) 7 == 1) k
+latch_twice : (k : KeyboardState) (ppi : PpiState) → after_latch_wire (after_latch_wire k ppi) ppi ≡ after_latch_wire k ppi
+latch_twice k ppi = cleared_twice (has_bit (lines_b ppi) 7) k
 
 below : (n m : ℕ) → n < m → n ≢ m
 below n m less same = omega arith
@@ -25,19 +26,42 @@ below n m less same = omega arith
 above : (n m : ℕ) → n < m → m ≢ n
 above n m less same = omega arith
 
-requests_twice : (pit : PitState) (k : KeyboardState) (pic : PicState) → requests_settled pit k (requests_settled pit k pic) ≡ requests_settled pit k pic
-requests_twice pit k pic =
+requests_twice : (pic : PicState) (pit : PitState) (k : KeyboardState) → after_request_wires (after_request_wires pic pit k) pit k ≡ after_request_wires pic pit k
+requests_twice pic pit k =
     let one : 0 < 1 = omega arith in
-    both_lines_twice 1 0 (line_of (is_some k.latch)) pit.counter_0.out pic (above 0 1 one) (below 0 1 one)
+    both_lines_twice pic 1 0 (from_bool (is_some k.latch)) pit.counter_0.out (above 0 1 one) (below 0 1 one)
 
 pub settles_once : SettlesOnce
 unfolding after_settling
 settles_once s =
-    let line : Line = port_b_line s.ppi 0 in
-    let keyboard : KeyboardState = latch_settled s.ppi s.keyboard in
-    let pit : PitState = pit_gated 2 line s.pit in
-    let pic : PicState = requests_settled pit keyboard s.pic in
-    let twice : PitState = pit_gated 2 line pit in
-    ap (λ k. record s { keyboard = k; pit = twice; pic = requests_settled twice k pic }) (latch_twice s.ppi s.keyboard)
-    ∙ ap (λ p. record s { keyboard = keyboard; pit = p; pic = requests_settled p keyboard pic }) (gate_2_twice line s.pit)
-    ∙ ap (λ c. record s { keyboard = keyboard; pit = pit; pic = c }) (requests_twice pit keyboard s.pic)
+    let keyboard : KeyboardState = after_latch_wire s.keyboard s.ppi in
+    let pit : PitState = after_gate_wire s.pit s.ppi in
+    let pic : PicState = after_request_wires s.pic pit keyboard in
+    let twice : PitState = after_gate_wire pit s.ppi in
+    ap (λ k. record s { keyboard = k; pit = twice; pic = after_request_wires pic twice k }) (latch_twice s.keyboard s.ppi)
+    ∙ ap (λ p. record s { keyboard = keyboard; pit = p; pic = after_request_wires pic p keyboard }) (gate_2_twice s.pit (port_b_line s.ppi 0))
+    ∙ ap (λ c. record s { keyboard = keyboard; pit = pit; pic = c }) (requests_twice s.pic pit keyboard)
+
+-- a code that moved in, or none that waited, leaves nothing to move
+sent_twice : (b : Bool) (waiting : List ℕ) (lost : ℕ) (latch : Option ℕ) → latch ≡ slice_get waiting 0 → (let t : KeyboardState = record { waiting = drop 1 waiting; latch = latch; lost = lost } in if b && is_none latch then after_sending t else t) ≡ record { waiting = drop 1 waiting; latch = latch; lost = lost }
+sent_twice b waiting lost latch is = ?
+
+keys_twice : (seventh sixth : Bool) (k : KeyboardState) → (let t : KeyboardState = if seventh then after_clearing k else (if sixth && is_none k.latch then after_sending k else k) in if seventh then after_clearing t else (if sixth && is_none t.latch then after_sending t else t)) ≡ (if seventh then after_clearing k else (if sixth && is_none k.latch then after_sending k else k))
+keys_twice true sixth k = refl
+keys_twice false sixth k = ?
+
+keys_again : (k : KeyboardState) (port_b : ℕ) → keys.after_settling (keys.after_settling k port_b) port_b ≡ keys.after_settling k port_b
+unfolding keys.after_settling
+keys_again k port_b = keys_twice (has_bit port_b 7) (has_bit port_b 6) k
+
+-- the wires empty no latch that the keyboard has settled
+latch_again : (k : KeyboardState) (ppi : PpiState) → after_latch_wire (keys.after_settling k (lines_b ppi)) ppi ≡ keys.after_settling k (lines_b ppi)
+unfolding keys.after_settling
+latch_again k ppi = ?
+
+pub keys_settle_once : KeysSettleOnce
+unfolding after_key_settling after_settling
+keys_settle_once s =
+    ap (λ k. keys.after_settling k (lines_b s.ppi)) (latch_again s.keyboard s.ppi)
+    ∙ keys_again s.keyboard (lines_b s.ppi)
+    ∙ sym (latch_again s.keyboard s.ppi)
