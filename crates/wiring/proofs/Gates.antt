@@ -1,7 +1,5 @@
 -- A gate that takes the same level twice, and one whose counter ticks in between.
-use Rattle.std.proofs.Common.{◌≡◌, ◌∷◌, Bool, true, false, not, ◌&&◌, ◌||◌, if◌then◌else◌, refl, sym, ap, ◌∙◌, cond}
-use Rattle.std.specs.Prelude.{◌==◌, is_none}
-use Rattle.board_types.specs.Lines.{is_high}
+use Rattle.std.proofs.Common.{◌≡◌, Bool, true, false, not, ◌&&◌, ◌||◌, refl, ap, ◌∙◌}
 use Rattle.board_types.specs.declared.line.Line.{Line}
 use Rattle.board_types.specs.declared.line.Line.TheVariants.{Low, High}
 use Rattle.pit8253.specs.declared.program.Mode.{Mode}
@@ -15,7 +13,7 @@ or_none true = refl
 or_none false = refl
 
 -- a level that stays is no rise
-no_rise : (gate : Line) (b triggered written : Bool) → (b || (rises gate gate && triggered && written)) ≡ b
+pub no_rise : (gate : Line) (b triggered written : Bool) → (b || (rises gate gate && triggered && written)) ≡ b
 no_rise Low b triggered written = or_none b
 no_rise High b triggered written = or_none b
 

@@ -1,63 +1,67 @@
--- At power-on the wires have after_settling, and keys that arrive before anything else leave them so.
+-- At power-on the wires have settled, and the keyboard, and keys that arrive before anything else leave them so.
 use Rattle.std.proofs.Common.{◌≡◌, ℕ, Bool, true, false, if◌then◌else◌, List, [], ◌∷◌, Option, None, refl, sym, ap, ◌∙◌, arith}
-use Rattle.std.specs.Prelude.{◌==◌, is_some}
-use Rattle.std.specs.Int.{bit_at}
+use Rattle.std.specs.Prelude.{is_some}
 use Rattle.std.proofs.lemmas.Grind.{common_steps}
-use Rattle.board_types.specs.declared.line.Line.TheVariants.{Low, High}
-use Rattle.pic8259.specs.Pic.{PicState, with_line}
-use Rattle.pit8253.specs.Counter.{gated}
-use Rattle.pit8253.specs.Pit.{PitState, power_on_pit, pit_gated}
+use Rattle.board_types.specs.Bits.{has_bit}
+use Rattle.board_types.specs.Lines.{from_bool}
+use Rattle.pic8259.specs.Pic.{PicState, after_line}
+use Rattle.pit8253.specs.Counter as counter
+use Rattle.pit8253.specs.Pit as pit
+use Rattle.pit8253.specs.Pit.{PitState}
+use Rattle.ppi8255.specs.Ppi as ppi
 use Rattle.ppi8255.specs.Ppi.{PpiState, lines_b}
-use Rattle.keyboard.specs.Keyboard.{KeyboardState, after_arrival, cleared}
+use Rattle.keyboard.specs.Keyboard as keys
+use Rattle.keyboard.specs.Keyboard.{KeyboardState, after_clearing}
 use Rattle.wiring.specs.Chips.{ChipsState, power_on}
-use Rattle.wiring.specs.Wires.{line_of, port_b_line, latch_settled, requests_settled, after_settling, after_arrival, after_arrivals}
+use Rattle.wiring.specs.Wires.{after_latch_wire, after_gate_wire, after_settling, after_arrival, after_arrivals}
+use Rattle.wiring.specs.Laws.{KeysSettled}
 
 -- a key that arrives only waits
-latch_kept : (k : KeyboardState) (code : ℕ) → (after_arrival k code).latch ≡ k.latch
-unfolding after_arrival
+latch_kept : (k : KeyboardState) (code : ℕ) → (keys.after_arrival k code).latch ≡ k.latch
+unfolding keys.after_arrival
 latch_kept k code = grind (arith, common_steps)
 
-cleared_same : (k : KeyboardState) → k.latch ≡ None → cleared k ≡ k
+cleared_same : (k : KeyboardState) → k.latch ≡ None → after_clearing k ≡ k
 cleared_same k empty = ap (λ l. record k { latch = l }) (sym empty)
 
-cleared_if : (b : Bool) (k : KeyboardState) → k.latch ≡ None → (if b then cleared k else k) ≡ k
+cleared_if : (b : Bool) (k : KeyboardState) → k.latch ≡ None → (if b then after_clearing k else k) ≡ k
 cleared_if true k empty = cleared_same k empty
 cleared_if false k empty = refl
 
-latch_settled_same : (ppi : PpiState) (k : KeyboardState) → k.latch ≡ None → latch_settled ppi k ≡ k
-latch_settled_same ppi k empty = cleared_if (bit_at (lines_b ppi) 7 == 1) k empty
+latch_wire_same : (k : KeyboardState) (ppi : PpiState) → k.latch ≡ None → after_latch_wire k ppi ≡ k
+latch_wire_same k ppi empty = cleared_if (has_bit (lines_b ppi) 7) k empty
 
 abbrev with_parts : ChipsState → KeyboardState → PitState → PicState → ChipsState
 with_parts s k pit pic = record s { keyboard = k; pit = pit; pic = pic }
 
 -- the request lines with some latch
-abbrev requests_at : PitState → Option ℕ → PicState → PicState
-requests_at pit latch pic = with_line 1 (line_of (is_some latch)) (with_line 0 pit.counter_0.out pic)
+abbrev requests_at : PicState → PitState → Option ℕ → PicState
+requests_at pic pit latch = after_line (after_line pic 0 pit.counter_0.out) 1 (from_bool (is_some latch))
 
 arrival_settled : (s : ChipsState) (code : ℕ) → after_settling s ≡ s → s.keyboard.latch ≡ None → after_settling (after_arrival s code) ≡ after_arrival s code
-unfolding settled arrived
+unfolding after_settling after_arrival
 arrival_settled s code still empty =
-    let after : KeyboardState = after_arrival s.keyboard code in
-    let gated : PitState = pit_gated 2 (port_b_line s.ppi 0) s.pit in
+    let after : KeyboardState = keys.after_arrival s.keyboard code in
+    let timer : PitState = after_gate_wire s.pit s.ppi in
     let none : after.latch ≡ None = latch_kept s.keyboard code ∙ empty in
-    let pit : gated ≡ s.pit = ap (λ (t : ChipsState). t.pit) still in
-    let pic : requests_at gated (latch_settled s.ppi s.keyboard).latch s.pic ≡ s.pic = ap (λ (t : ChipsState). t.pic) still in
-    let was : (latch_settled s.ppi s.keyboard).latch ≡ None = ap (λ (k : KeyboardState). k.latch) (latch_settled_same s.ppi s.keyboard empty) ∙ empty in
-    ap (λ (k : KeyboardState). with_parts s k gated (requests_at gated k.latch s.pic)) (latch_settled_same s.ppi after none)
-    ∙ ap (λ latch. with_parts s after gated (requests_at gated latch s.pic)) (none ∙ sym was)
-    ∙ ap (λ pic. with_parts s after gated pic) pic
+    let pit : timer ≡ s.pit = ap (λ (t : ChipsState). t.pit) still in
+    let pic : requests_at s.pic timer (after_latch_wire s.keyboard s.ppi).latch ≡ s.pic = ap (λ (t : ChipsState). t.pic) still in
+    let was : (after_latch_wire s.keyboard s.ppi).latch ≡ None = ap (λ (k : KeyboardState). k.latch) (latch_wire_same s.keyboard s.ppi empty) ∙ empty in
+    ap (λ (k : KeyboardState). with_parts s k timer (requests_at s.pic timer k.latch)) (latch_wire_same after s.ppi none)
+    ∙ ap (λ latch. with_parts s after timer (requests_at s.pic timer latch)) (none ∙ sym was)
+    ∙ ap (λ pic. with_parts s after timer pic) pic
     ∙ ap (λ pit. with_parts s after pit s.pic) pit
 
-arrived_empty : (s : ChipsState) (code : ℕ) → s.keyboard.latch ≡ None → (after_arrival s code).keyboard.latch ≡ None
-unfolding arrived
-arrived_empty s code empty = latch_kept s.keyboard code ∙ empty
+arrival_empty : (s : ChipsState) (code : ℕ) → s.keyboard.latch ≡ None → (after_arrival s code).keyboard.latch ≡ None
+unfolding after_arrival
+arrival_empty s code empty = latch_kept s.keyboard code ∙ empty
 
 arrivals_settled : (codes : List ℕ) (s : ChipsState) → after_settling s ≡ s → s.keyboard.latch ≡ None → after_settling (after_arrivals s codes) ≡ after_arrivals s codes
 arrivals_settled [] s still empty = still
-arrivals_settled (code ∷ codes) s still empty = arrivals_settled codes (after_arrival s code) (arrival_settled s code still empty) (arrived_empty s code empty)
+arrivals_settled (code ∷ codes) s still empty = arrivals_settled codes (after_arrival s code) (arrival_settled s code still empty) (arrival_empty s code empty)
 
 first_settled : (image : List (ℕ × ℕ)) (size sw1 sw2 : ℕ) → after_settling (power_on image size sw1 sw2) ≡ power_on image size sw1 sw2
-unfolding settled power_on power_on_pit pit_gated gated with_line
+unfolding after_settling power_on pit.power_on pit.after_gate counter.after_gate after_line
 first_settled image size sw1 sw2 = refl
 
 empty_first : (image : List (ℕ × ℕ)) (size sw1 sw2 : ℕ) → (power_on image size sw1 sw2).keyboard.latch ≡ None
@@ -66,3 +70,25 @@ empty_first image size sw1 sw2 = refl
 
 pub power_on_settled : (image : List (ℕ × ℕ)) (size sw1 sw2 : ℕ) (codes : List ℕ) → after_settling (after_arrivals (power_on image size sw1 sw2) codes) ≡ after_arrivals (power_on image size sw1 sw2) codes
 power_on_settled image size sw1 sw2 codes = arrivals_settled codes (power_on image size sw1 sw2) (first_settled image size sw1 sw2) (empty_first image size sw1 sw2)
+
+-- line 6 of port B is 0, so no code moves
+ppi_after_arrival : (s : ChipsState) (code : ℕ) → (after_arrival s code).ppi ≡ s.ppi
+unfolding after_arrival
+ppi_after_arrival s code = refl
+
+ppi_after_arrivals : (codes : List ℕ) (s : ChipsState) → (after_arrivals s codes).ppi ≡ s.ppi
+ppi_after_arrivals [] s = refl
+ppi_after_arrivals (code ∷ codes) s = ppi_after_arrivals codes (after_arrival s code) ∙ ppi_after_arrival s code
+
+ppi_first : (image : List (ℕ × ℕ)) (size sw1 sw2 : ℕ) → (power_on image size sw1 sw2).ppi ≡ ppi.power_on sw1 sw2
+unfolding power_on
+ppi_first image size sw1 sw2 = refl
+
+quiet : (k : KeyboardState) (sw1 sw2 : ℕ) → keys.after_settling k (lines_b (ppi.power_on sw1 sw2)) ≡ k
+unfolding keys.after_settling
+quiet k sw1 sw2 = refl
+
+pub power_on_keys_settled : (image : List (ℕ × ℕ)) (size sw1 sw2 : ℕ) (codes : List ℕ) → KeysSettled (after_arrivals (power_on image size sw1 sw2) codes)
+power_on_keys_settled image size sw1 sw2 codes =
+    ap (λ (ports : PpiState). keys.after_settling (after_arrivals (power_on image size sw1 sw2) codes).keyboard (lines_b ports)) (ppi_after_arrivals codes (power_on image size sw1 sw2) ∙ ppi_first image size sw1 sw2)
+    ∙ quiet (after_arrivals (power_on image size sw1 sw2) codes).keyboard sw1 sw2

@@ -1,6 +1,6 @@
 -- The wires, and the keyboard before them, settle once and for all.
-use Rattle.std.proofs.Common.{◌≡◌, ◌≢◌, ◌<◌, ℕ, Bool, true, false, if◌then◌else◌, List, Option, None, Some, refl, sym, ap, ◌∙◌, arith}
-use Rattle.std.specs.Prelude.{◌&&◌, is_some, is_none, drop, slice_get}
+use Rattle.std.proofs.Common.{◌≡◌, ◌≢◌, ◌<◌, ℕ, Bool, true, false, if◌then◌else◌, List, [], ◌∷◌, Option, None, Some, refl, sym, ap, ◌∙◌, arith}
+use Rattle.std.specs.Prelude.{◌&&◌, is_some, is_none}
 use Rattle.board_types.specs.Bits.{has_bit}
 use Rattle.board_types.specs.Lines.{from_bool}
 use Rattle.keyboard.specs.Keyboard as keys
@@ -42,22 +42,33 @@ settles_once s =
     ∙ ap (λ p. record s { keyboard = keyboard; pit = p; pic = after_request_wires pic p keyboard }) (gate_2_twice s.pit (port_b_line s.ppi 0))
     ∙ ap (λ c. record s { keyboard = keyboard; pit = pit; pic = c }) (requests_twice s.pic pit keyboard)
 
--- a code that moved in, or none that waited, leaves nothing to move
-sent_twice : (b : Bool) (waiting : List ℕ) (lost : ℕ) (latch : Option ℕ) → latch ≡ slice_get waiting 0 → (let t : KeyboardState = record { waiting = drop 1 waiting; latch = latch; lost = lost } in if b && is_none latch then after_sending t else t) ≡ record { waiting = drop 1 waiting; latch = latch; lost = lost }
-sent_twice b waiting lost latch is = ?
+-- the keyboard settled, by lines 7 and 6 of port B
+abbrev settled_by : Bool → Bool → KeyboardState → KeyboardState
+settled_by seventh sixth k = if seventh then after_clearing k else (if sixth && is_none k.latch then after_sending k else k)
 
-keys_twice : (seventh sixth : Bool) (k : KeyboardState) → (let t : KeyboardState = if seventh then after_clearing k else (if sixth && is_none k.latch then after_sending k else k) in if seventh then after_clearing t else (if sixth && is_none t.latch then after_sending t else t)) ≡ (if seventh then after_clearing k else (if sixth && is_none k.latch then after_sending k else k))
+-- a code that moved in, or none that waited, leaves nothing to move
+moved_twice : (sixth : Bool) (waiting : List ℕ) (latch : Option ℕ) (lost : ℕ) → (let t : KeyboardState = settled_by false sixth (record { waiting = waiting; latch = latch; lost = lost }) in settled_by false sixth t ≡ t)
+moved_twice false waiting latch lost = refl
+moved_twice true waiting (Some code) lost = refl
+moved_twice true [] None lost = refl
+moved_twice true (code ∷ codes) None lost = refl
+
+keys_twice : (seventh sixth : Bool) (k : KeyboardState) → settled_by seventh sixth (settled_by seventh sixth k) ≡ settled_by seventh sixth k
 keys_twice true sixth k = refl
-keys_twice false sixth k = ?
+keys_twice false sixth k = moved_twice sixth k.waiting k.latch k.lost
 
 keys_again : (k : KeyboardState) (port_b : ℕ) → keys.after_settling (keys.after_settling k port_b) port_b ≡ keys.after_settling k port_b
 unfolding keys.after_settling
 keys_again k port_b = keys_twice (has_bit port_b 7) (has_bit port_b 6) k
 
 -- the wires empty no latch that the keyboard has settled
+cleared_by : (b : Bool) (k other : KeyboardState) → (if b then after_clearing (if b then after_clearing k else other) else (if b then after_clearing k else other)) ≡ (if b then after_clearing k else other)
+cleared_by true k other = refl
+cleared_by false k other = refl
+
 latch_again : (k : KeyboardState) (ppi : PpiState) → after_latch_wire (keys.after_settling k (lines_b ppi)) ppi ≡ keys.after_settling k (lines_b ppi)
 unfolding keys.after_settling
-latch_again k ppi = ?
+latch_again k ppi = cleared_by (has_bit (lines_b ppi) 7) k _
 
 pub keys_settle_once : KeysSettleOnce
 unfolding after_key_settling after_settling

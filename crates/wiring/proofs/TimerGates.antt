@@ -1,5 +1,5 @@
 -- The gates of counters 0 and 1, through every operation of the timer.
-use Rattle.std.proofs.Common.{◌≡◌, ℕ, ◌/◌, ◌%◌, Bool, true, false, if◌then◌else◌, Option, None, Some, refl}
+use Rattle.std.proofs.Common.{◌≡◌, ℕ, ◌/◌, ◌%◌, Bool, true, false, if◌then◌else◌, Option, None, Some, refl, ap}
 use Rattle.std.specs.Prelude.{◌==◌, ◌&&◌, is_none}
 use Rattle.board_types.specs.Lines.{is_high}
 use Rattle.board_types.specs.declared.line.Line.{Line}
@@ -13,29 +13,41 @@ use Rattle.pit8253.specs.Counter.{CounterState, is_loaded, after_count, after_ra
 use Rattle.pit8253.specs.Pit as pit
 use Rattle.pit8253.specs.Pit.{PitState, counter, with_counter}
 
+-- a counter's mode and its gate
+abbrev pub setup : CounterState → Mode × Line
+setup c = (c.mode, c.gate)
+
+choose_setup : (b : Bool) (was : Mode × Line) (c d : CounterState) → setup c ≡ was → setup d ≡ was → setup (if b then c else d) ≡ was
+choose_setup true was c d first second = first
+choose_setup false was c d first second = second
+
+rate_setup : (c : CounterState) → setup (after_rate_count c) ≡ setup c
+rate_setup c = choose_setup (c.count == 1) (setup c) _ _ refl refl
+
+square_setup : (c : CounterState) → setup (after_square_count c) ≡ setup c
+square_setup c =
+    choose_setup (c.count == 1) (setup c) _ _ refl
+    (choose_setup (count_minus c.count_base c.count (half_step c.count c.out) == 0) (setup c) _ _ refl refl)
+
+count_setup : (c : CounterState) (mode : Mode) → setup (after_count c mode) ≡ setup c
+count_setup c TerminalCount = choose_setup (is_loaded c.progress && is_high c.gate && is_none c.first_byte) (setup c) _ _ refl refl
+count_setup c OneShot = choose_setup (is_loaded c.progress) (setup c) _ _ refl refl
+count_setup c RateGenerator = choose_setup (is_loaded c.progress && is_high c.gate) (setup c) _ _ (rate_setup c) refl
+count_setup c SquareWave = choose_setup (is_loaded c.progress && is_high c.gate) (setup c) _ _ (square_setup c) refl
+count_setup c SoftwareStrobe = choose_setup (is_loaded c.progress && is_high c.gate) (setup c) _ _ refl refl
+count_setup c HardwareStrobe = choose_setup (is_loaded c.progress) (setup c) _ _ refl refl
+
+-- a tick leaves both
+pub tick_setup : (c : CounterState) → setup (one.after_tick c) ≡ setup c
+unfolding one.after_tick
+tick_setup c = choose_setup c.load_due (setup c) _ _ refl (count_setup c c.mode)
+
+pub tick_gate : (c : CounterState) → (one.after_tick c).gate ≡ c.gate
+tick_gate c = ap (λ (s : Mode × Line). s.1) (tick_setup c)
+
 choose : (b : Bool) (gate : Line) (c d : CounterState) → c.gate ≡ gate → d.gate ≡ gate → (if b then c else d).gate ≡ gate
 choose true gate c d first second = first
 choose false gate c d first second = second
-
-rate_gate : (c : CounterState) → (after_rate_count c).gate ≡ c.gate
-rate_gate c = choose (c.count == 1) c.gate _ _ refl refl
-
-square_gate : (c : CounterState) → (after_square_count c).gate ≡ c.gate
-square_gate c =
-    choose (c.count == 1) c.gate _ _ refl
-    (choose (count_minus c.count_base c.count (half_step c.count c.out) == 0) c.gate _ _ refl refl)
-
-count_gate : (c : CounterState) (mode : Mode) → (after_count c mode).gate ≡ c.gate
-count_gate c TerminalCount = choose (is_loaded c.progress && is_high c.gate && is_none c.first_byte) c.gate _ _ refl refl
-count_gate c OneShot = choose (is_loaded c.progress) c.gate _ _ refl refl
-count_gate c RateGenerator = choose (is_loaded c.progress && is_high c.gate) c.gate _ _ (rate_gate c) refl
-count_gate c SquareWave = choose (is_loaded c.progress && is_high c.gate) c.gate _ _ (square_gate c) refl
-count_gate c SoftwareStrobe = choose (is_loaded c.progress && is_high c.gate) c.gate _ _ refl refl
-count_gate c HardwareStrobe = choose (is_loaded c.progress) c.gate _ _ refl refl
-
-tick_gate : (c : CounterState) → (one.after_tick c).gate ≡ c.gate
-unfolding one.after_tick
-tick_gate c = choose c.load_due c.gate _ _ refl (count_gate c c.mode)
 
 control_gate : (word : ℕ) (c : CounterState) → (one.after_control_word c word).gate ≡ c.gate
 unfolding one.after_control_word after_latch

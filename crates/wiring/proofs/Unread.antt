@@ -1,81 +1,82 @@
 -- What a counter does beside what its reads change: the latch, and the byte that is next to be read.
 use Rattle.std.proofs.Common.{◌≡◌, ℕ, ◌/◌, ◌%◌, Bool, true, false, if◌then◌else◌, Option, None, Some, refl, sym, ap, ◌∙◌}
 use Rattle.std.specs.Prelude.{◌==◌, ◌&&◌, is_none}
+use Rattle.board_types.specs.Lines.{is_high}
 use Rattle.board_types.specs.declared.line.Line.{Line}
 use Rattle.pit8253.specs.declared.program.Mode.{Mode}
 use Rattle.pit8253.specs.declared.program.Mode.TheVariants.{TerminalCount, OneShot, RateGenerator, SquareWave, SoftwareStrobe, HardwareStrobe}
 use Rattle.pit8253.specs.declared.program.Access.{Access}
 use Rattle.pit8253.specs.declared.program.Access.TheVariants.{LowByte, HighByte, LowThenHigh}
-use Rattle.pit8253.specs.Program.{lowered, is_high}
-use Rattle.pit8253.specs.Counter.{CounterState, is_loaded, counted, rate_generated, half_step, square_waved, tick, latched, controlled, with_byte_of_two, written_by, written, read_by, after_read, gated}
+use Rattle.pit8253.specs.Program.{count_minus}
+use Rattle.pit8253.specs.Counter.{CounterState, is_loaded, after_count, after_rate_count, half_step, after_square_count, after_tick, after_latch, after_control_word, after_byte_of_two, after_write_by, after_write, after_read_by, after_read, after_gate}
 
 -- the counter with no latch, the low byte next
-abbrev pub erased : CounterState → CounterState
-erased c = record c { latch = None; high_next = false }
+abbrev pub unread : CounterState → CounterState
+unread c = record c { latch = None; high_next = false }
 
 -- a rule by which what is left depends on what was left alone
 abbrev pub IsUnread : (CounterState → CounterState) → Type 0
-IsUnread rule = (c : CounterState) → erased (rule c) ≡ erased (rule (erased c))
+IsUnread rule = (c : CounterState) → unread (rule c) ≡ unread (rule (unread c))
 
-choose : (b : Bool) (c d x y : CounterState) → erased c ≡ erased x → erased d ≡ erased y → erased (if b then c else d) ≡ erased (if b then x else y)
+choose : (b : Bool) (c d x y : CounterState) → unread c ≡ unread x → unread d ≡ unread y → unread (if b then c else d) ≡ unread (if b then x else y)
 choose true c d x y first second = first
 choose false c d x y first second = second
 
-rate_unread : IsUnread rate_generated
+rate_unread : IsUnread after_rate_count
 rate_unread c = choose (c.count == 1) _ _ _ _ refl refl
 
-square_unread : IsUnread square_waved
+square_unread : IsUnread after_square_count
 square_unread c =
     choose (c.count == 1) _ _ _ _ refl
-    (choose (lowered c.count_base (half_step c.count c.out) c.count == 0) _ _ _ _ refl refl)
+    (choose (count_minus c.count_base c.count (half_step c.count c.out) == 0) _ _ _ _ refl refl)
 
-counted_unread : (mode : Mode) → IsUnread (counted mode)
-counted_unread TerminalCount c = choose (is_loaded c.progress && is_high c.gate && is_none c.first_byte) _ _ _ _ refl refl
-counted_unread OneShot c = choose (is_loaded c.progress) _ _ _ _ refl refl
-counted_unread RateGenerator c = choose (is_loaded c.progress && is_high c.gate) _ _ _ _ (rate_unread c) refl
-counted_unread SquareWave c = choose (is_loaded c.progress && is_high c.gate) _ _ _ _ (square_unread c) refl
-counted_unread SoftwareStrobe c = choose (is_loaded c.progress && is_high c.gate) _ _ _ _ refl refl
-counted_unread HardwareStrobe c = choose (is_loaded c.progress) _ _ _ _ refl refl
+count_unread : (mode : Mode) → IsUnread (λ c. after_count c mode)
+count_unread TerminalCount c = choose (is_loaded c.progress && is_high c.gate && is_none c.first_byte) _ _ _ _ refl refl
+count_unread OneShot c = choose (is_loaded c.progress) _ _ _ _ refl refl
+count_unread RateGenerator c = choose (is_loaded c.progress && is_high c.gate) _ _ _ _ (rate_unread c) refl
+count_unread SquareWave c = choose (is_loaded c.progress && is_high c.gate) _ _ _ _ (square_unread c) refl
+count_unread SoftwareStrobe c = choose (is_loaded c.progress && is_high c.gate) _ _ _ _ refl refl
+count_unread HardwareStrobe c = choose (is_loaded c.progress) _ _ _ _ refl refl
 
-pub tick_unread : IsUnread tick
-unfolding tick
-tick_unread c = choose c.load_due _ _ _ _ refl (counted_unread c.mode c)
+pub tick_unread : IsUnread after_tick
+unfolding after_tick
+tick_unread c = choose c.load_due _ _ _ _ refl (count_unread c.mode c)
 
-pub controlled_unread : (word : ℕ) → IsUnread (controlled word)
-unfolding controlled latched
-controlled_unread word c = choose (word / 16 % 4 == 0) _ _ _ _ refl refl
+pub control_unread : (word : ℕ) → IsUnread (λ c. after_control_word c word)
+unfolding after_control_word after_latch
+control_unread word c = choose (word / 16 % 4 == 0) _ _ _ _ refl refl
 
-two_unread : (first : Option ℕ) (byte : ℕ) → IsUnread (with_byte_of_two first byte)
+two_unread : (first : Option ℕ) (byte : ℕ) → IsUnread (λ c. after_byte_of_two c first byte)
 two_unread None byte c = refl
 two_unread (Some low) byte c = refl
 
-by_access_unread : (access : Access) (byte : ℕ) → IsUnread (written_by access byte)
+by_access_unread : (access : Access) (byte : ℕ) → IsUnread (λ c. after_write_by c access byte)
 by_access_unread LowByte byte c = refl
 by_access_unread HighByte byte c = refl
 by_access_unread LowThenHigh byte c = two_unread c.first_byte byte c
 
-pub written_unread : (byte : ℕ) → IsUnread (written byte)
-unfolding written
-written_unread byte c = by_access_unread c.access byte c
+pub write_unread : (byte : ℕ) → IsUnread (λ c. after_write c byte)
+unfolding after_write
+write_unread byte c = by_access_unread c.access byte c
 
-pub gated_unread : (gate : Line) → IsUnread (gated gate)
-unfolding gated
-gated_unread gate c = refl
+pub gate_unread : (gate : Line) → IsUnread (λ c. after_gate c gate)
+unfolding after_gate
+gate_unread gate c = refl
 
-read_branch : (b : Bool) (c x y : CounterState) → erased x ≡ erased c → erased y ≡ erased c → erased (if b then x else y) ≡ erased c
+read_branch : (b : Bool) (c x y : CounterState) → unread x ≡ unread c → unread y ≡ unread c → unread (if b then x else y) ≡ unread c
 read_branch true c x y first second = first
 read_branch false c x y first second = second
 
-by_read : (access : Access) (c : CounterState) → erased (read_by access c) ≡ erased c
-by_read LowByte c = refl
-by_read HighByte c = refl
-by_read LowThenHigh c = read_branch c.high_next c _ _ refl refl
+by_read : (c : CounterState) (access : Access) → unread (after_read_by c access) ≡ unread c
+by_read c LowByte = refl
+by_read c HighByte = refl
+by_read c LowThenHigh = read_branch c.high_next c _ _ refl refl
 
 -- a read leaves the rest
-pub read_leaves : (c : CounterState) → erased (after_read c) ≡ erased c
+pub read_leaves : (c : CounterState) → unread (after_read c) ≡ unread c
 unfolding after_read
-read_leaves c = by_read c.access c
+read_leaves c = by_read c c.access
 
 -- where two counters differ only in what reads change, a rule leaves them so
-pub same_rest : (rule : CounterState → CounterState) → IsUnread rule → (c d : CounterState) → erased c ≡ erased d → erased (rule c) ≡ erased (rule d)
-same_rest rule unread c d same = unread c ∙ ap (λ (x : CounterState). erased (rule x)) same ∙ sym (unread d)
+pub same_rest : (rule : CounterState → CounterState) → IsUnread rule → (c d : CounterState) → unread c ≡ unread d → unread (rule c) ≡ unread (rule d)
+same_rest rule is_unread c d same = is_unread c ∙ ap (λ (x : CounterState). unread (rule x)) same ∙ sym (is_unread d)
