@@ -4,7 +4,7 @@ use Rattle.std.specs.Prelude.{ℕ, ◌+◌, ◌<◌, ◌≤◌, ◌≡◌, ◌�
 use Rattle.board.specs.declared.board.BoardFault.{BoardFault}
 use Rattle.board.specs.declared.board.BoardFault.TheVariants.{RamSize, Memory, ClockLimit}
 use Rattle.board.specs.declared.board.SpeakerChange.{SpeakerChange}
-use Rattle.board.specs.Plain.{Plain, clock_of, clocks, one_clock, change_next, changes_in, speaker_level}
+use Rattle.board.specs.Plain.{Plain, clock_of, after_clocks, after_clock, change_next, changes_in, speaker_level}
 
 pub record BoardState : Type 0 where
   pub plain : Plain
@@ -15,10 +15,10 @@ pub record BoardState : Type 0 where
 pub record StoppedEarly (n : ℕ) (old new : BoardState) : Type 0 where
   pub passed : ℕ
   pub before_end : passed < n
-  pub plain : new.plain ≡ clocks passed old.plain
+  pub plain : new.plain ≡ after_clocks old.plain passed
   pub clock : clock_of new.plain ≡ clock_of old.plain + passed
-  pub changes : new.changes ≡ old.changes ++ changes_in passed old.plain
-  pub changes_next : speaker_level (one_clock new.plain) ≢ speaker_level new.plain
+  pub changes : new.changes ≡ old.changes ++ changes_in old.plain passed
+  pub changes_next : speaker_level (after_clock new.plain) ≢ speaker_level new.plain
   pub full : new.room ≡ 0
 
 abbrev pub board_fault_number : BoardFault → ℕ
@@ -34,5 +34,5 @@ board_fault_name ClockLimit = codes "ClockLimit"
 -- the next clock brings a change that there is no room for, and nothing is done
 pub record IsHeldBack (old new : BoardState) : Type 0 where
   pub kept : new ≡ old
-  pub changes_next : speaker_level (one_clock old.plain) ≢ speaker_level old.plain
+  pub changes_next : speaker_level (after_clock old.plain) ≢ speaker_level old.plain
   pub full : old.room ≡ 0

@@ -1,8 +1,5 @@
 pub mod Reset
-pub mod Adapter
-pub mod Devices
-pub mod BusLaws
-pub mod Arrivals
 pub mod Plain
+pub mod Arrivals
 pub mod Laws
 pub mod Board

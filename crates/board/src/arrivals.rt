@@ -3,7 +3,7 @@ ghost use Rattle.std.specs.Prelude.{◌≡◌, ◌+◌, ◌<◌, ◌^◌};
 ghost use Rattle.board_types.specs.Keys.{IsInOrder};
 ghost use Rattle.board.specs.Arrivals.{Awaits};
 ghost use Rattle.wiring.specs.Wires.{after_arrivals};
-ghost use Rattle.board.specs.Plain.{chips_clocked, codes_at};
+ghost use Rattle.board.specs.Plain.{chips_after_clock, codes_at};
 
 use board_types::clock::Clock;
 use board_types::keys::StampedKey;
@@ -13,7 +13,7 @@ use wiring::chips::Chips;
 pub(crate) fn arrive_at(chips: &mut Chips, keys: &[StampedKey], next: usize, clock: u64) -> usize
     requires in_order { IsInOrder keys.now }
     requires awaits { Awaits next clock keys.now }
-    ensures chips { chips.new ≡ after_arrivals (codes_at clock keys.now) chips.old }
+    ensures chips { chips.new ≡ after_arrivals chips.old (codes_at keys.now clock) }
     ensures clock { chips.new.clock ≡ chips.old.clock }
     ensures awaits { Awaits result (clock + 1) keys.now }
 {
@@ -28,12 +28,12 @@ pub(crate) fn arrive_at(chips: &mut Chips, keys: &[StampedKey], next: usize, clo
 }
 
 /// The chips' part of a clock; `next` keys have arrived before. Answers how many have arrived then.
-#[tactic(auto, unfolding(crate::specs::Plain::chips_clocked))]
+#[tactic(auto, unfolding(crate::specs::Plain::chips_after_clock))]
 pub(crate) fn pass_clock(chips: &mut Chips, keys: &[StampedKey], next: usize) -> usize
     requires within { chips.old.clock < 2 ^ 40 }
     requires in_order { IsInOrder keys.now }
     requires awaits { Awaits next (chips.old.clock + 1) keys.now }
-    ensures chips { chips.new ≡ chips_clocked keys.now chips.old }
+    ensures chips { chips.new ≡ chips_after_clock chips.old keys.now }
     ensures clock { chips.new.clock ≡ chips.old.clock + 1 }
     ensures awaits { Awaits result (chips.old.clock + 2) keys.now }
 {

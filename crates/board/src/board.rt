@@ -4,8 +4,8 @@ ghost use Rattle.std.specs.Result.{IfErr, IsErrOf};
 ghost use Rattle.std.specs.String.{string_bytes};
 ghost use Rattle.memory.specs.Map.{IsRamSize, FitsRam};
 ghost use Rattle.board.specs.Board.{IsHeldBack, StoppedEarly, board_fault_name, board_fault_number};
-ghost use Rattle.board.specs.Plain.{byte_of, change_next, changes_in, clock_of, clocks, lost_codes, one_clock, power_on, registers_of, screen_of, speaker_level, state_of};
-ghost use Rattle.wiring.specs.Wires.{line_of};
+ghost use Rattle.board.specs.Plain.{after_clock, after_clocks, byte_of, change_next, changes_in, clock_of, lost_codes, power_on, registers_of, screen_of, speaker_level, state_of};
+ghost use Rattle.board_types.specs.Lines.{from_bool};
 
 use crate::system::System;
 use board_types::clock::Clock;
@@ -141,14 +141,14 @@ impl<A: Allocator> Board<A> {
     /// list of changes has no room and can't grow: the board then stands at that clock, and a new run goes on
     /// from there.
     pub fn run(&mut self, count: u64) -> Result<(), BoardFault>
-        ensures plain { OnOk result (self.new.plain ≡ clocks count self.old.plain) }
+        ensures plain { OnOk result (self.new.plain ≡ after_clocks self.old.plain count) }
         ensures clock { OnOk result (clock_of self.new.plain ≡ clock_of self.old.plain + count) }
-        ensures changes { OnOk result (self.new.changes ≡ self.old.changes ++ changes_in count self.old.plain) }
+        ensures changes { OnOk result (self.new.changes ≡ self.old.changes ++ changes_in self.old.plain count) }
         ensures limit { IsErrOf result BoardFault.ClockLimit ↔ (2 ^ 40 < clock_of self.old.plain + count) }
         ensures limit_kept { IsErrOf result BoardFault.ClockLimit → self.new ≡ self.old }
         ensures memory { IsErrOf result BoardFault.Memory → StoppedEarly count self.old self.new }
         ensures no_ram_size { ¬ (IsErrOf result BoardFault.RamSize) }
-        ensures succeeds { clock_of self.old.plain + count ≤ 2 ^ 40 → length (changes_in count self.old.plain) ≤ self.old.room → IsOk result }
+        ensures succeeds { clock_of self.old.plain + count ≤ 2 ^ 40 → length (changes_in self.old.plain count) ≤ self.old.room → IsOk result }
         ensures room { self.old.room + length self.old.changes ≤ self.new.room + length self.new.changes }
     {
         if Clock::LAST - self.system.clock().get() < count {
@@ -180,7 +180,7 @@ impl<A: Allocator> Board<A> {
     /// One processor clock. The list of changes grows before anything else changes.
     fn run_clock(&mut self) -> Result<(), BoardFault>
         requires { clock_of self.old.plain < 2 ^ 40 }
-        ensures plain { OnOk result (self.new.plain ≡ one_clock self.old.plain) }
+        ensures plain { OnOk result (self.new.plain ≡ after_clock self.old.plain) }
         ensures clock { OnOk result (clock_of self.new.plain ≡ clock_of self.old.plain + 1) }
         ensures changes { OnOk result (self.new.changes ≡ self.old.changes ++ change_next self.old.plain) }
         ensures room { OnOk result (self.old.room + length self.old.changes ≤ self.new.room + length self.new.changes) }
@@ -197,7 +197,7 @@ impl<A: Allocator> Board<A> {
     /// Lists the change that the next clock brings, if it brings one; at it the speaker is `high`.
     fn list_change(&mut self, high: bool) -> Result<(), BoardFault>
         requires within { clock_of self.old.plain < 2 ^ 40 }
-        requires next { line_of high ≡ speaker_level (one_clock self.old.plain) }
+        requires next { from_bool high ≡ speaker_level (after_clock self.old.plain) }
         ensures plain { self.new.plain ≡ self.old.plain }
         ensures changes { OnOk result (self.new.changes ≡ self.old.changes ++ change_next self.old.plain) }
         ensures room { OnOk result (self.old.room + length self.old.changes ≤ self.new.room + length self.new.changes) }
@@ -214,13 +214,13 @@ impl<A: Allocator> Board<A> {
     fn add_change(&mut self, high: bool) -> Result<(), BoardFault>
         requires { clock_of self.old.plain < 2 ^ 40 }
         ensures plain { self.new.plain ≡ self.old.plain }
-        ensures ok { OnOk result (self.new.changes ≡ self.old.changes ++ (record { clock = clock_of self.old.plain + 1; level = line_of high }) ∷ []) }
+        ensures ok { OnOk result (self.new.changes ≡ self.old.changes ++ (record { clock = clock_of self.old.plain + 1; level = from_bool high }) ∷ []) }
         ensures room { OnOk result (self.old.room + length self.old.changes ≤ self.new.room + length self.new.changes) }
         ensures err { OnErr result (self.new ≡ self.old) }
         ensures full { OnErr result (self.old.room ≡ 0) }
         ensures fault { IfErr result (λ fault. fault ≡ BoardFault.Memory) }
     {
-        let level = if high { Line::High } else { Line::Low };
+        let level = Line::from_bool(high);
         let clock = Clock::new(self.system.clock().get() + 1).unwrap();
         self.reserve_speaker(1)?;
         match self.changes.push(SpeakerChange { clock, level }) {

@@ -1,10 +1,8 @@
-//! The system board: processor, chips and text adapter, run clock by clock.
+//! The system board: processor, chips and keys, run clock by clock.
 #![tactic(auto)]
 
-mod adapter;
 mod arrivals;
 pub mod board;
-pub mod devices;
 pub mod laws;
 mod system;
 #[cfg(test)]

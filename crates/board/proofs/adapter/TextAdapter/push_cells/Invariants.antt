@@ -1,8 +1,0 @@
-use Rattle.std.proofs.Common.{◌≡◌, ◌++◌, map}
-use Rattle.std.specs.String.{string_bytes}
-use Rattle.std.specs.List.{range_with_len}
-use Rattle.board.specs.Adapter.{cell}
-use Rattle.board.proofs.adapter.TextAdapter.push_cells.Given as goal
-
-abbrev pub invariant-loop-column : goal.invariant-loop-column
-invariant-loop-column l = string_bytes l.text ≡ string_bytes l.initial.text ++ map (cell l.self l.row) (range_with_len 0 l.column)
