@@ -1,0 +1,7 @@
+pub mod Sizes
+pub mod Raster
+pub mod Text
+pub mod Walk
+pub mod Keeping
+pub mod ScreenLaws
+pub mod MarkLaws

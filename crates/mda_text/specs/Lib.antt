@@ -1,0 +1,4 @@
+pub mod Mda
+pub mod Screen
+pub mod Marks
+pub mod Laws

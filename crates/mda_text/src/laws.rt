@@ -1,0 +1,56 @@
+//! What holds of every text adapter, over the definitions alone.
+ghost use Rattle.std.specs.Prelude.{ℕ, List};
+ghost use Rattle.mda_text.specs.Mda.{MdaState, power_on};
+ghost use Rattle.mda_text.specs.Laws.{Event, StartsAt, ShowsOnce, ShowsAlike, Scrolls, ChangesOneCell, IsMemory, IsBlank, TellsBeam, TellsChanges, NumbersMarks};
+
+/// A start address that is written to the MC6845 is the word of the first cell, and the cell `80 r + c` further on
+/// shows the word as much further on, round the 2,048 words.
+pub fn starts_at()
+    ensures { (m : MdaState) (start : ℕ) → StartsAt m start }
+{}
+
+/// No word of text memory is shown by two cells.
+pub fn shows_once()
+    ensures { (m : MdaState) → ShowsOnce m }
+{}
+
+/// What the cells show is told by text memory, the start address and the video enable alone.
+pub fn shows_alike()
+    ensures { (m other : MdaState) → ShowsAlike m other }
+{}
+
+/// A start address 80 words on moves the screen up by a row.
+pub fn scrolls()
+    ensures { (m : MdaState) → Scrolls m }
+{}
+
+/// A byte written to text memory changes no cell but the one, if there is one, that shows its word.
+pub fn changes_one_cell()
+    ensures { (m : MdaState) (offset byte : ℕ) → ChangesOneCell m offset byte }
+{}
+
+/// A byte written to text memory reads back, and every other byte stays; no port, clock or mark changes one.
+pub fn is_memory()
+    ensures { (m : MdaState) → IsMemory m }
+{}
+
+/// At power-on text memory has 4,096 bytes, all 0.
+pub fn is_blank()
+    ensures { IsBlank power_on }
+{}
+
+/// The status over time: which it is after any number of clocks, and how long until it changes.
+pub fn tells_beam()
+    ensures { (m : MdaState) → TellsBeam m }
+{}
+
+/// After a mark and whatever happens then, the cells that are named by its number are those that show another
+/// character than at the mark; by any other number all are. They come in reading order.
+pub fn tells_changes()
+    ensures { (m : MdaState) (es : List Event) → TellsChanges m es }
+{}
+
+/// Marks are numbered from 1 up to the greatest `u64`, and after it 0.
+pub fn numbers_marks()
+    ensures { (n : ℕ) → NumbersMarks n }
+{}

@@ -1,0 +1,7 @@
+//! The monochrome text adapter: text memory, the MC6845's start and cursor, the mode register, the status port and
+//! the screen's text. It can be used alone.
+#![tactic(auto)]
+
+pub mod changes;
+pub mod laws;
+pub mod mda;

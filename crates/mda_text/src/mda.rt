@@ -1,0 +1,329 @@
+//! The monochrome text adapter (Motorola MC6845 data sheet; IBM PC Technical Reference, "IBM Monochrome Display and
+//! Parallel Printer Adapter").
+ghost use Rattle.std.specs.Prelude.{◌≡◌, ◌<◌, ◌≤◌, ◌+◌, ◌++◌, ◌==◌, IfOk, OnOk, map, length};
+ghost use Rattle.std.specs.List.{range_with_len, flat_map};
+ghost use Rattle.std.specs.String.{string_bytes};
+ghost use Rattle.board_types.specs.Bits.{has_bit};
+ghost use Rattle.mda_text.specs.Mda.{MdaState, power_on, text_byte, with_text_byte, with_high, with_low, register_byte, with_register, status, byte_at, after_write, after_clocks};
+ghost use Rattle.mda_text.specs.Screen.{cell, character_at, character_of, glyph, screen_row, screen_text, nth_character, characters};
+ghost use Rattle.mda_text.specs.Marks.{after_mark, number_after, is_changed, changed_cells};
+
+use crate::changes::ChangedCells;
+use board_types::address::TEXT_SIZE;
+use std::alloc::{AllocError, Global};
+use std::marker::Model;
+
+/// The MC6845's address register.
+pub const INDEX_PORT: u16 = 0x3B4;
+
+/// The MC6845's register that the address register names.
+pub const REGISTER_PORT: u16 = 0x3B5;
+
+/// The mode register.
+pub const MODE_PORT: u16 = 0x3B8;
+
+/// The status port.
+pub const STATUS_PORT: u16 = 0x3BA;
+
+/// How many rows the screen has.
+pub const ROWS: u8 = 25;
+
+/// How many columns the screen has.
+pub const COLUMNS: u8 = 80;
+
+/// How many cells the screen has.
+pub const CELL_COUNT: u16 = 2000;
+
+/// How many words text memory has: a code and an attribute each.
+const WORD_COUNT: u32 = 2048;
+
+/// After so many processor clocks the beam is where it was.
+const RASTER_CLOCKS: u16 = 259;
+
+/// In the clocks of the raster from this one on the beam goes back.
+const RETRACE_START: u16 = 219;
+
+/// The adapter, with the characters that its last mark kept.
+#[derive(Drop)]
+pub struct Mda {
+    bytes: Vec<u8>,
+    index: u8,
+    start: u16,
+    cursor: u16,
+    video: bool,
+    raster: u16,
+    kept: Vec<u8>,
+    last_mark: u64,
+    next_mark: u64,
+}
+
+impl Model for Mda {
+    ghost use Rattle.std.specs.Prelude.{◌≡◌, ◌<◌, length};
+    ghost use Rattle.mda_text.specs.Mda.{MdaState};
+
+    ghost Value = { MdaState };
+
+    ghost view = { λ m. record {
+      bytes = m.bytes.items;
+      index = m.index;
+      start = m.start;
+      cursor = m.cursor;
+      video = m.video;
+      raster = m.raster;
+      kept = m.kept.items;
+      last_mark = m.last_mark;
+      next_mark = m.next_mark;
+    } };
+
+    ghost invariant = { λ m. (length m.bytes.items ≡ 4096) × (length m.kept.items ≡ 2000) × (m.raster < 259) };
+}
+
+impl Mda {
+    /// The adapter at power-on. Fails only where there is no memory for its 4,096 bytes and the 2,000 characters
+    /// that a mark keeps.
+    #[tactic(auto, unfolding(crate::specs::Mda::power_on))]
+    pub fn new(alloc: Global) -> Result<Mda, AllocError>
+        ensures { IfOk result (λ mda. mda ≡ power_on) }
+    {
+        Ok(Mda {
+            bytes: vec![in alloc; 0; TEXT_SIZE as usize]?,
+            index: 0,
+            start: 0,
+            cursor: 0,
+            video: false,
+            raster: 0,
+            kept: vec![in alloc; 0; CELL_COUNT as usize]?,
+            last_mark: 0,
+            next_mark: 1,
+        })
+    }
+
+    /// The same adapter in memory of its own. Fails only where there is none.
+    pub fn copy(&self) -> Result<Mda, AllocError>
+        ensures { IfOk result (λ mda. mda ≡ self.now) }
+    {
+        Ok(Mda {
+            bytes: self.bytes.clone()?,
+            index: self.index,
+            start: self.start,
+            cursor: self.cursor,
+            video: self.video,
+            raster: self.raster,
+            kept: self.kept.clone()?,
+            last_mark: self.last_mark,
+            next_mark: self.next_mark,
+        })
+    }
+
+    /// The byte that a read of `port` gives: FFh where the adapter doesn't answer, and at 3B4h and 3B8h, which can
+    /// only be written.
+    #[tactic(auto, unfolding(crate::specs::Mda::byte_at))]
+    pub fn read_port(&self, port: u16) -> u8
+        ensures { result ≡ byte_at self.now port }
+    {
+        match port {
+            REGISTER_PORT => self.register(),
+            STATUS_PORT => self.status(),
+            _ => 0xFF,
+        }
+    }
+
+    /// Writes `value` to `port`; where the adapter doesn't answer, and at 3BAh, nothing happens.
+    #[tactic(auto, unfolding(crate::specs::Mda::after_write))]
+    pub fn write_port(&mut self, port: u16, value: u8)
+        ensures { self.new ≡ after_write self.old port value }
+    {
+        match port {
+            INDEX_PORT => self.index = value % 32,
+            REGISTER_PORT => self.set_register(value),
+            MODE_PORT => self.video = value >> 3 & 1 == 1,
+            _ => {}
+        }
+    }
+
+    /// The byte at `offset` of text memory, below 4,096.
+    #[tactic(auto, unfolding(crate::specs::Mda::text_byte))]
+    pub fn read_mem(&self, offset: u16) -> u8
+        requires { offset < 4096 }
+        ensures byte { result ≡ text_byte self.now offset }
+        ensures whole { length self.now.bytes ≡ 4096 }
+    {
+        self.bytes[offset as usize]
+    }
+
+    /// Writes `value` at `offset` of text memory, below 4,096.
+    #[tactic(auto, unfolding(crate::specs::Mda::with_text_byte))]
+    pub fn write_mem(&mut self, offset: u16, value: u8)
+        requires { offset < 4096 }
+        ensures { self.new ≡ with_text_byte self.old offset value }
+    {
+        self.bytes[offset as usize] = value;
+    }
+
+    /// Lets `clocks` processor clocks pass: the beam moves on.
+    #[tactic(auto, using(crate::proofs::Raster::clocks_in_closed_form))]
+    pub fn advance(&mut self, clocks: u64)
+        ensures { self.new ≡ after_clocks self.old clocks }
+    {
+        let ahead = (clocks % u64::from(RASTER_CLOCKS)) as u16;
+        self.raster = (self.raster + ahead) % RASTER_CLOCKS;
+    }
+
+    /// The character that the cell at `row`, below 25, and `column`, below 80, shows, an ASCII code.
+    #[tactic(auto, unfolding(crate::specs::Screen::cell, crate::specs::Screen::character_at))]
+    pub fn cell(&self, row: u8, column: u8) -> u8
+        requires row_within { row < 25 }
+        requires column_within { column < 80 }
+        ensures value { result ≡ cell self.now row column }
+        ensures printable { result < 127 }
+    {
+        let first = u32::from(self.start);
+        let word = (first + 80 * u32::from(row) + u32::from(column)) % WORD_COUNT;
+        let offset = 2 * word as u16;
+        character_of(self.video, self.read_mem(offset), self.read_mem(offset + 1))
+    }
+
+    /// Keeps the characters that are shown now, and gives the mark's number: 1 and then one more each time, up to
+    /// the greatest `u64`, and after it always 0.
+    #[tactic(auto, unfolding(crate::specs::Marks::after_mark))]
+    pub fn mark(&mut self) -> u64
+        ensures number { result ≡ self.old.next_mark }
+        ensures state { self.new ≡ after_mark self.old }
+    {
+        self.keep_characters();
+        self.last_mark = self.next_mark;
+        if self.next_mark != 0 {
+            self.next_mark = self.next_mark.wrapping_add(1);
+        }
+        self.last_mark
+    }
+
+    /// The cells whose character isn't the one that `mark` kept, in reading order, where it is the last mark that
+    /// was made; of any other number, and of 0, all cells.
+    pub fn changed_since(&self, mark: u64) -> ChangedCells<'_>
+        ensures { result ≡ changed_cells self.now mark }
+    {
+        ChangedCells::new(self, mark)
+    }
+
+    /// The screen's text: 25 lines of 80 characters, each ended by a line feed. Fails only where there is no memory
+    /// for it.
+    #[tactic(auto, unfolding(crate::specs::Screen::screen_text))]
+    pub fn text(&self) -> Result<String, AllocError>
+        ensures { IfOk result (λ text. string_bytes text ≡ screen_text self.now) }
+    {
+        let mut text = String::new(*self.bytes.allocator());
+        for row in 0..ROWS {
+            self.push_row(&mut text, row)?;
+        }
+        Ok(text)
+    }
+
+    #[tactic(auto, unfolding(crate::specs::Screen::screen_row))]
+    fn push_row(&self, text: &mut String, row: u8) -> Result<(), AllocError>
+        requires { row < 25 }
+        ensures { OnOk result (string_bytes text.new ≡ string_bytes text.old ++ screen_row self.now row) }
+    {
+        for column in 0..COLUMNS {
+            text.push(char::from(self.cell(row, column)))?;
+        }
+        text.push('\n')?;
+        Ok(())
+    }
+
+    /// Whether the cell that is the `n`-th in reading order, below 2,000, is to be named as changed since `mark`.
+    #[tactic(auto, unfolding(crate::specs::Marks::is_changed))]
+    pub(crate) fn is_changed(&self, mark: u64, n: u16) -> bool
+        requires { n < 2000 }
+        ensures { result ≡ is_changed self.now mark n }
+    {
+        mark != self.last_mark || mark == 0 || self.nth_character(n) != self.kept[n as usize]
+    }
+
+    #[tactic(auto, unfolding(crate::specs::Screen::nth_character))]
+    fn nth_character(&self, n: u16) -> u8
+        requires { n < 2000 }
+        ensures { result ≡ nth_character self.now n }
+    {
+        let columns = u16::from(COLUMNS);
+        self.cell((n / columns) as u8, (n % columns) as u8)
+    }
+
+    fn keep_characters(&mut self)
+        ensures { self.new ≡ record self.old { kept = characters self.old } }
+    {
+        let _ = &self.kept;
+        for n in 0..CELL_COUNT {
+            self.kept[n as usize] = self.nth_character(n);
+        }
+    }
+
+    fn register(&self) -> u8
+        ensures { result ≡ register_byte self.now self.now.index }
+    {
+        match self.index {
+            14 => (self.cursor / 256) as u8,
+            15 => (self.cursor % 256) as u8,
+            _ => 0,
+        }
+    }
+
+    fn set_register(&mut self, value: u8)
+        ensures { self.new ≡ with_register self.old self.old.index value }
+    {
+        match self.index {
+            12 => self.start = with_high(self.start, value),
+            13 => self.start = with_low(self.start, value),
+            14 => self.cursor = with_high(self.cursor, value),
+            15 => self.cursor = with_low(self.cursor, value),
+            _ => {}
+        }
+    }
+
+    fn status(&self) -> u8
+        ensures { result ≡ status self.now }
+    {
+        if self.raster >= RETRACE_START {
+            0xF1
+        } else {
+            0xF0
+        }
+    }
+}
+
+// the number with its high part replaced, which has six bits
+fn with_high(word: u16, byte: u8) -> u16
+    ensures { result ≡ with_high word byte }
+{
+    u16::from(byte % 64) * 256 + word % 256
+}
+
+// the number with its low part replaced
+fn with_low(word: u16, byte: u8) -> u16
+    ensures { result ≡ with_low word byte }
+{
+    word / 256 * 256 + u16::from(byte)
+}
+
+// what a cell with this code and attribute shows
+fn character_of(video: bool, code: u8, attribute: u8) -> u8
+    ensures value { result ≡ character_of video code attribute }
+    ensures printable { result < 127 }
+{
+    if !video || attribute & 0x77 == 0 || code == 0 {
+        b' '
+    } else {
+        glyph(code)
+    }
+}
+
+fn glyph(code: u8) -> u8
+    ensures value { result ≡ glyph code }
+    ensures printable { result < 127 }
+{
+    if 0x20 <= code && code <= 0x7E {
+        code
+    } else {
+        b'.'
+    }
+}
