@@ -11,7 +11,7 @@ use Rattle.pit8253.specs.Pit.{PitState, counter, with_counter}
 use Rattle.ppi8255.specs.Ppi.{PpiState, lines_b}
 use Rattle.ppi8255.specs.Ppi as ppi
 use Rattle.wiring.specs.declared.port.Port.{Port}
-use Rattle.wiring.specs.declared.port.Port.TheVariants.{Controller, Timer, Parallel, Nothing}
+use Rattle.wiring.specs.declared.port.Port.TheVariants.{Controller, Timer, Parallel, Adapter, Nothing}
 use Rattle.wiring.specs.Chips.{ChipsState}
 use Rattle.wiring.specs.Ports.{port_at, after_port_read, after_port_write, after_input, after_output}
 use Rattle.wiring.specs.Wires.{port_b_line, pit_after_clock, after_settling, after_clock, after_arrival, after_arrivals, after_key_settling}
@@ -74,6 +74,7 @@ alike_after_write s t (Parallel n) byte alike = record {
   ppi = ap (λ ports. ppi.after_write ports n byte) alike.ppi;
   counter_2 = alike.counter_2;
 }
+alike_after_write s t (Adapter n) byte alike = record { clock = alike.clock; ppi = alike.ppi; counter_2 = alike.counter_2 }
 alike_after_write s t Nothing byte alike = alike
 
 alike_after_output : (s t : ChipsState) (port byte : ℕ) → SoundsAlike s t → SoundsAlike (after_output s port byte) (after_output t port byte)
@@ -135,6 +136,7 @@ alike_after_read : (s : ChipsState) (port : Port) → SoundsAlike (after_port_re
 alike_after_read s (Controller a0) = record { clock = refl; ppi = refl; counter_2 = refl }
 alike_after_read s (Timer n) = record { clock = refl; ppi = refl; counter_2 = timer_read n s.pit }
 alike_after_read s (Parallel n) = record { clock = refl; ppi = refl; counter_2 = refl }
+alike_after_read s (Adapter n) = record { clock = refl; ppi = refl; counter_2 = refl }
 alike_after_read s Nothing = record { clock = refl; ppi = refl; counter_2 = refl }
 
 alike_after_input : (s : ChipsState) (port : ℕ) → SoundsAlike (after_input s port) (after_settling s)

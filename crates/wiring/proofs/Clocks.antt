@@ -5,7 +5,7 @@ use Rattle.memory.specs.Kinds.{is_text_address}
 use Rattle.memory.specs.Map as map
 use Rattle.bus.specs.PortWrites.{after_port_writes}
 use Rattle.wiring.specs.declared.port.Port.{Port}
-use Rattle.wiring.specs.declared.port.Port.TheVariants.{Controller, Timer, Parallel, Nothing}
+use Rattle.wiring.specs.declared.port.Port.TheVariants.{Controller, Timer, Parallel, Adapter, Nothing}
 use Rattle.wiring.specs.Chips.{ChipsState}
 use Rattle.wiring.specs.Ports.{with_byte, port_at, after_port_read, after_port_write, after_input, after_output}
 use Rattle.wiring.specs.Wires.{after_settling, after_clock, after_clocks, after_arrival, after_arrivals, after_key_settling, after_acknowledge}
@@ -43,25 +43,26 @@ pub clock_of_request_taken : (s : ChipsState) → (after_acknowledge s).clock �
 unfolding after_acknowledge
 clock_of_request_taken s = refl
 
-choose : (b : Bool) (s t : ChipsState) → t.clock ≡ s.clock → (if b then s else t).clock ≡ s.clock
-choose true s t same = refl
-choose false s t same = same
+choose : (b : Bool) (clock : ℕ) (s t : ChipsState) → s.clock ≡ clock → t.clock ≡ clock → (if b then s else t).clock ≡ clock
+choose true clock s t first second = first
+choose false clock s t first second = second
 
 pub clock_of_byte : (s : ChipsState) (address byte : ℕ) → (with_byte s address byte).clock ≡ s.clock
 unfolding with_byte
-clock_of_byte s address byte =
-    choose (is_text_address address) s (record s { memory = map.with_byte s.memory address byte }) refl
+clock_of_byte s address byte = choose (is_text_address address) s.clock _ _ refl refl
 
 read_clock : (s : ChipsState) (port : Port) → (after_port_read s port).clock ≡ s.clock
 read_clock s (Controller a0) = refl
 read_clock s (Timer n) = refl
 read_clock s (Parallel n) = refl
+read_clock s (Adapter n) = refl
 read_clock s Nothing = refl
 
 written_clock : (s : ChipsState) (port : Port) (byte : ℕ) → (after_port_write s port byte).clock ≡ s.clock
 written_clock s (Controller a0) byte = refl
 written_clock s (Timer n) byte = refl
 written_clock s (Parallel n) byte = refl
+written_clock s (Adapter n) byte = refl
 written_clock s Nothing byte = refl
 
 pub clock_of_input : (s : ChipsState) (port : ℕ) → (after_input s port).clock ≡ s.clock

@@ -10,7 +10,7 @@ use Rattle.pic8259.specs.Levels.{Levels, all_levels, contains}
 use Rattle.pit8253.specs.Pit.{PitState}
 use Rattle.pit8253.specs.Pit as pit
 use Rattle.wiring.specs.declared.port.Port.{Port}
-use Rattle.wiring.specs.declared.port.Port.TheVariants.{Controller, Timer, Parallel, Nothing}
+use Rattle.wiring.specs.declared.port.Port.TheVariants.{Controller, Timer, Parallel, Adapter, Nothing}
 use Rattle.wiring.specs.Chips.{ChipsState, power_on}
 use Rattle.wiring.specs.Ports.{with_byte, port_at, after_port_read, after_port_write, after_input, after_output}
 use Rattle.wiring.specs.Wires.{port_b_line, after_latch_wire, after_gate_wire, after_settling, after_clock, after_arrival, after_key_settling, after_acknowledge}
@@ -73,18 +73,20 @@ choose false s t first second = second
 
 byte_fixed : (s : ChipsState) (address byte : ℕ) → FixedWires s → FixedWires (with_byte s address byte)
 unfolding with_byte
-byte_fixed s address byte fixed = choose (is_text_address address) s _ fixed (kept s _ fixed refl (same_gates s.pit))
+byte_fixed s address byte fixed = choose (is_text_address address) _ _ (kept s _ fixed refl (same_gates s.pit)) (kept s _ fixed refl (same_gates s.pit))
 
 read_fixed : (s : ChipsState) (port : Port) → FixedWires s → FixedWires (after_port_read s port)
 read_fixed s (Controller a0) fixed = kept s _ fixed (high_after_read s.pic) (same_gates s.pit)
 read_fixed s (Timer n) fixed = kept s _ fixed refl (read_gates s.pit n)
 read_fixed s (Parallel n) fixed = fixed
+read_fixed s (Adapter n) fixed = fixed
 read_fixed s Nothing fixed = fixed
 
 written_fixed : (s : ChipsState) (port : Port) (byte : ℕ) → FixedWires s → FixedWires (after_port_write s port byte)
 written_fixed s (Controller a0) byte fixed = kept s _ fixed (high_after_write s.pic a0 byte) (same_gates s.pit)
 written_fixed s (Timer n) byte fixed = kept s _ fixed refl (write_gates s.pit n byte)
 written_fixed s (Parallel n) byte fixed = kept s _ fixed refl (same_gates s.pit)
+written_fixed s (Adapter n) byte fixed = kept s _ fixed refl (same_gates s.pit)
 written_fixed s Nothing byte fixed = fixed
 
 input_fixed : (s : ChipsState) (port : ℕ) → FixedWires s → FixedWires (after_input s port)

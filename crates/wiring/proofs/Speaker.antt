@@ -3,9 +3,11 @@ use Rattle.std.proofs.Common.{◌≡◌, ℕ, ◌+◌, ◌<◌, List, length, ge
 use Rattle.std.proofs.lemmas.List.Sums.{fold_more}
 use Rattle.board_types.proofs.Iterate.{iterate_zero, iterate_more}
 use Rattle.bus.specs.PortWrites.{after_port_writes}
+use Rattle.mda_text.specs.Mda as mda
+use Rattle.mda_text.specs.Mda.{MdaState}
 use Rattle.pit8253.specs.Pit.{PitState, after_tick, after_ticks}
 use Rattle.wiring.specs.declared.port.Port.{Port}
-use Rattle.wiring.specs.declared.port.Port.TheVariants.{Controller, Timer, Parallel, Nothing}
+use Rattle.wiring.specs.declared.port.Port.TheVariants.{Controller, Timer, Parallel, Adapter, Nothing}
 use Rattle.wiring.specs.declared.sound.Sound.{Sound}
 use Rattle.wiring.specs.Chips.{ChipsState}
 use Rattle.wiring.specs.Ports.{port_at, after_port_write, after_output}
@@ -18,6 +20,9 @@ use Rattle.wiring.proofs.Clocks.{clock_of_writes}
 pub one_tick : (p : PitState) → after_ticks p 1 ≡ after_tick p
 one_tick p = iterate_more after_tick 0 p ∙ ap after_tick (iterate_zero after_tick p)
 
+pub one_raster_clock : (m : MdaState) → mda.after_clocks m 1 ≡ mda.after_clock m
+one_raster_clock m = iterate_more mda.after_clock 0 m ∙ ap mda.after_clock (iterate_zero mda.after_clock m)
+
 sound_of_settling : (s : ChipsState) → sound_of (after_settling s) ≡ sound_after_settling (sound_of s)
 unfolding after_settling
 sound_of_settling s = refl
@@ -26,6 +31,7 @@ sound_of_write : (s : ChipsState) (port : Port) (byte : ℕ) → sound_of (after
 sound_of_write s (Controller a0) byte = refl
 sound_of_write s (Timer n) byte = refl
 sound_of_write s (Parallel n) byte = refl
+sound_of_write s (Adapter n) byte = refl
 sound_of_write s Nothing byte = refl
 
 abbrev pub sound_after_output : Sound → ℕ → ℕ → Sound

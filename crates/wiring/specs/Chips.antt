@@ -1,5 +1,6 @@
--- What the system board holds beside the processor: its memory, its chips and the clock that they stand at (IBM PC
--- Technical Reference, "System Board"). Each chip is as its own definition says.
+-- What the system board holds beside the processor: its memory, its chips, the text adapter in its
+-- slot, and the clock that they stand at (IBM PC Technical Reference, "System Board"). Each is as its own definition
+-- says.
 use Rattle.std.specs.Prelude.{ℕ, List}
 use Rattle.memory.specs.Map as map
 use Rattle.memory.specs.Map.{MemoryMap}
@@ -11,6 +12,8 @@ use Rattle.ppi8255.specs.Ppi as ppi
 use Rattle.ppi8255.specs.Ppi.{PpiState}
 use Rattle.keyboard.specs.Keyboard as keyboard
 use Rattle.keyboard.specs.Keyboard.{KeyboardState}
+use Rattle.mda_text.specs.Mda as mda
+use Rattle.mda_text.specs.Mda.{MdaState}
 
 pub record ChipsState : Type 0 where
   -- processor clocks since power-on
@@ -20,6 +23,7 @@ pub record ChipsState : Type 0 where
   pub pit : PitState
   pub ppi : PpiState
   pub keyboard : KeyboardState
+  pub mda : MdaState
 
 -- power-on, with an image's bytes in memory and the two switch blocks
 unfoldable pub power_on : List (ℕ × ℕ) → ℕ → ℕ → ℕ → ChipsState
@@ -30,4 +34,5 @@ power_on image ram_size sw1 sw2 = record {
   pit = pit.power_on;
   ppi = ppi.power_on sw1 sw2;
   keyboard = keyboard.power_on;
+  mda = mda.power_on;
 }

@@ -1,6 +1,6 @@
 -- The addresses and the ports of the chips (IBM PC Technical Reference, "System Memory Map" and "I/O Address Map").
 -- That FFh is read and a write is lost where nothing answers is this board's choice.
-use Rattle.std.specs.Prelude.{ℕ, ◌-◌, ◌==◌, Bool, true, false, not, ◌&&◌, if◌then◌else◌, nat_le}
+use Rattle.std.specs.Prelude.{ℕ, ◌≡◌, ◌≢◌, ◌-◌, ◌==◌, Bool, true, false, ◌&&◌, ◌||◌, if◌then◌else◌, nat_le, nat_lt, length}
 use Rattle.bus.specs.Bus.{BusMeaning}
 use Rattle.memory.specs.Kinds.{is_text_address}
 use Rattle.memory.specs.Map as map
@@ -8,29 +8,37 @@ use Rattle.pic8259.specs.Pic as pic
 use Rattle.pit8253.specs.Pit as pit
 use Rattle.ppi8255.specs.Ppi as ppi
 use Rattle.ppi8255.specs.declared.ppi.Inputs.{Inputs}
+use Rattle.mda_text.specs.Mda as mda
 use Rattle.wiring.specs.declared.port.Port.{Port}
-use Rattle.wiring.specs.declared.port.Port.TheVariants.{Controller, Timer, Parallel, Nothing}
+use Rattle.wiring.specs.declared.port.Port.TheVariants.{Controller, Timer, Parallel, Adapter, Nothing}
 use Rattle.wiring.specs.Chips.{ChipsState}
 use Rattle.wiring.specs.Wires.{after_settling}
 
--- the byte at an address; text memory isn't on the system board
+-- the byte at an address: text memory is the adapter's
 unfoldable pub byte_at : ChipsState → ℕ → ℕ
-byte_at s address = if is_text_address address then 0xFF else map.byte_at s.memory address
+byte_at s address = if is_text_address address then mda.text_byte s.mda (address - 0xB0000) else map.byte_at s.memory address
 
+-- a write changes the byte of a RAM or text address, and no other
 unfoldable pub with_byte : ChipsState → ℕ → ℕ → ChipsState
-with_byte s address byte = if is_text_address address then s else record s { memory = map.with_byte s.memory address byte }
+with_byte s address byte =
+    if is_text_address address then record s { mda = mda.with_text_byte s.mda (address - 0xB0000) byte }
+    else record s { memory = map.with_byte s.memory address byte }
 
+-- RAM and text memory take bytes
 unfoldable pub is_writable : ChipsState → ℕ → Bool
-is_writable s address = not (is_text_address address) && map.is_writable s.memory address
+is_writable s address =
+    if is_text_address address then nat_lt (address - 0xB0000) (length s.mda.bytes) else map.is_writable s.memory address
 
 -- what answers at a port: the interrupt controller at 20h and 21h, which are its A0 = 0 and 1, the timer at 40h to
--- 43h, the parallel port at 60h to 63h. That the chips don't answer at further ports too is this board's choice
+-- 43h, the parallel port at 60h to 63h, the text adapter at 3B4h, 3B5h, 3B8h and 3BAh. That they don't answer at further
+-- ports too is this board's choice
 unfoldable pub port_at : ℕ → Port
 port_at n =
     if n == 0x20 then Controller false
     else if n == 0x21 then Controller true
     else if nat_le 0x40 n && nat_le n 0x43 then Timer (n - 0x40)
     else if nat_le 0x60 n && nat_le n 0x63 then Parallel (n - 0x60)
+    else if (n == 0x3B4) || (n == 0x3B5) || (n == 0x3B8) || (n == 0x3BA) then Adapter n
     else Nothing
 
 -- what the board brings to the parallel port's pins
@@ -42,6 +50,7 @@ abbrev pub port_byte : ChipsState → Port → ℕ
 port_byte s (Controller a0) = pic.byte_at s.pic a0
 port_byte s (Timer n) = pit.byte_at s.pit n
 port_byte s (Parallel n) = ppi.byte_at s.ppi n (inputs_of s)
+port_byte s (Adapter n) = mda.byte_at s.mda n
 port_byte s Nothing = 0xFF
 
 -- what the read changes
@@ -49,6 +58,7 @@ abbrev pub after_port_read : ChipsState → Port → ChipsState
 after_port_read s (Controller a0) = record s { pic = pic.after_read s.pic }
 after_port_read s (Timer n) = record s { pit = pit.after_read s.pit n }
 after_port_read s (Parallel n) = s
+after_port_read s (Adapter n) = s
 after_port_read s Nothing = s
 
 -- what a write changes
@@ -56,6 +66,7 @@ abbrev pub after_port_write : ChipsState → Port → ℕ → ChipsState
 after_port_write s (Controller a0) byte = record s { pic = pic.after_write s.pic a0 byte }
 after_port_write s (Timer n) byte = record s { pit = pit.after_write s.pit n byte }
 after_port_write s (Parallel n) byte = record s { ppi = ppi.after_write s.ppi n byte }
+after_port_write s (Adapter n) byte = record s { mda = mda.after_write s.mda n byte }
 after_port_write s Nothing byte = s
 
 -- the byte that a port gives
@@ -79,3 +90,11 @@ chips_bus = record {
   after_input = after_input;
   after_output = after_output;
 }
+
+-- a byte reads back where it can be written, elsewhere nothing changes, and a write leaves every other byte as it is
+abbrev pub WriteChangesOneByte : Type 0
+WriteChangesOneByte =
+    (s : ChipsState) (address byte : ℕ) →
+    (is_writable s address ≡ true → byte_at (with_byte s address byte) address ≡ byte)
+    × (is_writable s address ≡ false → with_byte s address byte ≡ s)
+    × ((other : ℕ) → other ≢ address → byte_at (with_byte s address byte) other ≡ byte_at s other)

@@ -6,7 +6,7 @@ use Rattle.pit8253.specs.Pit as pit
 use Rattle.ppi8255.specs.Ppi as ppi
 use Rattle.ppi8255.specs.Ppi.{lines_b}
 use Rattle.wiring.specs.declared.port.Port.{Port}
-use Rattle.wiring.specs.declared.port.Port.TheVariants.{Controller, Timer, Parallel, Nothing}
+use Rattle.wiring.specs.declared.port.Port.TheVariants.{Controller, Timer, Parallel, Adapter, Nothing}
 use Rattle.wiring.specs.declared.sound.Sound.{Sound}
 use Rattle.wiring.specs.Chips.{ChipsState}
 use Rattle.wiring.specs.Wires.{after_gate_wire, pit_after_clock}
@@ -16,6 +16,7 @@ abbrev pub HasNumber : Port → Type 0
 HasNumber (Controller a0) = Unit {0}
 HasNumber (Timer n) = n < 4
 HasNumber (Parallel n) = n < 4
+HasNumber (Adapter n) = Unit {0}
 HasNumber Nothing = Unit {0}
 
 abbrev pub sound_of : ChipsState → Sound
@@ -32,6 +33,7 @@ abbrev pub sound_after_write : Sound → Port → ℕ → Sound
 sound_after_write s (Controller a0) byte = s
 sound_after_write s (Timer n) byte = record s { pit = pit.after_write s.pit n byte }
 sound_after_write s (Parallel n) byte = record s { ppi = ppi.after_write s.ppi n byte }
+sound_after_write s (Adapter n) byte = s
 sound_after_write s Nothing byte = s
 
 abbrev pub is_sound_high : Sound → Bool

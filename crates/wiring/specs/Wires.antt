@@ -12,6 +12,7 @@ use Rattle.pit8253.specs.Pit.{PitState, after_tick, after_gate}
 use Rattle.ppi8255.specs.Ppi.{PpiState, lines_b}
 use Rattle.keyboard.specs.Keyboard as keys
 use Rattle.keyboard.specs.Keyboard.{KeyboardState, after_clearing}
+use Rattle.mda_text.specs.Mda as mda
 use Rattle.wiring.specs.Chips.{ChipsState}
 
 -- a line of port B, by its number
@@ -42,9 +43,10 @@ after_settling s =
 abbrev pub pit_after_clock : PitState → ℕ → PitState
 pit_after_clock pit clock = if clock % 4 == 0 then after_tick pit else pit
 
--- one clock goes by, and the wires settle
+-- one clock goes by: the adapter's beam moves, the counters may tick, and the wires settle
 unfoldable pub after_clock : ChipsState → ChipsState
-after_clock s = after_settling (record s { clock = s.clock + 1; pit = pit_after_clock s.pit (s.clock + 1) })
+after_clock s =
+    after_settling (record s { clock = s.clock + 1; mda = mda.after_clock s.mda; pit = pit_after_clock s.pit (s.clock + 1) })
 
 -- n clocks, one after another, in which no key arrives and the keyboard doesn't settle
 abbrev pub after_clocks : ChipsState → ℕ → ChipsState

@@ -1,4 +1,5 @@
 //! What holds of the wires whatever the chips' states are. Each is an empty function whose contract states it.
+ghost use Rattle.wiring.specs.Ports.{WriteChangesOneByte};
 ghost use Rattle.wiring.specs.Laws.{SettlesOnce, KeysSettleOnce, SettledAgree, SettlingChangesAlone, ClocksTick, WiresStay, DependsOnWrites, NoKeyTouches, NoEntryTouches, NoReadTouches};
 
 /// Wires that have settled stay as they are when they settle again.
@@ -54,4 +55,9 @@ pub fn no_entry_touches()
 /// Where the wires have settled, no read of a port touches the speaker's next level.
 pub fn no_read_touches()
     ensures { NoReadTouches }
+{}
+
+/// A write changes the byte of a RAM or text address and no other.
+pub fn write_changes_one_byte()
+    ensures { WriteChangesOneByte }
 {}

@@ -12,6 +12,8 @@ pub enum Port {
     Timer(u8),
     /// The parallel port, at one of its ports 0 to 3.
     Parallel(u8),
+    /// The text adapter, at one of its ports by its number.
+    Adapter(u16),
     /// Nothing: FFh is read, and a write is lost.
     Nothing,
 }
@@ -27,6 +29,7 @@ pub(crate) fn port_at(number: u16) -> Port
         0x21 => Port::Controller(true),
         0x40..=0x43 => Port::Timer((number - 0x40) as u8),
         0x60..=0x63 => Port::Parallel((number - 0x60) as u8),
+        0x3B4 | 0x3B5 | 0x3B8 | 0x3BA => Port::Adapter(number),
         _ => Port::Nothing,
     }
 }

@@ -43,7 +43,7 @@ impl Sound {
         match port {
             Port::Timer(number) => self.pit.write(number, value),
             Port::Parallel(number) => self.ppi.write(number, value),
-            Port::Controller(_) | Port::Nothing => (),
+            Port::Controller(_) | Port::Adapter(_) | Port::Nothing => (),
         }
     }
 
