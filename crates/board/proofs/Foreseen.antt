@@ -1,73 +1,118 @@
 -- The speaker's level at the next clock, known from the step's port writes.
-use Rattle.std.proofs.Common.{◌≡◌, ℕ, ◌+◌, Bool, List, [], Option, None, Some, refl, sym, ap, ◌∙◌, arith}
-use Rattle.std.proofs.lemmas.Grind.{common_steps}
-use Rattle.memory.specs.Map.{MemoryMap}
+use Rattle.std.proofs.Common.{◌≡◌, ℕ, ◌+◌, Bool, true, false, if◌then◌else◌, List, [], ◌∷◌, Option, None, Some, refl, sym, ap, ◌∙◌}
+use Rattle.board_types.specs.Lines.{from_bool}
+use Rattle.board_types.specs.declared.keys.StampedKey.{StampedKey}
+use Rattle.bus.specs.PortWrites.{after_port_writes}
 use Rattle.decode.specs.declared.decoded.Decoded.{Decoded}
 use Rattle.execute.specs.Cpu.{CpuState}
 use Rattle.execute.specs.Meaning.{after_step}
-use Rattle.execute.specs.PortWrites.{after_port_writes, port_writes_of}
-use Rattle.execute.proofs.Writes.{told_by_rows}
+use Rattle.execute.specs.PortWrites.{EachAccessKeeps, WritesAlone, port_writes_of}
+use Rattle.execute.proofs.Writes.{port_writes_tell}
+use Rattle.memory.specs.Kinds.{is_text_address}
 use Rattle.wiring.specs.Chips.{ChipsState}
-use Rattle.wiring.specs.declared.port.Port.{Port}
-use Rattle.wiring.specs.declared.port.Port.TheVariants.{Controller, Timer, Parallel, Nothing}
-use Rattle.wiring.specs.Ports as chips
-use Rattle.wiring.specs.Ports.{port_at, after_write_at}
-use Rattle.wiring.specs.Wires.{line_of, settled}
-use Rattle.wiring.specs.Speaker.{speaker_high, speaker_after}
-use Rattle.wiring.proofs.Alike.{depends_on_writes, no_key_touches}
-use Rattle.board_types.specs.declared.keys.StampedKey.{StampedKey}
-use Rattle.board.specs.declared.devices.Devices.{Devices}
-use Rattle.board.specs.Devices.{board_bus, with_byte, after_output}
-use Rattle.board.specs.Plain.{Plain, acted, chips_clocked, codes_at, next_step, one_clock, speaker_level}
-use Rattle.board.specs.Laws.{writes_of, LevelIsForeseen}
+use Rattle.wiring.specs.Laws.{SoundsAlike}
+use Rattle.wiring.specs.Ports.{chips_bus, with_byte, after_input, after_output}
+use Rattle.wiring.specs.Speaker.{is_speaker_high, is_speaker_high_after}
+use Rattle.wiring.specs.Wires.{after_settling}
+use Rattle.wiring.proofs.Alike.{alike_after_input, alike_after_output, depends_on_writes, no_key_touches}
+use Rattle.wiring.proofs.Settling.{settles_once}
+use Rattle.wiring.proofs.Unread.{unread}
+use Rattle.board.specs.Laws.{writes_of, WiresHold, LevelIsForeseen}
+use Rattle.board.specs.Plain.{Plain, after_act, after_clock, chips_after_clock, codes_at, next_step, speaker_level}
 
--- the chips with some memory in place of theirs
-abbrev with_memory : MemoryMap → Devices → ChipsState
-with_memory m d = record d.chips { memory = m }
+-- what the speaker's next level depends on, beside some other board's rest
+abbrev sounding : ChipsState → ChipsState → ChipsState
+sounding rest s = record rest { clock = s.clock; ppi = s.ppi; pit = record rest.pit { counter_2 = unread s.pit.counter_2 } }
 
-byte_aside : (m : MemoryMap) (d : Devices) (address byte : ℕ) → with_memory m (with_byte d address byte) ≡ with_memory m d
-unfolding with_byte chips.with_byte
-byte_aside m d address byte = grind (arith, common_steps)
+same_sounding : (rest s t : ChipsState) → SoundsAlike s t → sounding rest s ≡ sounding rest t
+same_sounding rest s t alike =
+    ap (λ clock. record rest { clock = clock; ppi = s.ppi; pit = record rest.pit { counter_2 = unread s.pit.counter_2 } }) alike.clock
+    ∙ ap (λ ppi. record rest { clock = t.clock; ppi = ppi; pit = record rest.pit { counter_2 = unread s.pit.counter_2 } }) alike.ppi
+    ∙ ap (λ c. record rest { clock = t.clock; ppi = t.ppi; pit = record rest.pit { counter_2 = c } }) alike.counter_2
 
-written_aside : (m : MemoryMap) (s : ChipsState) (port : Port) (byte : ℕ) → record (settled (after_write_at s port byte)) { memory = m } ≡ settled (after_write_at (record s { memory = m }) port byte)
-unfolding settled
-written_aside m s (Controller a0) byte = refl
-written_aside m s (Timer n) byte = refl
-written_aside m s (Parallel n) byte = refl
-written_aside m s Nothing byte = refl
+sounds_as : (rest s : ChipsState) → SoundsAlike (sounding rest s) s
+sounds_as rest s = record { clock = refl; ppi = refl; counter_2 = refl }
 
-output_aside : (m : MemoryMap) (d : Devices) (port byte : ℕ) → with_memory m (after_output d port byte) ≡ chips.after_output (with_memory m d) port byte
-unfolding after_output chips.after_output
-output_aside m d port byte = written_aside m d.chips (port_at port) byte
+sounds_from : (rest s : ChipsState) → SoundsAlike s (sounding rest s)
+sounds_from rest s = record { clock = refl; ppi = refl; counter_2 = refl }
 
--- but for memory a step leaves the chips as its port writes do
-step_aside : (p : CpuState) (d : Devices) (decoded : Decoded) → with_memory d.chips.memory (after_step board_bus p d decoded).bus ≡ after_port_writes chips.after_output d.chips (port_writes_of p decoded)
-step_aside p d decoded =
-    told_by_rows board_bus (with_memory d.chips.memory) chips.after_output (byte_aside d.chips.memory) (output_aside d.chips.memory) p d decoded
+alike_then : (s t u : ChipsState) → SoundsAlike s t → SoundsAlike t u → SoundsAlike s u
+alike_then s t u first second = record {
+  clock = first.clock ∙ second.clock;
+  ppi = first.ppi ∙ second.ppi;
+  counter_2 = first.counter_2 ∙ second.counter_2;
+}
 
-none_before : (s : ChipsState) (writes : List (ℕ × ℕ)) → speaker_after [] (after_port_writes chips.after_output s writes) ≡ speaker_after writes s
-unfolding speaker_after
-none_before s writes = refl
+-- each access of the bus leaves settled wires settled
 
-step_foreseen : (p : CpuState) (d : Devices) (decoded : Decoded) → speaker_after [] (after_step board_bus p d decoded).bus.chips ≡ speaker_after (port_writes_of p decoded) d.chips
-step_foreseen p d decoded =
-    let after : Devices = (after_step board_bus p d decoded).bus in
-    depends_on_writes after.chips (with_memory d.chips.memory after) [] (record { clock = refl; ppi = refl; counter_2 = refl })
-    ∙ ap (speaker_after []) (step_aside p d decoded)
-    ∙ none_before d.chips (port_writes_of p decoded)
+with_byte_by : (b : Bool) (s t u : ChipsState) → after_settling t ≡ t → after_settling u ≡ u → after_settling (if b then t else u) ≡ (if b then t else u)
+with_byte_by true s t u first second = first
+with_byte_by false s t u first second = second
 
-acted_foreseen : (p : CpuState) (busy : ℕ) (d : Devices) (next : Option Decoded) → speaker_after [] (acted p busy d next).bus.chips ≡ speaker_after (writes_of p next) d.chips
-acted_foreseen p busy d None = refl
-acted_foreseen p busy d (Some decoded) = step_foreseen p d decoded
+settled_with_byte : (s : ChipsState) (address byte : ℕ) → after_settling s ≡ s → after_settling (with_byte s address byte) ≡ with_byte s address byte
+unfolding with_byte after_settling
+settled_with_byte s address byte still =
+    with_byte_by (is_text_address address) s _ _
+    (ap (λ (t : ChipsState). record s { keyboard = t.keyboard; pit = t.pit; pic = t.pic; mda = _ }) still)
+    (ap (λ (t : ChipsState). record s { keyboard = t.keyboard; pit = t.pit; pic = t.pic; memory = _ }) still)
 
-clocked_foreseen : (keys : List StampedKey) (s : ChipsState) → speaker_high (chips_clocked keys s) ≡ speaker_after [] s
-unfolding chips_clocked
-clocked_foreseen keys s = no_key_touches s [] (codes_at (s.clock + 1) keys)
+accesses_settle : EachAccessKeeps chips_bus after_settling (λ s. s)
+unfolding after_input after_output
+accesses_settle = record {
+  write = settled_with_byte;
+  input = λ s port still. settles_once _;
+  output = λ s port byte still. settles_once _;
+}
+
+-- where the wires have settled, port writes alone change what the level depends on
+
+sounding_by : (b : Bool) (rest s t u : ChipsState) → sounding rest t ≡ sounding rest s → sounding rest u ≡ sounding rest s → sounding rest (if b then t else u) ≡ sounding rest s
+sounding_by true rest s t u first second = first
+sounding_by false rest s t u first second = second
+
+sounding_with_byte : (rest s : ChipsState) (address byte : ℕ) → sounding rest (with_byte s address byte) ≡ sounding rest s
+unfolding with_byte
+sounding_with_byte rest s address byte = sounding_by (is_text_address address) rest s _ _ refl refl
+
+writes_alone : (rest : ChipsState) → WritesAlone chips_bus after_settling (λ s. s) (sounding rest) (λ t port byte. sounding rest (after_output t port byte))
+writes_alone rest = record {
+  write = λ s address byte still. sounding_with_byte rest s address byte;
+  input = λ s port still. same_sounding rest _ _ (alike_after_input s port) ∙ ap (sounding rest) still;
+  output = λ s port byte still. same_sounding rest _ _ (alike_after_output s (sounding rest s) port byte (sounds_from rest s));
+}
+
+-- these writes, made on that part alone or on all
+writes_sound : (rest s t : ChipsState) (writes : List (ℕ × ℕ)) → SoundsAlike t s → SoundsAlike (after_port_writes (λ u port byte. sounding rest (after_output u port byte)) t writes) (after_port_writes after_output s writes)
+writes_sound rest s t [] alike = alike
+writes_sound rest s t (w ∷ writes) alike =
+    writes_sound rest (after_output s w.0 w.1) (sounding rest (after_output t w.0 w.1)) writes
+    (alike_then _ _ _ (sounds_as rest (after_output t w.0 w.1)) (alike_after_output t s w.0 w.1 alike))
+
+none_more : (s : ChipsState) (writes : List (ℕ × ℕ)) → is_speaker_high_after (after_port_writes after_output s writes) [] ≡ is_speaker_high_after s writes
+unfolding is_speaker_high_after
+none_more s writes = refl
+
+step_foreseen : (cpu : CpuState) (s : ChipsState) (decoded : Decoded) → after_settling s ≡ s → is_speaker_high_after (after_step chips_bus cpu s decoded).bus [] ≡ is_speaker_high_after s (port_writes_of cpu decoded)
+step_foreseen cpu s decoded still =
+    let after : ChipsState = (after_step chips_bus cpu s decoded).bus in
+    let writes : List (ℕ × ℕ) = port_writes_of cpu decoded in
+    depends_on_writes after (sounding s after) [] (sounds_from s after)
+    ∙ ap (λ t. is_speaker_high_after t []) (port_writes_tell chips_bus after_settling (λ t. t) (sounding s) (λ t port byte. sounding s (after_output t port byte)) accesses_settle (writes_alone s) cpu s decoded still)
+    ∙ depends_on_writes _ (after_port_writes after_output s writes) [] (writes_sound s s (sounding s s) writes (sounds_as s s))
+    ∙ none_more s writes
+
+act_foreseen : (cpu : CpuState) (busy : ℕ) (s : ChipsState) (next : Option Decoded) → after_settling s ≡ s → is_speaker_high_after (after_act cpu busy s next).bus [] ≡ is_speaker_high_after s (writes_of cpu next)
+act_foreseen cpu busy s None still = refl
+act_foreseen cpu busy s (Some decoded) still = step_foreseen cpu s decoded still
+
+clock_foreseen : (s : ChipsState) (keys : List StampedKey) → is_speaker_high (chips_after_clock s keys) ≡ is_speaker_high_after s []
+unfolding chips_after_clock
+clock_foreseen s keys = no_key_touches s [] (codes_at keys (s.clock + 1))
 
 pub foreseen : LevelIsForeseen
-unfolding one_clock speaker_level
-foreseen s =
-    ap line_of (clocked_foreseen s.keys (acted s.cpu s.busy s.devices (next_step s)).bus.chips ∙ acted_foreseen s.cpu s.busy s.devices (next_step s))
+unfolding after_clock speaker_level
+foreseen s holds =
+    ap from_bool (clock_foreseen (after_act s.cpu s.busy s.chips (next_step s)).bus s.keys ∙ act_foreseen s.cpu s.busy s.chips (next_step s) holds.settled)
 
-pub foreseen_by : (s : Plain) (next : Option Decoded) (high : Bool) → next ≡ next_step s → high ≡ speaker_after (writes_of s.cpu next) s.devices.chips → line_of high ≡ speaker_level (one_clock s)
-foreseen_by s next high is told = ap line_of told ∙ ap (λ n. line_of (speaker_after (writes_of s.cpu n) s.devices.chips)) is ∙ sym (foreseen s)
+pub foreseen_by : (s : Plain) (next : Option Decoded) (high : Bool) → WiresHold s → next ≡ next_step s → high ≡ is_speaker_high_after s.chips (writes_of s.cpu next) → from_bool high ≡ speaker_level (after_clock s)
+foreseen_by s next high holds is told = ap from_bool told ∙ ap (λ n. from_bool (is_speaker_high_after s.chips (writes_of s.cpu n))) is ∙ sym (foreseen s holds)

@@ -10,29 +10,29 @@ use Rattle.board_types.specs.declared.keys.StampedKey.{StampedKey}
 use Rattle.board_types.specs.Keys.{IsInOrder}
 use Rattle.board.specs.Arrivals.{Awaits}
 use Rattle.wiring.specs.Chips.{ChipsState}
-use Rattle.wiring.specs.Wires.{arrived, after_arrivals}
+use Rattle.wiring.specs.Wires.{after_arrival, after_arrivals}
 use Rattle.board.specs.Plain.{codes_at}
 
-none_due : (c : ℕ) (ks : List StampedKey) → ((i : ℕ) (d : StampedKey) → i < length ks → (get_or ks i d).stamp ≢ c) → codes_at c ks ≡ []
+none_due : (c : ℕ) (ks : List StampedKey) → ((i : ℕ) (d : StampedKey) → i < length ks → (get_or ks i d).stamp ≢ c) → codes_at ks c ≡ []
 none_due c [] all = refl
 none_due c (k ∷ ks) all =
     let first : k.stamp ≢ c = all 0 k (omega arith) in
-    let rest : codes_at c ks ≡ [] = none_due c ks (λ i d within. all (suc i) d (omega (arith, within))) in
+    let rest : codes_at ks c ≡ [] = none_due c ks (λ i d within. all (suc i) d (omega (arith, within))) in
     grind (arith, common_steps)
 
-codes_append : (c : ℕ) (xs ys : List StampedKey) → codes_at c (xs ++ ys) ≡ codes_at c xs ++ codes_at c ys
+codes_append : (c : ℕ) (xs ys : List StampedKey) → codes_at (xs ++ ys) c ≡ codes_at xs c ++ codes_at ys c
 codes_append c xs ys =
     ap (map (λ (k : StampedKey). k.code)) (filter-append (λ (k : StampedKey). nat_eq k.stamp c) xs ys)
     ∙ map-append (λ (k : StampedKey). k.code) (filter (λ (k : StampedKey). nat_eq k.stamp c) xs) (filter (λ (k : StampedKey). nat_eq k.stamp c) ys)
 
-one_due : (c : ℕ) (k : StampedKey) → k.stamp ≡ c → codes_at c (k ∷ []) ≡ k.code ∷ []
+one_due : (c : ℕ) (k : StampedKey) → k.stamp ≡ c → codes_at (k ∷ []) c ≡ k.code ∷ []
 one_due c k is = grind (arith, common_steps)
 
-pub codes_more : (c : ℕ) (ks : List StampedKey) (i : ℕ) (d : StampedKey) → i < length ks → (get_or ks i d).stamp ≡ c → codes_at c (take (i + 1) ks) ≡ codes_at c (take i ks) ++ (get_or ks i d).code ∷ []
+pub codes_more : (c : ℕ) (ks : List StampedKey) (i : ℕ) (d : StampedKey) → i < length ks → (get_or ks i d).stamp ≡ c → codes_at (take (i + 1) ks) c ≡ codes_at (take i ks) c ++ (get_or ks i d).code ∷ []
 codes_more c ks i d within is =
-    ap (codes_at c) (take_more ks i d within)
+    ap (λ xs. codes_at xs c) (take_more ks i d within)
     ∙ codes_append c (take i ks) (get_or ks i d ∷ [])
-    ∙ ap (λ xs. codes_at c (take i ks) ++ xs) (one_due c (get_or ks i d) is)
+    ∙ ap (λ xs. codes_at (take i ks) c ++ xs) (one_due c (get_or ks i d) is)
 
 -- `index` keys have arrived at a clock, `next` of them before it
 pub record Arrived (next index clock : ℕ) (keys : List StampedKey) : Type 0 where
@@ -75,7 +75,7 @@ arrived_none next clock keys awaits = record {
   due = λ j d within. let past = past_at next clock keys awaits j d within in omega arith;
 }
 
-pub codes_none : (next clock : ℕ) (keys : List StampedKey) → Awaits next clock keys → codes_at clock (take next keys) ≡ []
+pub codes_none : (next clock : ℕ) (keys : List StampedKey) → Awaits next clock keys → codes_at (take next keys) clock ≡ []
 codes_none next clock keys awaits =
     none_due clock (take next keys) (λ i d within e. let past = awaits.past i d within in absurd (omega (arith, past, e)))
 
@@ -105,22 +105,22 @@ later_than next index clock keys d in_order awaits from within differs j e after
       | inr past ↦ let order = in_order.stamps index j e (omega (arith, after, past.1)) inside in omega arith
     ]
 
-none_after : (index clock : ℕ) (keys : List StampedKey) → ((j : ℕ) (e : StampedKey) → index ≤ j → j < length keys → clock + 1 ≤ (get_or keys j e).stamp) → codes_at clock keys ≡ codes_at clock (take index keys)
+none_after : (index clock : ℕ) (keys : List StampedKey) → ((j : ℕ) (e : StampedKey) → index ≤ j → j < length keys → clock + 1 ≤ (get_or keys j e).stamp) → codes_at keys clock ≡ codes_at (take index keys) clock
 none_after index clock keys later =
-    ap (codes_at clock) (sym (take-append-drop index keys))
+    ap (λ xs. codes_at xs clock) (sym (take-append-drop index keys))
     ∙ codes_append clock (take index keys) (drop index keys)
-    ∙ ap (λ xs. codes_at clock (take index keys) ++ xs)
+    ∙ ap (λ xs. codes_at (take index keys) clock ++ xs)
     (none_due clock (drop index keys) (λ i d within e.
     let size = length-drop index keys in
     let place = later (index + i) d (omega arith) (omega (arith, within, size)) in
     let same : (get_or (drop index keys) i d).stamp ≡ (get_or keys (index + i) d).stamp = ap (λ (k : StampedKey). k.stamp) (get_or-drop index keys i d) in
     absurd (omega (arith, place, same, e))))
-    ∙ append-nil (codes_at clock (take index keys))
+    ∙ append-nil (codes_at (take index keys) clock)
 
 -- all of a clock's keys have arrived
 pub record AllArrived (next clock : ℕ) (keys : List StampedKey) : Type 0 where
   pub awaits : Awaits next (clock + 1) keys
-  pub codes : codes_at clock keys ≡ codes_at clock (take next keys)
+  pub codes : codes_at keys clock ≡ codes_at (take next keys) clock
 
 pub arrived_before : (next index clock : ℕ) (keys : List StampedKey) (d : StampedKey) → IsInOrder keys → Awaits next clock keys → Arrived next index clock keys → index < length keys → (get_or keys index d).stamp ≢ clock → AllArrived index clock keys
 arrived_before next index clock keys d in_order awaits so_far within differs =
@@ -141,5 +141,5 @@ pub awaits_first : (keys : List StampedKey) → Awaits 0 0 keys
 awaits_first keys = awaits_from 0 0 keys (omega arith) (λ j d within. absurd (omega (arith, within))) (λ j d from within. omega arith)
 
 -- codes that arrive behind others
-pub arrived_after : (s t : ChipsState) (codes : List ℕ) (code : ℕ) → t ≡ after_arrivals codes s → arrived t code ≡ after_arrivals (codes ++ code ∷ []) s
-arrived_after s t codes code so_far = ap (λ u. arrived u code) so_far ∙ sym (fold-append arrived s codes (code ∷ []))
+pub arrived_after : (s t : ChipsState) (codes : List ℕ) (code : ℕ) → t ≡ after_arrivals s codes → after_arrival t code ≡ after_arrivals s (codes ++ code ∷ [])
+arrived_after s t codes code so_far = ap (λ u. after_arrival u code) so_far ∙ sym (fold-append after_arrival s codes (code ∷ []))

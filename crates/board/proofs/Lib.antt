@@ -1,7 +1,6 @@
-pub mod Text
-pub mod Runs
-pub mod Writes
-pub mod KeyOrder
 pub mod Clocks
 pub mod Foreseen
+pub mod KeyOrder
+pub mod Runs
 pub mod Wires
+pub mod Writable

@@ -1,46 +1,46 @@
 -- Runs of a board: clock after clock, each with the change that it brings.
-use Rattle.std.proofs.Common.{◌≡◌, ◌≢◌, ℕ, ◌+◌, ◌-◌, ◌<◌, ◌≤◌, List, [], ◌∷◌, ◌++◌, length, Bool, true, false, if◌then◌else◌, refl, sym, ap, ◌∙◌, subst, arith, append_assoc, append-nil}
+use Rattle.std.proofs.Common.{◌≡◌, ◌≢◌, ℕ, ◌+◌, ◌-◌, ◌<◌, ◌≤◌, List, [], ◌∷◌, ◌++◌, length, Bool, true, false, if◌then◌else◌, beq, refl, sym, ap, ◌∙◌, subst, arith, append_assoc, append-nil}
 use Rattle.std.proofs.lemmas.List.{length-append}
 use Rattle.board_types.proofs.Iterate.{iterate_zero, iterate_more, iterate_add, gathered_zero, gathered_more, gathered_add}
 use Rattle.board_types.specs.declared.line.Line.{Line}
 use Rattle.board_types.specs.declared.line.Line.TheVariants.{Low, High}
 use Rattle.board.specs.declared.board.SpeakerChange.{SpeakerChange}
 use Rattle.board.specs.Board.{BoardState, IsHeldBack, StoppedEarly}
-use Rattle.wiring.specs.Wires.{line_of}
-use Rattle.board.specs.Plain.{Plain, clock_of, clocks, one_clock, change_next, changes_in, speaker_level, same_line}
+use Rattle.board_types.specs.Lines.{from_bool, is_high}
+use Rattle.board.specs.Plain.{Plain, clock_of, after_clock, after_clocks, change_next, changes_in, speaker_level}
 
 -- one clock of a board, with the change that it brings in the list
 pub record IsClockOn (old new : BoardState) : Type 0 where
-  pub plain : new.plain ≡ one_clock old.plain
+  pub plain : new.plain ≡ after_clock old.plain
   pub clock : clock_of new.plain ≡ clock_of old.plain + 1
   pub changes : new.changes ≡ old.changes ++ change_next old.plain
   pub room : old.room + length old.changes ≤ new.room + length new.changes
 
 -- n clocks have gone by
 pub record Ran (n : ℕ) (old new : BoardState) : Type 0 where
-  pub plain : new.plain ≡ clocks n old.plain
+  pub plain : new.plain ≡ after_clocks old.plain n
   pub clock : clock_of new.plain ≡ clock_of old.plain + n
-  pub changes : new.changes ≡ old.changes ++ changes_in n old.plain
+  pub changes : new.changes ≡ old.changes ++ changes_in old.plain n
   pub room : old.room + length old.changes ≤ new.room + length new.changes
 
 pub ran_none : (s : BoardState) → Ran 0 s s
 ran_none s = record {
-  plain = sym (iterate_zero one_clock s.plain);
+  plain = sym (iterate_zero after_clock s.plain);
   clock = omega arith;
-  changes = sym (append-nil s.changes) ∙ ap (λ xs. s.changes ++ xs) (sym (gathered_zero one_clock change_next s.plain));
+  changes = sym (append-nil s.changes) ∙ ap (λ xs. s.changes ++ xs) (sym (gathered_zero after_clock change_next s.plain));
   room = omega arith;
 }
 
 pub ran_more : (n : ℕ) (s t u : BoardState) → Ran n s t → IsClockOn t u → Ran (n + 1) s u
 ran_more n s t u so_far on = record {
-  plain = on.plain ∙ ap one_clock so_far.plain ∙ sym (iterate_more one_clock n s.plain);
+  plain = on.plain ∙ ap after_clock so_far.plain ∙ sym (iterate_more after_clock n s.plain);
   clock = let c = on.clock in let d = so_far.clock in omega arith;
   changes =
       on.changes
       ∙ ap (λ xs. xs ++ change_next t.plain) so_far.changes
-      ∙ append_assoc s.changes (changes_in n s.plain) (change_next t.plain)
-      ∙ ap (λ p. s.changes ++ (changes_in n s.plain ++ change_next p)) so_far.plain
-      ∙ ap (λ xs. s.changes ++ xs) (sym (gathered_more one_clock change_next n s.plain));
+      ∙ append_assoc s.changes (changes_in s.plain n) (change_next t.plain)
+      ∙ ap (λ p. s.changes ++ (changes_in s.plain n ++ change_next p)) so_far.plain
+      ∙ ap (λ xs. s.changes ++ xs) (sym (gathered_more after_clock change_next n s.plain));
   room = let a = on.room in let b = so_far.room in omega arith;
 }
 
@@ -52,69 +52,34 @@ stopped n passed s t u within so_far held = record {
   plain = ap (λ (b : BoardState). b.plain) held.kept ∙ so_far.plain;
   clock = let c = so_far.clock in let same : clock_of u.plain ≡ clock_of t.plain = ap (λ (b : BoardState). clock_of b.plain) held.kept in omega arith;
   changes = ap (λ (b : BoardState). b.changes) held.kept ∙ so_far.changes;
-  changes_next = subst (λ (b : BoardState). speaker_level (one_clock b.plain) ≢ speaker_level b.plain) (sym held.kept) held.changes_next;
+  changes_next = subst (λ (b : BoardState). speaker_level (after_clock b.plain) ≢ speaker_level b.plain) (sym held.kept) held.changes_next;
   full = ap (λ (b : BoardState). b.room) held.kept ∙ held.full;
 }
 
-same_from : (a b : Line) → same_line a b ≡ true → a ≡ b
-same_from Low Low e = refl
-same_from Low High e = absurd (cc)
-same_from High Low e = absurd (cc)
-same_from High High e = refl
-
 -- where the level changes the clock brings one change
-one_if_not_same : (a b : Line) (change : SpeakerChange) → a ≢ b → length (if same_line a b then [] else change ∷ []) ≡ 1
-one_if_not_same Low Low change differs = absurd (differs refl)
-one_if_not_same Low High change differs = refl
-one_if_not_same High Low change differs = refl
-one_if_not_same High High change differs = absurd (differs refl)
-
-one_change : (p : Plain) → speaker_level (one_clock p) ≢ speaker_level p → length (change_next p) ≡ 1
-unfolding change_next
-one_change p differs = one_if_not_same (speaker_level (one_clock p)) (speaker_level p) _ differs
-
--- as many changes come in some clocks as in the first of them and in the others
-changes_add : (a b : ℕ) (p : Plain) → length (changes_in (a + b) p) ≡ length (changes_in a p) + length (changes_in b (clocks a p))
-changes_add a b p = ap length (gathered_add one_clock change_next a b p) ∙ length-append (changes_in a p) (changes_in b (clocks a p))
-
-changes_more : (n : ℕ) (p : Plain) → length (changes_in (n + 1) p) ≡ length (changes_in n p) + length (change_next (clocks n p))
-changes_more n p = ap length (gathered_more one_clock change_next n p) ∙ length-append (changes_in n p) (change_next (clocks n p))
-
--- a run with room for all its changes isn't held back
-pub not_held : (n passed : ℕ) (s t u : BoardState) → passed < n → Ran passed s t → IsHeldBack t u → length (changes_in n s.plain) ≤ s.room → ⊥
-not_held n passed s t u within so_far held enough =
-    let last : length (change_next (clocks passed s.plain)) ≡ 1 = subst (λ p. length (change_next p) ≡ 1) so_far.plain (one_change t.plain held.changes_next) in
-    let more = changes_more passed s.plain in
-    let rest = changes_add (passed + 1) (n - (passed + 1)) s.plain in
-    let whole : length (changes_in (passed + 1 + (n - (passed + 1))) s.plain) ≡ length (changes_in n s.plain) = ap (λ k. length (changes_in k s.plain)) (omega (arith, within)) in
-    let listed : length t.changes ≡ length s.changes + length (changes_in passed s.plain) = ap length so_far.changes ∙ length-append s.changes (changes_in passed s.plain) in
-    let kept = so_far.room in
-    let none = held.full in
-    omega arith
-
-not_same : (a b : Line) → a ≢ b → same_line a b ≡ false
+one_if_not_same : (a b : Line) → a ≢ b → beq (is_high a) (is_high b) ≡ false
 not_same Low Low differs = absurd (differs refl)
 not_same Low High differs = refl
 not_same High Low differs = refl
 not_same High High differs = absurd (differs refl)
 
-same_to : (a b : Line) → a ≡ b → same_line a b ≡ true
+same_to : (a b : Line) → a ≡ b → beq (is_high a) (is_high b) ≡ true
 same_to Low Low e = refl
 same_to Low High e = absurd (cc)
 same_to High Low e = absurd (cc)
 same_to High High e = refl
 
 -- the level stays: nothing is listed
-pub nothing_listed : (changes : List SpeakerChange) (p : Plain) → speaker_level (one_clock p) ≡ speaker_level p → changes ≡ changes ++ change_next p
+pub nothing_listed : (changes : List SpeakerChange) (p : Plain) → speaker_level (after_clock p) ≡ speaker_level p → changes ≡ changes ++ change_next p
 unfolding change_next
 nothing_listed changes p same = rw (same_to _ _ same) (sym (append-nil changes))
 
 -- it changes: the clock and the level are listed
-pub change_listed : (p : Plain) (level : Line) → speaker_level (one_clock p) ≢ speaker_level p → level ≡ speaker_level (one_clock p) → (record { clock = clock_of p + 1; level = level }) ∷ [] ≡ change_next p
+pub change_listed : (p : Plain) (level : Line) → speaker_level (after_clock p) ≢ speaker_level p → level ≡ speaker_level (after_clock p) → (record { clock = clock_of p + 1; level = level }) ∷ [] ≡ change_next p
 unfolding change_next
 change_listed p level differs is = rw (not_same _ _ differs) (ap (λ l. record { clock = clock_of p + 1; level = l } ∷ []) is)
 
-pub high_again : (a b : Bool) → line_of a ≡ line_of b → a ≡ b
+pub high_again : (a b : Bool) → from_bool a ≡ from_bool b → a ≡ b
 high_again false false e = refl
 high_again false true e = absurd (cc)
 high_again true false e = absurd (cc)

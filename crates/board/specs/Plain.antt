@@ -1,5 +1,6 @@
 -- The plain board: what stands at a clock, what one clock makes of it, and what it makes of n clocks.
-use Rattle.std.specs.Prelude.{ℕ, ◌+◌, ◌-◌, ◌*◌, ◌==◌, Bool, true, false, beq, ◌&&◌, if◌then◌else◌, List, [], ◌∷◌, map, filter, Option, None, Some}
+use Rattle.std.specs.Prelude.{ℕ, ◌+◌, ◌-◌, ◌*◌, ◌==◌, Bool, true, false, ◌&&◌, if◌then◌else◌, List, [], ◌∷◌, map, filter, Option, None, Some}
+use Rattle.std.specs.Bool.{beq}
 use Rattle.board_types.specs.Iterate.{iterate, gathered}
 use Rattle.board_types.specs.Lines.{from_bool, is_high}
 use Rattle.board_types.specs.declared.keys.StampedKey.{StampedKey}

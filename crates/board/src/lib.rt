@@ -5,5 +5,3 @@ mod arrivals;
 pub mod board;
 pub mod laws;
 mod system;
-#[cfg(test)]
-mod tests;

@@ -77,7 +77,7 @@ alike_after_write s t (Parallel n) byte alike = record {
 alike_after_write s t (Adapter n) byte alike = record { clock = alike.clock; ppi = alike.ppi; counter_2 = alike.counter_2 }
 alike_after_write s t Nothing byte alike = alike
 
-alike_after_output : (s t : ChipsState) (port byte : ℕ) → SoundsAlike s t → SoundsAlike (after_output s port byte) (after_output t port byte)
+pub alike_after_output : (s t : ChipsState) (port byte : ℕ) → SoundsAlike s t → SoundsAlike (after_output s port byte) (after_output t port byte)
 unfolding after_output
 alike_after_output s t port byte alike = alike_after_settling _ _ (alike_after_write s t (port_at port) byte alike)
 
@@ -139,7 +139,7 @@ alike_after_read s (Parallel n) = record { clock = refl; ppi = refl; counter_2 =
 alike_after_read s (Adapter n) = record { clock = refl; ppi = refl; counter_2 = refl }
 alike_after_read s Nothing = record { clock = refl; ppi = refl; counter_2 = refl }
 
-alike_after_input : (s : ChipsState) (port : ℕ) → SoundsAlike (after_input s port) (after_settling s)
+pub alike_after_input : (s : ChipsState) (port : ℕ) → SoundsAlike (after_input s port) (after_settling s)
 unfolding after_input
 alike_after_input s port = alike_after_settling (after_port_read s (port_at port)) s (alike_after_read s (port_at port))
 

@@ -6,7 +6,7 @@ use Rattle.board.proofs.arrivals.arrive_at.Goals as goal
 
 pub loop-index-init : goal.loop-index-init
 loop-index-init c = (
-  ap (λ codes. after_arrivals codes c.args.chips.now) (sym (codes_none c.args.next c.args.clock c.args.keys.now c.requires.awaits)),
+  ap (λ codes. after_arrivals c.args.chips.now codes) (sym (codes_none c.args.next c.args.clock c.args.keys.now c.requires.awaits)),
   refl,
   arrived_none c.args.next c.args.clock c.args.keys.now c.requires.awaits,
 )
@@ -16,7 +16,7 @@ returns-then-get-clock-clause-chips c =
     let differs : (get_or c.args.keys.now c.loop-index.index c.index-keys-index.result).stamp ≢ c.args.clock =
     λ e. c.if-get-clock.true (c.get.ensures.value ∙ ap (λ (k : StampedKey). k.stamp) c.index-keys-index.is ∙ e) in
     let all = arrived_before c.args.next c.loop-index.index c.args.clock c.args.keys.now c.index-keys-index.result c.requires.in_order c.requires.awaits c.loop-index.invariant.2 c.loop-index-test.true differs in
-    c.loop-index.invariant.0 ∙ ap (λ codes. after_arrivals codes c.args.chips.now) (sym all.codes)
+    c.loop-index.invariant.0 ∙ ap (λ codes. after_arrivals c.args.chips.now codes) (sym all.codes)
 
 pub returns-then-get-clock-clause-awaits : goal.returns-then-get-clock-clause-awaits
 returns-then-get-clock-clause-awaits c =

@@ -6,4 +6,4 @@ use Rattle.board.proofs.arrivals.arrive_at.Given as goal
 
 abbrev pub invariant-loop-index : goal.invariant-loop-index
 invariant-loop-index l =
-    (l.chips ≡ after_arrivals (codes_at l.clock (take l.index l.keys)) l.fn.chips) × (l.chips.clock ≡ l.fn.chips.clock) × Arrived l.next l.index l.clock l.keys
+    (l.chips ≡ after_arrivals l.fn.chips (codes_at (take l.index l.keys) l.clock)) × (l.chips.clock ≡ l.fn.chips.clock) × Arrived l.next l.index l.clock l.keys
