@@ -7,7 +7,7 @@ use Rattle.std.proofs.lemmas.List.{get_or-set_same}
 use Rattle.board_types.specs.Bits.{has_bit}
 use Rattle.pic8259.specs.declared.controller.Expected.{Expected}
 use Rattle.pic8259.specs.declared.controller.Expected.TheVariants.{Icw2, Icw3, Icw4, Operation}
-use Rattle.pic8259.specs.Levels.{contains, with_level, byte_of, levels_of, up_to, with_lowest}
+use Rattle.pic8259.specs.Levels.{no_levels, contains, with_level, byte_of, levels_of, up_to, with_lowest}
 use Rattle.pic8259.specs.Masks.{byte_of-levels_of}
 use Rattle.pic8259.specs.Pic.{PicState, is_operating, asks, blocks, level_to_take, after_taking, after_acknowledge, poll_byte, byte_at, after_read, after_icw1, after_icw2, after_icw3, after_icw4, after_ocw1, after_ocw2, after_ocw3, after_word, after_command, after_write}
 use Rattle.pic8259.specs.Laws.{after_words, SequenceEnds, ServesTaken, HoldsMask, MaskHolds, Reads, PollTakes}
@@ -15,39 +15,40 @@ use Rattle.pic8259.proofs.Masks.{contains_levels}
 use Rattle.pic8259.proofs.OrderWhole.{lowest_turned}
 
 -- a controller that has just heard ICW1, by its two bits
-abbrev begun : PicState → Bool → Bool → PicState
-begun s single asks = record s { expected = Icw2; is_cascaded = not single; asks_icw4 = asks; is_8086 = false; auto_end = false }
+abbrev sequence_start : PicState → Bool → Bool → PicState
+sequence_start s single asks = record s { expected = Icw2; is_cascaded = not single; asks_icw4 = asks; is_8086 = false; auto_end = false; masked = no_levels }
 
 -- the words that follow, by the two bits
 abbrev words_of : Bool → Bool → ℕ → ℕ → ℕ → List ℕ
 words_of single asks icw2 icw3 icw4 = icw2 ∷ ((if single then [] else icw3 ∷ []) ++ (if asks then icw4 ∷ [] else []))
 
-record Ended (s : PicState) (asks : Bool) (icw2 icw4 : ℕ) : Type 0 where
+record EndState (s : PicState) (asks : Bool) (icw2 icw4 : ℕ) : Type 0 where
   operating : is_operating s.expected ≡ true
   base : s.vector_base ≡ 8 * (icw2 / 8)
   mode : s.is_8086 ≡ (asks && has_bit icw4 0)
-  ends : s.auto_end ≡ (asks && has_bit icw4 1)
+  automatic : s.auto_end ≡ (asks && has_bit icw4 1)
+  unmasked : s.masked ≡ no_levels
 
-ended : (s : PicState) (single asks : Bool) (icw2 icw3 icw4 : ℕ) → Ended (after_words (begun s single asks) (words_of single asks icw2 icw3 icw4)) asks icw2 icw4
+end_state : (s : PicState) (single asks : Bool) (icw2 icw3 icw4 : ℕ) → EndState (after_words (sequence_start s single asks) (words_of single asks icw2 icw3 icw4)) asks icw2 icw4
 unfolding after_write after_word after_icw2 after_icw3 after_icw4
-ended s true true icw2 icw3 icw4 = record { operating = refl; base = refl; mode = refl; ends = refl }
-ended s true false icw2 icw3 icw4 = record { operating = refl; base = refl; mode = refl; ends = refl }
-ended s false true icw2 icw3 icw4 = record { operating = refl; base = refl; mode = refl; ends = refl }
-ended s false false icw2 icw3 icw4 = record { operating = refl; base = refl; mode = refl; ends = refl }
+end_state s true true icw2 icw3 icw4 = record { operating = refl; base = refl; mode = refl; automatic = refl; unmasked = refl }
+end_state s true false icw2 icw3 icw4 = record { operating = refl; base = refl; mode = refl; automatic = refl; unmasked = refl }
+end_state s false true icw2 icw3 icw4 = record { operating = refl; base = refl; mode = refl; automatic = refl; unmasked = refl }
+end_state s false false icw2 icw3 icw4 = record { operating = refl; base = refl; mode = refl; automatic = refl; unmasked = refl }
 
 first_word : (s : PicState) (icw1 : ℕ) → has_bit icw1 4 ≡ true → after_write s false icw1 ≡ after_icw1 s icw1
 unfolding after_write after_command
 first_word s icw1 begins =
     ap (λ b. if b then after_icw1 s icw1 else if not (is_operating s.expected) then s else if has_bit icw1 3 then after_ocw3 s icw1 else after_ocw2 s (has_bit icw1 7) (has_bit icw1 6) (has_bit icw1 5) (icw1 % 8)) begins
 
-after_first : (s : PicState) (icw1 icw2 icw3 icw4 : ℕ) → Ended (after_words (after_icw1 s icw1) (words_of (has_bit icw1 1) (has_bit icw1 0) icw2 icw3 icw4)) (has_bit icw1 0) icw2 icw4
+after_first : (s : PicState) (icw1 icw2 icw3 icw4 : ℕ) → EndState (after_words (after_icw1 s icw1) (words_of (has_bit icw1 1) (has_bit icw1 0) icw2 icw3 icw4)) (has_bit icw1 0) icw2 icw4
 unfolding after_icw1
-after_first s icw1 icw2 icw3 icw4 = ended (after_icw1 s icw1) (has_bit icw1 1) (has_bit icw1 0) icw2 icw3 icw4
+after_first s icw1 icw2 icw3 icw4 = end_state (after_icw1 s icw1) (has_bit icw1 1) (has_bit icw1 0) icw2 icw3 icw4
 
 pub sequence_ends : SequenceEnds
 sequence_ends s icw1 icw2 icw3 icw4 begins =
     let end = after_first s icw1 icw2 icw3 icw4 in
-    rw (first_word s icw1 begins) (record { operating = end.operating; base = end.base; mode = end.mode; ends = end.ends })
+    rw (first_word s icw1 begins) (record { operating = end.operating; base = end.base; mode = end.mode; automatic = end.automatic; unmasked = end.unmasked })
 
 pub serves_taken : ServesTaken
 unfolding after_taking
@@ -87,11 +88,11 @@ poll_word s operating = ap (λ b. if not b then s else record s { polled = true 
 polling : (s : PicState) (a0 : Bool) (o : Option ℕ) → level_to_take s ≡ o → s.polled ≡ false → MatchOption o (Reads (record s { polled = true }) a0 0 s) (λ level. Reads (record s { polled = true }) a0 (0x80 + level) (after_taking s level))
 unfolding level_to_take after_acknowledge byte_at after_read after_taking
 polling s a0 None is unpolled = record {
-  byte_is = ap (λ o. option_map_or (λ level. 0x80 + level) o 0) is;
+  answer = ap (λ o. option_map_or (λ level. 0x80 + level) o 0) is;
   state = ap (λ o. record (option_map_or (λ level. after_taking (record s { polled = true }) level) o (record s { polled = true })) { polled = false }) is ∙ ap (λ b. record s { polled = b }) (sym unpolled);
 }
 polling s a0 (Some level) is unpolled = record {
-  byte_is = ap (λ o. option_map_or (λ level. 0x80 + level) o 0) is;
+  answer = ap (λ o. option_map_or (λ level. 0x80 + level) o 0) is;
   state = ap (λ o. record (option_map_or (λ level. after_taking (record s { polled = true }) level) o (record s { polled = true })) { polled = false }) is ∙ ap (λ b. record (after_taking s level) { polled = b }) (sym unpolled);
 }
 

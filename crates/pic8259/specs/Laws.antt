@@ -2,7 +2,7 @@
 use Rattle.std.specs.Prelude.{◌≡◌, ◌≢◌, ℕ, ◌+◌, ◌*◌, ◌/◌, ◌<◌, ◌==◌, Bool, true, false, ◌&&◌, if◌then◌else◌, length, List, [], ◌∷◌, ◌++◌, count_by, All, MatchOption, None, Some}
 use Rattle.board_types.specs.Bits.{has_bit}
 use Rattle.board_types.specs.declared.line.Line.{Line}
-use Rattle.pic8259.specs.Levels.{contains, order_with_lowest}
+use Rattle.pic8259.specs.Levels.{no_levels, contains, order_with_lowest}
 use Rattle.pic8259.specs.Pic.{PicState, power_on, is_operating, is_ready, asks, blocks, may_be_taken, level_to_take, after_taking, after_acknowledge, vector, byte_at, after_read, after_line, after_write, after_end, after_lowering, highest_served}
 
 -- what can happen to a controller: a line changes, it is read or written, or an acknowledge comes
@@ -64,12 +64,13 @@ abbrev pub after_words : PicState → List ℕ → PicState
 after_words s [] = s
 after_words s (word ∷ words) = after_words (after_write s true word) words
 
--- what the words of a sequence set; without ICW4 its bits count as 0
+-- what the words of a sequence leave; without ICW4 its bits count as 0
 pub record HasEnded (s : PicState) (icw1 icw2 icw4 : ℕ) : Type 0 where
   pub operating : is_operating s.expected ≡ true
   pub base : s.vector_base ≡ 8 * (icw2 / 8)
   pub mode : s.is_8086 ≡ (has_bit icw1 0 && has_bit icw4 0)
-  pub ends : s.auto_end ≡ (has_bit icw1 0 && has_bit icw4 1)
+  pub automatic : s.auto_end ≡ (has_bit icw1 0 && has_bit icw4 1)
+  pub unmasked : s.masked ≡ no_levels
 
 -- "Programming the 8259A", the initialization sequence
 abbrev pub SequenceEnds : Type 0
@@ -176,7 +177,7 @@ MaskHolds =
 
 -- a read answers this byte and leaves this state
 pub record Reads (s : PicState) (a0 : Bool) (byte : ℕ) (after : PicState) : Type 0 where
-  pub byte_is : byte_at s a0 ≡ byte
+  pub answer : byte_at s a0 ≡ byte
   pub state : after_read s ≡ after
 
 -- "Poll Command": the read after the poll word, 0Ch

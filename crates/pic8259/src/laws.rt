@@ -19,8 +19,8 @@ pub fn begins_anew()
     ensures { BeginsAnew }
 {}
 
-/// After ICW1 the words that it asks for, and no others, end the sequence, and set the vector, 8086 mode and automatic
-/// end of interrupt.
+/// After ICW1 the words that it asks for end the sequence. They set the vector, 8086 mode and automatic end of
+/// interrupt, and leave nothing masked.
 pub fn sequence_ends()
     ensures { SequenceEnds }
 {}
