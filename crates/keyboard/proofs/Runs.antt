@@ -1,9 +1,10 @@
 -- Every run of arrivals and settlings accounts for its codes.
-use Rattle.std.proofs.Common.{◌≡◌, ℕ, ◌+◌, ◌-◌, ◌^◌, ◌<◌, ◌≤◌, min, if◌then◌else◌, true, false, None, List, [], ◌∷◌, ◌++◌, length, drop, slice_get, refl, sym, ap, ◌∙◌, arith, append_assoc, append-nil, length-append}
+use Rattle.std.proofs.Common.{◌≡◌, ℕ, zero, suc, Option, Some, ◌+◌, ◌-◌, ◌^◌, ◌<◌, ◌≤◌, min, if◌then◌else◌, true, false, None, List, [], ◌∷◌, ◌++◌, length, drop, slice_get, refl, sym, ap, ◌∙◌, arith, append_assoc, append-nil, length-append}
 use Rattle.std.specs.Option.{option_to_list}
+use Rattle.std.proofs.Math.Seq.{take-nil}
 use Rattle.std.proofs.lemmas.Grind.{common_steps}
 use Rattle.keyboard.specs.Keyboard.{KeyboardState, has_room, after_arrival, after_settling, after_sending}
-use Rattle.keyboard.specs.Runs.{Event, arrival, settling, after_event, after_events, codes_along, arriving_codes, accepted_codes, lost_codes, taken_codes, held_codes, SettlesOnce, IsMerge, merged_none, merged_left, merged_right, AccountsForCodes}
+use Rattle.keyboard.specs.Runs.{Event, arrival, settling, after_event, after_events, codes_along, arriving_codes, accepted_codes, lost_codes, taken_codes, held_codes, ComesInTurn, SettlesOnce, IsMerge, merged_none, merged_left, merged_right, AccountsForCodes}
 
 -- the first item of a list, and then the others
 first_and_rest : (xs : List ℕ) → option_to_list (slice_get xs 0) ++ drop 1 xs ≡ xs
@@ -97,3 +98,13 @@ accounts_for_codes s es = record {
 pub settles_once : (s : KeyboardState) (port_b : ℕ) → SettlesOnce s port_b
 unfolding after_settling
 settles_once s port_b = grind (arith, common_steps)
+
+turns : (n : ℕ) (waiting : List ℕ) (latch : Option ℕ) (lost : ℕ) → ComesInTurn (record { waiting = waiting; latch = latch; lost = lost }) n
+unfolding codes_along after_settling
+turns zero waiting latch lost = refl
+turns (suc n) waiting (Some code) lost = ap (λ codes. code ∷ codes) (turns n waiting None lost)
+turns (suc n) [] None lost = turns n [] None lost ∙ take-nil n
+turns (suc n) (code ∷ waiting) None lost = ap (λ codes. code ∷ codes) (turns n waiting None lost)
+
+pub comes_in_turn : (s : KeyboardState) (n : ℕ) → ComesInTurn s n
+comes_in_turn s n = turns n s.waiting s.latch s.lost

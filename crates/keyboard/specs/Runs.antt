@@ -1,5 +1,5 @@
 -- Runs of arrivals and settlings, and what becomes of each code.
-use Rattle.std.specs.Prelude.{◌≡◌, ℕ, ◌+◌, ◌-◌, ◌^◌, ◌<◌, ◌≤◌, min, if◌then◌else◌, List, [], ◌∷◌, ◌++◌, length}
+use Rattle.std.specs.Prelude.{◌≡◌, ℕ, zero, suc, ◌+◌, ◌-◌, ◌^◌, ◌<◌, ◌≤◌, min, if◌then◌else◌, List, [], ◌∷◌, ◌++◌, length, take}
 use Rattle.std.specs.Option.{option_to_list}
 use Rattle.board_types.specs.Bits.{has_bit}
 use Rattle.keyboard.specs.Keyboard.{KeyboardState, has_room, after_arrival, after_settling}
@@ -62,6 +62,15 @@ pub record AccountsForCodes (s : KeyboardState) (es : List Event) : Type 0 where
   pub counted : s.lost < 2 ^ 64 → (after_events s es).lost ≡ min (s.lost + length (codes_along lost_codes s es)) (2 ^ 64 - 1)
   -- no more than sixteen ever wait
   pub within : length s.waiting ≤ 16 → length (after_events s es).waiting ≤ 16
+
+-- so many rounds, in each of which lines 7 and 6 of port B are 0 and 1, and then 1 and 1
+abbrev pub rounds : ℕ → List Event
+rounds zero = []
+rounds (suc n) = settling 0x40 ∷ settling 0xC0 ∷ rounds n
+
+-- each round takes the next of the codes held, while there is one
+abbrev pub ComesInTurn : KeyboardState → ℕ → Type 0
+ComesInTurn s n = codes_along taken_codes s (rounds n) ≡ take n (held_codes s)
 
 -- to settle again to the same lines changes nothing more
 abbrev pub SettlesOnce : KeyboardState → ℕ → Type 0

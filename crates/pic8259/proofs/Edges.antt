@@ -1,9 +1,9 @@
 -- A level that was taken in edge mode doesn't ask until its line has fallen and risen.
-use Rattle.std.proofs.Common.{◌≡◌, ◌≢◌, ℕ, ◌%◌, ◌==◌, Bool, true, false, not, ◌&&◌, ◌||◌, if◌then◌else◌, List, [], ◌∷◌, length, Option, None, Some, refl, sym, ap, ◌∙◌, inl, inr}
+use Rattle.std.proofs.Common.{◌≡◌, ◌≢◌, ℕ, ◌%◌, ◌<◌, ◌==◌, Bool, true, false, not, ◌&&◌, ◌||◌, if◌then◌else◌, List, [], ◌∷◌, length, Option, None, Some, refl, sym, ap, ◌∙◌, inl, inr}
 use Rattle.std.specs.Option.{option_map_or}
-use Rattle.std.proofs.Math.Bool.{and-false, and-true}
+use Rattle.std.proofs.Math.Bool.{and-false, and-true, or-true}
 use Rattle.std.proofs.lemmas.Bool.{and_parts, not-true, cases_lt, cases_eq, eq-eqb}
-use Rattle.std.proofs.lemmas.List.{get_or_past, get_or-set_same, get_or-set_other}
+use Rattle.std.proofs.lemmas.List.{get_or_past, get_or-set_same, get_or-set_other, length-set}
 use Rattle.board_types.specs.Bits.{has_bit}
 use Rattle.board_types.specs.declared.line.Line.TheVariants.{Low, High}
 use Rattle.pic8259.specs.declared.controller.Expected.{Expected}
@@ -164,9 +164,23 @@ just_taken : (s : PicState) (level : ℕ) → s.is_level_triggered ≡ false →
 unfolding after_taking
 just_taken s level edge high = record { edge = edge; high = high; spent = gone s.risen level }
 
+-- a line that falls and rises makes its level ask
+asks_after_rise : (s : PicState) (level : ℕ) → level < length s.high → level < length s.risen → asks (after_line (after_line s level Low) level High) level ≡ true
+unfolding after_line
+asks_after_rise s level high risen =
+    let fallen : Levels = without_level s.high level in
+    let size : length fallen ≡ length s.high = length-set s.high level false in
+    let up : contains (with_level fallen level) level ≡ true = get_or-set_same fallen level true false (rw size high) in
+    let rise : contains (if contains fallen level then s.risen else with_level s.risen level) level ≡ true =
+    ap (λ b. contains (if b then s.risen else with_level s.risen level) level) (gone s.high level) ∙ get_or-set_same s.risen level true false risen in
+    ap (λ b. b && (s.is_level_triggered || contains (if contains fallen level then s.risen else with_level s.risen level) level)) up
+    ∙ ap (λ b. s.is_level_triggered || b) rise
+    ∙ or-true s.is_level_triggered
+
 pub asks_once_a_rise : AsksOnceARise
 asks_once_a_rise s level = record {
   once = λ edge high later keeps.
       spent_asks (after_events (after_taking s level) later) level (run_spent (after_taking s level) level later keeps (just_taken s level edge high));
+  again = asks_after_rise s level;
   always = λ mode. ap (λ b. contains s.high level && (b || contains s.risen level)) mode ∙ and-true (contains s.high level);
 }

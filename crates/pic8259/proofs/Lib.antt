@@ -5,3 +5,4 @@ pub mod OrderWhole
 pub mod Taking
 pub mod Masks
 pub mod Edges
+pub mod Words

@@ -42,7 +42,7 @@ turn_is_whole order turn =
     subst HoldsEachLevelOnce (sym turn.is) whole
 
 -- made the lowest, a level is the last of the turn
-lowest_turned : (level : ℕ) (order : List ℕ) → IsTurn order → level < 8 → with_lowest order level ≡ order_with_lowest level
+pub lowest_turned : (level : ℕ) (order : List ℕ) → IsTurn order → level < 8 → with_lowest order level ≡ order_with_lowest level
 lowest_turned level order turn within = ap (λ order. with_lowest order level) turn.is ∙ turned_to_lowest level turn.lowest within turn.within
 
 lowest_turn : (level : ℕ) (order : List ℕ) → level < 8 → IsTurn order → IsTurn (with_lowest order level)

@@ -1,9 +1,9 @@
 -- What holds of the controller whatever happens to it, in the words of the Intel 8259A data sheet.
-use Rattle.std.specs.Prelude.{◌≡◌, ◌≢◌, ℕ, ◌+◌, ◌<◌, ◌==◌, Bool, true, false, ◌&&◌, List, [], ◌∷◌, ◌++◌, count_by, All, MatchOption, None, Some}
+use Rattle.std.specs.Prelude.{◌≡◌, ◌≢◌, ℕ, ◌+◌, ◌*◌, ◌/◌, ◌<◌, ◌==◌, Bool, true, false, ◌&&◌, if◌then◌else◌, length, List, [], ◌∷◌, ◌++◌, count_by, All, MatchOption, None, Some}
 use Rattle.board_types.specs.Bits.{has_bit}
 use Rattle.board_types.specs.declared.line.Line.{Line}
-use Rattle.pic8259.specs.Levels.{contains, order_with_lowest}
-use Rattle.pic8259.specs.Pic.{PicState, power_on, is_operating, is_ready, asks, blocks, may_be_taken, level_to_take, after_taking, after_acknowledge, vector, after_read, after_line, after_write, after_end, after_lowering, highest_served}
+use Rattle.pic8259.specs.Levels.{no_levels, contains, order_with_lowest}
+use Rattle.pic8259.specs.Pic.{PicState, power_on, is_operating, is_ready, asks, blocks, may_be_taken, level_to_take, after_taking, after_acknowledge, vector, byte_at, after_read, after_line, after_write, after_end, after_lowering, highest_served}
 
 -- what can happen to a controller: a line changes, it is read or written, or an acknowledge comes
 pub data Event : Type 0 where
@@ -53,6 +53,30 @@ abbrev pub BeginsAnew : Type 0
 BeginsAnew =
     (s : PicState) (value : ℕ) → has_bit value 4 ≡ true
     → after_write s false value ≡ after_write (record power_on { high = s.high; vector_base = s.vector_base; slaves = s.slaves }) false value
+
+-- the words that follow this ICW1 at A0 = 1: ICW2, ICW3 where it isn't single, and ICW4 where it asks for it
+abbrev pub later_words : ℕ → ℕ → ℕ → ℕ → List ℕ
+later_words icw1 icw2 icw3 icw4 =
+    icw2 ∷ ((if has_bit icw1 1 then [] else icw3 ∷ []) ++ (if has_bit icw1 0 then icw4 ∷ [] else []))
+
+-- words written at A0 = 1, in their order
+abbrev pub after_words : PicState → List ℕ → PicState
+after_words s [] = s
+after_words s (word ∷ words) = after_words (after_write s true word) words
+
+-- what the words of a sequence leave; without ICW4 its bits count as 0
+pub record HasEnded (s : PicState) (icw1 icw2 icw4 : ℕ) : Type 0 where
+  pub operating : is_operating s.expected ≡ true
+  pub base : s.vector_base ≡ 8 * (icw2 / 8)
+  pub mode : s.is_8086 ≡ (has_bit icw1 0 && has_bit icw4 0)
+  pub automatic : s.auto_end ≡ (has_bit icw1 0 && has_bit icw4 1)
+  pub unmasked : s.masked ≡ no_levels
+
+-- "Programming the 8259A", the initialization sequence
+abbrev pub SequenceEnds : Type 0
+SequenceEnds =
+    (s : PicState) (icw1 icw2 icw3 icw4 : ℕ) → has_bit icw1 4 ≡ true
+    → HasEnded (after_words (after_write s false icw1) (later_words icw1 icw2 icw3 icw4)) icw1 icw2 icw4
 
 -- nothing is taken before 8086 mode has been chosen, nor in mid-sequence, where no operation word is heard at A0 = 0
 pub record IsDeafInSequence (s : PicState) : Type 0 where
@@ -130,3 +154,35 @@ pub record EndsNone (s : PicState) : Type 0 where
 abbrev pub EndsFirstInService : Type 0
 EndsFirstInService =
     (s : PicState) → is_operating s.expected ≡ true → MatchOption (highest_served s) (EndsNone s) (λ level. Ends s level)
+
+-- "In-Service Register": a level that is taken comes into service. "Automatic End of Interrupt (AEOI) Mode": then it
+-- doesn't, and the order stays but under "Automatic Rotation", which makes it the lowest
+pub record Serves (s : PicState) (level : ℕ) : Type 0 where
+  pub in_service : s.auto_end ≡ false → level < length s.served → contains (after_taking s level).served level ≡ true
+  pub at_once : s.auto_end ≡ true → (after_taking s level).served ≡ s.served
+  pub stays : (s.auto_end && s.rotates) ≡ false → (after_taking s level).order ≡ s.order
+  pub turns : (s.auto_end && s.rotates) ≡ true → IsTurn s.order → level < 8 → (after_taking s level).order ≡ order_with_lowest level
+
+abbrev pub ServesTaken : Type 0
+ServesTaken = (s : PicState) (level : ℕ) → Serves s level
+
+-- "Interrupt Mask Register (IMR)": what OCW1 leaves; a pending poll is answered in the mask's place
+pub record HoldsMask (s : PicState) (mask : ℕ) : Type 0 where
+  pub reads : s.polled ≡ false → byte_at s true ≡ mask
+  pub held : (level : ℕ) → level < 8 → has_bit mask level ≡ true → may_be_taken s level ≡ false
+
+abbrev pub MaskHolds : Type 0
+MaskHolds =
+    (s : PicState) (mask : ℕ) → is_operating s.expected ≡ true → mask < 256 → HoldsMask (after_write s true mask) mask
+
+-- a read answers this byte and leaves this state
+pub record Reads (s : PicState) (a0 : Bool) (byte : ℕ) (after : PicState) : Type 0 where
+  pub answer : byte_at s a0 ≡ byte
+  pub state : after_read s ≡ after
+
+-- "Poll Command": the read after the poll word, 0Ch
+abbrev pub PollTakes : Type 0
+PollTakes =
+    (s : PicState) (a0 : Bool) → is_operating s.expected ≡ true → s.polled ≡ false
+    → MatchOption (level_to_take s) (Reads (after_write s false 0x0C) a0 0 s)
+    (λ level. Reads (after_write s false 0x0C) a0 (0x80 + level) (after_taking s level))

@@ -8,7 +8,7 @@ use board_types::line::Line;
 use std::marker::Model;
 
 /// The word that an initialisation sequence waits for ("Initialization Command Words").
-#[derive(Clone, Copy, Debug, PartialEq, Eq)]
+#[derive(Clone, Copy)]
 pub enum Expected {
     Icw2,
     Icw3,
@@ -18,7 +18,7 @@ pub enum Expected {
 }
 
 /// An Intel 8259A, alone on its board. It takes interrupts in 8086 mode only.
-#[derive(Clone, Copy, Debug)]
+#[derive(Clone, Copy)]
 pub struct Pic {
     /// The level with the lowest priority; the one after it has the highest.
     lowest: u8,
@@ -484,6 +484,3 @@ impl Pic {
         self.polled = bit(value, 2);
     }
 }
-
-#[cfg(test)]
-mod tests;

@@ -1,5 +1,5 @@
 //! Laws of the controller, proved over its definition. Each is an empty function whose contract states it.
-ghost use Rattle.pic8259.specs.Laws.{OrderIsWhole, RotationTurns, BeginsAnew, WaitsForSequence, AcknowledgeTakesFirst, ServiceBlocks, SpecialMaskExcepts, EndsFirstInService};
+ghost use Rattle.pic8259.specs.Laws.{OrderIsWhole, RotationTurns, BeginsAnew, SequenceEnds, WaitsForSequence, AcknowledgeTakesFirst, ServiceBlocks, SpecialMaskExcepts, EndsFirstInService, ServesTaken, MaskHolds, PollTakes};
 ghost use Rattle.pic8259.specs.Edges.{AsksOnceARise};
 
 /// At any time the order of priority holds each of the eight levels once, and is a turn of their circle.
@@ -17,6 +17,12 @@ pub fn rotation_turns()
 #[tactic(auto, using(crate::proofs::Taking::begins_anew))]
 pub fn begins_anew()
     ensures { BeginsAnew }
+{}
+
+/// After ICW1 the words that it asks for end the sequence. They set the vector, 8086 mode and automatic end of
+/// interrupt, and leave nothing masked.
+pub fn sequence_ends()
+    ensures { SequenceEnds }
 {}
 
 /// Nothing is taken in mid-sequence, where no operation word is heard at A0 = 0, nor before 8086 mode is chosen.
@@ -51,9 +57,29 @@ pub fn ends_first_in_service()
     ensures { EndsFirstInService }
 {}
 
-/// In edge mode a level that was taken doesn't ask again until its line has fallen and risen. In level mode a level
-/// asks as long as its line is high.
+/// In edge mode a level that was taken doesn't ask again until its line has fallen and risen; then it asks. In level
+/// mode a level asks as long as its line is high.
 #[tactic(auto, using(crate::proofs::Edges::asks_once_a_rise))]
 pub fn asks_once_a_rise()
     ensures { AsksOnceARise }
+{}
+
+/// A level that is taken comes into service; under automatic end of interrupt it doesn't, and becomes the lowest where
+/// rotation goes with that.
+#[tactic(auto, using(crate::proofs::Words::serves_taken))]
+pub fn serves_taken()
+    ensures { ServesTaken }
+{}
+
+/// Outside a sequence a byte written at A0 = 1 reads back there, and no level whose bit is 1 in it may be taken.
+#[tactic(auto, using(crate::proofs::Words::mask_holds))]
+pub fn mask_holds()
+    ensures { MaskHolds }
+{}
+
+/// After the poll word the next read, at either port, takes a level as an acknowledge does and answers 80h plus it,
+/// or 0 where there is none.
+#[tactic(auto, using(crate::proofs::Words::poll_takes))]
+pub fn poll_takes()
+    ensures { PollTakes }
 {}

@@ -7,7 +7,7 @@ use board_types::bits::bit;
 use std::marker::Model;
 
 /// A set of the eight levels IR0 to IR7.
-#[derive(Clone, Copy, Debug)]
+#[derive(Clone, Copy)]
 pub struct LevelSet {
     /// Bit n is 1 where level n is in the set.
     mask: u8,

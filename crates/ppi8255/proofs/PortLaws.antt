@@ -1,5 +1,5 @@
 -- The laws of the parallel port.
-use Rattle.std.proofs.Common.{◌≡◌, ℕ, ◌+◌, ◌-◌, ◌*◌, ◌/◌, ◌%◌, ◌^◌, ◌<◌, ◌==◌, if◌then◌else◌, Bool, true, false, List, [], ◌∷◌, refl, sym, ap, ◌∙◌, arith, ◌≢◌}
+use Rattle.std.proofs.Common.{◌≡◌, ℕ, zero, suc, add-zero, ◌+◌, ◌-◌, ◌*◌, ◌/◌, ◌%◌, ◌^◌, ◌<◌, ◌==◌, if◌then◌else◌, Bool, true, false, List, [], ◌∷◌, refl, sym, ap, ◌∙◌, arith, ◌≢◌}
 use Rattle.std.specs.Int.{bit_at}
 use Rattle.std.specs.Int.Bits.{bit_and, bit_or}
 use Rattle.std.proofs.Common.{w8}
@@ -7,11 +7,12 @@ use Rattle.std.proofs.lemmas.Nat.{and_shr, or_shr, and_mod, or_mod}
 use Rattle.std.proofs.lemmas.Nat.Bits.{bit_at_set_same, bit_at_set_other, bit_at_clear_same, bit_at_clear_other}
 use Rattle.std.proofs.lemmas.Grind.{common_steps}
 use Rattle.board_types.specs.Bits.{has_bit}
+use Rattle.board_types.specs.Lines.{is_high}
 use Rattle.ppi8255.specs.declared.ppi.Direction.{Direction}
 use Rattle.ppi8255.specs.declared.ppi.Direction.TheVariants.{Input, Output}
 use Rattle.ppi8255.specs.declared.ppi.Inputs.{Inputs}
-use Rattle.ppi8255.specs.Ppi.{PpiState, port_byte, lines_b, pins_a, pins_c, port_c_byte, byte_at, after_mode_word, with_bit, after_bit_word, after_write}
-use Rattle.ppi8255.specs.Laws.{ReadsBack, BeginsAnew, SetsOneBit, after_writes, LooksAlike, DiffersUnseen}
+use Rattle.ppi8255.specs.Ppi.{PpiState, port_byte, lines_b, pins_a, switches_c, pins_c, port_c_byte, byte_at, after_mode_word, with_bit, after_bit_word, after_write}
+use Rattle.ppi8255.specs.Laws.{ReadsBack, BeginsAnew, SetsOneBit, ShowsSwitches, after_writes, LooksAlike, DiffersUnseen}
 
 output_shows : (direction : Direction) (latch pins : ℕ) → direction ≡ Output → port_byte direction latch pins ≡ latch
 output_shows Input latch pins is = cc
@@ -59,6 +60,71 @@ sets_one_bit s word is_bit_word = record {
   bits = λ k within. rw is_bit_word (with_bit_bits s.c_latch (word / 2 % 8) k (has_bit word 0) (omega arith) within);
   others = rw is_bit_word refl;
 }
+
+-- the pins of port C by their bits: a number below 16, and 32 where the line is high
+pins_by_bits : (low : ℕ) (high : Bool) (k : ℕ) → low < 16 → k < 4 → has_bit (low + (if high then 2 ^ 5 else 0)) k ≡ has_bit low k
+pins_by_bits low true zero small within = ap (λ n. n == 1) (omega arith)
+pins_by_bits low true (suc zero) small within = ap (λ n. n == 1) (omega arith)
+pins_by_bits low true (suc (suc zero)) small within = ap (λ n. n == 1) (omega arith)
+pins_by_bits low true (suc (suc (suc zero))) small within = ap (λ n. n == 1) (omega arith)
+pins_by_bits low true (suc (suc (suc (suc k)))) small within = absurd (omega arith)
+pins_by_bits low false k small within = ap (λ n. has_bit n k) (add-zero low)
+
+four_bits : (sw2 k : ℕ) → k < 4 → has_bit (sw2 % 16) k ≡ has_bit sw2 k
+four_bits sw2 zero within = ap (λ n. n == 1) (omega arith)
+four_bits sw2 (suc zero) within = ap (λ n. n == 1) (omega arith)
+four_bits sw2 (suc (suc zero)) within = ap (λ n. n == 1) (omega arith)
+four_bits sw2 (suc (suc (suc zero))) within = ap (λ n. n == 1) (omega arith)
+four_bits sw2 (suc (suc (suc (suc k)))) within = absurd (omega arith)
+
+no_bits : (bit k : ℕ) → bit < 2 → 0 < k → k < 4 → has_bit bit k ≡ false
+no_bits bit zero small some within = absurd (omega arith)
+no_bits bit (suc zero) small some within = ap (λ n. n == 1) {y = 0} (omega arith)
+no_bits bit (suc (suc zero)) small some within = ap (λ n. n == 1) {y = 0} (omega arith)
+no_bits bit (suc (suc (suc zero))) small some within = ap (λ n. n == 1) {y = 0} (omega arith)
+no_bits bit (suc (suc (suc (suc k)))) small some within = absurd (omega arith)
+
+line_bit : (low : ℕ) (high : Bool) → low < 16 → has_bit (low + (if high then 2 ^ 5 else 0)) 5 ≡ high
+line_bit low true small = ap (λ n. n == 1) {y = 1} (omega arith)
+line_bit low false small = ap (λ n. n == 1) {y = 0} (omega arith)
+
+clear_4 : (low : ℕ) (high : Bool) → low < 16 → has_bit (low + (if high then 2 ^ 5 else 0)) 4 ≡ false
+clear_4 low true small = ap (λ n. n == 1) {y = 0} (omega arith)
+clear_4 low false small = ap (λ n. n == 1) {y = 0} (omega arith)
+
+clear_6 : (low : ℕ) (high : Bool) → low < 16 → has_bit (low + (if high then 2 ^ 5 else 0)) 6 ≡ false
+clear_6 low true small = ap (λ n. n == 1) {y = 0} (omega arith)
+clear_6 low false small = ap (λ n. n == 1) {y = 0} (omega arith)
+
+clear_7 : (low : ℕ) (high : Bool) → low < 16 → has_bit (low + (if high then 2 ^ 5 else 0)) 7 ≡ false
+clear_7 low true small = ap (λ n. n == 1) {y = 0} (omega arith)
+clear_7 low false small = ap (λ n. n == 1) {y = 0} (omega arith)
+
+switches_small : (sw2 : ℕ) (four : Bool) → (if four then sw2 % 16 else bit_at sw2 4) < 16
+switches_small sw2 true = omega arith
+switches_small sw2 false = omega arith
+
+pub shows_switches : (s : PpiState) (inputs : Inputs) → ShowsSwitches s inputs
+unfolding byte_at
+shows_switches s inputs upper lower =
+    let high = is_high inputs.out2 in
+    let small : switches_c s < 16 = switches_small s.sw2 (has_bit (lines_b s) 2) in
+    let all : byte_at s 2 inputs ≡ pins_c s inputs = rw (upper, lower) (halves (pins_c s inputs)) in
+    record {
+      four = λ chosen k within.
+          ap (λ n. has_bit n k) all ∙ pins_by_bits (switches_c s) high k small within
+          ∙ ap (λ b. has_bit (if b then s.sw2 % 16 else bit_at s.sw2 4) k) chosen ∙ four_bits s.sw2 k within;
+      fifth = λ chosen.
+          ap (λ n. has_bit n 0) all ∙ pins_by_bits (switches_c s) high 0 small (omega arith)
+          ∙ ap (λ b. has_bit (if b then s.sw2 % 16 else bit_at s.sw2 4) 0) chosen ∙ ap (λ n. n == 1) (omega arith);
+      clear = λ chosen k some within.
+          ap (λ n. has_bit n k) all ∙ pins_by_bits (switches_c s) high k small within
+          ∙ ap (λ b. has_bit (if b then s.sw2 % 16 else bit_at s.sw2 4) k) chosen ∙ no_bits (bit_at s.sw2 4) k (omega arith) some within;
+      counter = ap (λ n. has_bit n 5) all ∙ line_bit (switches_c s) high small;
+      bit_4 = ap (λ n. has_bit n 4) all ∙ clear_4 (switches_c s) high small;
+      bit_6 = ap (λ n. has_bit n 6) all ∙ clear_6 (switches_c s) high small;
+      bit_7 = ap (λ n. has_bit n 7) all ∙ clear_7 (switches_c s) high small;
+    }
 
 port_alike : (direction : Direction) (latch other pins : ℕ) → (direction ≡ Output → latch ≡ other) → port_byte direction latch pins ≡ port_byte direction other pins
 port_alike Input latch other pins same = refl

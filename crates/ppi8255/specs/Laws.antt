@@ -1,7 +1,8 @@
 -- What holds of every parallel port and every access, in the words of the data sheet.
-use Rattle.std.specs.Prelude.{◌≡◌, ℕ, ◌/◌, ◌%◌, ◌<◌, ◌==◌, true, if◌then◌else◌, List, [], ◌∷◌}
+use Rattle.std.specs.Prelude.{◌≡◌, ℕ, ◌/◌, ◌%◌, ◌<◌, ◌==◌, true, false, if◌then◌else◌, List, [], ◌∷◌}
 use Rattle.board_types.specs.Bits.{has_bit}
-use Rattle.ppi8255.specs.declared.ppi.Direction.TheVariants.{Output}
+use Rattle.board_types.specs.Lines.{is_high}
+use Rattle.ppi8255.specs.declared.ppi.Direction.TheVariants.{Input, Output}
 use Rattle.ppi8255.specs.declared.ppi.Inputs.{Inputs}
 use Rattle.ppi8255.specs.Ppi.{PpiState, power_on, lines_b, byte_at, after_write}
 
@@ -20,6 +21,20 @@ BeginsAnew s word = has_bit word 7 ≡ true → after_write s 3 word ≡ after_w
 pub record SetsOneBit (s : PpiState) (word : ℕ) : Type 0 where
   pub bits : (k : ℕ) → k < 8 → has_bit (after_write s 3 word).c_latch k ≡ (if k == word / 2 % 8 then has_bit word 0 else has_bit s.c_latch k)
   pub others : record (after_write s 3 word) { c_latch = s.c_latch } ≡ s
+
+-- port C as an input: its bits 3 to 0 are the first four switches of SW2 where line 2 of port B is 1, else bit 0 the
+-- fifth and bits 3 to 1 are 0; bit 5 is counter 2's output, and bits 4, 6 and 7 are 0
+pub record ShowsPins (s : PpiState) (inputs : Inputs) : Type 0 where
+  pub four : has_bit (lines_b s) 2 ≡ true → (k : ℕ) → k < 4 → has_bit (byte_at s 2 inputs) k ≡ has_bit s.sw2 k
+  pub fifth : has_bit (lines_b s) 2 ≡ false → has_bit (byte_at s 2 inputs) 0 ≡ has_bit s.sw2 4
+  pub clear : has_bit (lines_b s) 2 ≡ false → (k : ℕ) → 0 < k → k < 4 → has_bit (byte_at s 2 inputs) k ≡ false
+  pub counter : has_bit (byte_at s 2 inputs) 5 ≡ is_high inputs.out2
+  pub bit_4 : has_bit (byte_at s 2 inputs) 4 ≡ false
+  pub bit_6 : has_bit (byte_at s 2 inputs) 6 ≡ false
+  pub bit_7 : has_bit (byte_at s 2 inputs) 7 ≡ false
+
+abbrev pub ShowsSwitches : PpiState → Inputs → Type 0
+ShowsSwitches s inputs = s.c_upper ≡ Input → s.c_lower ≡ Input → ShowsPins s inputs
 
 -- writes in their order, each with its port
 unfoldable pub after_writes : PpiState → List (ℕ × ℕ) → PpiState

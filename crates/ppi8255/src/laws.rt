@@ -3,7 +3,7 @@ ghost use Rattle.std.specs.Prelude.{◌≡◌, ℕ, false, List};
 ghost use Rattle.board_types.specs.Bits.{has_bit};
 ghost use Rattle.ppi8255.specs.declared.ppi.Inputs.{Inputs};
 ghost use Rattle.ppi8255.specs.Ppi.{PpiState};
-ghost use Rattle.ppi8255.specs.Laws.{ReadsBack, BeginsAnew, SetsOneBit, DiffersUnseen, LooksAlike};
+ghost use Rattle.ppi8255.specs.Laws.{ReadsBack, BeginsAnew, SetsOneBit, ShowsSwitches, DiffersUnseen, LooksAlike};
 
 /// An output port reads what was last written to it.
 pub fn reads_back()
@@ -18,6 +18,12 @@ pub fn begins_anew()
 /// The bit set/reset word changes the bit of port C that it names, and nothing else.
 pub fn sets_one_bit()
     ensures { (s : PpiState) (word : ℕ) → has_bit word 7 ≡ false → SetsOneBit s word }
+{}
+
+/// Port C as an input shows four switches of SW2 or the fifth, by line 2 of port B, counter 2's output on bit 5, and 0
+/// on bits 4, 6 and 7.
+pub fn shows_switches()
+    ensures { (s : PpiState) (inputs : Inputs) → ShowsSwitches s inputs }
 {}
 
 /// What the latch of an input holds is never seen: ports that differ in nothing else give the same reads, and the

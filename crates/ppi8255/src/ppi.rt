@@ -8,14 +8,14 @@ use board_types::line::Line;
 use std::marker::Model;
 
 /// Whether a group of lines takes its level from outside or drives it.
-#[derive(Clone, Copy, Debug, PartialEq, Eq)]
+#[derive(Clone, Copy)]
 pub enum Direction {
     Input,
     Output,
 }
 
 /// What the board brings to the pins at a read, besides the switches.
-#[derive(Clone, Copy, Debug, PartialEq, Eq)]
+#[derive(Clone, Copy)]
 pub struct Inputs {
     /// The keyboard's latch, `None` when it is empty.
     pub latch: Option<u8>,
@@ -24,7 +24,7 @@ pub struct Inputs {
 }
 
 /// The parallel port at its addresses 60h to 63h.
-#[derive(Clone, Copy, Debug, PartialEq, Eq)]
+#[derive(Clone, Copy)]
 pub struct Ppi {
     sw1: u8,
     sw2: u8,
@@ -200,121 +200,5 @@ fn direction_of(word: u8, k: u8) -> Direction
         Direction::Input
     } else {
         Direction::Output
-    }
-}
-
-#[cfg(test)]
-mod tests {
-    use super::*;
-
-    const KEY_AND_TONE: Inputs = Inputs {
-        latch: Some(0x1E),
-        out2: Line::High,
-    };
-
-    const NEITHER: Inputs = Inputs {
-        latch: None,
-        out2: Line::Low,
-    };
-
-    // the data sheet's chart of mode 0: each control word with what ports A, B and C read after the same writes
-    #[test]
-    fn follows_the_chart_of_mode_0(rt: HostRuntime) {
-        for (word, a, b, c) in [
-            (0x80, 0xA5, 0x64, 0x5A),
-            (0x81, 0xA5, 0x64, 0x5D),
-            (0x82, 0xA5, 0x00, 0x5A),
-            (0x83, 0xA5, 0x00, 0x50),
-            (0x88, 0xA5, 0x64, 0x2A),
-            (0x89, 0xA5, 0x64, 0x2D),
-            (0x8A, 0xA5, 0x00, 0x2A),
-            (0x8B, 0xA5, 0x00, 0x20),
-            (0x90, 0x1E, 0x64, 0x5A),
-            (0x91, 0x1E, 0x64, 0x5D),
-            (0x92, 0x1E, 0x00, 0x5A),
-            (0x93, 0x1E, 0x00, 0x50),
-            (0x98, 0x1E, 0x64, 0x2A),
-            (0x99, 0x1E, 0x64, 0x2D),
-            (0x9A, 0x1E, 0x00, 0x2A),
-            (0x9B, 0x1E, 0x00, 0x20),
-            // the mode bits 6, 5 and 2 are ignored
-            (0xE4, 0xA5, 0x64, 0x5A),
-            (0xFD, 0x1E, 0x64, 0x2D),
-            (0xC0, 0xA5, 0x64, 0x5A),
-            (0xBF, 0x1E, 0x00, 0x20),
-            (0x84, 0xA5, 0x64, 0x5A),
-        ] {
-            let mut ppi = Ppi::new(0x6D, 0x0D);
-            ppi.write(3, word);
-            ppi.write(0, 0xA5);
-            ppi.write(1, 0x64);
-            ppi.write(2, 0x5A);
-            assert_eq!(rt; ppi.read(0, KEY_AND_TONE), a, "port A under {word}");
-            assert_eq!(rt; ppi.read(1, KEY_AND_TONE), b, "port B under {word}");
-            assert_eq!(rt; ppi.port_b(), b, "the lines under {word}");
-            assert_eq!(rt; ppi.read(2, KEY_AND_TONE), c, "port C under {word}");
-            assert_eq!(rt; ppi.read(3, KEY_AND_TONE), 0xFF);
-        }
-    }
-
-    // single bit set/reset words, one after another, with what port C then reads
-    #[test]
-    fn sets_and_resets_single_bits(rt: HostRuntime) {
-        let mut ppi = Ppi::new(0, 0);
-        ppi.write(3, 0x80);
-        for (word, c) in [
-            (0x01, 0x01),
-            (0x03, 0x03),
-            (0x05, 0x07),
-            (0x0F, 0x87),
-            (0x04, 0x83),
-            (0x0F, 0x83),
-            (0x00, 0x82),
-            (0x7B, 0xA2),
-            (0x7E, 0x22),
-            (0x09, 0x32),
-        ] {
-            ppi.write(3, word);
-            assert_eq!(rt; ppi.read(2, NEITHER), c, "after {word}");
-        }
-        ppi.write(3, 0x80);
-        assert_eq!(rt; ppi.read(2, NEITHER), 0);
-    }
-
-    // as the board's start-up sets it: A and C inputs, B an output
-    #[test]
-    fn shows_the_switches_and_the_key(rt: HostRuntime) {
-        let mut ppi = Ppi::new(0x6D, 0x1A);
-        ppi.write(3, 0x99);
-        for (b, a_of_key, a_of_none, c_high, c_low) in [
-            (0x00, 0x1E, 0x00, 0x21, 0x01),
-            (0x04, 0x1E, 0x00, 0x2A, 0x0A),
-            (0x7B, 0x1E, 0x00, 0x21, 0x01),
-            (0x80, 0x6D, 0x6D, 0x21, 0x01),
-            (0xCC, 0x6D, 0x6D, 0x2A, 0x0A),
-        ] {
-            ppi.write(1, b);
-            assert_eq!(rt; ppi.read(0, KEY_AND_TONE), a_of_key, "a key, B {b}");
-            assert_eq!(rt; ppi.read(0, NEITHER), a_of_none, "no key, B {b}");
-            assert_eq!(rt; ppi.read(2, KEY_AND_TONE), c_high, "counter 2 high, B {b}");
-            assert_eq!(rt; ppi.read(2, NEITHER), c_low, "counter 2 low, B {b}");
-        }
-    }
-
-    #[test]
-    fn is_all_inputs_after_reset(rt: HostRuntime) {
-        let mut ppi = Ppi::new(0x6D, 0xEA);
-        for port in 0..3 {
-            ppi.write(port, 0xFF);
-        }
-        assert_eq!(rt; ppi.port_b(), 0);
-        assert_eq!(rt; ppi.read(0, KEY_AND_TONE), 0x1E);
-        assert_eq!(rt; ppi.read(1, KEY_AND_TONE), 0);
-        assert_eq!(rt; ppi.read(2, KEY_AND_TONE), 0x20);
-        // a mode word clears what was written before it
-        ppi.write(3, 0x80);
-        for port in 0..3 {
-            assert_eq!(rt; ppi.read(port, KEY_AND_TONE), 0, "port {port}");
-        }
     }
 }
