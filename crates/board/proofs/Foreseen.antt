@@ -1,5 +1,5 @@
 -- The speaker's level at the next clock, known from the step's port writes.
-use Rattle.std.proofs.Common.{◌≡◌, ℕ, ◌+◌, Bool, true, false, if◌then◌else◌, List, [], ◌∷◌, Option, None, Some, refl, sym, ap, ◌∙◌}
+use Rattle.std.proofs.Common.{◌≡◌, ℕ, ◌+◌, ◌-◌, Bool, true, false, if◌then◌else◌, List, [], ◌∷◌, Option, None, Some, refl, sym, ap, ◌∙◌}
 use Rattle.board_types.specs.Lines.{from_bool}
 use Rattle.board_types.specs.declared.keys.StampedKey.{StampedKey}
 use Rattle.bus.specs.PortWrites.{after_port_writes}
@@ -8,7 +8,9 @@ use Rattle.execute.specs.Cpu.{CpuState}
 use Rattle.execute.specs.Meaning.{after_step}
 use Rattle.execute.specs.PortWrites.{EachAccessKeeps, WritesAlone, port_writes_of}
 use Rattle.execute.proofs.Writes.{port_writes_tell}
+use Rattle.mda_text.specs.Mda.{with_text_byte}
 use Rattle.memory.specs.Kinds.{is_text_address}
+use Rattle.memory.specs.Map as map
 use Rattle.wiring.specs.Chips.{ChipsState}
 use Rattle.wiring.specs.Laws.{SoundsAlike}
 use Rattle.wiring.specs.Ports.{chips_bus, with_byte, after_input, after_output}
@@ -53,8 +55,8 @@ settled_with_byte : (s : ChipsState) (address byte : ℕ) → after_settling s �
 unfolding with_byte after_settling
 settled_with_byte s address byte still =
     with_byte_by (is_text_address address) s _ _
-    (ap (λ (t : ChipsState). record s { keyboard = t.keyboard; pit = t.pit; pic = t.pic; mda = _ }) still)
-    (ap (λ (t : ChipsState). record s { keyboard = t.keyboard; pit = t.pit; pic = t.pic; memory = _ }) still)
+    (ap (λ (t : ChipsState). record t { mda = with_text_byte s.mda (address - 0xB0000) byte }) still)
+    (ap (λ (t : ChipsState). record t { memory = map.with_byte s.memory address byte }) still)
 
 accesses_settle : EachAccessKeeps chips_bus after_settling (λ s. s)
 unfolding after_input after_output

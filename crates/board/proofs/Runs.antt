@@ -1,5 +1,6 @@
 -- Runs of a board: clock after clock, each with the change that it brings.
-use Rattle.std.proofs.Common.{◌≡◌, ◌≢◌, ℕ, ◌+◌, ◌-◌, ◌<◌, ◌≤◌, List, [], ◌∷◌, ◌++◌, length, Bool, true, false, if◌then◌else◌, beq, refl, sym, ap, ◌∙◌, subst, arith, append_assoc, append-nil}
+use Rattle.std.proofs.Common.{◌≡◌, ◌≢◌, ℕ, ◌+◌, ◌-◌, ◌<◌, ◌≤◌, List, [], ◌∷◌, ◌++◌, length, Bool, true, false, if◌then◌else◌, refl, sym, ap, ◌∙◌, subst, arith, append_assoc, append-nil}
+use Rattle.std.specs.Bool.{beq}
 use Rattle.std.proofs.lemmas.List.{length-append}
 use Rattle.board_types.proofs.Iterate.{iterate_zero, iterate_more, iterate_add, gathered_zero, gathered_more, gathered_add}
 use Rattle.board_types.specs.declared.line.Line.{Line}
@@ -57,7 +58,36 @@ stopped n passed s t u within so_far held = record {
 }
 
 -- where the level changes the clock brings one change
-one_if_not_same : (a b : Line) → a ≢ b → beq (is_high a) (is_high b) ≡ false
+one_if_not_same : (a b : Line) (change : SpeakerChange) → a ≢ b → length (if beq (is_high a) (is_high b) then [] else change ∷ []) ≡ 1
+one_if_not_same Low Low change differs = absurd (differs refl)
+one_if_not_same Low High change differs = refl
+one_if_not_same High Low change differs = refl
+one_if_not_same High High change differs = absurd (differs refl)
+
+one_change : (p : Plain) → speaker_level (after_clock p) ≢ speaker_level p → length (change_next p) ≡ 1
+unfolding change_next
+one_change p differs = one_if_not_same (speaker_level (after_clock p)) (speaker_level p) _ differs
+
+-- as many changes come in some clocks as in the first of them and in the others
+changes_add : (a b : ℕ) (p : Plain) → length (changes_in p (a + b)) ≡ length (changes_in p a) + length (changes_in (after_clocks p a) b)
+changes_add a b p = ap length (gathered_add after_clock change_next a b p) ∙ length-append (changes_in p a) (changes_in (after_clocks p a) b)
+
+changes_more : (n : ℕ) (p : Plain) → length (changes_in p (n + 1)) ≡ length (changes_in p n) + length (change_next (after_clocks p n))
+changes_more n p = ap length (gathered_more after_clock change_next n p) ∙ length-append (changes_in p n) (change_next (after_clocks p n))
+
+-- a run with room for all its changes isn't held back
+pub not_held : (n passed : ℕ) (s t u : BoardState) → passed < n → Ran passed s t → IsHeldBack t u → length (changes_in s.plain n) ≤ s.room → ⊥
+not_held n passed s t u within so_far held enough =
+    let last : length (change_next (after_clocks s.plain passed)) ≡ 1 = subst (λ p. length (change_next p) ≡ 1) so_far.plain (one_change t.plain held.changes_next) in
+    let more = changes_more passed s.plain in
+    let rest = changes_add (passed + 1) (n - (passed + 1)) s.plain in
+    let whole : length (changes_in (passed + 1 + (n - (passed + 1))) s.plain) ≡ length (changes_in s.plain n) = ap (λ k. length (changes_in s.plain k)) (omega (arith, within)) in
+    let listed : length t.changes ≡ length s.changes + length (changes_in s.plain passed) = ap length so_far.changes ∙ length-append s.changes (changes_in s.plain passed) in
+    let kept = so_far.room in
+    let none = held.full in
+    omega arith
+
+not_same : (a b : Line) → a ≢ b → beq (is_high a) (is_high b) ≡ false
 not_same Low Low differs = absurd (differs refl)
 not_same Low High differs = refl
 not_same High Low differs = refl
