@@ -1,0 +1,116 @@
+//! The keyboard, the image and the memory.
+use crate::bench::Bench;
+use crate::verb::{NONE, Verb};
+use board_types::address::ADDRESS_COUNT;
+use board_types::image::{Image, is_loadable};
+use keyboard::keyboard::Keyboard;
+use memory::kind::is_text_address;
+use memory::map::Memory;
+use std::alloc::{AllocError, Global};
+use std::mem;
+
+/// A keyboard, and another that is put aside.
+#[derive(Drop)]
+pub struct Keyboards {
+    keyboard: Keyboard,
+    aside: Keyboard,
+}
+
+impl Keyboards {
+    /// Two keyboards with no codes.
+    pub fn new(alloc: Global) -> Result<Self, AllocError> {
+        Ok(Keyboards {
+            keyboard: Keyboard::new(alloc)?,
+            aside: Keyboard::new(alloc)?,
+        })
+    }
+}
+
+impl Bench for Keyboards {
+    fn access(&mut self, verb: Verb, _place: u64, value: u64) -> Option<u64> {
+        match verb {
+            Verb::Arrive => self.keyboard.arrive(u8::try_from(value).ok()?),
+            Verb::Settle => self.keyboard.settle(u8::try_from(value).ok()?),
+            Verb::Latch => return Some(number_or_none(self.keyboard.latch())),
+            Verb::Lost => return Some(self.keyboard.lost()),
+            Verb::Take => {
+                self.keyboard.settle(0x40);
+                let code = self.keyboard.latch();
+                self.keyboard.settle(0xC0);
+                return Some(number_or_none(code.xor(self.keyboard.latch())));
+            }
+            Verb::Copy => {
+                let copy = self.keyboard.copy().ok()?;
+                self.aside = mem::replace(&mut self.keyboard, copy);
+            }
+            Verb::Swap => mem::swap(&mut self.keyboard, &mut self.aside),
+            _ => return None,
+        }
+        Some(value)
+    }
+}
+
+fn number_or_none(byte: Option<u8>) -> u64 {
+    match byte {
+        Some(byte) => u64::from(byte),
+        None => NONE,
+    }
+}
+
+/// An image, and the memory that was made with it.
+#[derive(Drop)]
+pub struct Memories {
+    alloc: Global,
+    image: Image,
+    memory: Option<Memory>,
+}
+
+impl Memories {
+    /// An empty image and no memory.
+    pub fn new(alloc: Global) -> Self {
+        Memories {
+            alloc,
+            image: Image::new(alloc),
+            memory: None,
+        }
+    }
+
+    /// Makes a memory of so many KB. Answers the fault's number, or 0.
+    fn make(&mut self, ram_kb: u16) -> u64 {
+        match Memory::new(self.alloc, ram_kb, &self.image) {
+            Ok(memory) => {
+                self.memory = Some(memory);
+                0
+            }
+            Err(fault) => u64::from(fault.number()),
+        }
+    }
+}
+
+impl Bench for Memories {
+    fn access(&mut self, verb: Verb, place: u64, value: u64) -> Option<u64> {
+        let addr = u32::try_from(place).ok()?;
+        match verb {
+            Verb::Put if is_loadable(addr) => {
+                self.image.put(addr, u8::try_from(value).ok()?).ok()?;
+                Some(value)
+            }
+            Verb::Get => Some(number_or_none(self.image.get(addr))),
+            Verb::Ram => Some(self.make(u16::try_from(addr).ok()?)),
+            _ => access_memory(self.memory.as_mut()?, verb, addr, value),
+        }
+    }
+}
+
+fn access_memory(memory: &mut Memory, verb: Verb, addr: u32, value: u64) -> Option<u64> {
+    if addr >= ADDRESS_COUNT || is_text_address(addr) {
+        return None;
+    }
+    match verb {
+        Verb::Write => memory.write(addr, u8::try_from(value).ok()?),
+        Verb::Read => return Some(u64::from(memory.read(addr))),
+        Verb::Copy => *memory = memory.copy().ok()?,
+        _ => return None,
+    }
+    Some(value)
+}
