@@ -1,5 +1,5 @@
 -- What one tick makes of a counter that counts, in each mode.
-use Rattle.std.proofs.Common.{◌≡◌, ◌≢◌, ℕ, ◌+◌, ◌*◌, ◌<◌, Bool, true, false, if◌then◌else◌, not, ◌&&◌, refl, sym, ap, ◌∙◌, None, nat_lt}
+use Rattle.std.proofs.Common.{◌≡◌, ◌≢◌, ℕ, Bool, false, if◌then◌else◌, not, ◌&&◌, refl, ap, ◌∙◌, None}
 use Rattle.std.specs.Prelude.{◌==◌, is_none}
 use Rattle.board_types.specs.Lines.{is_high, opposite}
 use Rattle.board_types.specs.declared.line.Line.{Line}
@@ -9,7 +9,7 @@ use Rattle.pit8253.specs.Program.{count_minus}
 use Rattle.pit8253.specs.Counter.{CounterState, after_load, out_at_load, is_loaded, after_count, after_countdown, after_rate_count, half_step, after_square_count, after_strobe_count, after_rest, after_tick}
 use Rattle.pit8253.specs.Laws.{Runs}
 use Rattle.pit8253.proofs.Counts.{differs}
-use Rattle.pit8253.proofs.Falls.{if_yes, if_no}
+use Rattle.pit8253.proofs.Falls.{if_no}
 
 -- a counter at another count, with its strobe due or not, at a level of OUT
 abbrev pub with_count : CounterState → ℕ → Bool → Line → CounterState
@@ -76,16 +76,16 @@ rate_falls c n m due out other is =
 pub rate_reloads : (c : CounterState) (n : ℕ) (due : Bool) (out : Line) → n ≡ 1 → after_rate_count (with_count c n due out) ≡ after_load c High
 rate_reloads c n due out one = ap (λ k. after_rate_count (with_count c k due out)) one
 
-halved : CounterState → ℕ → ℕ → Bool → Line → CounterState
-halved c n m due out =
+square_case : CounterState → ℕ → ℕ → Bool → Line → CounterState
+square_case c n m due out =
     if n == 1 then after_load c High else (
     if m == 0 then after_load c (if c.newest == 1 then High else opposite out) else with_count c m due out)
 
 square_is : (c : CounterState) (n m : ℕ) (due : Bool) (out : Line) → n ≢ 1 → count_minus c.count_base n (half_step n out) ≡ m → after_square_count (with_count c n due out) ≡ (if m == 0 then after_load c (if c.newest == 1 then High else opposite out) else with_count c m due out)
-unfolding halved
+unfolding square_case
 square_is c n m due out other is =
-    let direct : after_square_count (with_count c n due out) ≡ halved c n (count_minus c.count_base n (half_step n out)) due out = refl in
-    direct ∙ ap (λ k. halved c n k due out) is
+    let direct : after_square_count (with_count c n due out) ≡ square_case c n (count_minus c.count_base n (half_step n out)) due out = refl in
+    direct ∙ ap (λ k. square_case c n k due out) is
     ∙ ap (λ b. if b then after_load c High else (if m == 0 then after_load c (if c.newest == 1 then High else opposite out) else with_count c m due out)) (differs n 1 other)
 
 pub square_falls : (c : CounterState) (n m : ℕ) (due : Bool) (out : Line) → n ≢ 1 → count_minus c.count_base n (half_step n out) ≡ m → m ≢ 0 → after_square_count (with_count c n due out) ≡ with_count c m due out

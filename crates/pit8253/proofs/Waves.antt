@@ -1,18 +1,17 @@
 -- A counter any number of ticks on: its state in closed form, and the level of OUT after a load.
-use Rattle.std.proofs.Common.{◌≡◌, ◌≢◌, ℕ, zero, suc, ◌+◌, ◌-◌, ◌*◌, ◌/◌, ◌%◌, ◌<◌, ◌≤◌, ◌⊎◌, Bool, true, false, if◌then◌else◌, not, ◌&&◌, refl, sym, ap, ◌∙◌, subst, arith, inl, inr, nat_lt}
+use Rattle.std.proofs.Common.{◌≡◌, ◌≢◌, ℕ, zero, suc, ◌+◌, ◌-◌, ◌*◌, ◌/◌, ◌%◌, ◌<◌, ◌≤◌, Bool, true, false, if◌then◌else◌, not, ◌&&◌, refl, sym, ap, ◌∙◌, subst, arith, inl, inr, nat_lt}
 use Rattle.std.specs.Prelude.{◌==◌}
 use Rattle.std.proofs.lemmas.Bool.{cases_lt}
 use Rattle.std.proofs.lemmas.Nat.{mod_below}
-use Rattle.board_types.specs.Iterate.{iterate}
-use Rattle.board_types.proofs.Iterate.{iterate_zero, iterate_more, iterate_add, iterate_fixed}
-use Rattle.board_types.specs.Lines.{is_high, opposite}
+use Rattle.board_types.proofs.Iterate.{iterate_more, iterate_add, iterate_fixed}
+use Rattle.board_types.specs.Lines.{is_high}
 use Rattle.board_types.specs.declared.line.Line.{Line}
 use Rattle.board_types.specs.declared.line.Line.TheVariants.{Low, High}
 use Rattle.pit8253.specs.declared.program.Mode.TheVariants.{RateGenerator, SquareWave}
 use Rattle.pit8253.specs.declared.program.Base.{Base}
 use Rattle.pit8253.specs.Program.{modulus, count_minus}
 use Rattle.pit8253.specs.Counter.{CounterState, after_load, after_count, after_countdown, after_rate_count, half_step, after_square_count, after_strobe_count, after_tick, after_ticks}
-use Rattle.pit8253.specs.Laws.{length_of, size, ticks_left, Runs, count_after, after_fall, after_strobe_fall, after_rate_fall, half_left, after_half_fall, after_square_fall, TicksAdd, CountsDown, CountsToStrobe, CountsPeriod, CountsHalf, CountsPeriods, CountsHalves, CountsOut, ShootsOnce, Divides, MakesSquares, StaysHigh, StrobesOnce, StrobesOnTrigger}
+use Rattle.pit8253.specs.Laws.{length_of, size, ticks_left, Runs, count_after, after_fall, after_strobe_fall, after_rate_fall, half_left, after_half_fall, TicksAdd, CountsDown, CountsToStrobe, CountsPeriod, CountsHalf, ReloadsAtOne, CountsPeriods, CountsHalves, CountsOut, ShootsOnce, Divides, MakesSquares, StaysHigh, StrobesOnce, StrobesOnTrigger}
 use Rattle.pit8253.proofs.Falls.{by_steps, round_again, if_yes, if_no}
 use Rattle.pit8253.proofs.Counts.{differs, same, below, not_below, modulus_even, modulus_large, minus_within, minus_around, after_none, after_more, after_within, after_end, Lengths, lengths}
 use Rattle.pit8253.proofs.Ticking.{with_count, tick_terminal_count, tick_one_shot, tick_rate, tick_square, tick_software_strobe, tick_hardware_strobe, countdown, rate_falls, rate_reloads, square_falls, square_turns, strobe_count}
@@ -359,6 +358,10 @@ counts_half c runs mode gate other =
       ap (λ k. after_ticks c k) whole ∙ iterate_more after_tick last c ∙ ap after_tick (within last (omega arith))
           ∙ rule now c.strobe_due c.out ∙ square_turns c now c.strobe_due c.out end.other (end.falls_to ∙ none),
     )
+
+pub reloads_at_one : ReloadsAtOne
+reloads_at_one c runs mode gate one =
+    tick_square c runs mode gate c.count c.strobe_due c.out ∙ ap (λ k. after_square_count (with_count c k c.strobe_due c.out)) one
 
 pub counts_halves : CountsHalves
 counts_halves c mode gate within other n =

@@ -97,6 +97,11 @@ CountsHalf =
     → ((n : ℕ) → n < half_left c → after_ticks c n ≡ after_half_fall c n)
     × (after_ticks c (half_left c) ≡ after_load c (if c.newest == 1 then High else opposite c.out))
 
+-- mode 3: at a count of 1 the next tick loads the newest count with OUT high
+abbrev pub ReloadsAtOne : Type 0
+ReloadsAtOne =
+    (c : CounterState) → Runs c → c.mode ≡ SquareWave → c.gate ≡ High → c.count ≡ 1 → after_tick c ≡ after_load c High
+
 -- mode 2: after a load the count goes round its periods
 abbrev pub CountsPeriods : Type 0
 CountsPeriods =

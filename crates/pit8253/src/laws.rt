@@ -1,6 +1,6 @@
 //! What the definition of a counter means over time, in the data sheet's terms. Each law is a function that
 //! does nothing: its contract speaks of the definition alone.
-ghost use Rattle.pit8253.specs.Laws.{TicksAdd, CountsDown, CountsToStrobe, CountsPeriod, CountsHalf, CountsPeriods, CountsHalves, CountsOut, ShootsOnce, Divides, MakesSquares, StaysHigh, StrobesOnce, StrobesOnTrigger, LatchHolds, LatchHoldsBoth, LatchIsHeld, ReadsBoth, CountsInDecimal, GateSetsHigh, RiseReloads, GateStops, GateStopsStrobe, FirstByteStops, NewCountWaits, WaitsForLoad, CountsOutAsTold, ShootsAsTriggered, DividesAsTold, MakesSquaresAsTold, StrobesAsTold, StrobesAsTriggered, CountersTickAlike};
+ghost use Rattle.pit8253.specs.Laws.{TicksAdd, CountsDown, CountsToStrobe, CountsPeriod, CountsHalf, ReloadsAtOne, CountsPeriods, CountsHalves, CountsOut, ShootsOnce, Divides, MakesSquares, StaysHigh, StrobesOnce, StrobesOnTrigger, LatchHolds, LatchHoldsBoth, LatchIsHeld, ReadsBoth, CountsInDecimal, GateSetsHigh, RiseReloads, GateStops, GateStopsStrobe, FirstByteStops, NewCountWaits, WaitsForLoad, CountsOutAsTold, ShootsAsTriggered, DividesAsTold, MakesSquaresAsTold, StrobesAsTold, StrobesAsTriggered, CountersTickAlike};
 
 /// Ticks, and then more ticks, are as many ticks together.
 #[tactic(auto, using(crate::proofs::Waves::ticks_add))]
@@ -10,12 +10,13 @@ pub fn ticks_add()
 
 /// A counter that counts, n ticks on: the count and OUT from any count, up to the next load in modes 2 and 3, and
 /// there what the load makes of it.
-#[tactic(auto, using(crate::proofs::Waves::counts_down, crate::proofs::Waves::counts_to_strobe, crate::proofs::Waves::counts_period, crate::proofs::Waves::counts_half))]
+#[tactic(auto, using(crate::proofs::Waves::counts_down, crate::proofs::Waves::counts_to_strobe, crate::proofs::Waves::counts_period, crate::proofs::Waves::counts_half, crate::proofs::Waves::reloads_at_one))]
 pub fn counts()
     ensures modes_0_and_1 { CountsDown }
     ensures modes_4_and_5 { CountsToStrobe }
     ensures mode_2 { CountsPeriod }
     ensures mode_3 { CountsHalf }
+    ensures mode_3_at_1 { ReloadsAtOne }
 {}
 
 /// Modes 2 and 3 after a load, n ticks on: the count goes round its periods, in mode 3 by halves.
