@@ -1,7 +1,6 @@
--- Steps that bring a number down by one until it runs out, and steps that come round again.
-use Rattle.std.proofs.Common.{◌≡◌, ℕ, zero, suc, ◌+◌, ◌-◌, ◌*◌, ◌/◌, ◌%◌, ◌<◌, Bool, true, false, if◌then◌else◌, refl, sym, ap, ◌∙◌, subst, arith, inl, inr}
+-- Steps whose states have a closed form, and steps that come round again.
+use Rattle.std.proofs.Common.{◌≡◌, ℕ, zero, suc, ◌+◌, ◌*◌, ◌/◌, ◌%◌, ◌<◌, ◌≤◌, Bool, true, false, if◌then◌else◌, refl, sym, ap, ◌∙◌, subst, arith}
 use Rattle.std.proofs.Math.Nat.{mod-add-div}
-use Rattle.std.proofs.lemmas.Bool.{cases_lt}
 use Rattle.board_types.specs.Iterate.{iterate}
 use Rattle.board_types.proofs.Iterate.{iterate_zero, iterate_more, iterate_add}
 
@@ -13,34 +12,14 @@ pub if_no : {A : Type 0} (b : Bool) (x y : A) → b ≡ false → (if b then x e
 if_no true x y fails = cc
 if_no false x y fails = refl
 
--- what a step does on the way from `size` down to 1: the first step leaves `size - 1`, each further one takes 1
-pub record Falls {S : Type 0} (step : S → S) (left : ℕ → S) (size : ℕ) (start : S) : Type 0 where
-  pub first : 1 < size → step start ≡ left (size - 1)
-  pub next : (r : ℕ) → 1 < r → step (left r) ≡ left (r - 1)
-
-pub falling : {S : Type 0} (step : S → S) (left : ℕ → S) (size : ℕ) (start : S) → Falls step left size start → (n : ℕ) → n + 1 < size → iterate step (n + 1) start ≡ left (size - (n + 1))
-falling step left size start falls zero within =
-    iterate_more step 0 start ∙ ap step (iterate_zero step start) ∙ falls.first within
-falling step left size start falls (suc n) within =
-    let same : suc n ≡ n + 1 = omega arith in
-    let before : iterate step (suc n) start ≡ left (size - (n + 1)) =
-    ap (λ k. iterate step k start) same ∙ falling step left size start falls n (omega arith) in
-    let one_less : size - (n + 1) - 1 ≡ size - (suc n + 1) = omega arith in
-    iterate_more step (suc n) start ∙ ap step before ∙ falls.next (size - (n + 1)) (omega arith) ∙ ap left one_less
-
--- the step after the last one
-pub ending : {S : Type 0} (step : S → S) (left : ℕ → S) (size : ℕ) (start end : S) → Falls step left size start → 0 < size → (size ≡ 1 → step start ≡ end) → step (left 1) ≡ end → iterate step size start ≡ end
-ending step left size start end falls some at_once last = elim (cases_lt 1 size) [
-  | inl more ↦
-      let before : iterate step (size - 2 + 1) start ≡ left (size - (size - 2 + 1)) = falling step left size start falls (size - 2) (omega arith) in
-      let one : size - (size - 2 + 1) ≡ 1 = omega arith in
-      let whole : size ≡ size - 2 + 1 + 1 = omega arith in
-      ap (λ k. iterate step k start) whole ∙ iterate_more step (size - 2 + 1) start ∙ ap step before ∙ ap (λ k. step (left k)) one ∙ last
-  | inr none ↦
-      let only : size ≡ 1 = omega arith in
-      let whole : size ≡ 0 + 1 = omega arith in
-      ap (λ k. iterate step k start) whole ∙ iterate_more step 0 start ∙ ap step (iterate_zero step start) ∙ at_once only
-]
+-- a closed form that each of so many steps keeps
+pub by_steps : {S : Type 0} (step : S → S) (form : ℕ → S) (s : S) (steps : ℕ) → form 0 ≡ s → ((k : ℕ) → k < steps → step (form k) ≡ form (k + 1)) → (n : ℕ) → n ≤ steps → iterate step n s ≡ form n
+by_steps step form s steps start keeps zero within = iterate_zero step s ∙ sym start
+by_steps step form s steps start keeps (suc n) within =
+    let more : suc n ≡ n + 1 = omega arith in
+    ap (λ k. iterate step k s) more ∙ iterate_more step n s
+    ∙ ap step (by_steps step form s steps start keeps n (omega arith))
+    ∙ keeps n (omega arith) ∙ ap form (sym more)
 
 -- a fact that each step keeps
 pub keeping : {S : Type 0} (step : S → S) (P : S → Type 0) → ((s : S) → P s → P (step s)) → (n : ℕ) (s : S) → P s → P (iterate step n s)

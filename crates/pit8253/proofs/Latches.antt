@@ -10,7 +10,7 @@ use Rattle.pit8253.specs.declared.program.Access.TheVariants.{LowThenHigh}
 use Rattle.board_types.specs.Lines.{is_high, opposite}
 use Rattle.pit8253.specs.Program.{digits_of, count_minus}
 use Rattle.pit8253.specs.Counter.{CounterState, after_load, out_at_load, is_loaded, after_count, after_countdown, after_rate_count, half_step, after_square_count, after_strobe_count, after_rest, after_tick, after_ticks, reading, after_latch, reads_high, next_byte, after_read_by, after_read}
-use Rattle.pit8253.specs.Laws.{LatchHolds, LatchHoldsBoth, LatchIsHeld, CountsInDecimal}
+use Rattle.pit8253.specs.Laws.{LatchHolds, LatchHoldsBoth, LatchIsHeld, ReadsBoth, CountsInDecimal}
 use Rattle.pit8253.proofs.Falls.{keeping}
 
 -- what ticks leave alone
@@ -143,6 +143,17 @@ latch_holds_both c access low free k m =
       held_byte c k ∙ ap (λ a. byte_of a c.high_next (reading c)) access ∙ ap (λ h. byte_of LowThenHigh h (reading c)) low ∙ ap (λ w. w % 256) word,
       read_is two ∙ ap (λ a. byte_of a two.high_next (reading two)) two_access ∙ ap (λ h. byte_of LowThenHigh h (reading two)) two_high ∙ ap (λ w. w / 256) two_shown,
       ap (λ s. s.latch) (second_read two two_access two_high),
+    )
+
+-- two reads of a running count
+pub reads_both : ReadsBoth
+unfolding byte_of
+reads_both c access low free =
+    let word : reading c ≡ digits_of c.count_base c.count = ap (λ o. unwrap_or o (digits_of c.count_base c.count)) free in
+    let first : after_read c ≡ record c { high_next = true } = first_read c access low in (
+      read_is c ∙ ap (λ a. byte_of a c.high_next (reading c)) access ∙ ap (λ h. byte_of LowThenHigh h (reading c)) low ∙ ap (λ w. w % 256) word,
+      ap next_byte first ∙ read_is (record c { high_next = true }) ∙ ap (λ a. byte_of a true (reading c)) access ∙ ap (λ w. w / 256) word,
+      ap after_read first ∙ second_read (record c { high_next = true }) access refl ∙ ap (λ o. record c { latch = o; high_next = false }) (sym free) ∙ ap (λ h. record c { high_next = h }) (sym low),
     )
 
 pub counts_in_decimal : CountsInDecimal

@@ -1,3 +1,4 @@
+pub mod Counts
 pub mod Falls
 pub mod Latches
 pub mod PitTicks

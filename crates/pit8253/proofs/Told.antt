@@ -6,7 +6,7 @@ use Rattle.board_types.specs.declared.line.Line.TheVariants.{Low, High}
 use Rattle.pit8253.specs.declared.program.Base.TheVariants.{Binary}
 use Rattle.pit8253.specs.Counter.{CounterState, after_load, after_tick, after_ticks, after_control_word, after_write, after_gate}
 use Rattle.pit8253.specs.Laws.{after_setup, after_trigger, ticks_of, CountsOutAsTold, ShootsAsTriggered, DividesAsTold, MakesSquaresAsTold, StrobesAsTold, StrobesAsTriggered}
-use Rattle.pit8253.proofs.Ticking.{length_some}
+use Rattle.pit8253.proofs.Counts.{length_some}
 use Rattle.pit8253.proofs.Waves.{mode_0, mode_1, mode_2, mode_3, mode_4, mode_5}
 
 one_tick : (c : CounterState) → after_ticks c 1 ≡ after_tick c

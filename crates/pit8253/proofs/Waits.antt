@@ -1,5 +1,5 @@
 -- Ticks that count nothing.
-use Rattle.std.proofs.Common.{◌≡◌, ℕ, Bool, true, false, if◌then◌else◌, ◌&&◌, inl, inr, ◌≢◌, refl, sym, ap, ◌∙◌, subst}
+use Rattle.std.proofs.Common.{◌≡◌, ℕ, Bool, true, false, if◌then◌else◌, not, ◌&&◌, inl, inr, ◌≢◌, refl, sym, ap, ◌∙◌, subst}
 use Rattle.std.specs.Prelude.{◌==◌, ◌||◌, is_none}
 use Rattle.board_types.proofs.Iterate.{iterate_fixed}
 use Rattle.board_types.specs.declared.line.Line.{Line}
@@ -9,10 +9,10 @@ use Rattle.pit8253.specs.declared.program.Mode.TheVariants.{TerminalCount, OneSh
 use Rattle.pit8253.specs.declared.program.Progress.TheVariants.{Loaded}
 use Rattle.board_types.specs.Lines.{is_high, opposite}
 use Rattle.pit8253.specs.Program.{count_minus}
-use Rattle.pit8253.specs.Counter.{CounterState, after_load, out_at_load, is_loaded, after_count, after_countdown, after_rate_count, half_step, after_square_count, after_strobe_count, after_rest, after_tick, reading, after_full_count}
-use Rattle.pit8253.specs.Laws.{GateStops, GateStopsStrobe, FirstByteStops, ends_half, NewCountWaits, WaitsForLoad}
+use Rattle.pit8253.specs.Counter.{CounterState, after_load, out_at_load, is_loaded, after_count, after_countdown, after_rate_count, half_step, after_square_count, after_strobe_count, after_rest, after_tick, reading, after_full_count, is_awaited, rises, is_triggered, out_at_gate, after_gate}
+use Rattle.pit8253.specs.Laws.{GateStops, GateSetsHigh, RiseReloads, GateStopsStrobe, FirstByteStops, ends_half, NewCountWaits, WaitsForLoad}
 use Rattle.pit8253.proofs.Falls.{keeping, if_no}
-use Rattle.pit8253.proofs.Ticking.{differs}
+use Rattle.pit8253.proofs.Counts.{differs}
 
 no_load : (c : CounterState) → c.load_due ≡ false → after_tick c ≡ after_count c c.mode
 unfolding after_tick
@@ -152,3 +152,39 @@ pub waits_for_load : WaitsForLoad
 waits_for_load c none unloaded n =
     let waits : Waits c c = record { none = none; unloaded = unloaded; same = refl } in
     (keeping after_tick (λ d. Waits c d) (still_waits c) n c waits).same
+
+-- the gate of modes 2 and 3
+
+no_rise : (gate : Line) (due t u : Bool) → (due || (rises gate Low && t && u)) ≡ due
+no_rise Low true t u = refl
+no_rise Low false t u = refl
+no_rise High true t u = refl
+no_rise High false t u = refl
+
+pub gate_sets_high : GateSetsHigh
+unfolding after_gate
+gate_sets_high c (inl rate) =
+    ap (λ b. record c { gate = Low; load_due = b; out = out_at_gate c.mode Low c.out }) (no_rise c.gate c.load_due (is_triggered c.mode) (not (is_awaited c.progress)))
+    ∙ ap (λ m. record c { gate = Low; out = out_at_gate m Low c.out }) rate
+gate_sets_high c (inr square) =
+    ap (λ b. record c { gate = Low; load_due = b; out = out_at_gate c.mode Low c.out }) (no_rise c.gate c.load_due (is_triggered c.mode) (not (is_awaited c.progress)))
+    ∙ ap (λ m. record c { gate = Low; out = out_at_gate m Low c.out }) square
+
+or_true : (b : Bool) → (b || true) ≡ true
+or_true true = refl
+or_true false = refl
+
+reloads : (c : CounterState) → is_triggered c.mode ≡ true → ((out : Line) → out_at_load c.mode out ≡ High) → c.gate ≡ Low → is_awaited c.progress ≡ false → after_tick (after_gate c High) ≡ after_load (record c { gate = High }) High
+unfolding after_gate after_tick
+reloads c triggers high low full =
+    let d : CounterState = after_gate c High in
+    let due : (c.load_due || (rises c.gate High && is_triggered c.mode && not (is_awaited c.progress))) ≡ true =
+    ap (λ g. c.load_due || (rises g High && is_triggered c.mode && not (is_awaited c.progress))) low
+    ∙ ap (λ t. c.load_due || (t && not (is_awaited c.progress))) triggers
+    ∙ ap (λ a. c.load_due || not a) full ∙ or_true c.load_due in
+    ap (λ b. if b then after_load d (out_at_load d.mode d.out) else after_count d d.mode) due
+    ∙ ap (λ o. after_load d o) (high d.out)
+
+pub rise_reloads : RiseReloads
+rise_reloads c (inl rate) low full = reloads c (ap is_triggered rate) (λ out. ap (λ m. out_at_load m out) rate) low full
+rise_reloads c (inr square) low full = reloads c (ap is_triggered square) (λ out. ap (λ m. out_at_load m out) square) low full

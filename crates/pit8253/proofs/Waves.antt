@@ -1,165 +1,274 @@
--- The level of OUT, any number of ticks after a load.
-use Rattle.std.proofs.Common.{◌≡◌, ◌≢◌, ℕ, zero, suc, ◌+◌, ◌-◌, ◌*◌, ◌/◌, ◌%◌, ◌<◌, Bool, true, false, if◌then◌else◌, refl, sym, ap, ◌∙◌, arith, inl, inr, nat_lt}
+-- A counter any number of ticks on: its state in closed form, and the level of OUT after a load.
+use Rattle.std.proofs.Common.{◌≡◌, ◌≢◌, ℕ, zero, suc, ◌+◌, ◌-◌, ◌*◌, ◌/◌, ◌%◌, ◌<◌, ◌≤◌, Bool, true, false, if◌then◌else◌, not, ◌&&◌, refl, sym, ap, ◌∙◌, subst, arith, inl, inr, nat_lt}
 use Rattle.std.specs.Prelude.{◌==◌}
 use Rattle.std.proofs.lemmas.Bool.{cases_lt}
 use Rattle.std.proofs.lemmas.Nat.{mod_below}
-use Rattle.std.proofs.lemmas.Bool.Decides.{nat_tests}
-use Rattle.board_types.specs.Iterate.{iterate}
-use Rattle.board_types.proofs.Iterate.{iterate_zero, iterate_more, iterate_add, iterate_fixed}
+use Rattle.board_types.proofs.Iterate.{iterate_more, iterate_add, iterate_fixed}
+use Rattle.board_types.specs.Lines.{is_high}
 use Rattle.board_types.specs.declared.line.Line.{Line}
 use Rattle.board_types.specs.declared.line.Line.TheVariants.{Low, High}
 use Rattle.pit8253.specs.declared.program.Mode.TheVariants.{RateGenerator, SquareWave}
 use Rattle.pit8253.specs.declared.program.Base.{Base}
-use Rattle.board_types.specs.Lines.{is_high, opposite}
 use Rattle.pit8253.specs.Program.{modulus, count_minus}
 use Rattle.pit8253.specs.Counter.{CounterState, after_load, after_count, after_countdown, after_rate_count, half_step, after_square_count, after_strobe_count, after_tick, after_ticks}
-use Rattle.pit8253.specs.Laws.{size, TicksAdd, CountsOut, ShootsOnce, Divides, MakesSquares, StaysHigh, StrobesOnce, StrobesOnTrigger}
-use Rattle.pit8253.proofs.Falls.{Falls, falling, ending, keeping, round_again, if_yes, if_no}
-use Rattle.pit8253.proofs.Ticking.{differs, same, below, not_below, modulus_even, modulus_large, lowered_within, lowered_around, length_some, length_none, Lengths, lengths, running, tick_terminal_count, tick_one_shot, tick_rate, tick_square, tick_software_strobe, tick_hardware_strobe, out_falls, out_ends, out_over, rate_falls, rate_reloads, square_falls, square_turns, square_reloads, strobe_falls, strobe_ends, strobe_over}
+use Rattle.pit8253.specs.Laws.{length_of, size, ticks_left, Runs, count_after, after_fall, after_strobe_fall, after_rate_fall, half_left, after_half_fall, TicksAdd, CountsDown, CountsToStrobe, CountsPeriod, CountsHalf, ReloadsAtOne, CountsPeriods, CountsHalves, CountsOut, ShootsOnce, Divides, MakesSquares, StaysHigh, StrobesOnce, StrobesOnTrigger}
+use Rattle.pit8253.proofs.Falls.{by_steps, round_again, if_yes, if_no}
+use Rattle.pit8253.proofs.Counts.{differs, same, below, not_below, modulus_even, modulus_large, minus_within, minus_around, after_none, after_more, after_within, after_end, Lengths, lengths}
+use Rattle.pit8253.proofs.Ticking.{with_count, tick_terminal_count, tick_one_shot, tick_rate, tick_square, tick_software_strobe, tick_hardware_strobe, countdown, rate_falls, rate_reloads, square_falls, square_turns, strobe_count}
 
 pub ticks_add : TicksAdd
 ticks_add k m c = sym (iterate_add after_tick k m c)
 
--- the count that is left after a fall by 1, where more than 1 was left
-one_less : (base : Base) (r : ℕ) → 1 < r → count_minus base r 1 ≡ r - 1
-one_less base r more = lowered_within base 1 r (omega arith)
+-- a counter whose count and OUT are what they were is what it was
+unmoved : (c : CounterState) (count : ℕ) (due : Bool) (out : Line) → count ≡ c.count → due ≡ c.strobe_due → out ≡ c.out → with_count c count due out ≡ c
+unmoved c count due out same_count same_due same_out =
+    ap (λ k. with_count c k due out) same_count ∙ ap (λ b. with_count c c.count b out) same_due ∙ ap (λ o. with_count c c.count c.strobe_due o) same_out
+
+either : {A : Type 0} (b : Bool) (x y : A) → x ≡ y → (if b then x else y) ≡ y
+either true x y is = is
+either false x y is = refl
+
+loaded_runs : (c : CounterState) (out : Line) → c.newest < modulus c.base → Runs (after_load c out)
+loaded_runs c out within = record { loaded = refl; none_due = refl; within = within }
 
 -- modes 0 and 1
 
-counts_out : (c : CounterState) → ((n : ℕ) (due : Bool) (out : Line) → after_tick (running c n due out) ≡ after_countdown (running c n due out)) → c.newest < modulus c.base → (n : ℕ) → (after_ticks (after_load c Low) n).out ≡ (if nat_lt n (size c) then Low else High)
-counts_out c ticks within n =
-    let long : Lengths c.base c.newest = lengths c.base c.newest within in
-    let falls : Falls after_tick (λ r. running c r true Low) (size c) (after_load c Low) = record {
-      first = λ more. ticks c.newest true Low ∙ out_falls c c.newest (size c - 1) true Low long.first (omega arith);
-      next = λ r more. ticks r true Low ∙ out_falls c r (r - 1) true Low (one_less c.base r more) (omega arith);
-    } in
-    let end : iterate after_tick (size c) (after_load c Low) ≡ running c 0 true High =
-    ending after_tick (λ r. running c r true Low) (size c) (after_load c Low) (running c 0 true High) falls long.some
-    (λ only. ticks c.newest true Low ∙ out_ends c c.newest true Low (long.first ∙ ap (λ k. k - 1) only))
-    (ticks 1 true Low ∙ out_ends c 1 true Low (lowered_within c.base 1 1 (omega arith))) in
-    elim (cases_lt n (size c)) [
-      | inl before ↦ start_low c ticks n falls before ∙ sym (if_yes (nat_lt n (size c)) Low High (below n (size c) before))
+-- OUT after one more tick
+fall_out : (base : Base) (count n : ℕ) (out : Line) → count < modulus base → (if count_after base count (n + 1) == 0 then High else (if nat_lt n (length_of base count) then out else High)) ≡ (if nat_lt (n + 1) (length_of base count) then out else High)
+fall_out base count n out within =
+    let next : ℕ = count_after base count (n + 1) in
+    let long : ℕ = length_of base count in
+    elim (cases_lt (n + 1) long) [
+      | inl before ↦
+          let is = after_within base count (n + 1) within (omega arith) before in
+          if_no (next == 0) High (if nat_lt n long then out else High) (differs next 0 (omega arith))
+          ∙ if_yes (nat_lt n long) out High (below n long (omega arith))
+          ∙ sym (if_yes (nat_lt (n + 1) long) out High (below (n + 1) long before))
       | inr after ↦
-          let parts : n ≡ size c + (n - size c) = omega arith in
-          let stays = keeping after_tick (λ s. (k : ℕ) × (s ≡ running c k true High))
-          (λ s h. (count_minus c.base h.0 1, ap after_tick h.1 ∙ ticks h.0 true High ∙ out_over c h.0 true))
-          (n - size c) (iterate after_tick (size c) (after_load c Low)) (0, end) in
-          ap (λ k. (iterate after_tick k (after_load c Low)).out) parts
-          ∙ ap (λ s. s.out) (iterate_add after_tick (size c) (n - size c) (after_load c Low))
-          ∙ ap (λ s. s.out) stays.1
-          ∙ sym (if_no (nat_lt n (size c)) Low High (not_below n (size c) (omega arith)))
+          elim (cases_lt n long) [
+            | inl last ↦
+                let at : n + 1 ≡ long = omega arith in
+                let end : next ≡ 0 = ap (λ k. count_after base count k) at ∙ after_end base count within in
+                if_yes (next == 0) High (if nat_lt n long then out else High) (same next 0 end)
+            | inr over ↦
+                ap (λ o. if next == 0 then High else o) (if_no (nat_lt n long) out High (not_below n long over))
+                ∙ either (next == 0) High High refl
+          ]
+          ∙ sym (if_no (nat_lt (n + 1) long) out High (not_below (n + 1) long after))
     ]
-  where
-    start_low : (c : CounterState) → ((n : ℕ) (due : Bool) (out : Line) → after_tick (running c n due out) ≡ after_countdown (running c n due out)) → (n : ℕ) → Falls after_tick (λ r. running c r true Low) (size c) (after_load c Low) → n < size c → (after_ticks (after_load c Low) n).out ≡ Low
-    start_low c ticks zero falls before = ap (λ s. s.out) (iterate_zero after_tick (after_load c Low))
-    start_low c ticks (suc n) falls before =
-        let more : suc n ≡ n + 1 = omega arith in
-        ap (λ k. (iterate after_tick k (after_load c Low)).out) more
-        ∙ ap (λ s. s.out) (falling after_tick (λ r. running c r true Low) (size c) (after_load c Low) falls n (omega arith))
+
+falls : (c : CounterState) → Runs c → ((n : ℕ) (due : Bool) (out : Line) → after_tick (with_count c n due out) ≡ after_countdown (with_count c n due out)) → (n : ℕ) → after_ticks c n ≡ after_fall c n
+falls c runs rule n =
+    let start : after_fall c 0 ≡ c =
+    unmoved c (count_after c.count_base c.count 0) c.strobe_due (if nat_lt 0 (ticks_left c) then c.out else High)
+    (after_none c.count_base c.count runs.within) refl
+    (if_yes (nat_lt 0 (ticks_left c)) c.out High (below 0 (ticks_left c) (lengths c.count_base c.count runs.within).some)) in
+    by_steps after_tick (after_fall c) c n start
+    (λ k _. rule (count_after c.count_base c.count k) c.strobe_due (if nat_lt k (ticks_left c) then c.out else High)
+    ∙ countdown c (count_after c.count_base c.count k) (count_after c.count_base c.count (k + 1)) c.strobe_due (if nat_lt k (ticks_left c) then c.out else High) (after_more c.count_base c.count k runs.within)
+    ∙ ap (λ o. with_count c (count_after c.count_base c.count (k + 1)) c.strobe_due o) (fall_out c.count_base c.count k c.out runs.within))
+    n (omega arith)
+
+pub counts_down : CountsDown
+counts_down c runs (inl terminal) n = falls c runs (tick_terminal_count c runs terminal.0 terminal.1 terminal.2) n
+counts_down c runs (inr one_shot) n = falls c runs (tick_one_shot c runs one_shot) n
 
 pub mode_0 : CountsOut
-mode_0 c mode gate first within n = counts_out c (tick_terminal_count c mode gate first) within n
+mode_0 c mode gate first within n =
+    ap (λ s. s.out) (counts_down (after_load c Low) (loaded_runs c Low within) (inl (mode, gate, first)) n)
 
 pub mode_1 : ShootsOnce
-mode_1 c mode within n = counts_out c (tick_one_shot c mode) within n
+mode_1 c mode within n = ap (λ s. s.out) (counts_down (after_load c Low) (loaded_runs c Low within) (inr mode) n)
 
 -- modes 4 and 5
 
-start_high : (c : CounterState) (n : ℕ) → Falls after_tick (λ r. running c r true High) (size c) (after_load c High) → n < size c → (after_ticks (after_load c High) n).out ≡ High
-start_high c zero falls before = ap (λ s. s.out) (iterate_zero after_tick (after_load c High))
-start_high c (suc n) falls before =
-    let more : suc n ≡ n + 1 = omega arith in
-    ap (λ k. (iterate after_tick k (after_load c High)).out) more
-    ∙ ap (λ s. s.out) (falling after_tick (λ r. running c r true High) (size c) (after_load c High) falls n (omega arith))
+-- the strobe and OUT after one more tick, by whether the count is then 0, whether the end lay ahead, whether it still
+-- does, and whether this is it
+record Strobes (due zero ahead still end : Bool) : Type 0 where
+  due_then : ((due && ahead) && not (zero && (due && ahead))) ≡ (due && still)
+  out_then : (if zero && (due && ahead) then Low else High) ≡ (if end && due then Low else High)
 
-strobes : (c : CounterState) → ((n : ℕ) (due : Bool) (out : Line) → after_tick (running c n due out) ≡ after_strobe_count (running c n due out)) → c.newest < modulus c.base → (n : ℕ) → (after_ticks (after_load c High) n).out ≡ (if n == size c then Low else High)
-strobes c ticks within n =
-    let long : Lengths c.base c.newest = lengths c.base c.newest within in
-    let falls : Falls after_tick (λ r. running c r true High) (size c) (after_load c High) = record {
-      first = λ more. ticks c.newest true High ∙ strobe_falls c c.newest (size c - 1) High long.first (omega arith);
-      next = λ r more. ticks r true High ∙ strobe_falls c r (r - 1) High (one_less c.base r more) (omega arith);
-    } in
-    let end : iterate after_tick (size c) (after_load c High) ≡ running c 0 false Low =
-    ending after_tick (λ r. running c r true High) (size c) (after_load c High) (running c 0 false Low) falls long.some
-    (λ only. ticks c.newest true High ∙ strobe_ends c c.newest High (long.first ∙ ap (λ k. k - 1) only))
-    (ticks 1 true High ∙ strobe_ends c 1 High (lowered_within c.base 1 1 (omega arith))) in
-    let over : iterate after_tick (size c + 1) (after_load c High) ≡ running c (count_minus c.base 0 1) false High =
-    iterate_more after_tick (size c) (after_load c High) ∙ ap after_tick end ∙ ticks 0 false Low ∙ strobe_over c 0 Low in
-    elim (cases_lt n (size c)) [
-      | inl before ↦ start_high c n falls before ∙ sym (if_no (n == size c) Low High (differs n (size c) (omega arith)))
-      | inr after ↦ elim (cases_lt (size c) n) [
-        | inl later ↦
-            let parts : n ≡ size c + 1 + (n - (size c + 1)) = omega arith in
-            let stays = keeping after_tick (λ s. (k : ℕ) × (s ≡ running c k false High))
-            (λ s h. (count_minus c.base h.0 1, ap after_tick h.1 ∙ ticks h.0 false High ∙ strobe_over c h.0 High))
-            (n - (size c + 1)) (iterate after_tick (size c + 1) (after_load c High)) (count_minus c.base 0 1, over) in
-            ap (λ k. (iterate after_tick k (after_load c High)).out) parts
-            ∙ ap (λ s. s.out) (iterate_add after_tick (size c + 1) (n - (size c + 1)) (after_load c High))
-            ∙ ap (λ s. s.out) stays.1
-            ∙ sym (if_no (n == size c) Low High (differs n (size c) (omega arith)))
-        | inr at ↦
-            let is : n ≡ size c = omega arith in
-            ap (λ k. (iterate after_tick k (after_load c High)).out) is ∙ ap (λ s. s.out) end
-            ∙ sym (if_yes (n == size c) Low High (same n (size c) is))
+strobe_ahead : (due : Bool) → Strobes due false true true false
+strobe_ahead true = record { due_then = refl; out_then = refl }
+strobe_ahead false = record { due_then = refl; out_then = refl }
+
+strobe_end : (due : Bool) → Strobes due true true false true
+strobe_end true = record { due_then = refl; out_then = refl }
+strobe_end false = record { due_then = refl; out_then = refl }
+
+strobe_over : (due zero : Bool) → Strobes due zero false false false
+strobe_over true true = record { due_then = refl; out_then = refl }
+strobe_over true false = record { due_then = refl; out_then = refl }
+strobe_over false true = record { due_then = refl; out_then = refl }
+strobe_over false false = record { due_then = refl; out_then = refl }
+
+strobe_step : (base : Base) (count n : ℕ) (due : Bool) → count < modulus base → Strobes due (count_after base count (n + 1) == 0) (nat_lt n (length_of base count)) (nat_lt (n + 1) (length_of base count)) (n + 1 == length_of base count)
+strobe_step base count n due within =
+    let next : ℕ = count_after base count (n + 1) in
+    let long : ℕ = length_of base count in
+    elim (cases_lt (n + 1) long) [
+      | inl before ↦
+          let is = after_within base count (n + 1) within (omega arith) before in
+          strobe_case due (next == 0) (nat_lt n long) (nat_lt (n + 1) long) (n + 1 == long) false true true false
+          (differs next 0 (omega arith)) (below n long (omega arith)) (below (n + 1) long before) (differs (n + 1) long (omega arith)) (strobe_ahead due)
+      | inr after ↦ elim (cases_lt n long) [
+        | inl last ↦
+            let at : n + 1 ≡ long = omega arith in
+            let end : next ≡ 0 = ap (λ k. count_after base count k) at ∙ after_end base count within in
+            strobe_case due (next == 0) (nat_lt n long) (nat_lt (n + 1) long) (n + 1 == long) true true false true
+            (same next 0 end) (below n long last) (not_below (n + 1) long after) (same (n + 1) long at) (strobe_end due)
+        | inr over ↦
+            strobe_case due (next == 0) (nat_lt n long) (nat_lt (n + 1) long) (n + 1 == long) (next == 0) false false false
+            refl (not_below n long over) (not_below (n + 1) long after) (differs (n + 1) long (omega arith)) (strobe_over due (next == 0))
       ]
     ]
+  where
+    strobe_case : (due z a s e z1 a1 s1 e1 : Bool) → z ≡ z1 → a ≡ a1 → s ≡ s1 → e ≡ e1 → Strobes due z1 a1 s1 e1 → Strobes due z a s e
+    strobe_case due z a s e z1 a1 s1 e1 zs as_ ss es given = rw (zs, as_, ss, es) given
+
+falls_to_strobe : (c : CounterState) → Runs c → ((n : ℕ) (due : Bool) (out : Line) → after_tick (with_count c n due out) ≡ after_strobe_count (with_count c n due out)) → (n : ℕ) → after_ticks c n ≡ after_strobe_fall c n
+falls_to_strobe c runs rule n =
+    let long : Lengths c.count_base c.count = lengths c.count_base c.count runs.within in
+    let start : after_strobe_fall c 0 ≡ c =
+    unmoved c (count_after c.count_base c.count 0) (c.strobe_due && nat_lt 0 (ticks_left c)) c.out
+    (after_none c.count_base c.count runs.within)
+    (ap (λ b. c.strobe_due && b) (below 0 (ticks_left c) long.some) ∙ and_true c.strobe_due) refl in
+    by_steps after_tick (after_strobe_fall c) c n start
+    (λ k _.
+    let step : Strobes c.strobe_due (count_after c.count_base c.count (k + 1) == 0) (nat_lt k (ticks_left c)) (nat_lt (k + 1) (ticks_left c)) (k + 1 == ticks_left c) =
+    strobe_step c.count_base c.count k c.strobe_due runs.within in
+    let due : Bool = c.strobe_due && nat_lt k (ticks_left c) in
+    let level : Line = (if k == 0 then c.out else (if (k == ticks_left c) && c.strobe_due then Low else High)) in
+    let now : ℕ = count_after c.count_base c.count k in
+    let next : ℕ = count_after c.count_base c.count (k + 1) in
+    let out_next : Line = (if (k + 1 == ticks_left c) && c.strobe_due then Low else High) in
+    rule now due level
+    ∙ strobe_count c now next due level (after_more c.count_base c.count k runs.within)
+    ∙ ap (λ b. with_count c next b (if (next == 0) && due then Low else High)) step.due_then
+    ∙ ap (λ o. with_count c next (c.strobe_due && nat_lt (k + 1) (ticks_left c)) o)
+    (step.out_then ∙ sym (if_no (k + 1 == 0) c.out out_next (differs (k + 1) 0 (omega arith)))))
+    n (omega arith)
+  where
+    and_true : (b : Bool) → (b && true) ≡ b
+    and_true true = refl
+    and_true false = refl
+
+pub counts_to_strobe : CountsToStrobe
+counts_to_strobe c runs (inl software) n = falls_to_strobe c runs (tick_software_strobe c runs software.0 software.1) n
+counts_to_strobe c runs (inr hardware) n = falls_to_strobe c runs (tick_hardware_strobe c runs hardware) n
+
+-- OUT after a load, where the strobe is due
+strobe_out : (n size : ℕ) → 0 < size → (if n == 0 then High else (if (n == size) && true then Low else High)) ≡ (if n == size then Low else High)
+strobe_out n size some = elim (cases_lt 0 n) [
+  | inl more ↦
+      if_no (n == 0) High (if (n == size) && true then Low else High) (differs n 0 (omega arith)) ∙ due (n == size)
+  | inr none ↦
+      if_yes (n == 0) High (if (n == size) && true then Low else High) (same n 0 (omega arith))
+      ∙ sym (if_no (n == size) Low High (differs n size (omega arith)))
+]
+  where
+    due : (b : Bool) → (if b && true then Low else High) ≡ (if b then Low else High)
+    due true = refl
+    due false = refl
 
 pub mode_4 : StrobesOnce
-mode_4 c mode gate within n = strobes c (tick_software_strobe c mode gate) within n
+mode_4 c mode gate within n =
+    ap (λ s. s.out) (counts_to_strobe (after_load c High) (loaded_runs c High within) (inl (mode, gate)) n)
+    ∙ strobe_out n (size c) (lengths c.base c.newest within).some
 
 pub mode_5 : StrobesOnTrigger
-mode_5 c mode within n = strobes c (tick_hardware_strobe c mode) within n
+mode_5 c mode within n =
+    ap (λ s. s.out) (counts_to_strobe (after_load c High) (loaded_runs c High within) (inr mode) n)
+    ∙ strobe_out n (size c) (lengths c.base c.newest within).some
 
 -- mode 2
 
--- a count that falls, with OUT low at 1
-abbrev rate_left : CounterState → ℕ → CounterState
-rate_left c r = running c r true (if r == 1 then Low else High)
-
-rate_falls_on : (c : CounterState) → ((n : ℕ) (due : Bool) (out : Line) → after_tick (running c n due out) ≡ after_rate_count (running c n due out)) → c.newest < modulus c.base → c.newest ≢ 1 → Falls after_tick (rate_left c) (size c) (after_load c High)
-rate_falls_on c ticks within other =
-    let long : Lengths c.base c.newest = lengths c.base c.newest within in
-    record {
-      first = λ more. ticks c.newest true High ∙ rate_falls c c.newest (size c - 1) true High other long.first;
-      next = λ r more.
-          let high : (if r == 1 then Low else High) ≡ High = if_no (r == 1) Low High (differs r 1 (omega arith)) in
-          ticks r true (if r == 1 then Low else High)
-          ∙ rate_falls c r (r - 1) true (if r == 1 then Low else High) (omega arith) (one_less c.base r more)
-          ∙ ap (λ out. running c (r - 1) true (if r - 1 == 1 then Low else out)) high;
-    }
-
-rate_period : (c : CounterState) → ((n : ℕ) (due : Bool) (out : Line) → after_tick (running c n due out) ≡ after_rate_count (running c n due out)) → c.newest < modulus c.base → c.newest ≢ 1 → iterate after_tick (size c) (after_load c High) ≡ after_load c High
-rate_period c ticks within other =
-    let long : Lengths c.base c.newest = lengths c.base c.newest within in
-    ending after_tick (rate_left c) (size c) (after_load c High) (after_load c High) (rate_falls_on c ticks within other) long.some
-    (λ only. absurd (other (long.one only))) (ticks 1 true Low ∙ rate_reloads c true Low)
-
-rate_within : (c : CounterState) → ((n : ℕ) (due : Bool) (out : Line) → after_tick (running c n due out) ≡ after_rate_count (running c n due out)) → c.newest < modulus c.base → c.newest ≢ 1 → (n : ℕ) → n < size c → (iterate after_tick n (after_load c High)).out ≡ (if n + 1 == size c then Low else High)
-rate_within c ticks within other zero before =
-    let long : Lengths c.base c.newest = lengths c.base c.newest within in
-    let more : size c ≢ 1 = λ only. other (long.one only) in
-    ap (λ s. s.out) (iterate_zero after_tick (after_load c High)) ∙ sym (if_no (0 + 1 == size c) Low High (differs (0 + 1) (size c) (omega arith)))
-rate_within c ticks within other (suc n) before =
-    let more : suc n ≡ n + 1 = omega arith in
-    ap (λ k. (iterate after_tick k (after_load c High)).out) more
-    ∙ ap (λ s. s.out) (falling after_tick (rate_left c) (size c) (after_load c High) (rate_falls_on c ticks within other) n (omega arith))
-    ∙ ap (λ b. if b then Low else High) (one_left n (size c) before)
+rate_step : (c : CounterState) → Runs c → ((n : ℕ) (due : Bool) (out : Line) → after_tick (with_count c n due out) ≡ after_rate_count (with_count c n due out)) → (k : ℕ) → k + 1 < ticks_left c → after_tick (after_rate_fall c k) ≡ after_rate_fall c (k + 1)
+rate_step c runs rule k before =
+    let long : Lengths c.count_base c.count = lengths c.count_base c.count runs.within in
+    let now : ℕ = count_after c.count_base c.count k in
+    let next : ℕ = count_after c.count_base c.count (k + 1) in
+    let out_now : Line = (if k == 0 then c.out else (if k + 1 == ticks_left c then Low else c.out)) in
+    let out_next : Line = (if k + 1 + 1 == ticks_left c then Low else c.out) in
+    let is : next ≡ ticks_left c - (k + 1) = after_within c.count_base c.count (k + 1) runs.within (omega arith) before in
+    let level : out_now ≡ c.out =
+    ap (λ o. if k == 0 then c.out else o) (if_no (k + 1 == ticks_left c) Low c.out (differs (k + 1) (ticks_left c) (omega arith))) ∙ either (k == 0) c.out c.out refl in
+    rule now c.strobe_due out_now
+    ∙ rate_falls c now next c.strobe_due out_now (not_one c runs k before) (after_more c.count_base c.count k runs.within)
+    ∙ ap (λ o. with_count c next c.strobe_due (if next == 1 then Low else o)) level
+    ∙ ap (λ b. with_count c next c.strobe_due (if b then Low else c.out)) (last_but_one next (k + 1) (ticks_left c) is before)
+    ∙ ap (λ o. with_count c next c.strobe_due o) (sym (if_no (k + 1 == 0) c.out out_next (differs (k + 1) 0 (omega arith))))
   where
-    one_left : (n size : ℕ) → suc n < size → (size - (n + 1) == 1) ≡ (suc n + 1 == size)
-    one_left n size before = grind (arith, nat_tests)
+    not_one : (c : CounterState) → Runs c → (k : ℕ) → k + 1 < ticks_left c → count_after c.count_base c.count k ≢ 1
+    not_one c runs zero before =
+        let long : Lengths c.count_base c.count = lengths c.count_base c.count runs.within in
+        let start = after_none c.count_base c.count runs.within in
+        elim long.is [
+          | inl none ↦ omega (arith, none.0)
+          | inr more ↦ omega (arith, more.1)
+        ]
+    not_one c runs (suc k) before =
+        let is = after_within c.count_base c.count (suc k) runs.within (omega arith) (omega arith) in
+        omega arith
+
+    last_but_one : (next n long : ℕ) → next ≡ long - n → n < long → (next == 1) ≡ (n + 1 == long)
+    last_but_one next n long is before = elim (cases_lt (n + 1) long) [
+      | inl more ↦ differs next 1 (omega arith) ∙ sym (differs (n + 1) long (omega arith))
+      | inr last ↦ same next 1 (omega arith) ∙ sym (same (n + 1) long (omega arith))
+    ]
+
+pub counts_period : CountsPeriod
+counts_period c runs mode gate =
+    let rule = tick_rate c runs mode gate in
+    let long : Lengths c.count_base c.count = lengths c.count_base c.count runs.within in
+    let start : after_rate_fall c 0 ≡ c =
+    unmoved c (count_after c.count_base c.count 0) c.strobe_due c.out (after_none c.count_base c.count runs.within) refl refl in
+    let last : ℕ = ticks_left c - 1 in
+    let within : (n : ℕ) → n ≤ last → after_ticks c n ≡ after_rate_fall c n =
+    by_steps after_tick (after_rate_fall c) c last start (λ k before. rate_step c runs rule k (omega arith)) in
+    let whole : ticks_left c ≡ last + 1 = omega (arith, long.some) in (
+      λ n before. within n (omega arith),
+      ap (λ k. after_ticks c k) whole ∙ iterate_more after_tick last c ∙ ap after_tick (within last (omega arith))
+          ∙ rule (count_after c.count_base c.count last) c.strobe_due (if last == 0 then c.out else (if last + 1 == ticks_left c then Low else c.out))
+          ∙ rate_reloads c (count_after c.count_base c.count last) c.strobe_due (if last == 0 then c.out else (if last + 1 == ticks_left c then Low else c.out)) (last_is_one c runs last whole),
+    )
+  where
+    last_is_one : (c : CounterState) → Runs c → (last : ℕ) → ticks_left c ≡ last + 1 → count_after c.count_base c.count last ≡ 1
+    last_is_one c runs zero whole =
+        let long : Lengths c.count_base c.count = lengths c.count_base c.count runs.within in
+        after_none c.count_base c.count runs.within ∙ elim long.is [
+          | inl none ↦ omega (arith, none.1, modulus_large c.count_base)
+          | inr more ↦ omega (arith, more.1)
+        ]
+    last_is_one c runs (suc k) whole = after_within c.count_base c.count (suc k) runs.within (omega arith) (omega arith) ∙ omega arith
+
+pub counts_periods : CountsPeriods
+counts_periods c mode gate within n =
+    let period = counts_period (after_load c High) (loaded_runs c High within) mode gate in
+    round_again after_tick (size c) (after_load c High) period.1 n
+    ∙ period.0 (n % size c) (mod_below n (size c) (lengths c.base c.newest within).some)
 
 pub mode_2 : Divides
 mode_2 c mode gate within other n =
-    let long : Lengths c.base c.newest = lengths c.base c.newest within in
-    ap (λ s. s.out) (round_again after_tick (size c) (after_load c High) (rate_period c (tick_rate c mode gate) within other) n)
-    ∙ rate_within c (tick_rate c mode gate) within other (n % size c) (mod_below n (size c) long.some)
+    ap (λ s. s.out) (counts_periods c mode gate within n) ∙ low_last (n % size c) (size c) (one c within other)
+  where
+    one : (c : CounterState) → c.newest < modulus c.base → c.newest ≢ 1 → size c ≢ 1
+    one c within other =
+        let large = modulus_large c.base in
+        elim (lengths c.base c.newest within).is [
+          | inl none ↦ omega (arith, none.1)
+          | inr more ↦ omega (arith, more.1)
+        ]
+
+    low_last : (r size : ℕ) → size ≢ 1 → (if r == 0 then High else (if r + 1 == size then Low else High)) ≡ (if r + 1 == size then Low else High)
+    low_last r size other = elim (cases_lt 0 r) [
+      | inl more ↦ if_no (r == 0) High (if r + 1 == size then Low else High) (differs r 0 (omega arith))
+      | inr none ↦
+          if_yes (r == 0) High (if r + 1 == size then Low else High) (same r 0 (omega arith))
+          ∙ sym (if_no (r + 1 == size) Low High (differs (r + 1) size (omega arith)))
+    ]
 
 -- mode 3
-
--- a half of so many ticks: the first of them leaves twice the ticks that are then to come
-record Half (c : CounterState) (out : Line) (len : ℕ) : Type 0 where
-  some : 0 < len
-  first : count_minus c.base c.newest (half_step c.newest out) ≡ 2 * (len - 1)
 
 even_step : (n : ℕ) (out : Line) → n % 2 ≡ 0 → half_step n out ≡ 2
 even_step n out even = if_yes (n % 2 == 0) 2 (if is_high out then 1 else 3) (same (n % 2) 0 even)
@@ -167,103 +276,144 @@ even_step n out even = if_yes (n % 2 == 0) 2 (if is_high out then 1 else 3) (sam
 odd_step : (n : ℕ) (out : Line) → n % 2 ≡ 1 → half_step n out ≡ (if is_high out then 1 else 3)
 odd_step n out odd = if_no (n % 2 == 0) 2 (if is_high out then 1 else 3) (differs (n % 2) 0 (omega arith))
 
-falls_by : (c : CounterState) (n by m : ℕ) (out : Line) → half_step n out ≡ by → count_minus c.base n by ≡ m → count_minus c.base n (half_step n out) ≡ m
-falls_by c n by m out step is = ap (λ s. count_minus c.base n s) step ∙ is
+falls_by : (base : Base) (n by m : ℕ) (out : Line) → half_step n out ≡ by → count_minus base n by ≡ m → count_minus base n (half_step n out) ≡ m
+falls_by base n by m out step is = ap (λ s. count_minus base n s) step ∙ is
 
-halves : (c : CounterState) → c.newest < modulus c.base → c.newest ≢ 1 → Half c High ((size c + 1) / 2) × Half c Low (size c / 2)
-halves c within other = elim (cases_lt 0 c.newest) [
-  | inl more ↦
-      let is : size c ≡ c.newest = length_some c.base c.newest more in
-      elim (cases_lt (c.newest % 2) 1) [
+-- a half of so many ticks: the first of them leaves twice the ticks that are then to come
+record Half (base : Base) (count : ℕ) (out : Line) (len : ℕ) : Type 0 where
+  some : 0 < len
+  first : count_minus base count (half_step count out) ≡ 2 * (len - 1)
+
+half : (base : Base) (count : ℕ) (out : Line) → count < modulus base → count ≢ 1 → Half base count out (if is_high out then (length_of base count + 1) / 2 else length_of base count / 2)
+half base count High within other =
+    let len : ℕ = (length_of base count + 1) / 2 in
+    elim (lengths base count within).is [
+      | inl none ↦
+          let even = modulus_even base in
+          let large = modulus_large base in
+          let step = minus_around base count 2 (omega (arith, none.0)) in
+          record { some = omega (arith, none.1); first = falls_by base count 2 (2 * (len - 1)) High (even_step count High (omega (arith, none.0))) (omega (arith, none.0, none.1)) }
+      | inr more ↦ elim (cases_lt (count % 2) 1) [
         | inl even ↦
-            let step = lowered_within c.base 2 c.newest (omega arith) in (
-              record { some = omega arith; first = falls_by c c.newest 2 (2 * ((size c + 1) / 2 - 1)) High (even_step c.newest High (omega arith)) (omega arith) },
-              record { some = omega arith; first = falls_by c c.newest 2 (2 * (size c / 2 - 1)) Low (even_step c.newest Low (omega arith)) (omega arith) },
-            )
+            let step = minus_within base count 2 (omega (arith, more.0)) in
+            record { some = omega (arith, more.0, more.1); first = falls_by base count 2 (2 * (len - 1)) High (even_step count High (omega arith)) (omega (arith, more.0, more.1)) }
         | inr odd ↦
-            let one = lowered_within c.base 1 c.newest (omega arith) in
-            let three = lowered_within c.base 3 c.newest (omega arith) in (
-              record { some = omega arith; first = falls_by c c.newest 1 (2 * ((size c + 1) / 2 - 1)) High (odd_step c.newest High (omega arith)) (omega arith) },
-              record { some = omega arith; first = falls_by c c.newest 3 (2 * (size c / 2 - 1)) Low (odd_step c.newest Low (omega arith)) (omega arith) },
-            )
+            let step = minus_within base count 1 (omega (arith, more.0)) in
+            record { some = omega (arith, more.0, more.1); first = falls_by base count 1 (2 * (len - 1)) High (odd_step count High (omega arith)) (omega (arith, more.0, more.1)) }
       ]
-  | inr none ↦
-      let is : size c ≡ modulus c.base = length_none c.base c.newest (omega arith) in
-      let even = modulus_even c.base in
-      let large = modulus_large c.base in
-      let step = lowered_around c.base 2 c.newest (omega arith) in (
-        record { some = omega arith; first = falls_by c c.newest 2 (2 * ((size c + 1) / 2 - 1)) High (even_step c.newest High (omega arith)) (omega arith) },
-        record { some = omega arith; first = falls_by c c.newest 2 (2 * (size c / 2 - 1)) Low (even_step c.newest Low (omega arith)) (omega arith) },
-      )
-]
+    ]
+half base count Low within other =
+    let len : ℕ = length_of base count / 2 in
+    elim (lengths base count within).is [
+      | inl none ↦
+          let even = modulus_even base in
+          let large = modulus_large base in
+          let step = minus_around base count 2 (omega (arith, none.0)) in
+          record { some = omega (arith, none.1); first = falls_by base count 2 (2 * (len - 1)) Low (even_step count Low (omega (arith, none.0))) (omega (arith, none.0, none.1)) }
+      | inr more ↦ elim (cases_lt (count % 2) 1) [
+        | inl even ↦
+            let step = minus_within base count 2 (omega (arith, more.0)) in
+            record { some = omega (arith, more.0, more.1); first = falls_by base count 2 (2 * (len - 1)) Low (even_step count Low (omega arith)) (omega (arith, more.0, more.1)) }
+        | inr odd ↦
+            let step = minus_within base count 3 (omega (arith, more.0)) in
+            record { some = omega (arith, more.0, more.1); first = falls_by base count 3 (2 * (len - 1)) Low (odd_step count Low (omega arith)) (omega (arith, more.0, more.1)) }
+      ]
+    ]
 
-half_falls : (c : CounterState) → ((n : ℕ) (due : Bool) (out : Line) → after_tick (running c n due out) ≡ after_square_count (running c n due out)) → c.newest ≢ 1 → (out : Line) (len : ℕ) → Half c out len → Falls after_tick (λ r. running c (2 * r) true out) len (running c c.newest true out)
-half_falls c ticks other out len half = record {
-  first = λ more. ticks c.newest true out ∙ square_falls c c.newest (2 * (len - 1)) true out other half.first (omega arith);
-  next = λ r more.
-      let step = lowered_within c.base 2 (2 * r) (omega arith) in
-      ticks (2 * r) true out
-      ∙ square_falls c (2 * r) (2 * (r - 1)) true out (omega arith) (falls_by c (2 * r) 2 (2 * (r - 1)) out (even_step (2 * r) out (omega arith)) (omega arith)) (omega arith);
-}
+-- the count k ticks into a half, and what it falls to
+record HalfStep (base : Base) (n : ℕ) (out : Line) (next : ℕ) : Type 0 where
+  other : n ≢ 1
+  falls_to : count_minus base n (half_step n out) ≡ next
 
-half_ends : (c : CounterState) → ((n : ℕ) (due : Bool) (out : Line) → after_tick (running c n due out) ≡ after_square_count (running c n due out)) → c.newest ≢ 1 → (out : Line) (len : ℕ) → Half c out len → iterate after_tick len (running c c.newest true out) ≡ running c c.newest true (opposite out)
-half_ends c ticks other out len half =
-    ending after_tick (λ r. running c (2 * r) true out) len (running c c.newest true out) (running c c.newest true (opposite out))
-    (half_falls c ticks other out len half) half.some
-    (λ only. ticks c.newest true out ∙ square_turns c c.newest true out other (half.first ∙ ap (λ k. 2 * (k - 1)) only) other)
-    (ticks (2 * 1) true out ∙ square_turns c (2 * 1) true out (omega arith) (falls_by c (2 * 1) 2 0 out (even_step (2 * 1) out refl) (lowered_within c.base 2 (2 * 1) (omega arith))) other)
+half_falls : (base : Base) (count len : ℕ) (out : Line) → count ≢ 1 → Half base count out len → (k : ℕ) → k < len → HalfStep base (if k == 0 then count else 2 * (len - k)) out (2 * (len - (k + 1)))
+half_falls base count len out other start zero before =
+    let one : len - (zero + 1) ≡ len - 1 = omega arith in
+    record { other = other; falls_to = start.first ∙ ap (λ j. 2 * j) (sym one) }
+half_falls base count len out other start (suc k) before =
+    let now : ℕ = 2 * (len - suc k) in
+    let is : (if suc k == 0 then count else now) ≡ now = if_no (suc k == 0) count now (differs (suc k) 0 (omega arith)) in
+    let step = minus_within base now 2 (omega arith) in
+    subst (λ n. HalfStep base n out (2 * (len - (suc k + 1)))) (sym is)
+    (record { other = omega arith; falls_to = falls_by base now 2 (2 * (len - (suc k + 1))) out (even_step now out (omega arith)) (omega arith) })
 
-half_holds : (c : CounterState) → ((n : ℕ) (due : Bool) (out : Line) → after_tick (running c n due out) ≡ after_square_count (running c n due out)) → c.newest ≢ 1 → (out : Line) (len : ℕ) → Half c out len → (n : ℕ) → n < len → (iterate after_tick n (running c c.newest true out)).out ≡ out
-half_holds c ticks other out len half zero within = ap (λ s. s.out) (iterate_zero after_tick (running c c.newest true out))
-half_holds c ticks other out len half (suc n) within =
-    let more : suc n ≡ n + 1 = omega arith in
-    ap (λ k. (iterate after_tick k (running c c.newest true out)).out) more
-    ∙ ap (λ s. s.out) (falling after_tick (λ r. running c (2 * r) true out) len (running c c.newest true out) (half_falls c ticks other out len half) n (omega arith))
+pub counts_half : CountsHalf
+counts_half c runs mode gate other =
+    let rule = tick_square c runs mode gate in
+    let start : Half c.count_base c.count c.out (half_left c) = half c.count_base c.count c.out runs.within other in
+    let last : ℕ = half_left c - 1 in
+    let within : (n : ℕ) → n ≤ last → after_ticks c n ≡ after_half_fall c n =
+    by_steps after_tick (after_half_fall c) c last refl (λ k before.
+    let now : ℕ = (if k == 0 then c.count else 2 * (half_left c - k)) in
+    let next : ℕ = 2 * (half_left c - (k + 1)) in
+    let step : HalfStep c.count_base now c.out next = half_falls c.count_base c.count (half_left c) c.out other start k (omega arith) in
+    rule now c.strobe_due c.out
+    ∙ square_falls c now next c.strobe_due c.out step.other step.falls_to (omega arith)
+    ∙ ap (λ m. with_count c m c.strobe_due c.out) (sym (if_no (k + 1 == 0) c.count next (differs (k + 1) 0 (omega arith))))) in
+    let now : ℕ = (if last == 0 then c.count else 2 * (half_left c - last)) in
+    let end : HalfStep c.count_base now c.out (2 * (half_left c - (last + 1))) =
+    half_falls c.count_base c.count (half_left c) c.out other start last (omega (arith, start.some)) in
+    let whole : half_left c ≡ last + 1 = omega (arith, start.some) in
+    let none : 2 * (half_left c - (last + 1)) ≡ 0 = omega arith in (
+      λ n before. within n (omega arith),
+      ap (λ k. after_ticks c k) whole ∙ iterate_more after_tick last c ∙ ap after_tick (within last (omega arith))
+          ∙ rule now c.strobe_due c.out ∙ square_turns c now c.strobe_due c.out end.other (end.falls_to ∙ none),
+    )
+
+pub reloads_at_one : ReloadsAtOne
+reloads_at_one c runs mode gate one =
+    tick_square c runs mode gate c.count c.strobe_due c.out ∙ ap (λ k. after_square_count (with_count c k c.strobe_due c.out)) one
+
+pub counts_halves : CountsHalves
+counts_halves c mode gate within other n =
+    let first = counts_half (after_load c High) (loaded_runs c High within) mode gate other in
+    let second = counts_half (after_load c Low) (loaded_runs c Low within) mode gate other in
+    let high : ℕ = (size c + 1) / 2 in
+    let turn : after_ticks (after_load c High) high ≡ after_load c Low = first.1 ∙ ap (λ b. after_load c (if b then High else Low)) (differs c.newest 1 other) in
+    let back : after_ticks (after_load c Low) (size c / 2) ≡ after_load c High = second.1 ∙ ap (λ b. after_load c (if b then High else High)) (differs c.newest 1 other) in
+    let whole : size c ≡ high + size c / 2 = omega arith in
+    let period : after_ticks (after_load c High) (size c) ≡ after_load c High =
+    ap (λ k. after_ticks (after_load c High) k) whole ∙ iterate_add after_tick high (size c / 2) (after_load c High)
+    ∙ ap (λ s. after_ticks s (size c / 2)) turn ∙ back in
+    let k : ℕ = n % size c in
+    let left : k < size c = mod_below n (size c) (lengths c.base c.newest within).some in
+    round_again after_tick (size c) (after_load c High) period n
+    ∙ elim (cases_lt k high) [
+      | inl in_first ↦
+          first.0 k in_first
+          ∙ sym (if_yes (nat_lt k high) (after_half_fall (after_load c High) k) (after_half_fall (after_load c Low) (k - high)) (below k high in_first))
+      | inr in_second ↦
+          let parts : k ≡ high + (k - high) = omega arith in
+          ap (λ j. after_ticks (after_load c High) j) parts
+          ∙ iterate_add after_tick high (k - high) (after_load c High)
+          ∙ ap (λ s. after_ticks s (k - high)) turn
+          ∙ second.0 (k - high) (omega arith)
+          ∙ sym (if_no (nat_lt k high) (after_half_fall (after_load c High) k) (after_half_fall (after_load c Low) (k - high)) (not_below k high in_second))
+    ]
 
 pub mode_3 : MakesSquares
 mode_3 c mode gate within other n =
-    let ticks = tick_square c mode gate in
-    let both = halves c within other in
-    let turn : iterate after_tick ((size c + 1) / 2) (after_load c High) ≡ after_load c Low = half_ends c ticks other High ((size c + 1) / 2) both.0 in
-    let back : iterate after_tick (size c / 2) (after_load c Low) ≡ after_load c High = half_ends c ticks other Low (size c / 2) both.1 in
-    let whole : size c ≡ (size c + 1) / 2 + size c / 2 = omega arith in
-    let period : iterate after_tick (size c) (after_load c High) ≡ after_load c High =
-    ap (λ k. iterate after_tick k (after_load c High)) whole ∙ iterate_add after_tick ((size c + 1) / 2) (size c / 2) (after_load c High)
-    ∙ ap (λ s. iterate after_tick (size c / 2) s) turn ∙ back in
-    let some : 0 < size c = omega (arith, both.0.some) in
-    let left : n % size c < size c = mod_below n (size c) some in
-    ap (λ s. s.out) (round_again after_tick (size c) (after_load c High) period n)
-    ∙ elim (cases_lt (n % size c) ((size c + 1) / 2)) [
-      | inl first ↦
-          half_holds c ticks other High ((size c + 1) / 2) both.0 (n % size c) first
-          ∙ sym (if_yes (nat_lt (n % size c) ((size c + 1) / 2)) High Low (below (n % size c) ((size c + 1) / 2) first))
-      | inr second ↦
-          let parts : n % size c ≡ (size c + 1) / 2 + (n % size c - (size c + 1) / 2) = omega arith in
-          ap (λ k. (iterate after_tick k (after_load c High)).out) parts
-          ∙ ap (λ s. s.out) (iterate_add after_tick ((size c + 1) / 2) (n % size c - (size c + 1) / 2) (after_load c High))
-          ∙ ap (λ s. (iterate after_tick (n % size c - (size c + 1) / 2) s).out) turn
-          ∙ half_holds c ticks other Low (size c / 2) both.1 (n % size c - (size c + 1) / 2) (omega arith)
-          ∙ sym (if_no (nat_lt (n % size c) ((size c + 1) / 2)) High Low (not_below (n % size c) ((size c + 1) / 2) (omega arith)))
-    ]
+    ap (λ s. s.out) (counts_halves c mode gate within other n) ∙ level (nat_lt (n % size c) ((size c + 1) / 2)) (after_half_fall (after_load c High) (n % size c)) (after_half_fall (after_load c Low) (n % size c - (size c + 1) / 2)) refl refl
+  where
+    level : (b : Bool) (x y : CounterState) → x.out ≡ High → y.out ≡ Low → (if b then x else y).out ≡ (if b then High else Low)
+    level true x y high low = high
+    level false x y high low = low
 
 -- modes 2 and 3, a count of 1
-
-either : {A : Type 0} (b : Bool) (x y : A) → x ≡ y → (if b then x else y) ≡ y
-either true x y is = is
-either false x y is = refl
 
 rate_of_one : (c : CounterState) → c.mode ≡ RateGenerator → c.newest ≡ 1 → after_tick (after_load c High) ≡ after_load c High
 unfolding after_tick
 rate_of_one c mode one =
-    ap (λ m. after_count (after_load c High) m) mode
-    ∙ either (is_high c.gate) (after_rate_count (after_load c High)) (after_load c High) (ap (λ k. after_rate_count (running c k true High)) one ∙ rate_reloads c true High)
+    let d : CounterState = after_load c High in
+    ap (λ m. after_count d m) mode
+    ∙ either (is_high c.gate) (after_rate_count d) d (rate_reloads d c.newest true High one)
 
 square_of_one : (c : CounterState) → c.mode ≡ SquareWave → c.newest ≡ 1 → after_tick (after_load c High) ≡ after_load c High
 unfolding after_tick
 square_of_one c mode one =
-    ap (λ m. after_count (after_load c High) m) mode
-    ∙ either (is_high c.gate) (after_square_count (after_load c High)) (after_load c High) (ap (λ k. after_square_count (running c k true High)) one ∙ square_reloads c true High)
+    let d : CounterState = after_load c High in
+    ap (λ m. after_count d m) mode
+    ∙ either (is_high c.gate) (after_square_count d) d (ap (λ k. after_square_count (with_count d k true High)) one)
 
 pub a_count_of_1 : StaysHigh
-a_count_of_1 c (inl rate) one n = ap (λ s. s.out) (iterate_fixed after_tick n (after_load c High) (rate_of_one c rate one))
-a_count_of_1 c (inr square) one n = ap (λ s. s.out) (iterate_fixed after_tick n (after_load c High) (square_of_one c square one))
+a_count_of_1 c (inl rate) one n = iterate_fixed after_tick n (after_load c High) (rate_of_one c rate one)
+a_count_of_1 c (inr square) one n = iterate_fixed after_tick n (after_load c High) (square_of_one c square one)

@@ -1,6 +1,7 @@
--- What the definition of a counter means over time, in the data sheet's terms: the level of OUT any number of
--- ticks after a load ("Mode Definition" and its timing diagrams), and what a latch shows.
-use Rattle.std.specs.Prelude.{◌≡◌, ◌≢◌, ℕ, ◌+◌, ◌*◌, ◌/◌, ◌%◌, ◌<◌, ◌==◌, false, nat_lt, if◌then◌else◌, ◌⊎◌, ◌||◌, Bool, None, Some}
+-- What the definition of a counter means over time, in the data sheet's terms: the count and the level of OUT any
+-- number of ticks later ("Mode Definition" and its timing diagrams), and what a latch shows.
+use Rattle.std.specs.Prelude.{◌≡◌, ◌≢◌, ℕ, ◌+◌, ◌-◌, ◌*◌, ◌/◌, ◌%◌, ◌<◌, ◌==◌, false, nat_lt, if◌then◌else◌, ◌⊎◌, ◌||◌, ◌&&◌, Bool, None, Some}
+use Rattle.board_types.specs.Lines.{is_high, opposite}
 use Rattle.board_types.specs.declared.line.Line.TheVariants.{Low, High}
 use Rattle.pit8253.specs.declared.program.Mode.TheVariants.{TerminalCount, OneShot, RateGenerator, SquareWave, SoftwareStrobe, HardwareStrobe}
 use Rattle.pit8253.specs.declared.program.Access.TheVariants.{LowThenHigh}
@@ -8,7 +9,7 @@ use Rattle.pit8253.specs.declared.program.Base.{Base}
 use Rattle.pit8253.specs.declared.program.Base.TheVariants.{Binary, Decimal}
 use Rattle.pit8253.specs.declared.program.Progress.TheVariants.{Loaded}
 use Rattle.pit8253.specs.Program.{modulus, count_of, digits_of, count_minus}
-use Rattle.pit8253.specs.Counter.{CounterState, is_loaded, after_load, half_step, after_tick, after_ticks, reading, after_latch, after_control_word, after_full_count, after_write, next_byte, after_read, after_gate}
+use Rattle.pit8253.specs.Counter.{CounterState, is_awaited, is_loaded, after_load, half_step, after_tick, after_ticks, reading, after_latch, after_control_word, after_full_count, after_write, next_byte, after_read, after_gate}
 use Rattle.pit8253.specs.Pit as pit
 use Rattle.pit8253.specs.Pit.{PitState}
 
@@ -20,9 +21,110 @@ length_of base count = if count == 0 then modulus base else count
 abbrev pub size : CounterState → ℕ
 size c = length_of c.base c.newest
 
+-- how many ticks bring the running count to 0
+abbrev pub ticks_left : CounterState → ℕ
+ticks_left c = length_of c.count_base c.count
+
 -- k ticks and then m ticks are k + m ticks
 abbrev pub TicksAdd : Type 0
 TicksAdd = (k m : ℕ) (c : CounterState) → after_ticks (after_ticks c k) m ≡ after_ticks c (k + m)
+
+-- a counter that has loaded its count and has no load due
+pub record Runs (c : CounterState) : Type 0 where
+  pub loaded : c.progress ≡ Loaded
+  pub none_due : c.load_due ≡ false
+  pub within : c.count < modulus c.count_base
+
+-- a count that falls by 1 at each of n ticks, and goes on from FFFFh or 9999 below 0
+abbrev pub count_after : Base → ℕ → ℕ → ℕ
+count_after base count n = (count + modulus base - n % modulus base) % modulus base
+
+-- modes 0 and 1, n ticks on: OUT is high from the end of the count
+abbrev pub after_fall : CounterState → ℕ → CounterState
+after_fall c n = record c {
+  count = count_after c.count_base c.count n;
+  out = (if nat_lt n (ticks_left c) then c.out else High);
+}
+
+-- modes 4 and 5, n ticks on: OUT is low at the end of the count alone, where a strobe is due
+abbrev pub after_strobe_fall : CounterState → ℕ → CounterState
+after_strobe_fall c n = record c {
+  count = count_after c.count_base c.count n;
+  strobe_due = c.strobe_due && nat_lt n (ticks_left c);
+  out = (if n == 0 then c.out else (if (n == ticks_left c) && c.strobe_due then Low else High));
+}
+
+-- mode 2, n ticks on in the same period: OUT goes low for its last tick
+abbrev pub after_rate_fall : CounterState → ℕ → CounterState
+after_rate_fall c n = record c {
+  count = count_after c.count_base c.count n;
+  out = (if n == 0 then c.out else (if n + 1 == ticks_left c then Low else c.out));
+}
+
+-- mode 3: the ticks to the end of the half. Of an odd count the high half has one more.
+abbrev pub half_left : CounterState → ℕ
+half_left c = if is_high c.out then (ticks_left c + 1) / 2 else ticks_left c / 2
+
+-- mode 3, n ticks on in the same half: the count is twice the ticks that are left. So an odd count falls by 1 first
+-- while OUT is high and by 3 first while it is low, and then by 2.
+abbrev pub after_half_fall : CounterState → ℕ → CounterState
+after_half_fall c n = record c { count = (if n == 0 then c.count else 2 * (half_left c - n)) }
+
+-- modes 0 and 1 count down, from any count and for any number of ticks
+abbrev pub CountsDown : Type 0
+CountsDown =
+    (c : CounterState) → Runs c
+    → ((c.mode ≡ TerminalCount) × (c.gate ≡ High) × (c.first_byte ≡ None)) ⊎ (c.mode ≡ OneShot) → (n : ℕ)
+    → after_ticks c n ≡ after_fall c n
+
+-- and so do modes 4 and 5
+abbrev pub CountsToStrobe : Type 0
+CountsToStrobe =
+    (c : CounterState) → Runs c → ((c.mode ≡ SoftwareStrobe) × (c.gate ≡ High)) ⊎ (c.mode ≡ HardwareStrobe) → (n : ℕ)
+    → after_ticks c n ≡ after_strobe_fall c n
+
+-- mode 2 counts down to the end of the period, and there loads the newest count with OUT high
+abbrev pub CountsPeriod : Type 0
+CountsPeriod =
+    (c : CounterState) → Runs c → c.mode ≡ RateGenerator → c.gate ≡ High
+    → ((n : ℕ) → n < ticks_left c → after_ticks c n ≡ after_rate_fall c n) × (after_ticks c (ticks_left c) ≡ after_load c High)
+
+-- mode 3 counts down to the end of the half, and there loads the newest count and turns OUT, but for a newest count
+-- of 1, which leaves it high
+abbrev pub CountsHalf : Type 0
+CountsHalf =
+    (c : CounterState) → Runs c → c.mode ≡ SquareWave → c.gate ≡ High → c.count ≢ 1
+    → ((n : ℕ) → n < half_left c → after_ticks c n ≡ after_half_fall c n)
+    × (after_ticks c (half_left c) ≡ after_load c (if c.newest == 1 then High else opposite c.out))
+
+-- mode 3: at a count of 1 the next tick loads the newest count with OUT high
+abbrev pub ReloadsAtOne : Type 0
+ReloadsAtOne =
+    (c : CounterState) → Runs c → c.mode ≡ SquareWave → c.gate ≡ High → c.count ≡ 1 → after_tick c ≡ after_load c High
+
+-- mode 2: after a load the count goes round its periods
+abbrev pub CountsPeriods : Type 0
+CountsPeriods =
+    (c : CounterState) → c.mode ≡ RateGenerator → c.gate ≡ High → c.newest < modulus c.base → (n : ℕ)
+    → after_ticks (after_load c High) n ≡ after_rate_fall (after_load c High) (n % size c)
+
+-- mode 3, k ticks into a period
+abbrev pub after_square_fall : CounterState → ℕ → CounterState
+after_square_fall c k =
+    let high : ℕ = (size c + 1) / 2 in
+    if nat_lt k high then after_half_fall (after_load c High) k else after_half_fall (after_load c Low) (k - high)
+
+-- mode 3: after a load the count goes round its two halves
+abbrev pub CountsHalves : Type 0
+CountsHalves =
+    (c : CounterState) → c.mode ≡ SquareWave → c.gate ≡ High → c.newest < modulus c.base → c.newest ≢ 1 → (n : ℕ)
+    → after_ticks (after_load c High) n ≡ after_square_fall c (n % size c)
+
+-- modes 2 and 3: a count of 1 is loaded again at each tick, and OUT stays high
+abbrev pub StaysHigh : Type 0
+StaysHigh =
+    (c : CounterState) → (c.mode ≡ RateGenerator) ⊎ (c.mode ≡ SquareWave) → c.newest ≡ 1 → (n : ℕ)
+    → after_ticks (after_load c High) n ≡ after_load c High
 
 -- mode 0: n ticks after the load OUT is low below the count, and high from then on
 abbrev pub CountsOut : Type 0
@@ -49,12 +151,6 @@ MakesSquares =
     (c : CounterState) → c.mode ≡ SquareWave → c.gate ≡ High → c.newest < modulus c.base → c.newest ≢ 1 → (n : ℕ)
     → (after_ticks (after_load c High) n).out ≡ (if nat_lt (n % size c) ((size c + 1) / 2) then High else Low)
 
--- modes 2 and 3: a count of 1 keeps OUT high
-abbrev pub StaysHigh : Type 0
-StaysHigh =
-    (c : CounterState) → (c.mode ≡ RateGenerator) ⊎ (c.mode ≡ SquareWave) → c.newest ≡ 1 → (n : ℕ)
-    → (after_ticks (after_load c High) n).out ≡ High
-
 -- mode 4: OUT is low for one tick, the one that ends the count, and never again
 abbrev pub StrobesOnce : Type 0
 StrobesOnce =
@@ -66,6 +162,25 @@ abbrev pub StrobesOnTrigger : Type 0
 StrobesOnTrigger =
     (c : CounterState) → c.mode ≡ HardwareStrobe → c.newest < modulus c.base → (n : ℕ)
     → (after_ticks (after_load c High) n).out ≡ (if n == size c then Low else High)
+
+-- modes 2 and 3: a low gate sets OUT high at once, and leaves all else as it is
+abbrev pub GateSetsHigh : Type 0
+GateSetsHigh =
+    (c : CounterState) → (c.mode ≡ RateGenerator) ⊎ (c.mode ≡ SquareWave) → after_gate c Low ≡ record c { gate = Low; out = High }
+
+-- there a rise after a full count reloads: the next tick loads the newest count with OUT high
+abbrev pub RiseReloads : Type 0
+RiseReloads =
+    (c : CounterState) → (c.mode ≡ RateGenerator) ⊎ (c.mode ≡ SquareWave) → c.gate ≡ Low → is_awaited c.progress ≡ false
+    → after_tick (after_gate c High) ≡ after_load (record c { gate = High }) High
+
+-- two reads of a running count, with no latch and no tick between, give its low byte and then its high one
+abbrev pub ReadsBoth : Type 0
+ReadsBoth =
+    (c : CounterState) → c.access ≡ LowThenHigh → c.high_next ≡ false → c.latch ≡ None
+    → (next_byte c ≡ digits_of c.count_base c.count % 256)
+    × (next_byte (after_read c) ≡ digits_of c.count_base c.count / 256)
+    × (after_read (after_read c) ≡ c)
 
 -- a read after a latch and any ticks gives the byte that a read at the latch would have given
 abbrev pub LatchHolds : Type 0

@@ -9,7 +9,7 @@ use board_types::line::Line;
 use std::marker::Model;
 
 /// A counter: its mode, its count, its latch, its gate and its output.
-#[derive(Clone, Copy, Debug)]
+#[derive(Clone, Copy)]
 pub struct Counter {
     mode: Mode,
     access: Access,

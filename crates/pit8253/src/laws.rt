@@ -1,11 +1,29 @@
 //! What the definition of a counter means over time, in the data sheet's terms. Each law is a function that
 //! does nothing: its contract speaks of the definition alone.
-ghost use Rattle.pit8253.specs.Laws.{TicksAdd, CountsOut, ShootsOnce, Divides, MakesSquares, StaysHigh, StrobesOnce, StrobesOnTrigger, LatchHolds, LatchHoldsBoth, LatchIsHeld, CountsInDecimal, GateStops, GateStopsStrobe, FirstByteStops, NewCountWaits, WaitsForLoad, CountsOutAsTold, ShootsAsTriggered, DividesAsTold, MakesSquaresAsTold, StrobesAsTold, StrobesAsTriggered, CountersTickAlike};
+ghost use Rattle.pit8253.specs.Laws.{TicksAdd, CountsDown, CountsToStrobe, CountsPeriod, CountsHalf, ReloadsAtOne, CountsPeriods, CountsHalves, CountsOut, ShootsOnce, Divides, MakesSquares, StaysHigh, StrobesOnce, StrobesOnTrigger, LatchHolds, LatchHoldsBoth, LatchIsHeld, ReadsBoth, CountsInDecimal, GateSetsHigh, RiseReloads, GateStops, GateStopsStrobe, FirstByteStops, NewCountWaits, WaitsForLoad, CountsOutAsTold, ShootsAsTriggered, DividesAsTold, MakesSquaresAsTold, StrobesAsTold, StrobesAsTriggered, CountersTickAlike};
 
 /// Ticks, and then more ticks, are as many ticks together.
 #[tactic(auto, using(crate::proofs::Waves::ticks_add))]
 pub fn ticks_add()
     ensures { TicksAdd }
+{}
+
+/// A counter that counts, n ticks on: the count and OUT from any count, up to the next load in modes 2 and 3, and
+/// there what the load makes of it.
+#[tactic(auto, using(crate::proofs::Waves::counts_down, crate::proofs::Waves::counts_to_strobe, crate::proofs::Waves::counts_period, crate::proofs::Waves::counts_half, crate::proofs::Waves::reloads_at_one))]
+pub fn counts()
+    ensures modes_0_and_1 { CountsDown }
+    ensures modes_4_and_5 { CountsToStrobe }
+    ensures mode_2 { CountsPeriod }
+    ensures mode_3 { CountsHalf }
+    ensures mode_3_at_1 { ReloadsAtOne }
+{}
+
+/// Modes 2 and 3 after a load, n ticks on: the count goes round its periods, in mode 3 by halves.
+#[tactic(auto, using(crate::proofs::Waves::counts_periods, crate::proofs::Waves::counts_halves))]
+pub fn counts_round()
+    ensures mode_2 { CountsPeriods }
+    ensures mode_3 { CountsHalves }
 {}
 
 /// Mode 0, while the gate is high and no first byte stops it: OUT is low for the count's ticks after the load,
@@ -34,7 +52,7 @@ pub fn makes_squares()
     ensures { MakesSquares }
 {}
 
-/// Modes 2 and 3: a count of 1 keeps OUT high.
+/// Modes 2 and 3: a count of 1 is loaded again at each tick and keeps OUT high.
 #[tactic(auto, using(crate::proofs::Waves::a_count_of_1))]
 pub fn stays_high()
     ensures { StaysHigh }
@@ -60,6 +78,12 @@ pub fn latch_holds()
     ensures held { LatchIsHeld }
 {}
 
+/// Two reads of a running count, the low byte first, with no latch and no tick between: its two bytes.
+#[tactic(auto, using(crate::proofs::Latches::reads_both))]
+pub fn reads_both()
+    ensures { ReadsBoth }
+{}
+
 /// Decimal digits count by their weights, and are shown as they were written.
 #[tactic(auto, using(crate::proofs::Latches::counts_in_decimal))]
 pub fn counts_in_decimal()
@@ -73,6 +97,13 @@ pub fn counting_stops()
     ensures gate { GateStops }
     ensures strobe { GateStopsStrobe }
     ensures first_byte { FirstByteStops }
+{}
+
+/// Modes 2 and 3: a low gate sets OUT high at once, and a rise after a full count loads it at the next tick.
+#[tactic(auto, using(crate::proofs::Waits::gate_sets_high, crate::proofs::Waits::rise_reloads))]
+pub fn gate_restarts()
+    ensures low { GateSetsHigh }
+    ensures rise { RiseReloads }
 {}
 
 /// Modes 2 and 3: a new count waits for the end of the period or of the half.

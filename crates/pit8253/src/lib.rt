@@ -6,5 +6,3 @@ pub mod counter;
 pub mod laws;
 pub mod pit;
 pub mod program;
-#[cfg(test)]
-mod tests;

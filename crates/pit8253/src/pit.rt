@@ -9,7 +9,7 @@ use board_types::line::Line;
 use std::marker::Model;
 
 /// The 8253: counters 0, 1 and 2. Its ports are numbered by A1 and A0, from 0 to 3.
-#[derive(Clone, Copy, Debug)]
+#[derive(Clone, Copy)]
 pub struct Pit {
     counter_0: Counter,
     counter_1: Counter,

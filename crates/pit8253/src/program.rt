@@ -1,7 +1,7 @@
 //! What a control word programs a counter to do (Intel 8253 data sheet, "Control Word Format").
 
 /// The mode: what a counter does with its count, its gate and its output.
-#[derive(Clone, Copy, Debug, PartialEq, Eq)]
+#[derive(Clone, Copy, PartialEq)]
 pub enum Mode {
     /// Mode 0, interrupt on terminal count.
     TerminalCount,
@@ -18,7 +18,7 @@ pub enum Mode {
 }
 
 /// Which bytes of the count are written and read.
-#[derive(Clone, Copy, Debug, PartialEq, Eq)]
+#[derive(Clone, Copy)]
 pub enum Access {
     LowByte,
     HighByte,
@@ -27,7 +27,7 @@ pub enum Access {
 }
 
 /// How a count is written in its sixteen bits.
-#[derive(Clone, Copy, Debug, PartialEq, Eq)]
+#[derive(Clone, Copy)]
 pub enum Base {
     Binary,
     /// Four decimal digits, each in four bits.
@@ -35,7 +35,7 @@ pub enum Base {
 }
 
 /// How far a count has come since the control word.
-#[derive(Clone, Copy, Debug, PartialEq, Eq)]
+#[derive(Clone, Copy, PartialEq)]
 pub enum Progress {
     /// No full count has been written.
     Awaited,
