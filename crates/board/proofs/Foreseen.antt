@@ -116,5 +116,5 @@ unfolding after_clock speaker_level
 foreseen s holds =
     ap from_bool (clock_foreseen (after_act s.cpu s.busy s.chips (next_step s)).bus s.keys ∙ act_foreseen s.cpu s.busy s.chips (next_step s) holds.settled)
 
-pub foreseen_by : (s : Plain) (next : Option Decoded) (high : Bool) → WiresHold s → next ≡ next_step s → high ≡ is_speaker_high_after s.chips (writes_of s.cpu next) → from_bool high ≡ speaker_level (after_clock s)
+pub foreseen_by : (s : Plain) (next : Option Decoded) (high : Bool) → WiresHold s.chips → next ≡ next_step s → high ≡ is_speaker_high_after s.chips (writes_of s.cpu next) → from_bool high ≡ speaker_level (after_clock s)
 foreseen_by s next high holds is told = ap from_bool told ∙ ap (λ n. from_bool (is_speaker_high_after s.chips (writes_of s.cpu n))) is ∙ sym (foreseen s holds)

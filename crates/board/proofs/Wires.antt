@@ -1,14 +1,15 @@
 -- The wires at every clock of a board.
-use Rattle.std.proofs.Common.{◌≡◌, ℕ, ◌+◌, ◌*◌, zero, suc, List, [], ◌∷◌, Option, None, Some}
+use Rattle.std.proofs.Common.{◌≡◌, ℕ, ◌+◌, ◌*◌, zero, suc, List, [], ◌∷◌, Option, None, Some, refl, sym, ap, ◌∙◌, subst}
 use Rattle.board_types.specs.Iterate.{iterate}
 use Rattle.board_types.specs.declared.keys.StampedKey.{StampedKey}
 use Rattle.decode.specs.declared.decoded.Decoded.{Decoded}
 use Rattle.execute.specs.Cpu.{CpuState}
-use Rattle.execute.specs.Meaning.{after_step}
+use Rattle.execute.specs.Meaning.{StepResult, after_step}
 use Rattle.execute.proofs.Writes.{step_keeps_any}
 use Rattle.wiring.proofs.FixedWires.{wires_stay}
 use Rattle.wiring.proofs.PowerOn.{power_on_settled, power_on_keys_settled}
 use Rattle.wiring.proofs.Settling.{settles_once, keys_settle_once}
+use Rattle.wiring.specs.Chips as chips
 use Rattle.wiring.specs.Chips.{ChipsState}
 use Rattle.wiring.specs.Laws.{FixedWires, KeysSettled}
 use Rattle.wiring.specs.Ports.{chips_bus}
@@ -43,30 +44,42 @@ keys_after_clock : (s : ChipsState) (keys : List StampedKey) → KeysSettled (ch
 unfolding chips_after_clock
 keys_after_clock s keys = keys_settle_once _
 
-pub one_holds : (s : Plain) → WiresHold s → WiresHold (after_clock s)
-unfolding after_clock
-one_holds s holds =
-    let chips : ChipsState = (after_act s.cpu s.busy s.chips (next_step s)).bus in
-    record {
-      settled = settled_after_clock chips s.keys;
-      keys = keys_after_clock chips s.keys;
-      fixed = fixed_after_clock chips s.keys (fixed_after_act s.cpu s.busy s.chips (next_step s) holds.fixed);
-    }
+-- the chips after a clock, whatever the processor did in it
+pub holds_next : (cpu : CpuState) (busy : ℕ) (s : ChipsState) (next : Option Decoded) (acted : StepResult ChipsState) (keys : List StampedKey) (t : ChipsState) → acted ≡ after_act cpu busy s next → t ≡ chips_after_clock acted.bus keys → WiresHold s → WiresHold t
+holds_next cpu busy s next acted keys t is after holds =
+    let fixed : FixedWires acted.bus = subst (λ (r : StepResult ChipsState). FixedWires r.bus) (sym is) (fixed_after_act cpu busy s next holds.fixed) in
+    let all : WiresHold (chips_after_clock acted.bus keys) = record {
+      settled = settled_after_clock acted.bus keys;
+      keys = keys_after_clock acted.bus keys;
+      fixed = fixed_after_clock acted.bus keys fixed;
+    } in
+    subst WiresHold (sym after) all
 
-all_hold : (n : ℕ) (s : Plain) → WiresHold s → WiresHold (after_clocks s n)
+one_holds : (s : Plain) → WiresHold s.chips → WiresHold (after_clock s).chips
+unfolding after_clock
+one_holds s holds = holds_next s.cpu s.busy s.chips (next_step s) (after_act s.cpu s.busy s.chips (next_step s)) s.keys _ refl refl holds
+
+all_hold : (n : ℕ) (s : Plain) → WiresHold s.chips → WiresHold (after_clocks s n).chips
 unfolding iterate
 all_hold zero s holds = holds
 all_hold (suc n) s holds = one_holds (after_clocks s n) (all_hold n s holds)
 
 -- at power-on
 
-pub first_holds : (image : List (ℕ × ℕ)) (config : Config) (keys : List StampedKey) → WiresHold (power_on image config keys)
-unfolding power_on
-first_holds image config keys = record {
-  settled = power_on_settled image (1024 * config.ram_kb) config.sw1 config.sw2 (codes_at keys 0);
-  keys = power_on_keys_settled image (1024 * config.ram_kb) config.sw1 config.sw2 (codes_at keys 0);
-  fixed = fixed_after_arrivals (codes_at keys 0) _ (wires_stay.first image (1024 * config.ram_kb) config.sw1 config.sw2);
+first_holds : (image : List (ℕ × ℕ)) (size sw1 sw2 : ℕ) (codes : List ℕ) → WiresHold (after_arrivals (chips.power_on image size sw1 sw2) codes)
+first_holds image size sw1 sw2 codes = record {
+  settled = power_on_settled image size sw1 sw2 codes;
+  keys = power_on_keys_settled image size sw1 sw2 codes;
+  fixed = fixed_after_arrivals codes _ (wires_stay.first image size sw1 sw2);
 }
 
+pub holds_first : (image : List (ℕ × ℕ)) (size sw1 sw2 : ℕ) (codes : List ℕ) (s t : ChipsState) → s ≡ chips.power_on image size sw1 sw2 → t ≡ after_arrivals s codes → WiresHold t
+holds_first image size sw1 sw2 codes s t is after =
+    subst WiresHold (sym (after ∙ ap (λ (u : ChipsState). after_arrivals u codes) is)) (first_holds image size sw1 sw2 codes)
+
+power_on_holds : (image : List (ℕ × ℕ)) (config : Config) (keys : List StampedKey) → WiresHold (power_on image config keys).chips
+unfolding power_on
+power_on_holds image config keys = first_holds image (1024 * config.ram_kb) config.sw1 config.sw2 (codes_at keys 0)
+
 pub wires_always_hold : WiresAlwaysHold
-wires_always_hold image config keys n = all_hold n (power_on image config keys) (first_holds image config keys)
+wires_always_hold image config keys n = all_hold n (power_on image config keys) (power_on_holds image config keys)

@@ -7,6 +7,7 @@ use Rattle.execute.specs.Cpu.{CpuState}
 use Rattle.execute.specs.PortWrites.{port_writes_of}
 use Rattle.memory.specs.Kinds.{IsTextAddress}
 use Rattle.memory.specs.Map.{IsRamSize}
+use Rattle.wiring.specs.Chips.{ChipsState}
 use Rattle.wiring.specs.Laws.{KeysSettled, FixedWires}
 use Rattle.wiring.specs.Ports.{is_writable}
 use Rattle.wiring.specs.Speaker.{is_speaker_high_after}
@@ -21,19 +22,19 @@ writes_of cpu (Some decoded) = port_writes_of cpu decoded
 
 -- the wires have settled, the keyboard has settled to the lines of port B, and the wires that nothing drives are as at
 -- power-on
-pub record WiresHold (s : Plain) : Type 0 where
-  pub settled : after_settling s.chips ≡ s.chips
-  pub keys : KeysSettled s.chips
-  pub fixed : FixedWires s.chips
+pub record WiresHold (s : ChipsState) : Type 0 where
+  pub settled : after_settling s ≡ s
+  pub keys : KeysSettled s
+  pub fixed : FixedWires s
 
 -- so they are at every clock of every board
 abbrev pub WiresAlwaysHold : Type 0
-WiresAlwaysHold = (image : List (ℕ × ℕ)) (config : Config) (keys : List StampedKey) (n : ℕ) → WiresHold (board_after image config keys n)
+WiresAlwaysHold = (image : List (ℕ × ℕ)) (config : Config) (keys : List StampedKey) (n : ℕ) → WiresHold (board_after image config keys n).chips
 
 -- where they hold, the speaker's level at the next clock is known from the port writes that the step is about to make
 abbrev pub LevelIsForeseen : Type 0
 LevelIsForeseen =
-    (s : Plain) → WiresHold s → speaker_level (after_clock s) ≡ from_bool (is_speaker_high_after s.chips (writes_of s.cpu (next_step s)))
+    (s : Plain) → WiresHold s.chips → speaker_level (after_clock s) ≡ from_bool (is_speaker_high_after s.chips (writes_of s.cpu (next_step s)))
 
 -- at every clock of a board that can be had, each address of RAM and of text memory takes bytes
 abbrev pub MemoryTakesBytes : Type 0
