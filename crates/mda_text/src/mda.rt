@@ -249,9 +249,11 @@ impl Mda {
         self.cell((n / columns) as u8, (n % columns) as u8)
     }
 
+    /// Replaces the characters that are kept by those that are shown.
     fn keep_characters(&mut self)
         ensures { self.new ≡ record self.old { kept = characters self.old } }
     {
+        // one is kept for each cell
         let _ = &self.kept;
         for n in 0..CELL_COUNT {
             self.kept[n as usize] = self.nth_character(n);
