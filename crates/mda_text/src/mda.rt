@@ -199,9 +199,10 @@ impl Mda {
     }
 
     /// The cells whose character isn't the one that `mark` kept, in reading order, where it is the last mark that
-    /// was made; of any other number, and of 0, all cells.
+    /// was made; of any other number, and of 0, all 2,000 cells.
     pub fn changed_since(&self, mark: u64) -> ChangedCells<'_>
-        ensures { result ≡ changed_cells self.now mark }
+        ensures cells { result ≡ changed_cells self.now mark }
+        ensures within { length result ≤ 2000 }
     {
         ChangedCells::new(self, mark)
     }
