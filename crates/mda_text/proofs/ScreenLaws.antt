@@ -48,11 +48,23 @@ shows_alike m other bytes start video row column =
     cell_is m row column ∙ ap (λ b. cell_of b m.start m.video row column) bytes ∙ ap (λ s. cell_of other.bytes s m.video row column) start
     ∙ ap (λ v. cell_of other.bytes other.start v row column) video ∙ sym (cell_is other row column)
 
-pub scrolls : (m : MdaState) → Scrolls m
-unfolding cell character_at text_byte
-scrolls m row column =
-    let word : (m.start + 80 + 80 * row + column) % 2048 ≡ (m.start + 80 * (row + 1) + column) % 2048 = omega arith in
-    ap (character_at m) word
+next_row : (start old row column : ℕ) → start % 2048 ≡ (old + 80) % 2048 → (start + 80 * row + column) % 2048 ≡ (old + 80 * (row + 1) + column) % 2048
+next_row start old row column on = omega arith
+
+cell_further : (bytes : List ℕ) (video : Bool) (start old row column : ℕ) → start % 2048 ≡ (old + 80) % 2048 → cell_of bytes start video row column ≡ cell_of bytes old video (row + 1) column
+unfolding cell_of
+cell_further bytes video start old row column on =
+    ap (λ word. character_of video (slice_index bytes (2 * word)) (slice_index bytes (2 * word + 1))) (next_row start old row column on)
+
+start_keeps : (m : MdaState) (start : ℕ) → ((with_start m start).bytes ≡ m.bytes) × ((with_start m start).video ≡ m.video)
+unfolding after_write
+start_keeps m start = (refl, refl)
+
+pub scrolls : (m : MdaState) (start : ℕ) → Scrolls m start
+scrolls m start row column within on =
+    cell_is (with_start m start) row column ∙ ap (λ s. cell_of (with_start m start).bytes s (with_start m start).video row column) (given m start within)
+    ∙ ap (λ b. cell_of b start (with_start m start).video row column) (start_keeps m start).0 ∙ ap (λ v. cell_of m.bytes start v row column) (start_keeps m start).1
+    ∙ cell_further m.bytes m.video start m.start row column on ∙ sym (cell_is m (row + 1) column)
 
 other_byte : (m : MdaState) (offset byte other : ℕ) → other ≢ offset → text_byte (with_text_byte m offset byte) other ≡ text_byte m other
 unfolding text_byte with_text_byte

@@ -1,5 +1,5 @@
 -- The walk over the changed cells, one cell after another.
-use Rattle.std.proofs.Common.{◌≡◌, ℕ, suc, ◌+◌, ◌-◌, ◌<◌, ◌≤◌, Bool, true, false, cond, List, [], ◌∷◌, map, refl, ap, ◌∙◌, arith}
+use Rattle.std.proofs.Common.{◌≡◌, ℕ, zero, suc, ◌+◌, ◌-◌, ◌<◌, ◌≤◌, Bool, true, false, cond, List, [], ◌∷◌, map, length, refl, ap, ◌∙◌, arith}
 use Rattle.std.specs.List.{range_with_len, filter}
 use Rattle.mda_text.specs.Mda.{MdaState, cell_count}
 use Rattle.mda_text.specs.Screen.{place}
@@ -30,3 +30,18 @@ unfolding changed_among
 ends m mark n past =
     let none : cell_count - n ≡ 0 = omega (arith, cell_count_is) in
     ap (λ k. map place (filter (is_changed m mark) (range_with_len n k))) none
+
+chosen : (b : Bool) (x : ℕ × ℕ) (xs : List (ℕ × ℕ)) → length (cond b (x ∷ xs) xs) ≤ length xs + 1
+chosen true x xs = omega arith
+chosen false x xs = omega arith
+
+no_more_than : (m : MdaState) (mark n k : ℕ) → length (changed_among m mark n k) ≤ k
+unfolding changed_among
+no_more_than m mark n zero = omega arith
+no_more_than m mark n (suc k) =
+    let here : length (changed_among m mark n (suc k)) ≡ length (cond (is_changed m mark n) (place n ∷ changed_among m mark (n + 1) k) (changed_among m mark (n + 1) k)) = ap length (more m mark n k) in
+    omega (arith, here, chosen (is_changed m mark n) (place n) (changed_among m mark (n + 1) k), no_more_than m mark (n + 1) k)
+
+-- no more cells are named than there are
+pub names_few : (m : MdaState) (mark : ℕ) → length (changed_among m mark 0 cell_count) ≤ 2000
+names_few m mark = omega (arith, no_more_than m mark 0 cell_count, cell_count_is)

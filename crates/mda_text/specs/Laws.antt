@@ -32,9 +32,10 @@ abbrev pub ShowsAlike : MdaState → MdaState → Type 0
 ShowsAlike m other =
     m.bytes ≡ other.bytes → m.start ≡ other.start → m.video ≡ other.video → (row column : ℕ) → cell m row column ≡ cell other row column
 
--- with a start that is 80 words on, the screen has moved up by a row
-abbrev pub Scrolls : MdaState → Type 0
-Scrolls m = (row column : ℕ) → cell (record m { start = m.start + 80 }) row column ≡ cell m (row + 1) column
+-- with a start address 80 words on, round the 2,048 words, the screen has moved up by a row
+abbrev pub Scrolls : MdaState → ℕ → Type 0
+Scrolls m start =
+    (row column : ℕ) → start < 2 ^ 14 → start % 2048 ≡ (m.start + 80) % 2048 → cell (with_start m start) row column ≡ cell m (row + 1) column
 
 -- a byte written to text memory changes no cell but those that show its word
 abbrev pub ChangesOneCell : MdaState → ℕ → ℕ → Type 0

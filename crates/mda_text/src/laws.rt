@@ -19,9 +19,9 @@ pub fn shows_alike()
     ensures { (m other : MdaState) → ShowsAlike m other }
 {}
 
-/// A start address 80 words on moves the screen up by a row.
+/// A start address 80 words on, written to the MC6845, moves the screen up by a row.
 pub fn scrolls()
-    ensures { (m : MdaState) → Scrolls m }
+    ensures { (m : MdaState) (start : ℕ) → Scrolls m start }
 {}
 
 /// A byte written to text memory changes no cell but the one, if there is one, that shows its word.

@@ -199,9 +199,10 @@ impl Mda {
     }
 
     /// The cells whose character isn't the one that `mark` kept, in reading order, where it is the last mark that
-    /// was made; of any other number, and of 0, all cells.
+    /// was made; of any other number, and of 0, all 2,000 cells.
     pub fn changed_since(&self, mark: u64) -> ChangedCells<'_>
-        ensures { result ≡ changed_cells self.now mark }
+        ensures cells { result ≡ changed_cells self.now mark }
+        ensures within { length result ≤ 2000 }
     {
         ChangedCells::new(self, mark)
     }
@@ -249,9 +250,11 @@ impl Mda {
         self.cell((n / columns) as u8, (n % columns) as u8)
     }
 
+    /// Replaces the characters that are kept by those that are shown.
     fn keep_characters(&mut self)
         ensures { self.new ≡ record self.old { kept = characters self.old } }
     {
+        // one is kept for each cell
         let _ = &self.kept;
         for n in 0..CELL_COUNT {
             self.kept[n as usize] = self.nth_character(n);
