@@ -143,3 +143,7 @@ awaits_first keys = awaits_from 0 0 keys (omega arith) (λ j d within. absurd (o
 -- codes that arrive behind others
 pub arrived_after : (s t : ChipsState) (codes : List ℕ) (code : ℕ) → t ≡ after_arrivals s codes → after_arrival t code ≡ after_arrivals s (codes ++ code ∷ [])
 arrived_after s t codes code so_far = ap (λ u. after_arrival u code) so_far ∙ sym (fold-append after_arrival s codes (code ∷ []))
+
+-- what awaits a clock, said of the clock before it
+pub awaits_on : (next clock late : ℕ) (keys other : List StampedKey) → Awaits next late keys → keys ≡ other → late ≡ clock + 1 → Awaits next (clock + 1) other
+awaits_on next clock late keys other awaits same is = subst (λ ks. Awaits next (clock + 1) ks) same (subst (λ c. Awaits next c keys) is awaits)
