@@ -28,8 +28,8 @@ pub record ReportsImage (image : List (ℕ × ℕ)) (run : RunFile) (report : Re
   pub state : state_of report.board.plain ≡ state_of (plain_of image run)
   pub bytes : (address : ℕ) → address < 2 ^ 20 → byte_of report.board.plain address ≡ byte_of (plain_of image run) address
   pub screen : screen_of report.board.plain ≡ screen_of (plain_of image run)
-  pub changes : report.board.changes ≡ changes_in run.budget (power_on image (config_of run) run.keys)
-  pub text : string_bytes report.text ≡ report_text (plain_of image run) (changes_in run.budget (power_on image (config_of run) run.keys))
+  pub changes : report.board.changes ≡ changes_in (power_on image (config_of run) run.keys) run.budget
+  pub text : string_bytes report.text ≡ report_text (plain_of image run) (changes_in (power_on image (config_of run) run.keys) run.budget)
 
 -- the encoding table gives the source an image, and the report is of that image's board
 pub record ReportsSource (source : List ℕ) (run : RunFile) (report : Report) : Type 0 where

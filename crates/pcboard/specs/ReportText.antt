@@ -4,8 +4,7 @@ use Rattle.std.specs.Prelude.{ℕ, ◌+◌, ◌/◌, ◌%◌, nat_lt, if◌then�
 use Rattle.std.specs.List.{flat_map}
 use Rattle.std.specs.Fmt.{decimal, digit_glyph}
 use Rattle.std.specs.Prelude.{true}
-use Rattle.board_types.specs.declared.line.Line.{Line}
-use Rattle.board_types.specs.declared.line.Line.TheVariants.{Low, High}
+use Rattle.board_types.specs.Lines.{is_high}
 use Rattle.board_types.specs.declared.regs.Regs.{Regs}
 use Rattle.board_types.specs.Flags.{flags_word}
 use Rattle.board_types.specs.declared.state.State.{State}
@@ -48,12 +47,9 @@ unfoldable pub state_lines : State → ℕ → ℕ → List ℕ
 state_lines state lost changes =
     codes "state " ++ (state_name state ++ (codes "\nlost " ++ (decimal lost ++ (codes "\nsound " ++ (decimal changes ++ codes "\n")))))
 
-abbrev pub level_digit : Line → ℕ
-level_digit Low = 0
-level_digit High = 1
-
+-- a change of the speaker's level: the clock, and 1 for high or 0 for low
 unfoldable pub change_line : SpeakerChange → List ℕ
-change_line change = decimal change.clock ++ (codes " " ++ (decimal (level_digit change.level) ++ codes "\n"))
+change_line change = decimal change.clock ++ (codes " " ++ (decimal (if is_high change.level then 1 else 0) ++ codes "\n"))
 
 -- the whole report
 unfoldable pub report_text : Plain → List SpeakerChange → List ℕ

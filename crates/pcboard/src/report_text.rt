@@ -3,10 +3,9 @@ ghost use Rattle.std.specs.Prelude.{◌≡◌, ◌++◌, IfOk, OnOk, Some};
 ghost use Rattle.std.specs.String.{string_bytes};
 ghost use Rattle.std.specs.List.{flat_map};
 ghost use Rattle.board.specs.Plain.{screen_of};
-ghost use Rattle.pcboard.specs.ReportText.{change_line, clock_line, general_line, hex_word, level_digit, register_lines, report_text, segment_line, state_lines, state_name};
+ghost use Rattle.pcboard.specs.ReportText.{change_line, clock_line, general_line, hex_word, register_lines, report_text, segment_line, state_lines, state_name};
 
 use board::board::{Board, SpeakerChange};
-use board_types::line::Line;
 use board_types::regs::Regs;
 use board_types::state::State;
 use std::alloc::{AllocError, Global};
@@ -91,21 +90,12 @@ fn state_lines(alloc: Global, state: State, lost: u64, changes: usize) -> Result
     format!(in alloc; "state {name}\nlost {lost}\nsound {changes}\n")
 }
 
-fn level_digit(level: Line) -> u8
-    ensures { result ≡ level_digit level }
-{
-    match level {
-        Line::Low => 0,
-        Line::High => 1,
-    }
-}
-
 #[tactic(auto, unfolding(crate::specs::ReportText::change_line))]
 fn change_line(alloc: Global, change: SpeakerChange) -> Result<String, AllocError>
     ensures { IfOk result (λ text. string_bytes text ≡ change_line change) }
 {
     let clock = change.clock.get();
-    let level = level_digit(change.level);
+    let level: u8 = if change.level.is_high() { 1 } else { 0 };
     format!(in alloc; "{clock} {level}\n")
 }
 

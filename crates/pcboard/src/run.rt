@@ -51,7 +51,7 @@ fn run_image(alloc: Global, image: &Image, run: &RunFile) -> Result<Report, Boar
 fn run_board(alloc: Global, image: &Image, run: &RunFile) -> Result<Board, BoardFault>
     ensures clock { IfOk result (λ board. clock_of board.plain ≡ run.now.budget) }
     ensures plain { IfOk result (λ board. board.plain ≡ plain_of image.now run.now) }
-    ensures changes { IfOk result (λ board. board.changes ≡ changes_in run.now.budget (power_on image.now (config_of run.now) run.now.keys)) }
+    ensures changes { IfOk result (λ board. board.changes ≡ changes_in (power_on image.now (config_of run.now) run.now.keys) run.now.budget) }
     ensures fault { IfErr result (λ fault. IsTrueOfBoard image.now run.now fault) }
 {
     let config = Config {
