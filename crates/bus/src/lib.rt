@@ -1,6 +1,7 @@
 //! What a processor reaches: memory and ports, as a trait, with the meaning of each access as a record of operations
 //! on a state.
 #![tactic(auto)]
+
 ghost use Rattle.std.specs.Prelude.{◌≡◌, ◌<◌, ◌^◌, ℕ};
 ghost use Rattle.bus.specs.Bus.{BusMeaning, IsBus};
 
