@@ -16,3 +16,12 @@ pub struct RunFile {
     /// The key codes that reach the keyboard, each with its clock.
     pub keys: Keys,
 }
+
+/// A key as a run file writes it, `[stamp, code]`.
+#[derive(Clone, Copy)]
+pub struct KeyEntry {
+    /// The clock at which the code reaches the keyboard.
+    pub stamp: Clock,
+    /// Any number; whether a key has it as its scan code is judged later.
+    pub code: u64,
+}

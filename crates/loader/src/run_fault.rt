@@ -1,6 +1,6 @@
 //! Why a run file is refused.
 ghost use Rattle.std.specs.Prelude.{◌≡◌};
-ghost use Rattle.pcboard_runfile.specs.Fault.{run_fault_number, run_fault_name};
+ghost use Rattle.loader.specs.RunFault.{run_fault_number, run_fault_name};
 
 use thiserror::Error;
 
@@ -11,6 +11,10 @@ pub enum RunFault {
     NotJson,
     #[error("a field of the run file is missing, unknown or out of its range")]
     BadField,
+    #[error("no key has the scan code of an entry of `keys`")]
+    BadScan,
+    #[error("an entry of `keys` is stamped before the one that it follows")]
+    StampsFall,
     #[error("the budget lies above 2^40 clocks")]
     BudgetTooLarge,
     #[error("out of memory")]
@@ -25,6 +29,8 @@ impl RunFault {
         match self {
             RunFault::NotJson => 31,
             RunFault::BadField => 32,
+            RunFault::BadScan => 33,
+            RunFault::StampsFall => 34,
             RunFault::BudgetTooLarge => 35,
             RunFault::Memory => 37,
         }
@@ -37,6 +43,8 @@ impl RunFault {
         match self {
             RunFault::NotJson => "NotJson",
             RunFault::BadField => "BadField",
+            RunFault::BadScan => "BadScan",
+            RunFault::StampsFall => "StampsFall",
             RunFault::BudgetTooLarge => "BudgetTooLarge",
             RunFault::Memory => "Memory",
         }

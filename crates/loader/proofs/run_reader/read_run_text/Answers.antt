@@ -1,9 +1,9 @@
 use Rattle.std.proofs.Common.{rules, ◌≡◌, Some, IsUtf8}
 use Rattle.serde_json.specs.Read.{read}
 use Rattle.serde_json.specs.View.{view}
-use Rattle.pcboard_runfile.specs.RunFile.{run_of_text}
-use Rattle.pcboard_runfile.proofs.Fields.{value_read}
-use Rattle.pcboard_runfile.proofs.reader.read_run_text.Goals as goal
+use Rattle.loader.specs.RunFile.{run_of_text}
+use Rattle.loader.proofs.Fields.{value_read}
+use Rattle.loader.proofs.run_reader.read_run_text.Goals as goal
 
 pub returns-in-Ok : goal.returns-in-Ok
 unfolding run_of_text
