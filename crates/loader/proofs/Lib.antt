@@ -1,3 +1,4 @@
 pub mod Entries
 pub mod Fields
 pub mod Rows
+pub mod Scanning

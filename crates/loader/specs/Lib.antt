@@ -1,2 +1,7 @@
+pub mod HexFault
+pub mod Lines
+pub mod Reading
+pub mod RecordViews
+pub mod Records
 pub mod RunFault
 pub mod RunFile
