@@ -1,4 +1,5 @@
 pub mod HexFault
+pub mod HexText
 pub mod Lines
 pub mod Reading
 pub mod RecordViews

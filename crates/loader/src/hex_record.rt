@@ -85,7 +85,7 @@ pub(crate) fn record_in(bytes: &[u8]) -> Result<Record<'_>, LineFault>
     record_of_type(bytes[3], offset, &bytes[4..][..usize::from(bytes[0])])
 }
 
-fn sum(bytes: &[u8]) -> u32
+pub(crate) fn sum(bytes: &[u8]) -> u32
     requires { length bytes.now < 2 ^ 16 }
     ensures { result ≡ sum bytes.now }
 {
