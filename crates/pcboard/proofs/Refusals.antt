@@ -2,7 +2,7 @@
 use Rattle.std.proofs.Common.{ℕ, List}
 use Rattle.board.specs.declared.board.BoardFault.{BoardFault}
 use Rattle.board.specs.declared.board.BoardFault.TheVariants.{RamSize, Memory, ClockLimit}
-use Rattle.pcboard_runfile.specs.declared.run_file.RunFile.{RunFile}
+use Rattle.loader.specs.declared.run_file.RunFile.{RunFile}
 use Rattle.pcboard.specs.declared.fault.Fault.TheVariants.{Board}
 use Rattle.pcboard.specs.Report.{FitsBoard}
 use Rattle.pcboard.specs.Faults.{IsTrueOfBoard, IsWantOfMemory}

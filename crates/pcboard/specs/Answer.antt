@@ -2,10 +2,10 @@
 use Rattle.std.specs.Prelude.{ℕ, ◌≡◌, ◌+◌, ◌==◌, List, [], take, drop, Option, None, Some, Ok, Err, position}
 use Rattle.pcboard_assembler.specs.Gives.{Gives}
 use Rattle.pcboard_assembler.specs.FirstFault.{IsFirst}
-use Rattle.pcboard_runfile.specs.declared.run_file.RunFile.{RunFile}
-use Rattle.pcboard_runfile.specs.declared.fault.RunFault.{RunFault}
-use Rattle.pcboard_runfile.specs.declared.fault.RunFault.TheVariants as runs
-use Rattle.pcboard_runfile.specs.RunFile.{Answers, run_of_text}
+use Rattle.loader.specs.declared.run_file.RunFile.{RunFile}
+use Rattle.loader.specs.declared.run_fault.RunFault.{RunFault}
+use Rattle.loader.specs.declared.run_fault.RunFault.TheVariants as runs
+use Rattle.loader.specs.RunFile.{Answers, run_of_text}
 use Rattle.pcboard.specs.declared.fault.Fault.{Fault}
 use Rattle.pcboard.specs.declared.fault.Fault.TheVariants.{Source, Run, Board}
 use Rattle.pcboard.specs.declared.report.Report.{Report}

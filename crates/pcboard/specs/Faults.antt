@@ -4,10 +4,10 @@ use Rattle.std.specs.Fmt.{decimal}
 use Rattle.pcboard_assembler.specs.declared.fault.AsmFault.{AsmFault}
 use Rattle.pcboard_assembler.specs.Gives.{Gives}
 use Rattle.pcboard_assembler.specs.FirstFault.{IsFirst, fault_number, fault_name, fault_line}
-use Rattle.pcboard_runfile.specs.declared.run_file.RunFile.{RunFile}
-use Rattle.pcboard_runfile.specs.Fault.{run_fault_number, run_fault_name}
+use Rattle.loader.specs.declared.run_file.RunFile.{RunFile}
+use Rattle.loader.specs.RunFault.{run_fault_number, run_fault_name}
 use Rattle.pcboard_assembler.specs.declared.fault.AsmFault.TheVariants as asm
-use Rattle.pcboard_runfile.specs.declared.fault.RunFault.TheVariants as runs
+use Rattle.loader.specs.declared.run_fault.RunFault.TheVariants as runs
 use Rattle.board.specs.declared.board.BoardFault.TheVariants as boards
 use Rattle.board.specs.declared.board.BoardFault.{BoardFault}
 use Rattle.board.specs.Board.{board_fault_number, board_fault_name}
@@ -46,6 +46,8 @@ IsWantOfMemory (Source asm.SourceTooLong) = ⊥
 IsWantOfMemory (Run runs.Memory) = Unit {0}
 IsWantOfMemory (Run runs.NotJson) = ⊥
 IsWantOfMemory (Run runs.BadField) = ⊥
+IsWantOfMemory (Run runs.BadScan) = ⊥
+IsWantOfMemory (Run runs.StampsFall) = ⊥
 IsWantOfMemory (Run runs.BudgetTooLarge) = ⊥
 IsWantOfMemory (Board boards.Memory) = Unit {0}
 IsWantOfMemory (Board boards.RamSize) = ⊥

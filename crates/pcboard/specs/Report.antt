@@ -7,7 +7,7 @@ use Rattle.board_types.specs.declared.keys.StampedKey.{StampedKey}
 use Rattle.board.specs.declared.board.Config.{Config}
 use Rattle.board.specs.Plain.{Plain, board_after, byte_of, changes_in, clock_of, power_on, registers_of, screen_of, state_of}
 use Rattle.pcboard_assembler.specs.Gives.{Gives}
-use Rattle.pcboard_runfile.specs.declared.run_file.RunFile.{RunFile}
+use Rattle.loader.specs.declared.run_file.RunFile.{RunFile}
 use Rattle.pcboard.specs.declared.report.Report.{Report}
 use Rattle.pcboard.specs.ReportText.{report_text}
 

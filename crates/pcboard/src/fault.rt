@@ -5,7 +5,7 @@ ghost use Rattle.pcboard.specs.Faults.{fault_text, line_of, line_suffix, name_of
 
 use board::board::BoardFault;
 use pcboard_assembler::fault::AsmFault;
-use pcboard_runfile::fault::RunFault;
+use loader::run_fault::RunFault;
 use std::alloc::{AllocError, Global};
 
 /// A refusal, by the part that refuses.

@@ -10,7 +10,7 @@ use board_types::clock::Clock;
 use board_types::keys::Keys;
 use board_types::regs::Regs;
 use board_types::state::State;
-use pcboard_runfile::run_file::RunFile;
+use loader::run_file::RunFile;
 use std::alloc::Global;
 use std::io;
 use std::io::{Read, Write};

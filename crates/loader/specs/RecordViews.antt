@@ -1,0 +1,36 @@
+-- How the definitions see the records and errors of the code.
+use Rattle.std.specs.Prelude.{◌≡◌, ◌<◌, Bool, false, length, Result, Ok, Err}
+use Rattle.loader.specs.declared.hex_fault.LineFault.TheVariants.{NotLoadable}
+use Rattle.loader.specs.declared.hex_fault.LineFault.{LineFault}
+use Rattle.loader.specs.declared.hex_record.Record.{Record}
+use Rattle.loader.specs.declared.hex_record.Record.TheVariants.{Bytes, End, Base, Start}
+use Rattle.loader.specs.declared.hex_record.LineError.{LineError}
+use Rattle.loader.specs.declared.hex_record.LineError.TheVariants.{Fault, Memory}
+use Rattle.loader.specs.Records.{HexRecord, bytes_at, end_of_file, base_at, start_at}
+
+abbrev pub seen : Record → HexRecord
+seen (Bytes offset bytes) = bytes_at offset bytes.now
+seen End = end_of_file
+seen (Base base) = base_at base
+seen Start = start_at
+
+abbrev pub seen_in : Result Record LineFault → Result HexRecord LineFault
+seen_in (Ok record') = Ok (seen record')
+seen_in (Err fault) = Err fault
+
+-- the error is the fault that was meant, or the want of memory
+abbrev pub Refuses : {A : Type 0} → LineError → Result A LineFault → Type 0
+Refuses Memory meant = Unit {0}
+Refuses (Fault fault) meant = meant ≡ Err fault
+
+-- bytes are refused where the board can't be loaded with all of them, or for want of memory
+abbrev pub RefusesBytes : LineError → Bool → Type 0
+RefusesBytes Memory loadable = Unit {0}
+RefusesBytes (Fault fault) loadable = (fault ≡ NotLoadable) × (loadable ≡ false)
+
+-- a record has at most 255 bytes of data
+abbrev pub IsSmall : HexRecord → Type 0
+IsSmall (bytes_at offset content) = length content < 256
+IsSmall end_of_file = Unit {0}
+IsSmall (base_at base) = Unit {0}
+IsSmall start_at = Unit {0}

@@ -1,0 +1,132 @@
+-- A run file is a JSON object (RFC 8259) with the fields version, ram, sw1, sw2, budget and keys, all of
+-- them and no others. Its rules are this board's choice.
+use Rattle.std.specs.Prelude.{◌≡◌, ℕ, ◌^◌, Bool, true, ◌&&◌, false, ◌||◌, if◌then◌else◌, nat_le, nat_lt, List, [], ◌∷◌, map, codes, Option, None, Some, option_and_then, Result, Ok, Err}
+use Rattle.std.specs.Option.{option_map_or}
+use Rattle.std.specs.Str.{bytes_eq, is_utf8}
+use Rattle.serde_json.specs.Data.{Data, object, Items, no_items, item, Members, no_members, member}
+use Rattle.serde_json.specs.Find.{get, as_number, as_u64, as_array}
+use Rattle.serde_json.specs.Read.{read}
+use Rattle.board_types.specs.Keys.{names_key}
+use Rattle.board_types.specs.declared.keys.StampedKey.{StampedKey}
+use Rattle.loader.specs.declared.run_fault.RunFault.{RunFault}
+use Rattle.loader.specs.declared.run_fault.RunFault.TheVariants.{NotJson, BadField, BadScan, StampsFall, BudgetTooLarge, Memory}
+use Rattle.loader.specs.declared.run_file.RunFile.{RunFile}
+use Rattle.loader.specs.declared.run_file.KeyEntry.{KeyEntry}
+
+unfoldable pub is_field : List ℕ → Bool
+is_field name =
+    bytes_eq name (codes "version") || bytes_eq name (codes "ram") || bytes_eq name (codes "sw1")
+    || bytes_eq name (codes "sw2") || bytes_eq name (codes "budget") || bytes_eq name (codes "keys")
+
+unfoldable pub are_fields : Members → Bool
+are_fields no_members = true
+are_fields (member name value others) = is_field name && are_fields others
+
+-- an object in which each name is a field's
+unfoldable pub has_only_fields : Data → Bool
+has_only_fields (object members) = are_fields members
+has_only_fields _ = false
+
+-- the number, where `Value` holds it as a u64
+abbrev pub u64_of : Data → Option ℕ
+u64_of d = option_and_then as_u64 (as_number d)
+
+unfoldable pub number_of : List ℕ → Data → Option ℕ
+number_of name d = option_and_then as_u64 (option_and_then as_number (get name d))
+
+-- the number of a field, where it is one from `least` to `most`
+unfoldable pub number_within : ℕ → ℕ → List ℕ → Data → Option ℕ
+number_within least most name d =
+    option_and_then (λ n. if nat_le least n && nat_le n most then Some n else None) (number_of name d)
+
+-- a key as it is written, its stamp being a clock
+abbrev pub entry_from : Option ℕ → Option ℕ → Option KeyEntry
+entry_from (Some stamp) (Some code) = if nat_le stamp (2 ^ 40) then Some (record { stamp = stamp; code = code }) else None
+entry_from _ _ = None
+
+abbrev pub pair_of : Items → Option KeyEntry
+pair_of (item stamp (item code no_items)) = entry_from (u64_of stamp) (u64_of code)
+pair_of _ = None
+
+-- `[stamp, code]`, of two numbers and no more
+unfoldable pub entry_of : Data → Option KeyEntry
+entry_of d = option_and_then pair_of (as_array d)
+
+abbrev pub with_first : Option KeyEntry → Option (List KeyEntry) → Option (List KeyEntry)
+with_first (Some entry) (Some others) = Some (entry ∷ others)
+with_first _ _ = None
+
+abbrev pub entries_of : Items → Option (List KeyEntry)
+entries_of no_items = Some []
+entries_of (item value others) = with_first (entry_of value) (entries_of others)
+
+-- the keys of a field, a list of such pairs
+unfoldable pub entries_in : Option Data → Option (List KeyEntry)
+entries_in field = option_and_then entries_of (option_and_then as_array field)
+
+-- why a key isn't taken after one that is stamped `before`: 33 before 34
+abbrev pub entry_fault : ℕ → KeyEntry → Option RunFault
+entry_fault before entry =
+    if names_key entry.code then (if nat_lt entry.stamp before then Some StampsFall else None) else Some BadScan
+
+abbrev pub or_else : Option RunFault → Option RunFault → Option RunFault
+or_else (Some fault) later = Some fault
+or_else None later = later
+
+-- the fault of the first key that isn't taken
+abbrev pub keys_fault : ℕ → List KeyEntry → Option RunFault
+keys_fault before [] = None
+keys_fault before (entry ∷ others) = or_else (entry_fault before entry) (keys_fault entry.stamp others)
+
+abbrev pub key_of : KeyEntry → StampedKey
+key_of entry = record { stamp = entry.stamp; code = entry.code }
+
+abbrev pub unless : {A : Type 0} → Option RunFault → A → Result A RunFault
+unless None value = Ok value
+unless (Some fault) value = Err fault
+
+-- the stamped key codes, or the first key's fault
+unfoldable pub keys_of : List KeyEntry → Result (List StampedKey) RunFault
+keys_of entries = unless (keys_fault 0 entries) (map key_of entries)
+
+abbrev pub with_keys : ℕ → ℕ → ℕ → ℕ → Result (List StampedKey) RunFault → Result RunFile RunFault
+with_keys ram sw1 sw2 budget (Ok keys) = Ok (record { ram_kb = ram; sw1 = sw1; sw2 = sw2; budget = budget; keys = keys })
+with_keys ram sw1 sw2 budget (Err fault) = Err fault
+
+-- what fields that are all good come to: 35 before the faults of the keys
+abbrev pub judged : Option ℕ → Option ℕ → Option ℕ → Option ℕ → Option ℕ → Option (List KeyEntry) → Result RunFile RunFault
+judged (Some version) (Some ram) (Some sw1) (Some sw2) (Some budget) (Some entries) =
+    if nat_le budget (2 ^ 40) then with_keys ram sw1 sw2 budget (keys_of entries) else Err BudgetTooLarge
+judged _ _ _ _ _ _ = Err BadField
+
+-- what a value says as a run file, or the first fault: 32 before 35
+unfoldable pub run_of : Data → Result RunFile RunFault
+run_of d =
+    if has_only_fields d then judged (number_within 1 1 (codes "version") d) (number_within 0 65535 (codes "ram") d)
+    (number_within 0 255 (codes "sw1") d) (number_within 0 31 (codes "sw2") d)
+    (number_of (codes "budget") d) (entries_in (get (codes "keys") d))
+    else Err BadField
+
+-- the value of a text, where it is JSON in UTF-8 that `serde_json` takes
+unfoldable pub value_of : List ℕ → Option Data
+value_of text = if is_utf8 text then read text else None
+
+-- what a text says as a run file, or the first fault: 31 before those of its value
+unfoldable pub run_of_text : List ℕ → Result RunFile RunFault
+run_of_text text = option_map_or run_of (value_of text) (Err NotJson)
+
+-- the answer is the one that is meant, but for want of memory
+abbrev pub Answers : {A : Type 0} → Result A RunFault → Result A RunFault → Type 0
+Answers (Err Memory) meant = Unit {0}
+Answers answer meant = answer ≡ meant
+
+-- a field isn't a list of keys, or there was no memory
+abbrev pub IsBadList : RunFault → Option (List KeyEntry) → Type 0
+IsBadList BadField found = found ≡ None
+IsBadList Memory found = Unit {0}
+IsBadList _ found = ⊥
+
+-- the fault is the one that was found, or the want of memory
+abbrev pub FaultAnswer : RunFault → Option RunFault → Type 0
+FaultAnswer Memory found = Unit {0}
+FaultAnswer fault found = found ≡ Some fault

@@ -1,0 +1,92 @@
+//! Why a HEX text is refused, or isn't written.
+ghost use Rattle.std.specs.Prelude.{◌≡◌};
+ghost use Rattle.loader.specs.HexFault.{hex_fault_line, hex_fault_name, hex_fault_number, line_fault_name, line_fault_number};
+
+use thiserror::Error;
+
+/// What is wrong with a line of a HEX text.
+#[derive(Clone, Copy, Debug, PartialEq, Eq, Drop, Error)]
+pub enum LineFault {
+    #[error("the line isn't a record")]
+    BadRecord,
+    #[error("the record's bytes don't add to 0")]
+    BadSum,
+    #[error("no record has this type")]
+    BadType,
+    #[error("the line follows the end record")]
+    AfterEnd,
+    #[error("the board can't be loaded at this address")]
+    NotLoadable,
+}
+
+impl LineFault {
+    fn number(self) -> u8
+        ensures { result ≡ line_fault_number self }
+    {
+        match self {
+            LineFault::BadRecord => 21,
+            LineFault::BadSum => 22,
+            LineFault::BadType => 23,
+            LineFault::AfterEnd => 25,
+            LineFault::NotLoadable => 26,
+        }
+    }
+
+    fn name(self) -> &'static str
+        ensures { result.now ≡ line_fault_name self }
+    {
+        match self {
+            LineFault::BadRecord => "BadRecord",
+            LineFault::BadSum => "BadSum",
+            LineFault::BadType => "BadType",
+            LineFault::AfterEnd => "AfterEnd",
+            LineFault::NotLoadable => "NotLoadable",
+        }
+    }
+}
+
+/// Why a HEX text isn't taken.
+#[derive(Clone, Copy, Debug, PartialEq, Eq, Drop, Error)]
+pub enum HexFault {
+    /// The first bad line, by its number from 1 on.
+    #[error("line {1}: {0}")]
+    InLine(LineFault, u64),
+    #[error("there is no end record")]
+    NoEnd,
+    #[error("out of memory")]
+    Memory,
+}
+
+impl HexFault {
+    /// The fault's number.
+    pub fn number(self) -> u8
+        ensures { result ≡ hex_fault_number self }
+    {
+        match self {
+            HexFault::InLine(fault, _) => fault.number(),
+            HexFault::NoEnd => 24,
+            HexFault::Memory => 27,
+        }
+    }
+
+    /// The fault's name, as it is printed.
+    pub fn name(self) -> &'static str
+        ensures { result.now ≡ hex_fault_name self }
+    {
+        match self {
+            HexFault::InLine(fault, _) => fault.name(),
+            HexFault::NoEnd => "NoEnd",
+            HexFault::Memory => "Memory",
+        }
+    }
+
+    /// The line of the text, from 1 on, where the fault has one.
+    pub fn line(self) -> Option<u64>
+        ensures { result ≡ hex_fault_line self }
+    {
+        match self {
+            HexFault::InLine(_, line) => Some(line),
+            HexFault::NoEnd | HexFault::Memory => None,
+        }
+    }
+}

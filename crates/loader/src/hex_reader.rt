@@ -1,0 +1,123 @@
+//! Reading HEX texts.
+ghost use Rattle.std.specs.Prelude.{◌≡◌, ◌+◌, ◌<◌, ◌^◌, IfErr, IfOk, Ok, OnOk, length, true};
+ghost use Rattle.loader.specs.Records.{are_loadable, is_loadable, placed, record_of, with_bytes};
+ghost use Rattle.loader.specs.RecordViews.{IsSmall, Refuses, RefusesBytes, seen};
+ghost use Rattle.loader.specs.Reading.{Fails, after_end, after_line, after_record, image_of, standing};
+ghost use Rattle.std.specs.BTreeMap.{insert_entry};
+ghost use Rattle.std.specs.Ordering.{nat_cmp};
+ghost use Rattle.loader.specs.Lines.{text_lines};
+
+use crate::hex_fault::{HexFault, LineFault};
+use crate::hex_record::{Base, LineError, Record, record_bytes, record_in};
+use crate::text_lines::{next_line, without_spaces};
+use board_types::image::{Image, is_loadable};
+use std::alloc::Global;
+
+/// The image that a HEX text gives, or its first fault.
+#[tactic(auto, unfolding(crate::specs::Reading::image_of))]
+pub fn read_hex(alloc: Global, text: &[u8]) -> Result<Image, HexFault>
+    ensures image { IfOk result (λ image. image_of text.now ≡ Ok image) }
+    ensures fault { IfErr result (λ fault. Fails fault (image_of text.now)) }
+{
+    let mut image = Image::new(alloc);
+    let mut base = Base::Segment(0);
+    let mut number = 0;
+    let mut rest = text;
+    while let Some((line, after)) = next_line(rest) {
+        number += 1;
+        rest = after;
+        match read_line(alloc, &mut image, base, without_spaces(line)) {
+            Ok(Some(next)) => base = next,
+            Ok(None) => return ended(image, number, rest),
+            Err(LineError::Fault(fault)) => return Err(HexFault::InLine(fault, number)),
+            Err(LineError::Memory) => return Err(HexFault::Memory),
+        }
+    }
+    Err(HexFault::NoEnd)
+}
+
+/// The image, where all lines behind the end record are blank.
+fn ended(image: Image, number: u64, text: &[u8]) -> Result<Image, HexFault>
+    requires { number + length text.now < 2 ^ 64 }
+    ensures image { IfOk result (λ given. after_end number image (text_lines text.now) ≡ Ok given) }
+    ensures fault { IfErr result (λ fault. Fails fault (after_end number image (text_lines text.now))) }
+{
+    let mut number = number;
+    let mut rest = text;
+    while let Some((line, after)) = next_line(rest) {
+        number += 1;
+        rest = after;
+        if !without_spaces(line).is_empty() {
+            return Err(HexFault::InLine(LineFault::AfterEnd, number));
+        }
+    }
+    Ok(image)
+}
+
+/// Takes a line, without the spaces at its end, and answers the base behind it; none behind the end record.
+#[tactic(auto, unfolding(crate::specs::Reading::after_line, crate::specs::Records::record_of))]
+fn read_line(
+    alloc: Global,
+    image: &mut Image,
+    base: Base,
+    line: &[u8],
+) -> Result<Option<Base>, LineError>
+    ensures ok { IfOk result (λ next. after_line base image.old line.now ≡ Ok (standing next image.new)) }
+    ensures err { IfErr result (λ error. Refuses error (after_line base image.old line.now)) }
+{
+    if line.is_empty() {
+        return Ok(Some(base));
+    }
+    let bytes = record_bytes(alloc, line)?;
+    match record_in(bytes.as_slice()) {
+        Ok(found) => take_record(image, base, found),
+        Err(fault) => Err(LineError::Fault(fault)),
+    }
+}
+
+/// Takes a record, and answers the base behind it.
+fn take_record(image: &mut Image, base: Base, found: Record<'_>) -> Result<Option<Base>, LineError>
+    requires { IsSmall (seen found) }
+    ensures ok { IfOk result (λ next. after_record base image.old (seen found.entry) ≡ Ok (standing next image.new)) }
+    ensures err { IfErr result (λ error. Refuses error (after_record base image.old (seen found.entry))) }
+{
+    match found {
+        Record::Bytes { offset, bytes } => {
+            put_bytes(image, base, offset, bytes)?;
+            Ok(Some(base))
+        }
+        Record::End => Ok(None),
+        Record::Base(next) => Ok(Some(next)),
+        Record::Start => Ok(Some(base)),
+    }
+}
+
+/// Puts bytes from an offset on.
+fn put_bytes(image: &mut Image, base: Base, offset: u16, bytes: &[u8]) -> Result<(), LineError>
+    requires { length bytes.now < 2 ^ 16 }
+    ensures loadable { OnOk result (are_loadable (placed base offset bytes.now) ≡ true) }
+    ensures placed { OnOk result (image.new ≡ with_bytes image.old (placed base offset bytes.now)) }
+    ensures refused { IfErr result (λ error. RefusesBytes error (are_loadable (placed base offset bytes.now))) }
+{
+    let mut at = u64::from(offset);
+    for byte in bytes {
+        put_byte(image, base.address(at), *byte)?;
+        at += 1;
+    }
+    Ok(())
+}
+
+/// Puts a byte, where the board can be loaded with it.
+fn put_byte(image: &mut Image, address: u64, byte: u8) -> Result<(), LineError>
+    ensures loadable { OnOk result (is_loadable address ≡ true) }
+    ensures put { OnOk result (image.new ≡ insert_entry nat_cmp image.old address byte) }
+    ensures refused { IfErr result (λ error. RefusesBytes error (is_loadable address)) }
+{
+    match u32::try_from(address) {
+        Ok(address) if is_loadable(address) => match image.put(address, byte) {
+            Ok(()) => Ok(()),
+            Err(_) => Err(LineError::Memory),
+        },
+        _ => Err(LineError::Fault(LineFault::NotLoadable)),
+    }
+}

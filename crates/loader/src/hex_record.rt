@@ -1,0 +1,136 @@
+//! The records of a HEX text.
+ghost use Rattle.std.specs.Prelude.{◌≡◌, ◌<◌, ◌^◌, IfErr, IfOk, IsTrue, Ok, length, sum};
+ghost use Rattle.loader.specs.Records.{address_in, is_whole, number_of_two, record_bytes, record_in, record_of_type, sized};
+ghost use Rattle.loader.specs.RecordViews.{IsSmall, Refuses, seen, seen_in};
+
+use crate::hex_fault::LineFault;
+use std::alloc::Global;
+
+/// What the offsets of data records count from.
+#[derive(Clone, Copy)]
+pub enum Base {
+    /// A paragraph of 16 bytes: offsets wrap within 65,536 bytes.
+    Segment(u16),
+    /// The upper 16 of 32 address bits.
+    Linear(u16),
+}
+
+impl Base {
+    /// The address of an offset.
+    pub(crate) fn address(self, offset: u64) -> u64
+        requires { offset < 2 ^ 32 }
+        ensures { result ≡ address_in self offset }
+    {
+        match self {
+            Base::Segment(paragraph) => (16 * u64::from(paragraph) + offset % 65_536) % (1 << 20),
+            Base::Linear(high) => 65_536 * u64::from(high) + offset,
+        }
+    }
+}
+
+/// A record of a HEX text.
+#[derive(Clone, Copy)]
+pub enum Record<'a> {
+    /// Bytes from a load offset on.
+    Bytes { offset: u16, bytes: &'a [u8] },
+    /// The end of the text.
+    End,
+    /// The base of the offsets that follow.
+    Base(Base),
+    /// Where a program starts; nothing is loaded.
+    Start,
+}
+
+/// Why a line isn't read.
+#[derive(Clone, Copy, Drop)]
+pub enum LineError {
+    Fault(LineFault),
+    Memory,
+}
+
+/// The bytes that a line spells behind its colon, all of a record.
+pub(crate) fn record_bytes(alloc: Global, line: &[u8]) -> Result<Vec<u8>, LineError>
+    ensures found { IfOk result (λ bytes. record_bytes line.now ≡ Ok bytes.items) }
+    ensures whole { IfOk result (λ bytes. IsTrue (is_whole bytes.items)) }
+    ensures refused { IfErr result (λ error. Refuses error (record_bytes line.now)) }
+{
+    let [b':', digits @ ..] = line else {
+        return Err(LineError::Fault(LineFault::BadRecord));
+    };
+    match hex::decode(alloc, digits) {
+        Ok(bytes) if is_whole(bytes.as_slice()) => Ok(bytes),
+        Err(hex::FromHexError::OutOfMemory) => Err(LineError::Memory),
+        _ => Err(LineError::Fault(LineFault::BadRecord)),
+    }
+}
+
+/// Whether these are as many bytes as the first one asks for.
+fn is_whole(bytes: &[u8]) -> bool
+    ensures { result ≡ is_whole bytes.now }
+{
+    !bytes.is_empty() && bytes.len() == usize::from(bytes[0]) + 5
+}
+
+/// The record of these bytes.
+#[tactic(auto, unfolding(crate::specs::Records::record_in))]
+pub(crate) fn record_in(bytes: &[u8]) -> Result<Record<'_>, LineFault>
+    requires { IsTrue (is_whole bytes.now) }
+    ensures found { seen_in result ≡ record_in bytes.now }
+    ensures small { IfOk result (λ found. IsSmall (seen found)) }
+{
+    if sum(bytes) % 256 != 0 {
+        return Err(LineFault::BadSum);
+    }
+    let offset = number_of_two(bytes[1], bytes[2]);
+    record_of_type(bytes[3], offset, &bytes[4..][..usize::from(bytes[0])])
+}
+
+pub(crate) fn sum(bytes: &[u8]) -> u32
+    requires { length bytes.now < 2 ^ 16 }
+    ensures { result ≡ sum bytes.now }
+{
+    bytes.iter().map(|byte| u32::from(*byte)).sum()
+}
+
+fn number_of_two(high: u8, low: u8) -> u16
+    ensures { result ≡ number_of_two high low }
+{
+    256 * u16::from(high) + u16::from(low)
+}
+
+/// The record of this type.
+#[tactic(auto, unfolding(crate::specs::Records::record_of_type))]
+fn record_of_type(kind: u8, offset: u16, content: &[u8]) -> Result<Record<'_>, LineFault>
+    requires { length content.now < 256 }
+    ensures found { seen_in result ≡ record_of_type kind offset content.now }
+    ensures small { IfOk result (λ found. IsSmall (seen found)) }
+{
+    match kind {
+        0 => Ok(Record::Bytes {
+            offset,
+            bytes: content,
+        }),
+        1 => sized(0, content, Record::End),
+        2 if content.len() == 2 => Ok(Record::Base(Base::Segment(number_of_two(
+            content[0], content[1],
+        )))),
+        4 if content.len() == 2 => Ok(Record::Base(Base::Linear(number_of_two(
+            content[0], content[1],
+        )))),
+        3 | 5 => sized(4, content, Record::Start),
+        2 | 4 => Err(LineFault::BadRecord),
+        _ => Err(LineFault::BadType),
+    }
+}
+
+fn sized<'a>(size: usize, content: &[u8], found: Record<'a>) -> Result<Record<'a>, LineFault>
+    requires { IsSmall (seen found) }
+    ensures found { seen_in result ≡ sized size content.now (seen found.entry) }
+    ensures small { IfOk result (λ given. IsSmall (seen given)) }
+{
+    if content.len() == size {
+        Ok(found)
+    } else {
+        Err(LineFault::BadRecord)
+    }
+}

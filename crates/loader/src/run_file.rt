@@ -1,0 +1,27 @@
+//! What a run file says.
+use board_types::clock::Clock;
+use board_types::keys::Keys;
+
+/// How a board is run.
+#[derive(Drop)]
+pub struct RunFile {
+    /// The size of the RAM in units of 1,024 bytes.
+    pub ram_kb: u16,
+    /// The first switch block, of eight switches.
+    pub sw1: u8,
+    /// The five switches of the second block that port C reads.
+    pub sw2: u8,
+    /// How many processor clocks the board runs, from power-on.
+    pub budget: Clock,
+    /// The key codes that reach the keyboard, each with its clock.
+    pub keys: Keys,
+}
+
+/// A key as a run file writes it, `[stamp, code]`.
+#[derive(Clone, Copy)]
+pub struct KeyEntry {
+    /// The clock at which the code reaches the keyboard.
+    pub stamp: Clock,
+    /// Any number; whether a key has it as its scan code is judged later.
+    pub code: u64,
+}

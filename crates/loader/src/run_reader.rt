@@ -1,0 +1,198 @@
+//! Reading run files.
+ghost use Rattle.std.specs.Prelude.{◌≡◌, ◌≤◌, ◌++◌, ◌∷◌, [], map, IfOk, string_bytes, None, Some, OnOk};
+ghost use Rattle.std.specs.BTreeMap.{keys};
+ghost use Rattle.std.specs.List.{list_all};
+ghost use Rattle.std.specs.Result.{IfErr};
+ghost use Rattle.board_types.specs.Keys.{last_stamp};
+ghost use Rattle.std.specs.Option.{ok_or, option_map};
+ghost use Rattle.serde_json.specs.View.{view, items_view};
+ghost use Rattle.loader.specs.RunFile.{Answers, FaultAnswer, IsBadList, entries_in, entries_of, entry_fault, entry_from, entry_of, has_only_fields, is_field, key_of, keys_of, number_of, number_within, pair_of, run_of, run_of_text, u64_of};
+
+use crate::run_fault::RunFault;
+use crate::run_file::{KeyEntry, RunFile};
+use board_types::clock::Clock;
+use board_types::keys::{KeyFault, Keys};
+use serde_json::{Map, Value};
+use std::alloc::Global;
+
+/// Reads the JSON value of a run file: an object with the fields `version` (1), `ram` (0 to 65,535), `sw1`
+/// (0 to 255), `sw2` (0 to 31), `budget` and `keys` (a list of `[stamp, code]`), all of them and no others.
+/// Refused as `BadField` where a field is missing, unknown, of another kind or out of its range, or a stamp
+/// is above 2^40; else as `BudgetTooLarge` where the budget is above 2^40; else by the first key that isn't
+/// taken, as `BadScan` where no key has its code or else `StampsFall` where the key before has a later stamp.
+/// `Memory` may come in place of any answer.
+#[tactic(auto, unfolding(crate::specs::RunFile::run_of))]
+pub fn read_run(alloc: Global, value: &Value) -> Result<RunFile, RunFault>
+    ensures meant { Answers result (run_of (view value.now)) }
+{
+    if !has_only_fields(value) {
+        return Err(RunFault::BadField);
+    }
+    number_within(value, "version", 1, 1)?;
+    let ram_kb = number_within(value, "ram", 0, u16::MAX as u64)? as u16;
+    let sw1 = number_within(value, "sw1", 0, u8::MAX as u64)? as u8;
+    let sw2 = number_within(value, "sw2", 0, 31)? as u8;
+    let budget = number(value, "budget").ok_or(RunFault::BadField)?;
+    let entries = entries_in(alloc, value.get("keys"))?;
+    let budget = Clock::new(budget).ok_or(RunFault::BudgetTooLarge)?;
+    let keys = keys_of(alloc, entries.as_slice())?;
+    Ok(RunFile {
+        ram_kb,
+        sw1,
+        sw2,
+        budget,
+        keys,
+    })
+}
+
+/// Reads the text of a run file. Refused as `NotJson` where the text isn't UTF-8 or `serde_json` reads no
+/// value from it, else as `read_run` refuses its value.
+#[tactic(auto, using(crate::proofs::Fields::value_refused), unfolding(crate::specs::RunFile::run_of_text))]
+pub fn read_run_text(alloc: Global, text: &[u8]) -> Result<RunFile, RunFault>
+    ensures meant { Answers result (run_of_text text.now) }
+{
+    match Value::from_slice(alloc, text) {
+        Ok(value) => read_run(alloc, &value),
+        Err(error) if error.is_memory() => Err(RunFault::Memory),
+        Err(_) => Err(RunFault::NotJson),
+    }
+}
+
+#[tactic(auto, unfolding(crate::specs::RunFile::has_only_fields), using(crate::proofs::Fields::are_fields_view))]
+fn has_only_fields(value: &Value) -> bool
+    ensures { result ≡ has_only_fields (view value.now) }
+{
+    match value.as_object() {
+        Some(members) => are_fields(members),
+        None => false,
+    }
+}
+
+fn are_fields(members: &Map<String, Value>) -> bool
+    ensures { result ≡ list_all (λ name. is_field (string_bytes name)) (keys members.now) }
+{
+    members.keys().all(|name| is_field(name.as_str()))
+}
+
+#[tactic(auto, unfolding(crate::specs::RunFile::is_field))]
+fn is_field(name: &str) -> bool
+    ensures { result ≡ is_field name.now }
+{
+    name == "version"
+        || name == "ram"
+        || name == "sw1"
+        || name == "sw2"
+        || name == "budget"
+        || name == "keys"
+}
+
+/// The keys as the field `keys` writes them.
+#[tactic(auto, unfolding(crate::specs::RunFile::entries_in))]
+fn entries_in(alloc: Global, field: Option<&Value>) -> Result<Vec<KeyEntry>, RunFault>
+    ensures found { IfOk result (λ entries. entries_in (option_map (λ value. view value.now) field.entry) ≡ Some entries.items) }
+    ensures refused { IfErr result (λ fault. IsBadList fault (entries_in (option_map (λ value. view value.now) field.entry))) }
+{
+    match field.and_then(Value::as_array) {
+        Some(values) => entries_of(alloc, values.as_slice()),
+        None => Err(RunFault::BadField),
+    }
+}
+
+fn entries_of(alloc: Global, values: &[Value]) -> Result<Vec<KeyEntry>, RunFault>
+    ensures found { IfOk result (λ entries. entries_of (items_view values.now) ≡ Some entries.items) }
+    ensures refused { IfErr result (λ fault. IsBadList fault (entries_of (items_view values.now))) }
+{
+    let mut entries = Vec::new(alloc);
+    for value in values {
+        match entry_of(value) {
+            Some(entry) => push_entry(&mut entries, entry)?,
+            None => return Err(RunFault::BadField),
+        }
+    }
+    Ok(entries)
+}
+
+fn push_entry(entries: &mut Vec<KeyEntry>, entry: KeyEntry) -> Result<(), RunFault>
+    ensures pushed { OnOk result (entries.new.items ≡ entries.old.items ++ entry ∷ []) }
+    ensures err { IfErr result (λ fault. fault ≡ RunFault.Memory) }
+{
+    match entries.push(entry) {
+        Ok(_) => Ok(()),
+        Err(_) => Err(RunFault::Memory),
+    }
+}
+
+#[tactic(auto, unfolding(crate::specs::RunFile::entry_of))]
+fn entry_of(value: &Value) -> Option<KeyEntry>
+    ensures { result ≡ entry_of (view value.now) }
+{
+    pair_of(value.as_array()?.as_slice())
+}
+
+fn pair_of(values: &[Value]) -> Option<KeyEntry>
+    ensures { result ≡ pair_of (items_view values.now) }
+{
+    match values {
+        [stamp, code] => written_key(stamp, code),
+        [] => None,
+        [_] => None,
+        [_, _, _, ..] => None,
+    }
+}
+
+fn written_key(stamp: &Value, code: &Value) -> Option<KeyEntry>
+    ensures { result ≡ entry_from (u64_of (view stamp.now)) (u64_of (view code.now)) }
+{
+    let stamp = Clock::new(stamp.as_u64()?)?;
+    let code = code.as_u64()?;
+    Some(KeyEntry { stamp, code })
+}
+
+/// The keys of these entries, or the fault of the first that isn't taken.
+#[tactic(auto, unfolding(crate::specs::RunFile::keys_of))]
+fn keys_of(alloc: Global, entries: &[KeyEntry]) -> Result<Keys, RunFault>
+    ensures { Answers result (keys_of entries.now) }
+{
+    let mut keys = Keys::new(alloc);
+    for entry in entries {
+        push_key(&mut keys, *entry)?;
+    }
+    Ok(keys)
+}
+
+/// Adds the key of an entry to those before it.
+fn push_key(keys: &mut Keys, entry: KeyEntry) -> Result<(), RunFault>
+    ensures pushed { OnOk result (keys.new ≡ keys.old ++ key_of entry ∷ []) }
+    ensures taken { OnOk result (entry_fault (last_stamp keys.old) entry ≡ None) }
+    ensures fault { IfErr result (λ fault. FaultAnswer fault (entry_fault (last_stamp keys.old) entry)) }
+{
+    let Ok(code) = u8::try_from(entry.code) else {
+        return Err(RunFault::BadScan);
+    };
+    match keys.push(entry.stamp, code) {
+        Ok(()) => Ok(()),
+        Err(KeyFault::BadScan) => Err(RunFault::BadScan),
+        Err(KeyFault::StampsFall) => Err(RunFault::StampsFall),
+        Err(KeyFault::Memory) => Err(RunFault::Memory),
+    }
+}
+
+// The number of a field, from `least` to `most`.
+#[tactic(auto, unfolding(crate::specs::RunFile::number_within))]
+fn number_within(value: &Value, name: &str, least: u64, most: u64) -> Result<u64, RunFault>
+    ensures value { result
+        ≡ ok_or (number_within least most name.now (view value.now)) RunFault.BadField }
+    ensures bound { IfOk result (λ number. number ≤ most) }
+{
+    match number(value, name) {
+        Some(number) if least <= number && number <= most => Ok(number),
+        _ => Err(RunFault::BadField),
+    }
+}
+
+#[tactic(auto, unfolding(crate::specs::RunFile::number_of))]
+fn number(value: &Value, name: &str) -> Option<u64>
+    ensures { result ≡ number_of name.now (view value.now) }
+{
+    value.get(name).and_then(Value::as_u64)
+}
