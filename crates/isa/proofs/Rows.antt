@@ -1,11 +1,10 @@
 -- Facts about all rows, each computed from a test of one row.
-use Rattle.std.proofs.Common.{◌≡◌, ℕ, ◌+◌, ◌*◌, ◌/◌, ◌%◌, ◌<◌, Bool, true, false, not, ◌&&◌, ◌==◌, nat_lt, nat_le, nat_eq, ◌⊎◌, inl, inr, List, [], ◌∷◌, ◌++◌, length, get_or, cond, Contains, filter, Fits, zero, suc, refl, sym, ap, subst, ◌∙◌, arith, length-append}
+use Rattle.std.proofs.Common.{◌≡◌, ℕ, ◌+◌, ◌/◌, ◌%◌, ◌<◌, Bool, true, false, not, ◌&&◌, ◌==◌, nat_lt, nat_eq, inl, inr, List, [], ◌∷◌, ◌++◌, length, get_or, cond, Contains, filter, zero, suc, refl, sym, ap, subst, ◌∙◌, arith, length-append}
 use Rattle.std.proofs.lemmas.Bool.{cases_lt, eqb-true, ltb-true}
 use Rattle.std.specs.List.{list_all}
 use Rattle.isa.specs.declared.layout.CodePart.{CodePart}
 use Rattle.isa.specs.declared.layout.CodePart.TheVariants as code_parts
 use Rattle.isa.specs.declared.layout.RegPart.TheVariants as reg_parts
-use Rattle.isa.specs.declared.layout.PlacePart.{PlacePart}
 use Rattle.isa.specs.declared.layout.Second.{Second}
 use Rattle.isa.specs.declared.layout.Second.TheVariants as seconds
 use Rattle.isa.specs.declared.layout.Field.{Field}
@@ -14,14 +13,13 @@ use Rattle.isa.specs.declared.register.SegmentRegister.TheVariants.{Es, Cs, Ss, 
 use Rattle.isa.specs.declared.row.Row.{Row}
 use Rattle.isa.specs.declared.form.Form.{Form}
 use Rattle.isa.specs.declared.form.Place.{Place}
-use Rattle.isa.specs.declared.form.Values.{Values}
 use Rattle.isa.specs.declared.form.Repeat.TheVariants.{Repne, Rep}
 use Rattle.isa.specs.declared.form.Prefix.{Prefix}
 use Rattle.isa.specs.declared.form.Prefix.TheVariants.{Segment, Lock, Repeat}
 use Rattle.isa.specs.Table.{rows}
 use Rattle.isa.specs.Layout.{code_part, field_part, field_size, second_part, second_size}
 use Rattle.isa.specs.Encoding.{code_number, displacement_field, encoding, field_bytes, form_length, prefix_byte, second_bytes, FitsCode, IsForm}
-use Rattle.isa.specs.Parts.{begins, is_code, is_named, is_reg, is_second, HasDigit}
+use Rattle.isa.specs.Parts.{is_code, is_named, is_second, HasDigit}
 use Rattle.isa.specs.Laws.{LengthIsTheForms, NoPrefixIsARow, OneRowFits}
 
 left_true : (s t : Bool) → (s && t) ≡ true → s ≡ true

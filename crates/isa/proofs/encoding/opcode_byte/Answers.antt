@@ -1,6 +1,5 @@
 use Rattle.std.proofs.Common.{arith, ap}
 use Rattle.isa.specs.Encoding.{code_number}
-use Rattle.isa.specs.Layout.{code_part}
 use Rattle.isa.proofs.Rows.{code_within}
 use Rattle.isa.proofs.encoding.opcode_byte.Goals as goal
 
