@@ -1,3 +1,4 @@
-pub mod Find
-pub mod Row
+pub mod Lists
+pub mod Prefixes
+pub mod Pieces
 pub mod Exact

@@ -1,39 +1,29 @@
 //! The instruction at CS:IP.
-ghost use Rattle.std.specs.Prelude.{◌≡◌, ◌≤◌, ◌<◌, ◌+◌, ◌^◌, [], ◌∷◌, length, IfSome, IfNone};
-ghost use Rattle.isa.specs.declared.form.Form.{Form};
-ghost use Rattle.isa.specs.Encoding.{Begins, IsForm};
-ghost use Rattle.isa.specs.Registers.{byte_register_number, word_register_number};
+ghost use Rattle.std.specs.Prelude.{◌≡◌, ◌≤◌, ◌<◌, ◌+◌, ◌^◌, length, drop};
 ghost use Rattle.board_types.specs.Address.{physical, offset_after};
-ghost use Rattle.decode.specs.Decoding.{code_at, decoded_from, instruction_at, number_at, row_at, values_at, DecodingIsExact, IsDecoded, NoneIsLonger};
+ghost use Rattle.decode.specs.Decoding.{code_at, decoded_behind, decoded_from, form_at, prefixes_at, values_at, IsDecoded};
 
-use crate::decoded::{Decoded, Instruction};
+use crate::decoded::Decoded;
+use crate::parts::{code_of, number_at, place_at, prefix_of, reg_at, segment_at};
+use arrayvec::ArrayVec;
 use board_types::address::physical;
 use board_types::bytes::Bytes;
-use isa::form::{Field, Form, Instr, Place, Values};
-use isa::register::{ByteRegister, SegmentRegister, WordRegister};
+use isa::form::{Form, Instr, Prefix, Values};
+use isa::parts::row_at;
+use isa::row::Row;
 
-/// As many bytes as the longest instruction has.
-const LONGEST: usize = 5;
+/// As many bytes as the longest instruction has: seven prefixes, an opcode, a second byte, a displacement and a far
+/// address.
+const LONGEST: usize = 15;
 
-/// The instruction whose bytes stand at CS:IP, or `NoRow` where no row of the encoding table fits. Offsets wrap
-/// at 65,536 and addresses at 2^20.
+/// The instruction whose bytes stand at CS:IP, after at most seven prefixes, or `NoRow` where no row of the encoding
+/// table fits. Offsets wrap at 65,536 and addresses at 2^20.
 pub fn decode<B: Bytes>(bytes: &B, cs: u16, ip: u16) -> Decoded
     ensures value { result ≡ decoded_from (code_at (B.byte_at bytes.now) cs ip) }
     ensures exact { IsDecoded (code_at (B.byte_at bytes.now) cs ip) result }
 {
     decode_code(&code_at(bytes, cs, ip))
 }
-
-/// What stands at the front of some bytes is the one instruction whose bytes, as the encoding table gives them,
-/// stand there.
-pub fn decoding_is_exact()
-    ensures { DecodingIsExact }
-{}
-
-/// No instruction has more bytes than the decoder looks at.
-pub fn none_is_longer()
-    ensures { NoneIsLonger }
-{}
 
 /// The bytes from CS:IP on.
 fn code_at<B: Bytes>(bytes: &B, cs: u16, ip: u16) -> [u8; LONGEST]
@@ -45,6 +35,16 @@ fn code_at<B: Bytes>(bytes: &B, cs: u16, ip: u16) -> [u8; LONGEST]
         code_byte(bytes, cs, ip, 2),
         code_byte(bytes, cs, ip, 3),
         code_byte(bytes, cs, ip, 4),
+        code_byte(bytes, cs, ip, 5),
+        code_byte(bytes, cs, ip, 6),
+        code_byte(bytes, cs, ip, 7),
+        code_byte(bytes, cs, ip, 8),
+        code_byte(bytes, cs, ip, 9),
+        code_byte(bytes, cs, ip, 10),
+        code_byte(bytes, cs, ip, 11),
+        code_byte(bytes, cs, ip, 12),
+        code_byte(bytes, cs, ip, 13),
+        code_byte(bytes, cs, ip, 14),
     ]
 }
 
@@ -59,126 +59,82 @@ fn decode_code(code: &[u8; LONGEST]) -> Decoded
     ensures value { result ≡ decoded_from code.now }
     ensures exact { IsDecoded code.now result }
 {
-    decode_instr(code)
+    decode_prefixed(code)
 }
 
-/// The instruction whose bytes stand at the front of `code`, with its length.
+/// The instruction whose bytes stand at the front of `code`, after at most seven prefixes.
 #[tactic(auto, unfolding(crate::specs::Decoding::decoded_from))]
-fn decode_instr(code: &[u8; LONGEST]) -> Decoded
+fn decode_prefixed(code: &[u8; LONGEST]) -> Decoded
     ensures { result ≡ decoded_from code.now }
 {
-    match instruction_at(code) {
-        Some(instr) => Decoded::Found(Instruction {
-            instr,
-            length: instr.length(),
-        }),
+    let prefixes = prefixes_at(code);
+    let count = prefixes.len();
+    decode_behind(prefixes, &code[count..])
+}
+
+/// The prefixes at the front of `code`, at most seven.
+fn prefixes_at(code: &[u8; LONGEST]) -> ArrayVec<Prefix, 7>
+    ensures { result.items ≡ prefixes_at 7 code.now }
+{
+    let mut prefixes = ArrayVec::new();
+    for byte in &code[..7] {
+        match prefix_of(*byte) {
+            Some(prefix) => prefixes.push(prefix),
+            None => return prefixes,
+        }
+    }
+    prefixes
+}
+
+/// The instruction at the front of `code`, which stands behind these prefixes.
+#[tactic(auto, unfolding(crate::specs::Decoding::decoded_behind))]
+fn decode_behind(prefixes: ArrayVec<Prefix, 7>, code: &[u8]) -> Decoded
+    requires { 8 ≤ length code.now }
+    ensures { result ≡ decoded_behind prefixes.items code.now }
+{
+    match row_at(code[0], code[1]) {
+        Some(row) => {
+            let form = form_at(row, code[0], code[1]);
+            let values = values_at(form, code);
+            let instr = Instr {
+                prefixes,
+                form,
+                values,
+            };
+            let length = instr.length();
+            Decoded::Found(instr, length)
+        }
         None => Decoded::NoRow,
     }
 }
 
-/// The instruction whose bytes stand at the front of `code`, or `None` where no row fits.
-#[tactic(auto, unfolding(crate::specs::Decoding::instruction_at))]
-fn instruction_at(code: &[u8; LONGEST]) -> Option<Instr>
-    ensures { result ≡ instruction_at code.now }
+/// The row's form at an opcode, with the byte after it.
+#[tactic(auto, unfolding(crate::specs::Decoding::form_at))]
+fn form_at(row: Row, opcode: u8, next: u8) -> Form
+    ensures { result ≡ form_at row opcode next }
 {
-    let form = row_at(code)?;
-    Some(Instr {
-        form,
-        values: values_at(form, code),
-    })
+    let second = row.second_part();
+    Form {
+        row,
+        code: code_of(row.code_part(), row.opcode(), opcode),
+        reg: reg_at(second, next),
+        place: place_at(second, next),
+    }
 }
 
-/// The row whose head the code begins with.
-fn row_at(code: &[u8; LONGEST]) -> Option<Form>
-    ensures { result ≡ row_at code.now }
-{
-    form_of(code[0], code[1])
-}
-
-/// The numbers in the form's fields, which follow its head.
+/// The numbers in the form's fields.
 #[tactic(auto, unfolding(crate::specs::Decoding::values_at))]
-fn values_at(form: Form, code: &[u8; LONGEST]) -> Values
+fn values_at(form: Form, code: &[u8]) -> Values
+    requires { 8 ≤ length code.now }
     ensures { result ≡ values_at form code.now }
 {
-    let fields = &code[form.head_length() as usize..];
-    let immediate = form.immediate_field();
+    let displacement = form.place.displacement();
+    let field = form.row.field();
+    let tail = &code[1 + form.row.second_part().size() as usize..];
+    let own = &tail[displacement.size() as usize..];
     Values {
-        immediate: number_at(immediate, fields),
-        segment: number_at(form.segment_field(), &fields[immediate.size() as usize..]),
-    }
-}
-
-/// The number in a field at the front of `bytes`.
-fn number_at(field: Field, bytes: &[u8]) -> u16
-    requires { 2 ≤ length bytes.now }
-    ensures { result ≡ number_at field bytes.now }
-{
-    match field {
-        Field::Absent => 0,
-        Field::Byte => u16::from(bytes[0]),
-        Field::Word => u16::from(bytes[0]) + 256 * u16::from(bytes[1]),
-    }
-}
-
-/// The form whose head is `opcode`, or `opcode` and then `next`.
-fn form_of(opcode: u8, next: u8) -> Option<Form>
-    ensures found { IfSome result (λ form. IsForm form × Begins form (opcode ∷ next ∷ [])) }
-    ensures none { IfNone result ((form : Form) → IsForm form → Begins form (opcode ∷ next ∷ []) → ⊥) }
-{
-    match opcode {
-        0x8E => move_to_segment(next),
-        0xAB => Some(Form::StoreWord),
-        0xB0..=0xB7 => Some(Form::MoveByte(byte_register(opcode - 0xB0))),
-        0xB8..=0xBF => Some(Form::MoveWord(word_register(opcode - 0xB8))),
-        0xEA => Some(Form::JumpFar),
-        0xEE => Some(Form::OutByte),
-        0xF4 => Some(Form::Halt),
-        _ => None,
-    }
-}
-
-/// MOV to a segment register but CS, with this addressing byte.
-fn move_to_segment(addressing: u8) -> Option<Form>
-    ensures found { IfSome result (λ form. IsForm form × Begins form (0x8E ∷ addressing ∷ [])) }
-    ensures none { IfNone result ((form : Form) → IsForm form → Begins form (0x8E ∷ addressing ∷ []) → ⊥) }
-{
-    let from = Place::Register(word_register(addressing % 8));
-    match addressing / 8 {
-        0x18 => Some(Form::MoveToSegment(SegmentRegister::Es, from)),
-        0x1A => Some(Form::MoveToSegment(SegmentRegister::Ss, from)),
-        0x1B => Some(Form::MoveToSegment(SegmentRegister::Ds, from)),
-        _ => None,
-    }
-}
-
-fn byte_register(number: u8) -> ByteRegister
-    requires { number < 8 }
-    ensures { byte_register_number result ≡ number }
-{
-    match number {
-        0 => ByteRegister::Al,
-        1 => ByteRegister::Cl,
-        2 => ByteRegister::Dl,
-        3 => ByteRegister::Bl,
-        4 => ByteRegister::Ah,
-        5 => ByteRegister::Ch,
-        6 => ByteRegister::Dh,
-        _ => ByteRegister::Bh,
-    }
-}
-
-fn word_register(number: u8) -> WordRegister
-    requires { number < 8 }
-    ensures { word_register_number result ≡ number }
-{
-    match number {
-        0 => WordRegister::Ax,
-        1 => WordRegister::Cx,
-        2 => WordRegister::Dx,
-        3 => WordRegister::Bx,
-        4 => WordRegister::Sp,
-        5 => WordRegister::Bp,
-        6 => WordRegister::Si,
-        _ => WordRegister::Di,
+        displacement: number_at(displacement, tail),
+        number: number_at(field, own),
+        segment: segment_at(field, own),
     }
 }

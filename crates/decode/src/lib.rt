@@ -4,5 +4,5 @@
 
 pub mod decode;
 pub mod decoded;
-#[cfg(test)]
-mod tests;
+pub mod laws;
+pub mod parts;

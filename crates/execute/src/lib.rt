@@ -3,6 +3,7 @@
 
 pub mod cpu;
 pub mod laws;
+pub mod location;
 pub mod registers;
 mod step;
 

@@ -1,9 +1,8 @@
 //! The processor's registers.
 ghost use Rattle.std.specs.Prelude.{◌≡◌, ◌≤◌, ◌<◌};
-ghost use Rattle.execute.specs.Cpu.{flag_state, flags_of, register_file, regs_of, with_low, with_high, with_byte_register, word_register, with_word_register, with_segment_register, word_in, string_offset_after};
+ghost use Rattle.execute.specs.Cpu.{flag_state, flags_of, register_file, regs_of, with_low, with_high, byte_register, with_byte_register, byte_numbered, word_register, with_word_register, word_numbered, segment_register, with_segment_register, segment_numbered, string_offset_after};
 
 use board_types::regs::{Flags, Regs};
-use isa::form::Place;
 use isa::register::{ByteRegister, SegmentRegister, WordRegister};
 use std::marker::Model;
 
@@ -117,6 +116,22 @@ impl Registers {
     }
 }
 
+#[tactic(auto, unfolding(crate::specs::Cpu::byte_register))]
+pub(crate) fn byte(registers: &Registers, from: ByteRegister) -> u8
+    ensures { result ≡ byte_register registers.now from }
+{
+    match from {
+        ByteRegister::Al => (registers.ax % 256) as u8,
+        ByteRegister::Cl => (registers.cx % 256) as u8,
+        ByteRegister::Dl => (registers.dx % 256) as u8,
+        ByteRegister::Bl => (registers.bx % 256) as u8,
+        ByteRegister::Ah => (registers.ax / 256) as u8,
+        ByteRegister::Ch => (registers.cx / 256) as u8,
+        ByteRegister::Dh => (registers.dx / 256) as u8,
+        ByteRegister::Bh => (registers.bx / 256) as u8,
+    }
+}
+
 #[tactic(auto, unfolding(crate::specs::Cpu::with_byte_register))]
 pub(crate) fn set_byte(registers: &mut Registers, to: ByteRegister, byte: u8)
     ensures { registers.new ≡ with_byte_register registers.old to byte }
@@ -177,6 +192,18 @@ pub(crate) fn set_word(registers: &mut Registers, to: WordRegister, word: u16)
     }
 }
 
+#[tactic(auto, unfolding(crate::specs::Cpu::segment_register))]
+pub(crate) fn segment(registers: &Registers, from: SegmentRegister) -> u16
+    ensures { result ≡ segment_register registers.now from }
+{
+    match from {
+        SegmentRegister::Es => registers.es,
+        SegmentRegister::Cs => registers.cs,
+        SegmentRegister::Ss => registers.ss,
+        SegmentRegister::Ds => registers.ds,
+    }
+}
+
 #[tactic(auto, unfolding(crate::specs::Cpu::with_segment_register))]
 pub(crate) fn set_segment(registers: &mut Registers, to: SegmentRegister, word: u16)
     ensures { registers.new ≡ with_segment_register registers.old to word }
@@ -189,12 +216,47 @@ pub(crate) fn set_segment(registers: &mut Registers, to: SegmentRegister, word: 
     }
 }
 
-/// The word in an operand.
-pub(crate) fn word_in(registers: &Registers, place: Place) -> u16
-    ensures { result ≡ word_in registers.now place }
+/// The byte register with this number, below 8.
+pub(crate) fn byte_numbered(number: u8) -> ByteRegister
+    ensures { result ≡ byte_numbered number }
 {
-    match place {
-        Place::Register(register) => word(registers, register),
+    match number {
+        0 => ByteRegister::Al,
+        1 => ByteRegister::Cl,
+        2 => ByteRegister::Dl,
+        3 => ByteRegister::Bl,
+        4 => ByteRegister::Ah,
+        5 => ByteRegister::Ch,
+        6 => ByteRegister::Dh,
+        _ => ByteRegister::Bh,
+    }
+}
+
+/// The word register with this number, below 8.
+pub(crate) fn word_numbered(number: u8) -> WordRegister
+    ensures { result ≡ word_numbered number }
+{
+    match number {
+        0 => WordRegister::Ax,
+        1 => WordRegister::Cx,
+        2 => WordRegister::Dx,
+        3 => WordRegister::Bx,
+        4 => WordRegister::Sp,
+        5 => WordRegister::Bp,
+        6 => WordRegister::Si,
+        _ => WordRegister::Di,
+    }
+}
+
+/// The segment register with this number, below 4.
+pub(crate) fn segment_numbered(number: u8) -> SegmentRegister
+    ensures { result ≡ segment_numbered number }
+{
+    match number {
+        0 => SegmentRegister::Es,
+        1 => SegmentRegister::Cs,
+        2 => SegmentRegister::Ss,
+        _ => SegmentRegister::Ds,
     }
 }
 

@@ -1,3 +1,9 @@
 pub mod Registers
+pub mod Row
+pub mod Table
+pub mod Layout
 pub mod Encoding
+pub mod Prefixes
+pub mod Parts
 pub mod Clocks
+pub mod Laws

@@ -1,21 +1,99 @@
 //! How many processor clocks an instruction takes.
-ghost use Rattle.std.specs.Prelude.{◌≡◌};
-ghost use Rattle.isa.specs.Clocks.{clocks_of};
+ghost use Rattle.std.specs.Prelude.{◌≡◌, ◌≤◌, ◌+◌};
+ghost use Rattle.isa.specs.Clocks.{address_clocks, base_clocks, can_repeat, clocks_of, first_clocks, is_repeated, place_clocks, row_clocks};
 
-use crate::form::{Form, Instr};
+use crate::form::{Base, Instr, Place};
 use crate::outcome::{Cost, Outcome};
+use crate::row::Clocks;
 
+/// The clocks that a step of `instr` takes which found `outcome`.
 #[tactic(auto, unfolding(crate::specs::Clocks::clocks_of))]
-/// The clocks that a step of `instr` takes which found `outcome`. Of the rows so far none depends on it.
 pub fn cost(instr: &Instr, outcome: &Outcome) -> Cost
     ensures { result.0 ≡ clocks_of instr.now outcome.now }
 {
-    let _ = outcome;
-    match instr.form {
-        Form::MoveByte(_) | Form::MoveWord(_) => Cost(4),
-        Form::MoveToSegment(..) | Form::Halt => Cost(2),
-        Form::StoreWord => Cost(11),
-        Form::OutByte => Cost(8),
-        Form::JumpFar => Cost(15),
+    let repeated = instr.is_repeated();
+    if repeated && outcome.cx_zero {
+        return Cost(first_clocks(instr));
+    }
+    let first = if outcome.first_step {
+        first_clocks(instr)
+    } else {
+        0
+    };
+    let fault = if outcome.fault { 51 } else { 0 };
+    Cost(row_clocks(instr.form.row.clocks, instr.form.place, repeated, outcome) + first + fault)
+}
+
+impl Instr {
+    /// Whether it is a string instruction under a repeat prefix.
+    pub fn is_repeated(&self) -> bool
+        ensures { result ≡ is_repeated self.now }
+    {
+        self.form.row.clocks.can_repeat() && self.repeat().is_some()
+    }
+}
+
+impl Clocks {
+    fn can_repeat(self) -> bool
+        ensures { result ≡ can_repeat self }
+    {
+        matches!(self, Clocks::Repeated(..))
+    }
+}
+
+/// What the first step takes more.
+fn first_clocks(instr: &Instr) -> u16
+    ensures value { result ≡ first_clocks instr.now }
+    ensures bound { result ≤ 23 }
+{
+    2 * instr.prefixes.len() as u16 + if instr.is_repeated() { 9 } else { 0 }
+}
+
+fn row_clocks(clocks: Clocks, place: Place, repeated: bool, outcome: &Outcome) -> u16
+    ensures value { result ≡ row_clocks clocks place repeated outcome.now }
+    ensures bound { result ≤ 1300 }
+{
+    match clocks {
+        Clocks::Always(clocks) => u16::from(clocks),
+        Clocks::Place(register, memory) => place_clocks(place, register, memory),
+        Clocks::Memory(clocks) => u16::from(clocks) + address_clocks(place),
+        Clocks::Counted(register, memory) => {
+            place_clocks(place, register, memory) + 4 * u16::from(outcome.cl)
+        }
+        Clocks::Taken(taken, not_taken) => u16::from(if outcome.taken { taken } else { not_taken }),
+        Clocks::Repeated(once, each) => u16::from(if repeated { each } else { once }),
+    }
+}
+
+fn place_clocks(place: Place, register: u8, memory: u8) -> u16
+    ensures value { result ≡ place_clocks place register memory }
+    ensures bound { result ≤ 266 }
+{
+    match place {
+        Place::Register(_) => u16::from(register),
+        _ => u16::from(memory) + address_clocks(place),
+    }
+}
+
+/// What an address in memory takes more.
+fn address_clocks(place: Place) -> u16
+    ensures value { result ≡ address_clocks place }
+    ensures bound { result ≤ 11 }
+{
+    match place {
+        Place::Absent | Place::Register(_) => 0,
+        Place::Direct => 6,
+        Place::Base(base) => base_clocks(base),
+        Place::BaseByte(base) | Place::BaseWord(base) => base_clocks(base) + 4,
+    }
+}
+
+fn base_clocks(base: Base) -> u16
+    ensures value { result ≡ base_clocks base }
+    ensures bound { result ≤ 7 }
+{
+    match base {
+        Base::BxSi | Base::BxDi | Base::BpSi | Base::BpDi => 7,
+        Base::Si | Base::Di | Base::Bp | Base::Bx => 5,
     }
 }

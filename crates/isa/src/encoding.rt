@@ -1,74 +1,114 @@
 //! The bytes of an instruction.
-ghost use Rattle.std.specs.Prelude.{◌≡◌, ◌≤◌, ◌+◌, ◌++◌, length};
+ghost use Rattle.std.specs.Prelude.{◌≡◌, ◌≤◌, ◌<◌, ◌+◌, ◌/◌, ◌%◌, [], ◌∷◌, ◌++◌};
 ghost use Rattle.arrayvec.specs.ArrayVec.{array_vec_len};
-ghost use Rattle.isa.specs.Encoding.{addressing, encoding, field_bytes, form_length, head, OneRowFits, RowsAreForms};
+ghost use Rattle.isa.specs.Encoding.{addressing, code_number, encoding, field_bytes, reg_number, second_bytes, FitsCode, FitsField, FitsForm, FitsReg, FitsSecond, IsForm, IsPlace};
+ghost use Rattle.isa.specs.Layout.{code_part};
+ghost use Rattle.isa.specs.Parts.{HasDigit};
 
-use crate::form::{Field, Form, Place, Values};
+use crate::form::{Form, Place, Values};
+use crate::layout::{CodePart, Field, RegPart, Second};
 use arrayvec::ArrayVec;
 
-/// The bytes of the instruction with this form and these numbers in its fields. A byte field takes a number
-/// modulo 256, and a field that the form lacks none.
+/// The bytes of the instruction of this form with these numbers in its fields, without its prefixes.
 #[tactic(auto, unfolding(crate::specs::Encoding::encoding))]
 pub fn encode(form: &Form, values: Values) -> ArrayVec<u8, 14>
-    ensures bytes { result.items ≡ encoding form.now values }
-    ensures length { array_vec_len result ≡ form_length form.now }
+    requires form { IsForm form.now }
+    requires values { FitsForm form.now values }
+    ensures { result.items ≡ encoding form.now values }
 {
     let mut bytes = ArrayVec::new();
-    push_head(&mut bytes, *form);
-    push_field(&mut bytes, form.immediate_field(), values.immediate);
-    push_field(&mut bytes, form.segment_field(), values.segment);
+    bytes.push(opcode_byte(*form));
+    push_second(&mut bytes, form.row.second_part(), form.reg, form.place);
+    push_field(
+        &mut bytes,
+        form.place.displacement(),
+        values.displacement,
+        0,
+    );
+    push_field(&mut bytes, form.row.field(), values.number, values.segment);
     bytes
 }
 
-/// The table's rows are its forms: each form is one of the rows, and each row a form.
-pub fn rows_are_forms()
-    ensures { RowsAreForms }
-{}
-
-/// No bytes fit two rows of the table.
-pub fn one_row_fits()
-    ensures { OneRowFits }
-{}
-
-fn push_head(bytes: &mut ArrayVec<u8, 14>, form: Form)
-    requires { array_vec_len bytes.old + 2 ≤ 14 }
-    ensures items { bytes.new.items ≡ bytes.old.items ++ head form }
-    ensures len { array_vec_len bytes.new ≤ array_vec_len bytes.old + 2 }
+/// The opcode byte.
+fn opcode_byte(form: Form) -> u8
+    requires { IsForm form }
+    ensures { result ≡ form.row.opcode + code_number (code_part form.row) form.code }
 {
-    match form {
-        Form::MoveByte(register) => bytes.push(0xB0 + register.number()),
-        Form::MoveWord(register) => bytes.push(0xB8 + register.number()),
-        Form::MoveToSegment(segment, place) => {
-            bytes.push(0x8E);
-            bytes.push(addressing(place, segment.number()));
+    form.row.opcode() + form.row.code_part().number(form.code)
+}
+
+impl CodePart {
+    /// What is added to the row's opcode.
+    fn number(self, code: u8) -> u8
+        requires { FitsCode self code }
+        ensures { result ≡ code_number self code }
+    {
+        match self {
+            CodePart::Fixed => 0,
+            CodePart::Register => code,
+            CodePart::Segment | CodePart::SegmentNotCs => 8 * code,
         }
-        Form::StoreWord => bytes.push(0xAB),
-        Form::OutByte => bytes.push(0xEE),
-        Form::JumpFar => bytes.push(0xEA),
-        Form::Halt => bytes.push(0xF4),
     }
 }
 
-fn addressing(place: Place, reg: u8) -> u8
-    requires { reg ≤ 7 }
-    ensures { result ≡ addressing place reg }
+impl RegPart {
+    /// What stands in reg.
+    fn number(self, reg: u8) -> u8
+        ensures { result ≡ reg_number self reg }
+    {
+        match self {
+            RegPart::Digit(digit) => digit,
+            RegPart::Register | RegPart::Segment | RegPart::SegmentNotCs => reg,
+        }
+    }
+}
+
+/// The addressing byte: mod, reg and r/m.
+fn addressing(reg: u8, place: Place) -> u8
+    requires reg { reg < 8 }
+    requires place { IsPlace place }
+    ensures { result ≡ addressing reg place }
 {
-    match place {
-        Place::Register(register) => 0xC0 + 8 * reg + register.number(),
+    64 * place.mode() + 8 * reg + place.rm()
+}
+
+fn push_second(bytes: &mut ArrayVec<u8, 14>, second: Second, reg: u8, place: Place)
+    requires room { array_vec_len bytes.old < 14 }
+    requires digit { HasDigit second }
+    requires fits { FitsSecond second reg place }
+    ensures items { bytes.new.items ≡ bytes.old.items ++ second_bytes second reg place }
+    ensures len { array_vec_len bytes.new ≤ array_vec_len bytes.old + 1 }
+{
+    match second {
+        Second::Absent => {}
+        Second::Exactly(byte) => bytes.push(byte),
+        Second::Addressing(part, _) => bytes.push(addressing(part.number(reg), place)),
     }
 }
 
-fn push_field(bytes: &mut ArrayVec<u8, 14>, field: Field, value: u16)
-    requires { array_vec_len bytes.old + 2 ≤ 14 }
-    ensures items { bytes.new.items ≡ bytes.old.items ++ field_bytes field value }
-    ensures len { array_vec_len bytes.new ≤ array_vec_len bytes.old + 2 }
+fn push_field(bytes: &mut ArrayVec<u8, 14>, field: Field, number: u16, segment: u16)
+    requires room { array_vec_len bytes.old + 4 ≤ 14 }
+    requires fits { FitsField field number segment }
+    ensures items { bytes.new.items ≡ bytes.old.items ++ field_bytes field number segment }
+    ensures len { array_vec_len bytes.new ≤ array_vec_len bytes.old + 4 }
 {
     match field {
         Field::Absent => {}
-        Field::Byte => bytes.push((value % 256) as u8),
-        Field::Word => {
-            bytes.push((value % 256) as u8);
-            bytes.push((value / 256) as u8);
+        Field::Byte => bytes.push(number as u8),
+        Field::Word => push_word(bytes, number),
+        Field::Far => {
+            push_word(bytes, number);
+            push_word(bytes, segment);
         }
     }
+}
+
+/// A word, low byte first.
+fn push_word(bytes: &mut ArrayVec<u8, 14>, number: u16)
+    requires { array_vec_len bytes.old + 2 ≤ 14 }
+    ensures items { bytes.new.items ≡ bytes.old.items ++ (number % 256 ∷ number / 256 ∷ []) }
+    ensures len { array_vec_len bytes.new ≡ array_vec_len bytes.old + 2 }
+{
+    bytes.push((number % 256) as u8);
+    bytes.push((number / 256) as u8);
 }

@@ -1,131 +1,209 @@
-//! The forms of instructions: what one is, apart from the numbers in its fields.
-ghost use Rattle.std.specs.Prelude.{◌≡◌, ◌≤◌, length};
-ghost use Rattle.isa.specs.Encoding.{field_size, form_length, head, immediate_field, instruction_length, segment_field};
+//! Instructions: a row of the table with what its operands name, and the numbers in its fields.
+ghost use Rattle.std.specs.Prelude.{◌≡◌, ◌≤◌, ◌+◌, length};
+ghost use Rattle.isa.specs.Encoding.{base_number, displacement_field, form_length, instr_length, mod_of, prefix_byte, rm_of};
+ghost use Rattle.isa.specs.Prefixes.{chosen_segment, repeat_of};
 
-use crate::register::{ByteRegister, SegmentRegister, WordRegister};
+use crate::layout::Field;
+use crate::register::SegmentRegister;
+use crate::row::Row;
+use arrayvec::ArrayVec;
 
-/// Where a word operand stands that an addressing byte can name.
-#[derive(Clone, Copy, Debug, PartialEq, Eq)]
-pub enum Place {
-    Register(WordRegister),
+/// The registers that an address in memory is made of, numbered 0 to 7 in this order as r/m.
+#[derive(Clone, Copy)]
+pub enum Base {
+    BxSi,
+    BxDi,
+    BpSi,
+    BpDi,
+    Si,
+    Di,
+    Bp,
+    Bx,
 }
 
-/// A form of an instruction, one for each row of the encoding table and choice of its registers.
-#[derive(Clone, Copy, Debug, PartialEq, Eq)]
-pub enum Form {
-    /// MOV r8,i8
-    MoveByte(ByteRegister),
-    /// MOV r16,i16
-    MoveWord(WordRegister),
-    /// MOV sr,rm16, where sr isn't CS
-    MoveToSegment(SegmentRegister, Place),
-    /// STOSW
-    StoreWord,
-    /// OUT DX,AL
-    OutByte,
-    /// JMP FAR s:o
-    JumpFar,
-    /// HLT
-    Halt,
+impl Base {
+    /// The number in r/m.
+    pub fn number(self) -> u8
+        ensures { result ≡ base_number self }
+    {
+        match self {
+            Base::BxSi => 0,
+            Base::BxDi => 1,
+            Base::BpSi => 2,
+            Base::BpDi => 3,
+            Base::Si => 4,
+            Base::Di => 5,
+            Base::Bp => 6,
+            Base::Bx => 7,
+        }
+    }
+}
+
+/// What mod and r/m name.
+#[derive(Clone, Copy)]
+pub enum Place {
+    /// The row has no addressing byte.
+    Absent,
+    /// The register with this number, below 8: a byte register, a word register, by the operand.
+    Register(u8),
+    /// Memory at the displacement, which is a word.
+    Direct,
+    /// Memory at the base, without a displacement.
+    Base(Base),
+    /// Memory at the base and a displacement of a byte, which is extended by its sign.
+    BaseByte(Base),
+    /// Memory at the base and a displacement of a word.
+    BaseWord(Base),
+}
+
+impl Place {
+    /// mod, 0 to 3.
+    pub fn mode(self) -> u8
+        ensures { result ≡ mod_of self }
+    {
+        match self {
+            Place::Absent | Place::Direct | Place::Base(_) => 0,
+            Place::BaseByte(_) => 1,
+            Place::BaseWord(_) => 2,
+            Place::Register(_) => 3,
+        }
+    }
+
+    /// r/m, 0 to 7.
+    pub fn rm(self) -> u8
+        ensures { result ≡ rm_of self }
+    {
+        match self {
+            Place::Absent => 0,
+            Place::Register(number) => number,
+            Place::Direct => 6,
+            Place::Base(base) | Place::BaseByte(base) | Place::BaseWord(base) => base.number(),
+        }
+    }
+
+    /// The displacement that follows the addressing byte.
+    pub fn displacement(self) -> Field
+        ensures { result ≡ displacement_field self }
+    {
+        match self {
+            Place::Absent | Place::Register(_) | Place::Base(_) => Field::Absent,
+            Place::BaseByte(_) => Field::Byte,
+            Place::Direct | Place::BaseWord(_) => Field::Word,
+        }
+    }
+}
+
+/// What an instruction is, apart from the numbers in its fields. A part that the row lacks is 0 or absent, so that
+/// an instruction has one spelling.
+#[derive(Clone, Copy)]
+pub struct Form {
+    pub row: Row,
+    /// What the opcode holds beside the row's number: the number of a register or of a segment register, or an ESC's
+    /// number by 8.
+    pub code: u8,
+    /// What reg holds, where it isn't the row's digit: a register's number, or the low three bits of an ESC's number.
+    pub reg: u8,
+    pub place: Place,
 }
 
 impl Form {
-    /// The field of the constant.
-    pub fn immediate_field(self) -> Field
-        ensures { result ≡ immediate_field self }
-    {
-        match self {
-            Form::MoveByte(_) => Field::Byte,
-            Form::MoveWord(_) | Form::JumpFar => Field::Word,
-            Form::MoveToSegment(..) | Form::StoreWord | Form::OutByte | Form::Halt => Field::Absent,
-        }
-    }
-
-    /// How many bytes an instruction of this form has, whatever the numbers in its fields.
+    /// How many bytes an instruction of this form has, its prefixes not counted, whatever the numbers in its fields.
+    #[tactic(auto, unfolding(crate::specs::Encoding::form_length))]
     pub fn length(self) -> u8
         ensures value { result ≡ form_length self }
-        ensures bound { result ≤ 6 }
+        ensures bound { result ≤ 10 }
     {
-        self.head_length() + self.immediate_field().size() + self.segment_field().size()
-    }
-
-    /// How many bytes of it come before its fields.
-    pub fn head_length(self) -> u8
-        ensures value { result ≡ length (head self) }
-        ensures bound { result ≤ 2 }
-    {
-        match self {
-            Form::MoveToSegment(..) => 2,
-            Form::MoveByte(_)
-            | Form::MoveWord(_)
-            | Form::StoreWord
-            | Form::OutByte
-            | Form::JumpFar
-            | Form::Halt => 1,
-        }
-    }
-
-    /// The field of the segment that a far jump names.
-    pub fn segment_field(self) -> Field
-        ensures { result ≡ segment_field self }
-    {
-        match self {
-            Form::JumpFar => Field::Word,
-            Form::MoveByte(_)
-            | Form::MoveWord(_)
-            | Form::MoveToSegment(..)
-            | Form::StoreWord
-            | Form::OutByte
-            | Form::Halt => Field::Absent,
-        }
+        1 + self.row.second_part().size()
+            + self.place.displacement().size()
+            + self.row.field().size()
     }
 }
 
-/// A field of an instruction that holds a number: none, a byte, or a word with its low byte first.
-#[derive(Clone, Copy, Debug, PartialEq, Eq)]
-pub enum Field {
-    Absent,
-    Byte,
-    Word,
-}
-
-impl Field {
-    /// The field's size in bytes.
-    pub fn size(self) -> u8
-        ensures value { result ≡ field_size self }
-        ensures bound { result ≤ 2 }
-    {
-        match self {
-            Field::Absent => 0,
-            Field::Byte => 1,
-            Field::Word => 2,
-        }
-    }
-}
-
-/// The numbers in an instruction's fields. A field that its form lacks is 0, so that an instruction has
-/// one spelling.
-#[derive(Clone, Copy, Debug, PartialEq, Eq)]
+/// The numbers in an instruction's fields, as they stand there. A field that its form lacks is 0.
+#[derive(Clone, Copy)]
 pub struct Values {
-    /// A constant; of JMP FAR the offset.
-    pub immediate: u16,
-    /// Of JMP FAR the segment.
+    /// The displacement; a byte isn't extended by its sign yet.
+    pub displacement: u16,
+    /// An immediate number, a relative target or an offset; a byte isn't extended by its sign yet.
+    pub number: u16,
+    /// Of a far jump or call the segment.
     pub segment: u16,
 }
 
-/// An instruction: a form with the numbers in its fields.
-#[derive(Clone, Copy, Debug, PartialEq, Eq)]
+/// A repeat prefix: REPNE is F2h; REP, which is REPE too, is F3h.
+#[derive(Clone, Copy)]
+pub enum Repeat {
+    Repne,
+    Rep,
+}
+
+/// A prefix byte.
+#[derive(Clone, Copy, Default)]
+pub enum Prefix {
+    /// 26h, 2Eh, 36h, 3Eh: the segment register that takes the place of the usual one.
+    Segment(SegmentRegister),
+    #[default]
+    Lock,
+    Repeat(Repeat),
+}
+
+impl Prefix {
+    /// Its byte.
+    pub fn byte(self) -> u8
+        ensures { result ≡ prefix_byte self }
+    {
+        match self {
+            Prefix::Segment(SegmentRegister::Es) => 0x26,
+            Prefix::Segment(SegmentRegister::Cs) => 0x2E,
+            Prefix::Segment(SegmentRegister::Ss) => 0x36,
+            Prefix::Segment(SegmentRegister::Ds) => 0x3E,
+            Prefix::Lock => 0xF0,
+            Prefix::Repeat(Repeat::Repne) => 0xF2,
+            Prefix::Repeat(Repeat::Rep) => 0xF3,
+        }
+    }
+}
+
+/// An instruction, with its prefixes in order.
+#[derive(Drop)]
 pub struct Instr {
+    pub prefixes: ArrayVec<Prefix, 7>,
     pub form: Form,
     pub values: Values,
 }
 
 impl Instr {
-    /// How many bytes the instruction has.
-    pub fn length(self) -> u8
-        ensures value { result ≡ instruction_length self }
-        ensures bound { result ≤ 6 }
+    /// How many bytes the instruction has, its prefixes counted.
+    pub fn length(&self) -> u8
+        ensures value { result ≡ instr_length self.now }
+        ensures bound { result ≤ 17 }
     {
-        self.form.length()
+        self.prefixes.len() as u8 + self.form.length()
+    }
+
+    /// The segment register that its last override names.
+    pub fn chosen_segment(&self) -> Option<SegmentRegister>
+        ensures { result ≡ chosen_segment self.now.prefixes.items }
+    {
+        self.prefixes
+            .as_slice()
+            .iter()
+            .fold(None, |chosen, prefix| match prefix {
+                Prefix::Segment(segment) => Some(*segment),
+                _ => chosen,
+            })
+    }
+
+    /// Its last repeat prefix.
+    pub fn repeat(&self) -> Option<Repeat>
+        ensures { result ≡ repeat_of self.now.prefixes.items }
+    {
+        self.prefixes
+            .as_slice()
+            .iter()
+            .fold(None, |last, prefix| match prefix {
+                Prefix::Repeat(repeat) => Some(*repeat),
+                _ => last,
+            })
     }
 }

@@ -1,11 +1,11 @@
 //! What a step of an instruction found, and what it costs.
 
 /// A number of processor clocks.
-#[derive(Clone, Copy, Debug, PartialEq, Eq)]
+#[derive(Clone, Copy)]
 pub struct Cost(pub u16);
 
 /// What a step found that its cost may depend on.
-#[derive(Clone, Copy, Debug, PartialEq, Eq)]
+#[derive(Clone, Copy)]
 pub struct Outcome {
     /// The jump was taken.
     pub taken: bool,

@@ -3,7 +3,7 @@ ghost use Rattle.std.specs.Prelude.{◌≡◌};
 ghost use Rattle.isa.specs.Registers.{byte_register_number, word_register_number, segment_register_number};
 
 /// A byte register, numbered 0 to 7 in this order.
-#[derive(Clone, Copy, Debug, PartialEq, Eq)]
+#[derive(Clone, Copy)]
 pub enum ByteRegister {
     Al,
     Cl,
@@ -34,7 +34,7 @@ impl ByteRegister {
 }
 
 /// A word register, numbered 0 to 7 in this order.
-#[derive(Clone, Copy, Debug, PartialEq, Eq)]
+#[derive(Clone, Copy)]
 pub enum WordRegister {
     Ax,
     Cx,
@@ -65,7 +65,7 @@ impl WordRegister {
 }
 
 /// A segment register, numbered 0 to 3 in this order.
-#[derive(Clone, Copy, Debug, PartialEq, Eq)]
+#[derive(Clone, Copy)]
 pub enum SegmentRegister {
     Es,
     Cs,

@@ -1,5 +1,0 @@
-use Rattle.decode.proofs.Exact.{exact}
-use Rattle.decode.proofs.decode.decoding_is_exact.Goals as goal
-
-pub returns : goal.returns
-returns c = exact

@@ -1,5 +1,0 @@
-use Rattle.decode.proofs.Exact.{none_is_longer}
-use Rattle.decode.proofs.decode.none_is_longer.Goals as goal
-
-pub returns : goal.returns
-returns c = none_is_longer

@@ -1,0 +1,76 @@
+//! Whether a line's values are those of the program.
+
+use crate::code::{Code, SEGMENT};
+use anyhow::{Context, Result, bail};
+use decode::decode::decode;
+use decode::decoded::Decoded;
+use isa::clocks::cost;
+use isa::encoding::encode;
+use isa::outcome::Outcome;
+use std::alloc::Global;
+
+/// Fails with what differs in a line, or with why it can't be read.
+pub fn judge(alloc: Global, line: &str) -> Result<()> {
+    let words: Vec<&str> = line.split_whitespace().collect(alloc)?;
+    match *words {
+        ["cost", bytes, cl, found, clocks] => judge_cost(bytes, cl, found, clocks),
+        [ip, bytes, "none"] => judge_none(&Code::read(ip, bytes)?),
+        [ip, bytes, length] => judge_found(&Code::read(ip, bytes)?, length),
+        _ => bail!("no such line"),
+    }
+}
+
+fn judge_none(code: &Code) -> Result<()> {
+    match decode(code, SEGMENT, code.ip) {
+        Decoded::NoRow => Ok(()),
+        Decoded::Found(_, length) => bail!("found {length} bytes"),
+    }
+}
+
+fn judge_found(code: &Code, length: &str) -> Result<()> {
+    match decode(code, SEGMENT, code.ip) {
+        Decoded::NoRow => bail!("no row"),
+        Decoded::Found(instr, found) => {
+            if found != length.parse()? {
+                bail!("found {found} bytes");
+            }
+            let prefixes = instr.prefixes.as_slice();
+            for (i, prefix) in prefixes.iter().enumerate() {
+                if prefix.byte() != code.at(i) {
+                    bail!("another prefix {i}");
+                }
+            }
+            let again = encode(&instr.form, instr.values);
+            for (i, byte) in again.as_slice().iter().enumerate() {
+                if *byte != code.at(prefixes.len() + i) {
+                    bail!("another byte {i} behind the prefixes");
+                }
+            }
+            if prefixes.len() + again.len() != usize::from(found) {
+                bail!("encoded with another length");
+            }
+            Ok(())
+        }
+    }
+}
+
+fn judge_cost(bytes: &str, cl: &str, found: &str, clocks: &str) -> Result<()> {
+    let code = Code::read("100", bytes)?;
+    let outcome = Outcome {
+        taken: found.contains('t'),
+        cl: cl.parse()?,
+        first_step: found.contains('f'),
+        cx_zero: found.contains('z'),
+        fault: found.contains('d'),
+    };
+    match decode(&code, SEGMENT, code.ip) {
+        Decoded::NoRow => bail!("no row"),
+        Decoded::Found(instr, _) => {
+            let taken = cost(&instr, &outcome).0;
+            if taken != clocks.parse()? {
+                bail!("costs {taken}");
+            }
+            Ok(())
+        }
+    }
+}
