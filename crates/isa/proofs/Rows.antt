@@ -1,7 +1,9 @@
 -- Facts about all rows, each computed from a test of one row.
-use Rattle.std.proofs.Common.{◌≡◌, ℕ, ◌+◌, ◌/◌, ◌%◌, ◌<◌, Bool, true, false, not, ◌&&◌, ◌==◌, nat_lt, nat_eq, inl, inr, List, [], ◌∷◌, ◌++◌, length, get_or, cond, Contains, filter, zero, suc, refl, sym, ap, subst, ◌∙◌, arith, length-append}
+use Rattle.std.proofs.Common.{◌≡◌, ℕ, ◌+◌, ◌/◌, ◌%◌, ◌<◌, ◌≤◌, Bool, true, false, not, ◌&&◌, ◌==◌, nat_lt, nat_le, nat_eq, inl, inr, List, [], ◌∷◌, ◌++◌, length, take, drop, get_or, find, Some, cond, Contains, filter, zero, suc, refl, sym, ap, subst, ◌∙◌, arith, length-append}
 use Rattle.std.proofs.lemmas.Bool.{cases_lt, eqb-true, ltb-true}
+use Rattle.std.proofs.lemmas.Bool.Decides.{nat_tests}
 use Rattle.std.specs.List.{list_all}
+use Rattle.isa.specs.declared.parts.TheConstants.{FIRST}
 use Rattle.isa.specs.declared.layout.CodePart.{CodePart}
 use Rattle.isa.specs.declared.layout.CodePart.TheVariants as code_parts
 use Rattle.isa.specs.declared.layout.RegPart.TheVariants as reg_parts
@@ -19,7 +21,7 @@ use Rattle.isa.specs.declared.form.Prefix.TheVariants.{Segment, Lock, Repeat}
 use Rattle.isa.specs.Table.{rows}
 use Rattle.isa.specs.Layout.{code_part, field_part, field_size, second_part, second_size}
 use Rattle.isa.specs.Encoding.{code_number, displacement_field, encoding, field_bytes, form_length, prefix_byte, second_bytes, FitsCode, IsForm}
-use Rattle.isa.specs.Parts.{is_code, is_named, is_second, HasDigit}
+use Rattle.isa.specs.Parts.{begins, is_named, is_second, has_opcode, is_before, HasDigit}
 use Rattle.isa.specs.Laws.{LengthIsTheForms, NoPrefixIsARow, OneRowFits}
 
 left_true : (s t : Bool) → (s && t) ≡ true → s ≡ true
@@ -83,9 +85,6 @@ digit_within r within =
     digit_told (second_part r) (right_true (nat_lt (r.opcode + greatest (code_part r)) 256) (has_digit (second_part r)) (each has_room rows r all_have_room within))
 
 -- of the rows with one opcode any two have digits, and other ones
-abbrev has_opcode : ℕ → Row → Bool
-has_opcode opcode r = is_code (code_part r) r.opcode opcode
-
 abbrev digits_apart : Second → Second → Bool
 digits_apart (seconds.Addressing (reg_parts.Digit j) _) (seconds.Addressing (reg_parts.Digit k) _) = not (j == k)
 digits_apart _ _ = false
@@ -218,3 +217,34 @@ length_of f v =
     ∙ (let a = second_length (second_part f.row) f.reg f.place in
     let b = field_length (displacement_field f.place) v.displacement 0 in
     let c = field_length (field_part f.row) v.number v.segment in cc)
+
+-- the search may begin behind rows that don't have the opcode
+not_so : (b : Bool) → not b ≡ true → b ≡ false
+not_so true e = absurd (cc)
+not_so false e = refl
+
+find_behind : (q s : Row → Bool) (k : ℕ) (xs : List Row) → list_all (λ r. not (q r)) (take k xs) ≡ true → find (λ r. q r && s r) (drop k xs) ≡ find (λ r. q r && s r) xs
+find_behind q s zero xs all = refl
+find_behind q s (suc k) [] all = refl
+find_behind q s (suc k) (x ∷ xs) all =
+    let fails = not_so (q x) (left_true (not (q x)) (list_all (λ r. not (q r)) (take k xs)) all) in
+    find_behind q s k xs (right_true (not (q x)) (list_all (λ r. not (q r)) (take k xs)) all)
+    ∙ sym (ap (λ b. cond (b && s x) (Some x) (find (λ r. q r && s r) xs)) fails)
+
+pub within_rows : (opcode count : ℕ) → is_before opcode count ≡ true → count ≤ length rows
+within_rows opcode count e =
+    from_le count (length rows) (left_true (nat_le count (length rows)) (list_all (λ r. not (has_opcode opcode r)) (take count rows)) e)
+  where
+    from_le : (a b : ℕ) → nat_le a b ≡ true → a ≤ b
+    from_le a b h = grind (arith, nat_tests)
+
+pub find_before : (opcode next count : ℕ) → is_before opcode count ≡ true → find (λ r. begins r opcode next) (drop count rows) ≡ find (λ r. begins r opcode next) rows
+find_before opcode next count e =
+    find_behind (has_opcode opcode) (λ r. is_second (second_part r) next) count rows (right_true (nat_le count (length rows)) (list_all (λ r. not (has_opcode opcode r)) (take count rows)) e)
+
+all_before : all_below (λ opcode. is_before opcode (get_or FIRST opcode 0)) 256 ≡ true
+unfolding rows
+all_before = refl
+
+pub before_at : (opcode : ℕ) → opcode < 256 → is_before opcode (get_or FIRST opcode 0) ≡ true
+before_at opcode within = below_at (λ b. is_before b (get_or FIRST b 0)) 256 opcode all_before within

@@ -1,5 +1,6 @@
 -- Whether the opcode and the byte after it are a row's.
-use Rattle.std.specs.Prelude.{ℕ, ◌+◌, ◌-◌, ◌/◌, ◌%◌, ◌<◌, ◌==◌, Bool, true, not, ◌&&◌, nat_le, nat_lt, Option, find}
+use Rattle.std.specs.Prelude.{ℕ, ◌+◌, ◌-◌, ◌/◌, ◌%◌, ◌<◌, ◌==◌, Bool, true, not, ◌&&◌, nat_le, nat_lt, Option, find, length, take}
+use Rattle.std.specs.List.{list_all}
 use Rattle.isa.specs.declared.layout.CodePart.{CodePart}
 use Rattle.isa.specs.declared.layout.CodePart.TheVariants as code_parts
 use Rattle.isa.specs.declared.layout.RegPart.{RegPart}
@@ -56,3 +57,10 @@ begins r opcode next = is_code (code_part r) r.opcode opcode && is_second (secon
 -- the row that an opcode, with the byte after it, begins
 unfoldable pub row_at : ℕ → ℕ → Option Row
 row_at opcode next = find (λ r. begins r opcode next) rows
+
+-- so many rows come before the first that has the opcode
+abbrev pub has_opcode : ℕ → Row → Bool
+has_opcode opcode r = is_code (code_part r) r.opcode opcode
+
+abbrev pub is_before : ℕ → ℕ → Bool
+is_before opcode count = nat_le count (length rows) && list_all (λ r. not (has_opcode opcode r)) (take count rows)

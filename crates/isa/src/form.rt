@@ -165,7 +165,7 @@ impl Prefix {
 }
 
 /// An instruction, with its prefixes in order.
-#[derive(Drop)]
+#[derive(Clone, Drop)]
 pub struct Instr {
     pub prefixes: ArrayVec<Prefix, 7>,
     pub form: Form,

@@ -1,6 +1,6 @@
 //! The registers that an instruction can name (8086 Family User's Manual, "REG field encoding").
-ghost use Rattle.std.specs.Prelude.{◌≡◌};
-ghost use Rattle.isa.specs.Registers.{byte_register_number, word_register_number, segment_register_number};
+ghost use Rattle.std.specs.Prelude.{◌≡◌, ◌<◌};
+ghost use Rattle.isa.specs.Registers.{byte_register_number, byte_register_of, segment_register_number, segment_register_of, word_register_number, word_register_of};
 
 /// A byte register, numbered 0 to 7 in this order.
 #[derive(Clone, Copy)]
@@ -16,6 +16,23 @@ pub enum ByteRegister {
 }
 
 impl ByteRegister {
+    /// The register with this number; of a greater number than the last register's the last.
+    pub fn numbered(number: u8) -> ByteRegister
+        ensures value { result ≡ byte_register_of number }
+        ensures again { number < 8 → byte_register_number result ≡ number }
+    {
+        match number {
+            0 => ByteRegister::Al,
+            1 => ByteRegister::Cl,
+            2 => ByteRegister::Dl,
+            3 => ByteRegister::Bl,
+            4 => ByteRegister::Ah,
+            5 => ByteRegister::Ch,
+            6 => ByteRegister::Dh,
+            _ => ByteRegister::Bh,
+        }
+    }
+
     /// The number in an instruction's register field.
     pub fn number(self) -> u8
         ensures { result ≡ byte_register_number self }
@@ -47,6 +64,23 @@ pub enum WordRegister {
 }
 
 impl WordRegister {
+    /// The register with this number; of a greater number than the last register's the last.
+    pub fn numbered(number: u8) -> WordRegister
+        ensures value { result ≡ word_register_of number }
+        ensures again { number < 8 → word_register_number result ≡ number }
+    {
+        match number {
+            0 => WordRegister::Ax,
+            1 => WordRegister::Cx,
+            2 => WordRegister::Dx,
+            3 => WordRegister::Bx,
+            4 => WordRegister::Sp,
+            5 => WordRegister::Bp,
+            6 => WordRegister::Si,
+            _ => WordRegister::Di,
+        }
+    }
+
     /// The number in an instruction's register field.
     pub fn number(self) -> u8
         ensures { result ≡ word_register_number self }
@@ -74,6 +108,19 @@ pub enum SegmentRegister {
 }
 
 impl SegmentRegister {
+    /// The register with this number; of a greater number than the last register's the last.
+    pub fn numbered(number: u8) -> SegmentRegister
+        ensures value { result ≡ segment_register_of number }
+        ensures again { number < 4 → segment_register_number result ≡ number }
+    {
+        match number {
+            0 => SegmentRegister::Es,
+            1 => SegmentRegister::Cs,
+            2 => SegmentRegister::Ss,
+            _ => SegmentRegister::Ds,
+        }
+    }
+
     /// The number in an instruction's register field.
     pub fn number(self) -> u8
         ensures { result ≡ segment_register_number self }
