@@ -1,12 +1,14 @@
 -- Lines without a fault are lines that can be placed.
-use Rattle.std.proofs.Common.{◌≡◌, ℕ, ◌+◌, ◌≤◌, List, [], ◌∷◌, ◌++◌, refl, ap, ◌∙◌, arith, Bool, true, false, ◌&&◌, ◌||◌, nat_lt, Option, None, Some, is_some, if◌then◌else◌}
+use Rattle.std.proofs.Common.{◌≡◌, ℕ, ◌+◌, ◌≤◌, List, [], ◌∷◌, ◌++◌, refl, ap, ◌∙◌, arith, Bool, true, false, ◌&&◌, ◌||◌, nat_lt, Option, None, Some, is_some, if◌then◌else◌, ◌==◌, ◌<◌}
 use Rattle.std.specs.List.{list_any, list_all, AllByRecursion}
 use Rattle.std.proofs.lemmas.Bool.Decides.{nat_tests}
 use Rattle.board_types.specs.Image.{image_byte, IsLoadable}
-use Rattle.isa.specs.declared.form.Form.{Form}
-use Rattle.isa.specs.declared.form.Field.{Field}
-use Rattle.isa.specs.declared.form.Field.TheVariants.{Absent, Byte, Word}
-use Rattle.isa.specs.Encoding.{FitsField, form_length, immediate_field, segment_field}
+use Rattle.isa.specs.declared.layout.Field.{Field}
+use Rattle.isa.specs.declared.layout.Field.TheVariants.{Absent, Byte, Word, Far}
+use Rattle.isa.specs.Encoding.{FitsField, form_length}
+use Rattle.isa.specs.Layout.{field_part}
+use Rattle.pcboard_assembler.specs.declared.command.Command.{Command}
+use Rattle.pcboard_assembler.specs.Commands.{form_of, row_of}
 use Rattle.pcboard_assembler.specs.declared.fault.SourceFault.{SourceFault}
 use Rattle.pcboard_assembler.specs.declared.fault.SourceFault.TheVariants.{OutOfRange, OutOfSegment, Overlap, NotLoadable}
 use Rattle.pcboard_assembler.specs.declared.word.Name.{Name}
@@ -15,7 +17,7 @@ use Rattle.pcboard_assembler.specs.declared.statement.Statement.TheVariants.{Emp
 use Rattle.pcboard_assembler.specs.declared.statement.Line.{Line}
 use Rattle.pcboard_assembler.specs.declared.symbol.Location.{Location}
 use Rattle.pcboard_assembler.specs.declared.symbol.Numbers.{Numbers}
-use Rattle.pcboard_assembler.specs.Placement.{Meaning, Placed, address_of, bytes_at, bytes_of, fits_field, fits_form, is_loadable, is_placed, label_fault, late_fault, numbers_fault, numbers_of, placed_of, placing_fault, spot_fault, statement_fault}
+use Rattle.pcboard_assembler.specs.Placement.{Meaning, Placed, address_of, bytes_at, bytes_of, fits_field, fits_row, is_loadable, is_placed, label_fault, late_fault, numbers_fault, numbers_of, placed_of, placing_fault, spot_fault, statement_fault}
 use Rattle.pcboard_assembler.specs.Gives.{ArePlaced, CanPlace, CanPlaceAt, CanPlaceNumbers, CanPlaceStatement, CanStand, LabelWithin}
 use Rattle.pcboard_assembler.proofs.Placing.{AreFaultless}
 
@@ -65,15 +67,37 @@ of_loadable [] all = refl
 of_loadable (e ∷ es) all = both_true (is_loadable e.0) (list_all (λ (e : ℕ × ℕ). is_loadable e.0) es) (is_loadable_of e.0 all.0) (of_loadable es all.1)
 
 -- a number fits its field
-fits_is : (field : Field) (n : ℕ) → fits_field field n ≡ true → FitsField field n
-fits_is Absent n is = grind (arith, nat_tests)
-fits_is Byte n is = grind (arith, nat_tests)
-fits_is Word n is = grind (arith, nat_tests)
+is_zero : (n : ℕ) → (n == 0) ≡ true → n ≡ 0
+is_zero n is = grind (arith, nat_tests)
 
-is_fits : (field : Field) (n : ℕ) → FitsField field n → fits_field field n ≡ true
-is_fits Absent n fits = grind (arith, nat_tests)
-is_fits Byte n fits = grind (arith, nat_tests)
-is_fits Word n fits = grind (arith, nat_tests)
+zero_is : (n : ℕ) → n ≡ 0 → (n == 0) ≡ true
+zero_is n is = grind (arith, nat_tests)
+
+below : (n m : ℕ) → nat_lt n m ≡ true → n < m
+below n m is = grind (arith, nat_tests)
+
+below_is : (n m : ℕ) → n < m → nat_lt n m ≡ true
+below_is n m is = grind (arith, nat_tests)
+
+pub fits_is : (field : Field) (n : Numbers) → fits_field field n ≡ true → FitsField field n.immediate n.segment
+fits_is Absent n is =
+    let parts = and_true (n.immediate == 0) (n.segment == 0) is in
+    (is_zero n.immediate parts.0, is_zero n.segment parts.1)
+fits_is Byte n is =
+    let parts = and_true (nat_lt n.immediate 256) (n.segment == 0) is in
+    (below n.immediate 256 parts.0, is_zero n.segment parts.1)
+fits_is Word n is =
+    let parts = and_true (nat_lt n.immediate 65536) (n.segment == 0) is in
+    (below n.immediate 65536 parts.0, is_zero n.segment parts.1)
+fits_is Far n is =
+    let parts = and_true (nat_lt n.immediate 65536) (nat_lt n.segment 65536) is in
+    (below n.immediate 65536 parts.0, below n.segment 65536 parts.1)
+
+is_fits : (field : Field) (n : Numbers) → FitsField field n.immediate n.segment → fits_field field n ≡ true
+is_fits Absent n fits = both_true (n.immediate == 0) (n.segment == 0) (zero_is n.immediate fits.0) (zero_is n.segment fits.1)
+is_fits Byte n fits = both_true (nat_lt n.immediate 256) (n.segment == 0) (below_is n.immediate 256 fits.0) (zero_is n.segment fits.1)
+is_fits Word n fits = both_true (nat_lt n.immediate 65536) (n.segment == 0) (below_is n.immediate 65536 fits.0) (zero_is n.segment fits.1)
+is_fits Far n fits = both_true (nat_lt n.immediate 65536) (nat_lt n.segment 65536) (below_is n.immediate 65536 fits.0) (below_is n.segment 65536 fits.1)
 
 at_most : (m n : ℕ) → nat_lt m n ≡ false → n ≤ m
 at_most m n is = grind (arith, nat_tests)
@@ -110,18 +134,17 @@ fitting : (fits : Bool) (o : Option SourceFault) → (if fits then o else Some O
 fitting true o none = (refl, none)
 fitting false o none = cc
 
-can_numbers : (image : List (ℕ × ℕ)) (spot : Location) (form : Form) (found : Option Numbers) → numbers_fault image spot form found ≡ None → CanPlaceNumbers image spot form found
-can_numbers image spot form None none = cc
-can_numbers image spot form (Some n) none =
-    let parts = fitting (fits_form form n) (placing_fault image spot (bytes_of form n) (form_length form)) none in
-    let fields = and_true (fits_field (immediate_field form) n.immediate) (fits_field (segment_field form) n.segment) parts.0 in
-    (fits_is (immediate_field form) n.immediate fields.0, fits_is (segment_field form) n.segment fields.1, can_stand image spot (bytes_of form n) (form_length form) parts.1)
+can_numbers : (image : List (ℕ × ℕ)) (spot : Location) (c : Command) (found : Option Numbers) → numbers_fault image spot c found ≡ None → CanPlaceNumbers image spot c found
+can_numbers image spot c None none = cc
+can_numbers image spot c (Some n) none =
+    let parts = fitting (fits_row c n) (placing_fault image spot (bytes_of c n) (form_length (form_of c))) none in
+    (fits_is (field_part (row_of c)) n parts.0, can_stand image spot (bytes_of c n) (form_length (form_of c)) parts.1)
 
-numbers_stand : (image : List (ℕ × ℕ)) (spot : Location) (form : Form) (found : Option Numbers) → CanPlaceNumbers image spot form found → numbers_fault image spot form found ≡ None
-numbers_stand image spot form None can = absurd can
-numbers_stand image spot form (Some n) can =
-    let fits : fits_form form n ≡ true = both_true (fits_field (immediate_field form) n.immediate) (fits_field (segment_field form) n.segment) (is_fits (immediate_field form) n.immediate can.0) (is_fits (segment_field form) n.segment can.1) in
-    ap (λ (b : Bool). if b then placing_fault image spot (bytes_of form n) (form_length form) else Some OutOfRange) fits ∙ stands image spot (bytes_of form n) (form_length form) can.2
+numbers_stand : (image : List (ℕ × ℕ)) (spot : Location) (c : Command) (found : Option Numbers) → CanPlaceNumbers image spot c found → numbers_fault image spot c found ≡ None
+numbers_stand image spot c None can = absurd can
+numbers_stand image spot c (Some n) can =
+    ap (λ (b : Bool). if b then placing_fault image spot (bytes_of c n) (form_length (form_of c)) else Some OutOfRange) (is_fits (field_part (row_of c)) n can.0)
+    ∙ stands image spot (bytes_of c n) (form_length (form_of c)) can.1
 
 label_past : (past : Bool) → (if past then Some OutOfSegment else None) ≡ None → past ≡ false
 label_past true none = cc
@@ -139,13 +162,13 @@ can_statement : (meaning : Meaning) (image : List (ℕ × ℕ)) (spot : Location
 can_statement meaning image spot label Empty none = label_within spot label none
 can_statement meaning image spot label Ends none = label_within spot label none
 can_statement meaning image spot label (Segment name base) none = label_within spot label none
-can_statement meaning image spot label (Instruction i) none = can_numbers image spot i.form (numbers_of meaning i.fields) none
+can_statement meaning image spot label (Instruction i) none = can_numbers image spot i.command (numbers_of meaning i.fields) none
 
 statement_can : (meaning : Meaning) (image : List (ℕ × ℕ)) (spot : Location) (label : Option Name) (statement : Statement) → CanPlaceStatement meaning image spot label statement → statement_fault meaning image spot label statement ≡ None
 statement_can meaning image spot label Empty can = within_label spot label can
 statement_can meaning image spot label Ends can = within_label spot label can
 statement_can meaning image spot label (Segment name base) can = within_label spot label can
-statement_can meaning image spot label (Instruction i) can = numbers_stand image spot i.form (numbers_of meaning i.fields) can
+statement_can meaning image spot label (Instruction i) can = numbers_stand image spot i.command (numbers_of meaning i.fields) can
 
 can_at : (meaning : Meaning) (image : List (ℕ × ℕ)) (spot : Option Location) (line : Line) → spot_fault meaning image spot line ≡ None → CanPlaceAt meaning image spot line
 can_at meaning image None line none = tt

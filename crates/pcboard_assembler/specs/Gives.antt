@@ -2,8 +2,9 @@
 use Rattle.std.specs.Prelude.{ℕ, ◌≡◌, ◌≤◌, ◌+◌, false, List, [], ◌∷◌, ◌++◌, length, Option, None, Some, Ok, Contains}
 use Rattle.std.specs.List.{AllByRecursion}
 use Rattle.board_types.specs.Image.{IsLoadable, image_byte}
-use Rattle.isa.specs.declared.form.Form.{Form}
-use Rattle.isa.specs.Encoding.{FitsField, form_length, immediate_field, segment_field}
+use Rattle.isa.specs.Encoding.{FitsField, form_length}
+use Rattle.isa.specs.Layout.{field_part}
+use Rattle.pcboard_assembler.specs.declared.command.Command.{Command}
 use Rattle.pcboard_assembler.specs.declared.word.Name.{Name}
 use Rattle.pcboard_assembler.specs.declared.statement.Statement.{Statement}
 use Rattle.pcboard_assembler.specs.declared.statement.Statement.TheVariants.{Empty, Segment, Ends, Instruction}
@@ -14,6 +15,7 @@ use Rattle.pcboard_assembler.specs.declared.symbol.Symbol.{Symbol}
 use Rattle.pcboard_assembler.specs.Lexemes.{source_lines}
 use Rattle.pcboard_assembler.specs.Lines.{read_line}
 use Rattle.pcboard_assembler.specs.Symbols.{state_of, opens_within, lacks_paragraph, label_again, segment_again, stands_outside}
+use Rattle.pcboard_assembler.specs.Commands.{form_of, row_of}
 use Rattle.pcboard_assembler.specs.Placement.{Meaning, Placed, address_of, bytes_at, bytes_of, numbers_of, placed_of}
 
 -- a source has at most 1,048,576 bytes
@@ -52,10 +54,10 @@ pub record CanStand (image : List (ℕ × ℕ)) (spot : Location) (bytes : List 
   pub loadable : AllByRecursion (λ entry. IsLoadable entry.0) (bytes_at (address_of spot) bytes)
 
 -- the numbers are defined and fit their fields, and the bytes that the encoding table gives can stand there
-abbrev pub CanPlaceNumbers : List (ℕ × ℕ) → Location → Form → Option Numbers → Type 0
-CanPlaceNumbers image spot form None = ⊥
-CanPlaceNumbers image spot form (Some n) =
-    FitsField (immediate_field form) n.immediate × FitsField (segment_field form) n.segment × CanStand image spot (bytes_of form n) (form_length form)
+abbrev pub CanPlaceNumbers : List (ℕ × ℕ) → Location → Command → Option Numbers → Type 0
+CanPlaceNumbers image spot command None = ⊥
+CanPlaceNumbers image spot command (Some n) =
+    FitsField (field_part (row_of command)) n.immediate n.segment × CanStand image spot (bytes_of command n) (form_length (form_of command))
 
 -- a label's offset is at most FFFFh
 abbrev pub LabelWithin : Location → Option Name → Type 0
@@ -66,7 +68,7 @@ abbrev pub CanPlaceStatement : Meaning → List (ℕ × ℕ) → Location → Op
 CanPlaceStatement meaning image spot label Empty = LabelWithin spot label
 CanPlaceStatement meaning image spot label Ends = LabelWithin spot label
 CanPlaceStatement meaning image spot label (Segment name base) = LabelWithin spot label
-CanPlaceStatement meaning image spot label (Instruction i) = CanPlaceNumbers image spot i.form (numbers_of meaning i.fields)
+CanPlaceStatement meaning image spot label (Instruction i) = CanPlaceNumbers image spot i.command (numbers_of meaning i.fields)
 
 abbrev pub CanPlaceAt : Meaning → List (ℕ × ℕ) → Option Location → Line → Type 0
 CanPlaceAt meaning image None line = Unit {0}

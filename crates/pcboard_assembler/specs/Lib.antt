@@ -1,5 +1,6 @@
 pub mod Lexemes
 pub mod Words
+pub mod Commands
 pub mod Statements
 pub mod Lines
 pub mod Symbols

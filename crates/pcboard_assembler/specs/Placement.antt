@@ -5,12 +5,14 @@ use Rattle.std.specs.Option.{option_map}
 use Rattle.std.specs.Ordering.{nat_cmp}
 use Rattle.std.specs.BTreeMap.{insert_entry}
 use Rattle.board_types.specs.Image.{image_byte}
-use Rattle.isa.specs.declared.form.Form.{Form}
-use Rattle.isa.specs.declared.form.Field.{Field}
-use Rattle.isa.specs.declared.form.Field.TheVariants.{Absent, Byte, Word}
-use Rattle.isa.specs.Encoding.{encoding, form_length, immediate_field, segment_field}
+use Rattle.isa.specs.declared.layout.Field.{Field}
+use Rattle.isa.specs.declared.layout.Field.TheVariants.{Absent, Byte, Word, Far}
+use Rattle.isa.specs.declared.form.Values.{Values}
+use Rattle.isa.specs.Encoding.{encoding, form_length}
+use Rattle.isa.specs.Layout.{field_part}
 use Rattle.pcboard_assembler.specs.declared.fault.SourceFault.{SourceFault}
 use Rattle.pcboard_assembler.specs.declared.fault.SourceFault.TheVariants.{Undefined, OutOfRange, OutOfSegment, Overlap, NotLoadable}
+use Rattle.pcboard_assembler.specs.declared.command.Command.{Command}
 use Rattle.pcboard_assembler.specs.declared.word.Name.{Name}
 use Rattle.pcboard_assembler.specs.declared.statement.Expression.{Expression}
 use Rattle.pcboard_assembler.specs.declared.statement.Expression.TheVariants.{Number, Named}
@@ -23,6 +25,7 @@ use Rattle.pcboard_assembler.specs.declared.symbol.Location.{Location}
 use Rattle.pcboard_assembler.specs.declared.symbol.Symbol.{Symbol}
 use Rattle.pcboard_assembler.specs.declared.symbol.Symbol.TheVariants.{Label, Paragraph}
 use Rattle.pcboard_assembler.specs.declared.symbol.Numbers.{Numbers}
+use Rattle.pcboard_assembler.specs.Commands.{form_of, row_of}
 use Rattle.pcboard_assembler.specs.Symbols.{State, start, after}
 
 -- what each name stands for, if anything
@@ -52,17 +55,22 @@ numbers_of meaning (FarPointer s o) =
     option_and_then (λ v. option_map (λ w. record { immediate = w; segment = v }) (value_of meaning o)) (value_of meaning s)
 
 -- a byte field takes 0 to 255, a word field and a segment 0 to 65,535
-abbrev pub fits_field : Field → ℕ → Bool
-fits_field Absent n = n == 0
-fits_field Byte n = nat_lt n 256
-fits_field Word n = nat_lt n 65536
+abbrev pub fits_field : Field → Numbers → Bool
+fits_field Absent n = n.immediate == 0 && n.segment == 0
+fits_field Byte n = nat_lt n.immediate 256 && n.segment == 0
+fits_field Word n = nat_lt n.immediate 65536 && n.segment == 0
+fits_field Far n = nat_lt n.immediate 65536 && nat_lt n.segment 65536
 
-abbrev pub fits_form : Form → Numbers → Bool
-fits_form form n = fits_field (immediate_field form) n.immediate && fits_field (segment_field form) n.segment
+abbrev pub fits_row : Command → Numbers → Bool
+fits_row command n = fits_field (field_part (row_of command)) n
+
+-- no instruction of the dialect has a displacement
+abbrev pub values_of : Numbers → Values
+values_of n = record { displacement = 0; number = n.immediate; segment = n.segment }
 
 -- the bytes of an instruction, by the encoding table
-abbrev pub bytes_of : Form → Numbers → List ℕ
-bytes_of form n = encoding form (record { immediate = n.immediate; segment = n.segment })
+abbrev pub bytes_of : Command → Numbers → List ℕ
+bytes_of command n = encoding (form_of command) (values_of n)
 
 -- the address of a place, as a whole number
 abbrev pub address_of : Location → ℕ
@@ -91,10 +99,10 @@ placing_fault image spot bytes size =
     if list_any (is_placed image) (bytes_at (address_of spot) bytes) then Some Overlap else (
     if list_all (λ entry. is_loadable entry.0) (bytes_at (address_of spot) bytes) then None else Some NotLoadable))
 
-abbrev pub numbers_fault : List (ℕ × ℕ) → Location → Form → Option Numbers → Option SourceFault
-numbers_fault image spot form None = Some Undefined
-numbers_fault image spot form (Some n) =
-    if fits_form form n then placing_fault image spot (bytes_of form n) (form_length form) else Some OutOfRange
+abbrev pub numbers_fault : List (ℕ × ℕ) → Location → Command → Option Numbers → Option SourceFault
+numbers_fault image spot command None = Some Undefined
+numbers_fault image spot command (Some n) =
+    if fits_row command n then placing_fault image spot (bytes_of command n) (form_length (form_of command)) else Some OutOfRange
 
 -- a label past the segment's end
 abbrev pub label_fault : Location → Option Name → Option SourceFault
@@ -104,7 +112,7 @@ abbrev pub statement_fault : Meaning → List (ℕ × ℕ) → Location → Opti
 statement_fault meaning image spot label Empty = label_fault spot label
 statement_fault meaning image spot label Ends = label_fault spot label
 statement_fault meaning image spot label (Segment name n) = label_fault spot label
-statement_fault meaning image spot label (Instruction i) = numbers_fault image spot i.form (numbers_of meaning i.fields)
+statement_fault meaning image spot label (Instruction i) = numbers_fault image spot i.command (numbers_of meaning i.fields)
 
 abbrev pub spot_fault : Meaning → List (ℕ × ℕ) → Option Location → Line → Option SourceFault
 spot_fault meaning image None line = None
@@ -124,15 +132,15 @@ unfoldable pub late_fault : Meaning → Placed → Line → Option SourceFault
 late_fault meaning placed line = spot_fault meaning placed.image placed.state.spot line
 
 -- the bytes of a line at their addresses
-abbrev pub numbers_bytes : Location → Form → Option Numbers → List (ℕ × ℕ)
-numbers_bytes spot form None = []
-numbers_bytes spot form (Some n) = bytes_at (address_of spot) (bytes_of form n)
+abbrev pub numbers_bytes : Location → Command → Option Numbers → List (ℕ × ℕ)
+numbers_bytes spot command None = []
+numbers_bytes spot command (Some n) = bytes_at (address_of spot) (bytes_of command n)
 
 abbrev pub statement_bytes : Meaning → Location → Statement → List (ℕ × ℕ)
 statement_bytes meaning spot Empty = []
 statement_bytes meaning spot Ends = []
 statement_bytes meaning spot (Segment name n) = []
-statement_bytes meaning spot (Instruction i) = numbers_bytes spot i.form (numbers_of meaning i.fields)
+statement_bytes meaning spot (Instruction i) = numbers_bytes spot i.command (numbers_of meaning i.fields)
 
 abbrev pub spot_bytes : Meaning → Option Location → Statement → List (ℕ × ℕ)
 spot_bytes meaning None statement = []

@@ -2,13 +2,12 @@
 use Rattle.std.specs.Prelude.{ℕ, Bool, ◌&&◌, if◌then◌else◌, nat_lt, List, [], ◌∷◌, codes, Option, None, Some, Result, Ok, Err}
 use Rattle.std.specs.Option.{option_map_or}
 use Rattle.std.specs.Str.{bytes_eq}
-use Rattle.isa.specs.declared.form.Form.{Form}
-use Rattle.isa.specs.declared.form.Form.TheVariants.{MoveByte, MoveWord, MoveToSegment, StoreWord, OutByte, JumpFar, Halt}
-use Rattle.isa.specs.declared.form.Place.TheVariants.{Register}
-use Rattle.isa.specs.declared.register.SegmentRegister.{SegmentRegister}
 use Rattle.pcboard_assembler.specs.declared.fault.SourceFault.{SourceFault}
 use Rattle.pcboard_assembler.specs.declared.fault.SourceFault.TheVariants.{BadLine, UnknownName}
 use Rattle.pcboard_assembler.specs.declared.word.Name.{Name}
+use Rattle.pcboard_assembler.specs.declared.command.LoadedSegment.{LoadedSegment}
+use Rattle.pcboard_assembler.specs.declared.command.Command.{Command}
+use Rattle.pcboard_assembler.specs.declared.command.Command.TheVariants.{MoveByte, MoveWord, MoveToSegment, StoreWord, OutByte, JumpFar, Halt}
 use Rattle.pcboard_assembler.specs.declared.statement.Expression.{Expression}
 use Rattle.pcboard_assembler.specs.declared.statement.Expression.TheVariants.{Number, Named}
 use Rattle.pcboard_assembler.specs.declared.statement.Base.{Base}
@@ -35,8 +34,8 @@ abbrev pub is_the_mark : ℕ → List ℕ → Bool
 is_the_mark mark lexeme = bytes_eq lexeme (mark ∷ [])
 
 -- an instruction
-abbrev pub placing : Form → Fields → Statement
-placing form fields = Instruction (record { form = form; fields = fields })
+abbrev pub placing : Command → Fields → Statement
+placing command fields = Instruction (record { command = command; fields = fields })
 
 -- a statement that stands alone
 unfoldable pub alone : Statement → List (List ℕ) → Result Statement SourceFault
@@ -61,15 +60,15 @@ segment_of (name ∷ at ∷ base ∷ []) =
 segment_of ws = Err BadLine
 
 -- a byte register and a constant, a word register and a constant, or a segment register and a word register
-abbrev pub move_constant : Form → List ℕ → Result Statement SourceFault
-move_constant form source = do
+abbrev pub move_constant : Command → List ℕ → Result Statement SourceFault
+move_constant command source = do
   n ← wanted (expression_of source)
-  Ok (placing form (Immediate n))
+  Ok (placing command (Immediate n))
 
-abbrev pub move_register : SegmentRegister → List ℕ → Result Statement SourceFault
+abbrev pub move_register : LoadedSegment → List ℕ → Result Statement SourceFault
 move_register s source = do
   r ← wanted (word_register_of source)
-  Ok (placing (MoveToSegment s (Register r)) Nothing)
+  Ok (placing (MoveToSegment s r) Nothing)
 
 unfoldable pub move_to : List ℕ → List ℕ → Result Statement SourceFault
 move_to target source =

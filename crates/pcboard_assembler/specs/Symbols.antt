@@ -14,6 +14,7 @@ use Rattle.pcboard_assembler.specs.declared.statement.Line.{Line}
 use Rattle.pcboard_assembler.specs.declared.symbol.Location.{Location}
 use Rattle.pcboard_assembler.specs.declared.symbol.Symbol.{Symbol}
 use Rattle.pcboard_assembler.specs.declared.symbol.Symbol.TheVariants.{Label, Paragraph}
+use Rattle.pcboard_assembler.specs.Commands.{form_of}
 
 -- What stands between two lines: where the next byte goes, if a segment is open, and each name defined so far
 -- with what it stands for.
@@ -67,7 +68,7 @@ moved_on (Some l) n = Some (record l { offset = l.offset + n })
 abbrev pub spot_after : State → Statement → Option Location
 spot_after s Empty = s.spot
 spot_after s Ends = None
-spot_after s (Instruction i) = moved_on s.spot (form_length i.form)
+spot_after s (Instruction i) = moved_on s.spot (form_length (form_of i.command))
 spot_after s (Segment name n) = opened (paragraph_of s.definitions n)
 
 unfoldable pub after : State → Line → State

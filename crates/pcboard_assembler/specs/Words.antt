@@ -8,8 +8,8 @@ use Rattle.isa.specs.declared.register.ByteRegister.{ByteRegister}
 use Rattle.isa.specs.declared.register.ByteRegister.TheVariants.{Al, Cl, Dl, Bl, Ah, Ch, Dh, Bh}
 use Rattle.isa.specs.declared.register.WordRegister.{WordRegister}
 use Rattle.isa.specs.declared.register.WordRegister.TheVariants.{Ax, Cx, Dx, Bx, Sp, Bp, Si, Di}
-use Rattle.isa.specs.declared.register.SegmentRegister.{SegmentRegister}
-use Rattle.isa.specs.declared.register.SegmentRegister.TheVariants.{Es, Ss, Ds}
+use Rattle.pcboard_assembler.specs.declared.command.LoadedSegment.{LoadedSegment}
+use Rattle.pcboard_assembler.specs.declared.command.LoadedSegment.TheVariants.{Es, Ss, Ds}
 use Rattle.pcboard_assembler.specs.declared.word.Name.{Name}
 use Rattle.pcboard_assembler.specs.declared.statement.Expression.{Expression}
 use Rattle.pcboard_assembler.specs.declared.statement.Expression.TheVariants.{Number, Named}
@@ -130,7 +130,7 @@ word_register_of word =
     if spells word (codes "DI") then Some Di else None)))))))
 
 -- the segment registers that a MOV can load: not CS
-unfoldable pub loaded_segment_of : List ℕ → Option SegmentRegister
+unfoldable pub loaded_segment_of : List ℕ → Option LoadedSegment
 loaded_segment_of word =
     if spells word (codes "ES") then Some Es else (
     if spells word (codes "SS") then Some Ss else (

@@ -3,6 +3,7 @@
 #![tactic(auto)]
 
 pub mod assembly;
+pub mod command;
 pub mod fault;
 mod lexeme;
 mod line;
@@ -10,6 +11,4 @@ mod placement;
 mod reading;
 pub mod statement;
 pub mod symbol;
-#[cfg(test)]
-mod tests;
 pub mod word;

@@ -6,6 +6,7 @@ ghost use Rattle.pcboard_assembler.specs.Words.{is_name, is_well_formed, name_of
 ghost use Rattle.pcboard_assembler.specs.Statements.{alone, base_of, far_label, far_pointer, far_target, is_the_mark, jump_of, move_constant, move_of, move_to, placing, out_of, segment_at, segment_of, statement_by, statement_of, wanted};
 ghost use Rattle.pcboard_assembler.specs.Lines.{line_of, read_line, with_label};
 
+use crate::command::Command;
 use crate::fault::SourceFault;
 use crate::lexeme::{is_character, next_lexeme};
 use crate::statement::{Base, Expression, Fields, Line, Operation, Statement};
@@ -13,7 +14,6 @@ use crate::word::{
     Name, begins_with_letter, byte_register_of, expression_of, is_name, is_well_formed,
     loaded_segment_of, name_of, spells, word_register_of,
 };
-use isa::form::{Form, Place};
 
 /// What a line of the source says, or its fault.
 #[tactic(auto, unfolding(crate::specs::Lines::read_line))]
@@ -112,22 +112,22 @@ fn statement_by(word: &[u8], operands: &[u8]) -> Result<Statement, SourceFault>
     } else if spells(word, b"MOV") {
         read_move(operands)
     } else if spells(word, b"STOSW") {
-        alone(instruction(Form::StoreWord, Fields::Nothing), operands)
+        alone(instruction(Command::StoreWord, Fields::Nothing), operands)
     } else if spells(word, b"OUT") {
         read_out(operands)
     } else if spells(word, b"JMP") {
         read_jump(operands)
     } else if spells(word, b"HLT") {
-        alone(instruction(Form::Halt, Fields::Nothing), operands)
+        alone(instruction(Command::Halt, Fields::Nothing), operands)
     } else {
         Err(SourceFault::UnknownName)
     }
 }
 
-fn instruction(form: Form, fields: Fields) -> Statement
-    ensures { result ≡ placing form fields }
+fn instruction(command: Command, fields: Fields) -> Statement
+    ensures { result ≡ placing command fields }
 {
-    Statement::Instruction(Operation { form, fields })
+    Statement::Instruction(Operation { command, fields })
 }
 
 #[tactic(auto, unfolding(crate::specs::Statements::alone))]
@@ -209,27 +209,24 @@ fn move_to(target: &[u8], source: &[u8]) -> Result<Statement, SourceFault>
     ensures { result ≡ move_to target.now source.now }
 {
     if let Some(register) = byte_register_of(target) {
-        return move_constant(Form::MoveByte(register), source);
+        return move_constant(Command::MoveByte(register), source);
     }
     if let Some(register) = word_register_of(target) {
-        return move_constant(Form::MoveWord(register), source);
+        return move_constant(Command::MoveWord(register), source);
     }
     match (loaded_segment_of(target), word_register_of(source)) {
         (Some(segment), Some(register)) => {
-            Ok(instruction(
-                Form::MoveToSegment(segment, Place::Register(register)),
-                Fields::Nothing,
-            ))
+            Ok(instruction(Command::MoveToSegment(segment, register), Fields::Nothing))
         }
         _ => Err(SourceFault::BadLine),
     }
 }
 
-fn move_constant(form: Form, source: &[u8]) -> Result<Statement, SourceFault>
-    ensures { result ≡ move_constant form source.now }
+fn move_constant(command: Command, source: &[u8]) -> Result<Statement, SourceFault>
+    ensures { result ≡ move_constant command source.now }
 {
     let constant = wanted(expression_of(source))?;
-    Ok(instruction(form, Fields::Immediate(constant)))
+    Ok(instruction(command, Fields::Immediate(constant)))
 }
 
 #[tactic(auto, unfolding(crate::specs::Statements::out_of))]
@@ -239,7 +236,7 @@ fn read_out(operands: &[u8]) -> Result<Statement, SourceFault>
     match three_lexemes(operands) {
         Some((port, comma, source))
             if spells(port, b"DX") && is_mark(b',', comma) && spells(source, b"AL") => {
-            Ok(instruction(Form::OutByte, Fields::Nothing))
+            Ok(instruction(Command::OutByte, Fields::Nothing))
         }
         _ => Err(SourceFault::BadLine),
     }
@@ -279,7 +276,7 @@ fn far_label(label: &[u8]) -> Result<Statement, SourceFault>
     ensures { result ≡ far_label label.now }
 {
     if is_name(label) {
-        Ok(instruction(Form::JumpFar, Fields::FarLabel(name_of(label))))
+        Ok(instruction(Command::JumpFar, Fields::FarLabel(name_of(label))))
     } else {
         Err(SourceFault::BadLine)
     }
@@ -290,5 +287,5 @@ fn far_pointer(segment: &[u8], offset: &[u8]) -> Result<Statement, SourceFault>
 {
     let segment = wanted(expression_of(segment))?;
     let offset = wanted(expression_of(offset))?;
-    Ok(instruction(Form::JumpFar, Fields::FarPointer(segment, offset)))
+    Ok(instruction(Command::JumpFar, Fields::FarPointer(segment, offset)))
 }

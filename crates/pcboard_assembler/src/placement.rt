@@ -3,11 +3,13 @@ ghost use Rattle.std.specs.Prelude.{◌≡◌, ◌≤◌, ◌<◌, ◌+◌, ◌^
 ghost use Rattle.std.specs.List.{list_all, list_any};
 ghost use Rattle.board_types.specs.Image.{IsLoadable};
 ghost use Rattle.isa.specs.Encoding.{form_length};
+ghost use Rattle.pcboard_assembler.specs.Commands.{form_of};
 ghost use Rattle.pcboard_assembler.specs.Lexemes.{source_lines};
-ghost use Rattle.pcboard_assembler.specs.Placement.{address_of, bytes_at, bytes_of, fits_field, fits_form, is_loadable, is_placed, numbers_bytes, numbers_fault, numbers_of, placing_fault, statement_bytes, statement_fault, value_of, with_bytes};
+ghost use Rattle.pcboard_assembler.specs.Placement.{address_of, bytes_at, bytes_of, fits_field, fits_row, is_loadable, is_placed, numbers_bytes, numbers_fault, numbers_of, placing_fault, statement_bytes, statement_fault, value_of, with_bytes};
 ghost use Rattle.pcboard_assembler.specs.declared.symbol.Location.{Location};
 ghost use Rattle.pcboard_assembler.specs.Passes.{look, offset_of, place_text, place_texts, standing, Fails, Refuses};
 
+use crate::command::Command;
 use crate::fault::{AsmFault, SourceFault};
 use crate::lexeme::next_line;
 use crate::line::read_line;
@@ -17,7 +19,8 @@ use crate::symbol::{Location, Numbers, Symbol};
 use arrayvec::ArrayVec;
 use board_types::image::Image;
 use isa::encoding::encode;
-use isa::form::{Field, Form, Values};
+use isa::form::Values;
+use isa::layout::Field;
 use std::alloc::{AllocError, Global};
 
 /// How many addresses the 8086 has; past the last one they begin again.
@@ -65,33 +68,33 @@ fn numbers_of(symbols: &Symbols, fields: Fields) -> Option<Numbers>
     }
 }
 
-fn fits_field(field: Field, number: u32) -> bool
-    ensures value { result ≡ fits_field field number }
-    ensures word { result ≡ true → number < 2 ^ 16 }
+fn fits_field(field: Field, numbers: Numbers) -> bool
+    ensures value { result ≡ fits_field field numbers }
+    ensures words { result ≡ true → (numbers.immediate < 2 ^ 16) × (numbers.segment < 2 ^ 16) }
 {
     match field {
-        Field::Absent => number == 0,
-        Field::Byte => number < 0x100,
-        Field::Word => number < 0x1_0000,
+        Field::Absent => numbers.immediate == 0 && numbers.segment == 0,
+        Field::Byte => numbers.immediate < 0x100 && numbers.segment == 0,
+        Field::Word => numbers.immediate < 0x1_0000 && numbers.segment == 0,
+        Field::Far => numbers.immediate < 0x1_0000 && numbers.segment < 0x1_0000,
     }
 }
 
 /// The bytes of an instruction, if its numbers fit its fields.
-fn bytes_of(form: Form, numbers: Numbers) -> Option<ArrayVec<u8, 14>>
-    ensures some { IfSome result (λ bytes. (fits_form form numbers ≡ true) × (bytes.items ≡ bytes_of form numbers) × (length bytes.items ≡ form_length form)) }
-    ensures none { IfNone result (fits_form form numbers ≡ false) }
+#[tactic(auto, using(crate::proofs::Commands::fits, crate::proofs::Commands::length_is))]
+fn bytes_of(command: Command, numbers: Numbers) -> Option<ArrayVec<u8, 14>>
+    ensures some { IfSome result (λ bytes. (fits_row command numbers ≡ true) × (bytes.items ≡ bytes_of command numbers) × (length bytes.items ≡ form_length (form_of command))) }
+    ensures none { IfNone result (fits_row command numbers ≡ false) }
 {
-    if fits_field(form.immediate_field(), numbers.immediate)
-        && fits_field(form.segment_field(), numbers.segment)
-    {
-        let values = Values {
-            immediate: numbers.immediate as u16,
-            segment: numbers.segment as u16,
-        };
-        Some(encode(&form, values))
-    } else {
-        None
+    if !fits_field(command.row().field(), numbers) {
+        return None;
     }
+    let values = Values {
+        displacement: 0,
+        number: numbers.immediate as u16,
+        segment: numbers.segment as u16,
+    };
+    Some(encode(&command.form(), values))
 }
 
 fn is_loadable(address: u32) -> bool
@@ -191,15 +194,15 @@ fn operation_bytes(
     operation: Operation,
 ) -> Result<ArrayVec<u8, 14>, SourceFault>
     requires { spot.offset < 2 ^ 24 }
-    ensures clean { OnOk result (numbers_fault image.now spot operation.form (numbers_of (look symbols.now.entries) operation.fields) ≡ None) }
-    ensures bytes { IfOk result (λ bytes. bytes_at (address_of spot) bytes.items ≡ numbers_bytes spot operation.form (numbers_of (look symbols.now.entries) operation.fields)) }
+    ensures clean { OnOk result (numbers_fault image.now spot operation.command (numbers_of (look symbols.now.entries) operation.fields) ≡ None) }
+    ensures bytes { IfOk result (λ bytes. bytes_at (address_of spot) bytes.items ≡ numbers_bytes spot operation.command (numbers_of (look symbols.now.entries) operation.fields)) }
     ensures loadable { IfOk result (λ bytes. list_all (λ entry. is_loadable entry.0) (bytes_at (address_of spot) bytes.items) ≡ true) }
-    ensures fault { IfErr result (λ fault. numbers_fault image.now spot operation.form (numbers_of (look symbols.now.entries) operation.fields) ≡ Some fault) }
+    ensures fault { IfErr result (λ fault. numbers_fault image.now spot operation.command (numbers_of (look symbols.now.entries) operation.fields) ≡ Some fault) }
 {
     let Some(numbers) = numbers_of(symbols, operation.fields) else {
         return Err(SourceFault::Undefined);
     };
-    let Some(bytes) = bytes_of(operation.form, numbers) else {
+    let Some(bytes) = bytes_of(operation.command, numbers) else {
         return Err(SourceFault::OutOfRange);
     };
     match placing_fault(image, spot, bytes.as_slice()) {
@@ -216,9 +219,9 @@ fn place_operation(
     number: u32,
 ) -> Result<(), AsmFault>
     requires { spot.offset < 2 ^ 24 }
-    ensures clean { OnOk result (numbers_fault image.old spot operation.form (numbers_of (look symbols.now.entries) operation.fields) ≡ None) }
-    ensures placed { OnOk result (image.new ≡ with_bytes image.old (numbers_bytes spot operation.form (numbers_of (look symbols.now.entries) operation.fields))) }
-    ensures err { IfErr result (λ fault. Refuses fault number (numbers_fault image.old spot operation.form (numbers_of (look symbols.now.entries) operation.fields))) }
+    ensures clean { OnOk result (numbers_fault image.old spot operation.command (numbers_of (look symbols.now.entries) operation.fields) ≡ None) }
+    ensures placed { OnOk result (image.new ≡ with_bytes image.old (numbers_bytes spot operation.command (numbers_of (look symbols.now.entries) operation.fields))) }
+    ensures err { IfErr result (λ fault. Refuses fault number (numbers_fault image.old spot operation.command (numbers_of (look symbols.now.entries) operation.fields))) }
 {
     let bytes = match operation_bytes(image, symbols, spot, operation) {
         Ok(bytes) => bytes,
@@ -269,7 +272,7 @@ fn place_text(
     requires { offset_of spot < 2 ^ 24 }
     ensures ok { IfOk result (λ next. place_text symbols.now.entries (standing spot image.old) number text.now ≡ Ok (standing next image.new)) }
     ensures err { IfErr result (λ fault. Fails fault (place_text symbols.now.entries (standing spot image.old) number text.now)) }
-    ensures grows { IfOk result (λ next. offset_of next ≤ offset_of spot + 8) }
+    ensures grows { IfOk result (λ next. offset_of next ≤ offset_of spot + 10) }
 {
     let line = match read_line(text) {
         Ok(line) => line,

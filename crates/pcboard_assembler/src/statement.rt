@@ -1,23 +1,23 @@
 //! The lines of a source: labels, statements and their operands.
+use crate::command::Command;
 use crate::word::Name;
-use isa::form::Form;
 
 /// One number or one name.
-#[derive(Clone, Copy, Debug, PartialEq, Eq)]
+#[derive(Clone, Copy)]
 pub enum Expression {
     Number(u32),
     Named(Name),
 }
 
 /// The paragraph of a segment: a number, or that of an earlier segment.
-#[derive(Clone, Copy, Debug, PartialEq, Eq)]
+#[derive(Clone, Copy)]
 pub enum Base {
     Fixed(u16),
     OfSegment(Name),
 }
 
 /// What stands in the fields of an instruction.
-#[derive(Clone, Copy, Debug, PartialEq, Eq)]
+#[derive(Clone, Copy)]
 pub enum Fields {
     Nothing,
     Immediate(Expression),
@@ -28,14 +28,14 @@ pub enum Fields {
 }
 
 /// An instruction of a source.
-#[derive(Clone, Copy, Debug, PartialEq, Eq)]
+#[derive(Clone, Copy)]
 pub struct Operation {
-    pub form: Form,
+    pub command: Command,
     pub fields: Fields,
 }
 
 /// What a line says behind its label.
-#[derive(Clone, Copy, Debug, PartialEq, Eq)]
+#[derive(Clone, Copy)]
 pub enum Statement {
     Empty,
     /// SEGMENT name AT base
@@ -45,7 +45,7 @@ pub enum Statement {
 }
 
 /// A line of a source.
-#[derive(Clone, Copy, Debug, PartialEq, Eq)]
+#[derive(Clone, Copy)]
 pub struct Line {
     pub label: Option<Name>,
     pub statement: Statement,

@@ -1,7 +1,7 @@
 //! What the names of a source stand for.
 
 /// A place in the 8086's memory, as a whole number of bytes from a segment's start.
-#[derive(Clone, Copy, Debug, PartialEq, Eq)]
+#[derive(Clone, Copy)]
 pub struct Location {
     /// The segment's paragraph.
     pub segment: u16,
@@ -9,7 +9,7 @@ pub struct Location {
 }
 
 /// What a name stands for.
-#[derive(Clone, Copy, Debug, PartialEq, Eq)]
+#[derive(Clone, Copy)]
 pub enum Symbol {
     /// A label, at the place of the byte behind it.
     Label(Location),
@@ -18,7 +18,7 @@ pub enum Symbol {
 }
 
 /// The numbers in an instruction's fields, before they are cut to the fields.
-#[derive(Clone, Copy, Debug, PartialEq, Eq)]
+#[derive(Clone, Copy)]
 pub struct Numbers {
     pub immediate: u32,
     pub segment: u32,

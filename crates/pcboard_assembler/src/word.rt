@@ -4,11 +4,12 @@ ghost use Rattle.std.specs.List.{list_any};
 ghost use Rattle.pcboard_assembler.specs.Lexemes.{begins_with, is_digit, is_letter, is_word_byte};
 ghost use Rattle.pcboard_assembler.specs.Words.{byte_register_of, digit_of, expression_of, is_mark, is_name, is_reserved, is_well_formed, loaded_segment_of, name_of, number_of, number_to, spells, word_register_of};
 
+use crate::command::LoadedSegment;
 use crate::statement::Expression;
-use isa::register::{ByteRegister, SegmentRegister, WordRegister};
+use isa::register::{ByteRegister, WordRegister};
 
 /// A name in upper case, filled up with zeros to 31 characters.
-#[derive(Clone, Copy, Debug, PartialEq, Eq, Hash)]
+#[derive(Clone, Copy, PartialEq, Eq, Hash)]
 pub struct Name {
     pub letters: [u8; 31],
 }
@@ -239,15 +240,15 @@ pub(crate) fn word_register_of(word: &[u8]) -> Option<WordRegister>
 
 /// The segment register that the word is, if a MOV can load it.
 #[tactic(auto, unfolding(crate::specs::Words::loaded_segment_of))]
-pub(crate) fn loaded_segment_of(word: &[u8]) -> Option<SegmentRegister>
+pub(crate) fn loaded_segment_of(word: &[u8]) -> Option<LoadedSegment>
     ensures { result ≡ loaded_segment_of word.now }
 {
     if spells(word, b"ES") {
-        Some(SegmentRegister::Es)
+        Some(LoadedSegment::Es)
     } else if spells(word, b"SS") {
-        Some(SegmentRegister::Ss)
+        Some(LoadedSegment::Ss)
     } else if spells(word, b"DS") {
-        Some(SegmentRegister::Ds)
+        Some(LoadedSegment::Ds)
     } else {
         None
     }
