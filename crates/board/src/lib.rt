@@ -5,3 +5,5 @@ mod arrivals;
 pub mod board;
 pub mod laws;
 mod system;
+#[cfg(test)]
+mod tests;

@@ -1,0 +1,20 @@
+//! The steps of a row, one after another.
+use crate::words::Words;
+
+/// What a row's steps are made on.
+pub trait Bench {
+    /// Makes a step. Answers whether it came out as it says, or `None` where there is no such step.
+    fn make(&mut self, verb: &str, words: Words) -> Option<bool>;
+}
+
+/// Makes `steps`, parted by semicolons, up to the first that doesn't come out, which is the error.
+pub fn follow<'a, B: Bench>(bench: &mut B, steps: &'a str) -> Result<(), &'a str> {
+    for step in steps.split(';') {
+        let mut words = Words(step);
+        let verb = words.word().unwrap_or("");
+        if bench.make(verb, words) != Some(true) {
+            return Err(step);
+        }
+    }
+    Ok(())
+}

@@ -1,0 +1,128 @@
+//! Steps on a whole board.
+use crate::bench::Bench;
+use crate::parts::Parts;
+use crate::words::Words;
+use board::board::{Board, BoardFault, Config, SpeakerChange};
+use board_types::line::Line;
+use board_types::regs::Regs;
+use board_types::state::State;
+use std::alloc::Global;
+
+/// The parts, and the board that was made of them.
+#[derive(Drop)]
+pub struct BoardBench {
+    parts: Parts,
+    board: Option<Board>,
+}
+
+impl BoardBench {
+    /// Parts and no board.
+    pub fn new(alloc: Global) -> Self {
+        BoardBench {
+            parts: Parts::new(alloc),
+            board: None,
+        }
+    }
+
+    fn build(&mut self, mut words: Words) -> Option<bool> {
+        let ram_kb = u16::try_from(words.count()?).ok()?;
+        let parts = &self.parts;
+        let config = Config {
+            ram_kb,
+            sw1: parts.sw1,
+            sw2: parts.sw2,
+        };
+        match Board::new(parts.alloc, &parts.image, config, parts.keys.copy().ok()?) {
+            Ok(board) => {
+                self.board = Some(board);
+                Some(words.word()? == "taken")
+            }
+            Err(fault) => is_fault(fault, words),
+        }
+    }
+}
+
+impl Bench for BoardBench {
+    fn make(&mut self, verb: &str, words: Words) -> Option<bool> {
+        match &mut self.board {
+            Some(board) => act(board, verb, words),
+            None if verb == "ram" => self.build(words),
+            None => self.parts.set(verb, words),
+        }
+    }
+}
+
+fn act(board: &mut Board, verb: &str, mut words: Words) -> Option<bool> {
+    match verb {
+        "run" => Some(board.run(words.count()?).is_ok()),
+        "refused" => is_fault(board.run(words.count()?).err()?, words),
+        "clock" => Some(board.clock() == words.clock()?),
+        "state" => Some(state_name(board.state()) == words.word()?),
+        "regs" => hold(board.regs(), words),
+        "byte" => Some(board.byte(words.address()?) == words.byte()?),
+        "lost" => Some(board.lost() == words.count()?),
+        "changes" => are_listed(board.speaker_changes(), words),
+        "blank" => Some(board.screen().ok()?.as_str().trim().is_empty()),
+        "screen" => words.are_shown(board.screen().ok()?.as_str()),
+        _ => None,
+    }
+}
+
+/// Whether the words are the fault's number and name.
+fn is_fault(fault: BoardFault, mut words: Words) -> Option<bool> {
+    Some(words.count()? == u64::from(fault.number()) && words.word()? == fault.name())
+}
+
+fn state_name(state: State) -> &'static str {
+    match state {
+        State::Running => "running",
+        State::Halted => "halted",
+        State::Jammed => "jammed",
+    }
+}
+
+/// Whether the words name all registers that aren't 0, in the order below, each with what it holds.
+fn hold(regs: Regs, words: Words) -> Option<bool> {
+    let mut wanted = words.0.split_whitespace();
+    for (name, value) in [
+        ("AX", regs.ax),
+        ("BX", regs.bx),
+        ("CX", regs.cx),
+        ("DX", regs.dx),
+        ("SP", regs.sp),
+        ("BP", regs.bp),
+        ("SI", regs.si),
+        ("DI", regs.di),
+        ("CS", regs.cs),
+        ("DS", regs.ds),
+        ("ES", regs.es),
+        ("SS", regs.ss),
+        ("IP", regs.ip),
+        ("FL", regs.flags.word()),
+    ] {
+        if value == 0 {
+            continue;
+        }
+        let (register, digits) = wanted.next()?.split_once('=')?;
+        if register != name || u16::from_str_radix(digits, 16).ok()? != value {
+            return Some(false);
+        }
+    }
+    Some(wanted.next().is_none())
+}
+
+/// Whether the words are the changes, each a clock and a level.
+fn are_listed(changes: &[SpeakerChange], words: Words) -> Option<bool> {
+    let mut wanted = words.0.split_whitespace();
+    for change in changes {
+        let word = wanted.next()?;
+        let (clock, level) = match word.strip_suffix('H') {
+            Some(digits) => (digits, Line::High),
+            None => (word.strip_suffix('L')?, Line::Low),
+        };
+        if change.level != level || clock.parse::<u64>().ok()? != change.clock.get() {
+            return Some(false);
+        }
+    }
+    Some(wanted.next().is_none())
+}

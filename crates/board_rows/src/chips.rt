@@ -1,0 +1,94 @@
+//! Steps on the chips of a system board without its processor.
+use crate::bench::Bench;
+use crate::parts::Parts;
+use crate::words::Words;
+use board_types::bytes::Bytes;
+use bus::Bus;
+use std::alloc::Global;
+use wiring::chips::Chips;
+
+/// The parts, and the chips that were made of them.
+#[derive(Drop)]
+pub struct ChipsBench {
+    parts: Parts,
+    chips: Option<Chips>,
+}
+
+impl ChipsBench {
+    /// Parts and no chips.
+    pub fn new(alloc: Global) -> Self {
+        ChipsBench {
+            parts: Parts::new(alloc),
+            chips: None,
+        }
+    }
+
+    fn build(&mut self, mut words: Words) -> Option<bool> {
+        let ram_kb = u16::try_from(words.count()?).ok()?;
+        let parts = &self.parts;
+        match Chips::new(parts.alloc, &parts.image, ram_kb, parts.sw1, parts.sw2) {
+            Ok(chips) => {
+                self.chips = Some(chips);
+                Some(words.word()? == "taken")
+            }
+            Err(fault) => Some(words.count()? == u64::from(fault.number())),
+        }
+    }
+}
+
+impl Bench for ChipsBench {
+    fn make(&mut self, verb: &str, words: Words) -> Option<bool> {
+        match &mut self.chips {
+            Some(chips) => act(chips, verb, words),
+            None if verb == "ram" => self.build(words),
+            None => self.parts.set(verb, words),
+        }
+    }
+}
+
+/// Makes a step that changes the chips.
+fn act(chips: &mut Chips, verb: &str, mut words: Words) -> Option<bool> {
+    match verb {
+        "in" => return Some(chips.in8(words.port()?) == words.byte()?),
+        "acknowledge" => return Some(chips.acknowledge() == words.byte()?),
+        "sync" => return sync(chips, words),
+        "out" => chips.out8(words.port()?, words.byte()?),
+        "write" => chips.write8(words.address()?, words.byte()?),
+        "arrive" => chips.arrive(words.byte()?),
+        "settle" => chips.settle(),
+        "copy" => *chips = chips.copy().ok()?,
+        _ => return tells(chips, verb, words),
+    }
+    Some(true)
+}
+
+/// Makes a step that only looks at the chips.
+fn tells(chips: &Chips, verb: &str, mut words: Words) -> Option<bool> {
+    match verb {
+        "read" => has_byte(chips, words),
+        "lost" => Some(chips.lost() == words.count()?),
+        "request" => Some(chips.request() == words.high()?),
+        "speaker" => Some(chips.speaker() == words.high()?),
+        "next" => {
+            let write = (words.port()?, words.byte()?);
+            Some(chips.level_after(&[write]) == words.high()?)
+        }
+        "screen" => words.are_shown(chips.text().ok()?.as_str()),
+        _ => None,
+    }
+}
+
+fn sync(chips: &mut Chips, mut words: Words) -> Option<bool> {
+    let to = words.clock()?;
+    if to.get() < chips.clock().get() {
+        return None;
+    }
+    chips.sync(to);
+    Some(chips.clock() == to)
+}
+
+fn has_byte(chips: &Chips, mut words: Words) -> Option<bool> {
+    let addr = words.address()?;
+    let wanted = words.byte()?;
+    Some(chips.read8(addr) == wanted && chips.byte(addr) == wanted)
+}

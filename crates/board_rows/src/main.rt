@@ -1,0 +1,69 @@
+//! Rows of outside values for the system board. Reads rows from standard input, prints the first rows that differ,
+//! each with its line's number and the step that didn't come out, and then how many rows there were and how many of
+//! them differ. A row that can't be read differs.
+//!
+//! A row is one line: `chips` or `board`, a colon, and steps parted by semicolons, each a verb and its words. A blank
+//! line and a line that begins with `#` are no rows. Ports, addresses, bytes and registers are hexadecimal; clocks,
+//! counts, sizes in KB, fault numbers and the screen's lines, from 0, are decimal. Levels are `H` and `L`.
+//!
+//! Before the chips or the board are made: `put ADDRESS BYTE ..` into the image, from the address on,
+//! `keys STAMP CODE ..`, `switches SW1 SW2`, and `ram KB taken`, which makes them, or `ram KB FAULT`, which is
+//! refused (by a fault of this number; a board's fault has its name behind).
+//!
+//! `chips`: `in PORT BYTE`, `out PORT BYTE`, `write ADDRESS BYTE`, `read ADDRESS BYTE`, `arrive CODE`, `settle`,
+//! `lost COUNT`, `sync CLOCK`, `request LEVEL`, `acknowledge VECTOR`, `speaker LEVEL`, `next PORT BYTE LEVEL` (the
+//! speaker's level at the next clock after a write to the port), `screen LINE 'TEXT'` (the text, and spaces up to 80
+//! characters), `copy` (goes on with a copy).
+//!
+//! `board`: `run CLOCKS`, `refused CLOCKS FAULT NAME`, `clock CLOCK`, `state STATE`, `regs NAME=WORD ..` (all that
+//! aren't 0, from AX to FL), `byte ADDRESS BYTE`, `lost COUNT`, `changes CLOCK-LEVEL ..` (all of the speaker's, as
+//! `72H 76L`), `screen LINE 'TEXT'`, `blank` (the whole screen).
+#![tactic(auto)]
+
+mod bench;
+mod boards;
+mod chips;
+mod parts;
+mod words;
+
+use bench::follow;
+use boards::BoardBench;
+use chips::ChipsBench;
+use std::alloc::Global;
+use std::io;
+
+/// How many rows that differ are printed.
+const SHOWN: u64 = 20;
+
+fn main(rt: HostRuntime) -> io::Result<()> {
+    let alloc = rt.alloc();
+    let mut rows = 0u64;
+    let mut differing = 0u64;
+    let mut number = 0u64;
+    for line in rt.lines(alloc) {
+        let line = line?;
+        number = number.saturating_add(1);
+        if line.is_empty() || line.starts_with('#') {
+            continue;
+        }
+        rows = rows.saturating_add(1);
+        if let Err(step) = judge(alloc, &line) {
+            differing = differing.saturating_add(1);
+            if differing <= SHOWN {
+                println!(rt; "line {number}: {step}")?;
+            }
+        }
+    }
+    println!(rt; "{rows} rows, {differing} differ")?;
+    Ok(())
+}
+
+/// Makes a row's steps. Fails with the first that doesn't come out.
+fn judge(alloc: Global, row: &str) -> Result<(), &str> {
+    let (name, steps) = row.split_once(':').ok_or(row)?;
+    match name {
+        "chips" => follow(&mut ChipsBench::new(alloc), steps),
+        "board" => follow(&mut BoardBench::new(alloc), steps),
+        _ => Err(name),
+    }
+}

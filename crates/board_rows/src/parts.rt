@@ -1,0 +1,66 @@
+//! What chips and boards are made of.
+use crate::words::Words;
+use board_types::image::{Image, is_loadable};
+use board_types::keys::Keys;
+use std::alloc::Global;
+
+/// The image, the key codes to come and the switches.
+#[derive(Drop)]
+pub struct Parts {
+    pub alloc: Global,
+    pub image: Image,
+    pub keys: Keys,
+    pub sw1: u8,
+    pub sw2: u8,
+}
+
+impl Parts {
+    /// An empty image, no key codes, and all switches 0.
+    pub fn new(alloc: Global) -> Self {
+        Parts {
+            alloc,
+            image: Image::new(alloc),
+            keys: Keys::new(alloc),
+            sw1: 0,
+            sw2: 0,
+        }
+    }
+
+    /// Makes a step that changes the parts.
+    pub fn set(&mut self, verb: &str, mut words: Words) -> Option<bool> {
+        match verb {
+            "put" => self.put(words),
+            "keys" => self.push(words),
+            "switches" => {
+                self.sw1 = words.byte()?;
+                self.sw2 = words.byte()?;
+                Some(true)
+            }
+            _ => None,
+        }
+    }
+
+    /// Puts bytes into the image, from an address on.
+    fn put(&mut self, mut words: Words) -> Option<bool> {
+        let mut addr = words.address()?;
+        for word in words.0.split_whitespace() {
+            let byte = u8::from_str_radix(word, 16).ok()?;
+            if !is_loadable(addr) {
+                return None;
+            }
+            self.image.put(addr, byte).ok()?;
+            addr += 1;
+        }
+        Some(true)
+    }
+
+    /// Adds key codes with one stamp.
+    fn push(&mut self, mut words: Words) -> Option<bool> {
+        let stamp = words.clock()?;
+        for word in words.0.split_whitespace() {
+            let code = u8::from_str_radix(word, 16).ok()?;
+            self.keys.push(stamp, code).ok()?;
+        }
+        Some(true)
+    }
+}

@@ -1,0 +1,68 @@
+//! The words of a step.
+ghost use Rattle.std.specs.Prelude.{◌<◌, ◌^◌, IfSome};
+
+use board_types::address::ADDRESS_COUNT;
+use board_types::clock::Clock;
+
+/// The words of a step that are still to be read.
+#[derive(Clone, Copy)]
+pub struct Words<'a>(pub &'a str);
+
+impl<'a> Words<'a> {
+    /// The next word.
+    pub fn word(&mut self) -> Option<&'a str> {
+        let text = self.0.trim();
+        if text.is_empty() {
+            return None;
+        }
+        let (word, rest) = text.split_once(' ').unwrap_or((text, ""));
+        self.0 = rest;
+        Some(word)
+    }
+
+    /// A port, in hexadecimal.
+    pub fn port(&mut self) -> Option<u16> {
+        u16::from_str_radix(self.word()?, 16).ok()
+    }
+
+    /// A byte, in hexadecimal.
+    pub fn byte(&mut self) -> Option<u8> {
+        u8::from_str_radix(self.word()?, 16).ok()
+    }
+
+    /// A physical address, in hexadecimal.
+    pub fn address(&mut self) -> Option<u32>
+        ensures { IfSome result (λ addr. addr < 2 ^ 20) }
+    {
+        let addr = u32::from_str_radix(self.word()?, 16).ok()?;
+        (addr < ADDRESS_COUNT).then_some(addr)
+    }
+
+    /// A count, in decimal.
+    pub fn count(&mut self) -> Option<u64> {
+        self.word()?.parse::<u64>().ok()
+    }
+
+    /// A clock, in decimal.
+    pub fn clock(&mut self) -> Option<Clock> {
+        Clock::new(self.count()?)
+    }
+
+    /// Whether a level is high.
+    pub fn high(&mut self) -> Option<bool> {
+        match self.word()? {
+            "H" => Some(true),
+            "L" => Some(false),
+            _ => None,
+        }
+    }
+
+    /// Whether the screen's text has 25 lines of 80 characters, and the one of this number, from 0, is the quoted
+    /// text and spaces.
+    pub fn are_shown(&mut self, screen: &str) -> Option<bool> {
+        let number = usize::try_from(self.count()?).ok()?;
+        let wanted = self.0.trim().strip_prefix('\'')?.strip_suffix('\'')?;
+        let line = screen.split('\n').nth(number)?;
+        Some(screen.len() == 2025 && line.len() == 80 && line.trim_end() == wanted)
+    }
+}
