@@ -1,12 +1,11 @@
 -- The instructions of the dialect stand in the encoding table.
-use Rattle.std.proofs.Common.{◌≡◌, ◌≢◌, ◌<◌, ℕ, Some, true, refl, sym, subst, lit<, length, Contains, arith}
+use Rattle.std.proofs.Common.{◌≡◌, ◌≢◌, ◌<◌, Some, true, refl, sym, subst, lit<, length, Contains, arith}
 use Rattle.isa.specs.declared.register.ByteRegister.{ByteRegister}
 use Rattle.isa.specs.declared.register.ByteRegister.TheVariants.{Al, Cl, Dl, Bl, Ah, Ch, Dh, Bh}
 use Rattle.isa.specs.declared.register.WordRegister.{WordRegister}
 use Rattle.isa.specs.declared.register.WordRegister.TheVariants.{Ax, Cx, Dx, Bx, Sp, Bp, Si, Di}
 use Rattle.isa.specs.declared.layout.Field.{Field}
 use Rattle.isa.specs.declared.layout.Field.TheVariants.{Absent}
-use Rattle.isa.specs.declared.row.Row.{Row}
 use Rattle.isa.specs.Table.{rows}
 use Rattle.isa.specs.Registers.{byte_register_number, word_register_number}
 use Rattle.isa.specs.Parts.{row_at}
@@ -100,19 +99,9 @@ no_displacement OutByte = refl
 no_displacement JumpFar = refl
 no_displacement Halt = refl
 
-its_row : (c : Command) → row_of c ≡ (form_of c).row
-unfolding form_of
-its_row (MoveByte _) = refl
-its_row (MoveWord _) = refl
-its_row (MoveToSegment _ _) = refl
-its_row StoreWord = refl
-its_row OutByte = refl
-its_row JumpFar = refl
-its_row Halt = refl
-
 -- numbers that fit the row's field fit the form
 pub fits : (c : Command) (n : Numbers) → fits_row c n ≡ true → FitsForm (form_of c) (values_of n)
 fits c n is = record {
   displacement = subst (λ (f : Field). FitsField f 0 0) (sym (no_displacement c)) (refl, refl);
-  number = subst (λ (r : Row). FitsField (field_part r) n.immediate n.segment) (its_row c) (fits_is (field_part (row_of c)) n is);
+  number = fits_is (field_part (form_of c).row) n is;
 }

@@ -8,7 +8,7 @@ use Rattle.isa.specs.declared.layout.Field.TheVariants.{Absent, Byte, Word, Far}
 use Rattle.isa.specs.Encoding.{FitsField, form_length}
 use Rattle.isa.specs.Layout.{field_part}
 use Rattle.pcboard_assembler.specs.declared.command.Command.{Command}
-use Rattle.pcboard_assembler.specs.Commands.{form_of, row_of}
+use Rattle.pcboard_assembler.specs.Commands.{form_of}
 use Rattle.pcboard_assembler.specs.declared.fault.SourceFault.{SourceFault}
 use Rattle.pcboard_assembler.specs.declared.fault.SourceFault.TheVariants.{OutOfRange, OutOfSegment, Overlap, NotLoadable}
 use Rattle.pcboard_assembler.specs.declared.word.Name.{Name}
@@ -138,12 +138,12 @@ can_numbers : (image : List (ℕ × ℕ)) (spot : Location) (c : Command) (found
 can_numbers image spot c None none = cc
 can_numbers image spot c (Some n) none =
     let parts = fitting (fits_row c n) (placing_fault image spot (bytes_of c n) (form_length (form_of c))) none in
-    (fits_is (field_part (row_of c)) n parts.0, can_stand image spot (bytes_of c n) (form_length (form_of c)) parts.1)
+    (fits_is (field_part (form_of c).row) n parts.0, can_stand image spot (bytes_of c n) (form_length (form_of c)) parts.1)
 
 numbers_stand : (image : List (ℕ × ℕ)) (spot : Location) (c : Command) (found : Option Numbers) → CanPlaceNumbers image spot c found → numbers_fault image spot c found ≡ None
 numbers_stand image spot c None can = absurd can
 numbers_stand image spot c (Some n) can =
-    ap (λ (b : Bool). if b then placing_fault image spot (bytes_of c n) (form_length (form_of c)) else Some OutOfRange) (is_fits (field_part (row_of c)) n can.0)
+    ap (λ (b : Bool). if b then placing_fault image spot (bytes_of c n) (form_length (form_of c)) else Some OutOfRange) (is_fits (field_part (form_of c).row) n can.0)
     ∙ stands image spot (bytes_of c n) (form_length (form_of c)) can.1
 
 label_past : (past : Bool) → (if past then Some OutOfSegment else None) ≡ None → past ≡ false

@@ -15,7 +15,7 @@ use Rattle.pcboard_assembler.specs.declared.symbol.Symbol.{Symbol}
 use Rattle.pcboard_assembler.specs.Lexemes.{source_lines}
 use Rattle.pcboard_assembler.specs.Lines.{read_line}
 use Rattle.pcboard_assembler.specs.Symbols.{state_of, opens_within, lacks_paragraph, label_again, segment_again, stands_outside}
-use Rattle.pcboard_assembler.specs.Commands.{form_of, row_of}
+use Rattle.pcboard_assembler.specs.Commands.{form_of}
 use Rattle.pcboard_assembler.specs.Placement.{Meaning, Placed, address_of, bytes_at, bytes_of, numbers_of, placed_of}
 
 -- a source has at most 1,048,576 bytes
@@ -57,7 +57,7 @@ pub record CanStand (image : List (ℕ × ℕ)) (spot : Location) (bytes : List 
 abbrev pub CanPlaceNumbers : List (ℕ × ℕ) → Location → Command → Option Numbers → Type 0
 CanPlaceNumbers image spot command None = ⊥
 CanPlaceNumbers image spot command (Some n) =
-    FitsField (field_part (row_of command)) n.immediate n.segment × CanStand image spot (bytes_of command n) (form_length (form_of command))
+    FitsField (field_part (form_of command).row) n.immediate n.segment × CanStand image spot (bytes_of command n) (form_length (form_of command))
 
 -- a label's offset is at most FFFFh
 abbrev pub LabelWithin : Location → Option Name → Type 0

@@ -25,7 +25,7 @@ use Rattle.pcboard_assembler.specs.declared.symbol.Location.{Location}
 use Rattle.pcboard_assembler.specs.declared.symbol.Symbol.{Symbol}
 use Rattle.pcboard_assembler.specs.declared.symbol.Symbol.TheVariants.{Label, Paragraph}
 use Rattle.pcboard_assembler.specs.declared.symbol.Numbers.{Numbers}
-use Rattle.pcboard_assembler.specs.Commands.{form_of, row_of}
+use Rattle.pcboard_assembler.specs.Commands.{form_of}
 use Rattle.pcboard_assembler.specs.Symbols.{State, start, after}
 
 -- what each name stands for, if anything
@@ -62,7 +62,7 @@ fits_field Word n = nat_lt n.immediate 65536 && n.segment == 0
 fits_field Far n = nat_lt n.immediate 65536 && nat_lt n.segment 65536
 
 abbrev pub fits_row : Command → Numbers → Bool
-fits_row command n = fits_field (field_part (row_of command)) n
+fits_row command n = fits_field (field_part (form_of command).row) n
 
 -- no instruction of the dialect has a displacement
 abbrev pub values_of : Numbers → Values

@@ -1,5 +1,6 @@
 //! The instructions of the dialect, and the rows of the encoding table that they are.
-ghost use Rattle.std.specs.Prelude.{◌≡◌};
+ghost use Rattle.std.specs.Prelude.{◌≡◌, ◌≤◌};
+ghost use Rattle.isa.specs.Encoding.{form_length};
 ghost use Rattle.pcboard_assembler.specs.Commands.{first_byte, form_of, loaded_segment_number, row_of};
 
 use isa::form::{Form, Place};
@@ -65,7 +66,7 @@ impl Command {
 
     /// Its row of the encoding table.
     #[tactic(auto, using(crate::proofs::Commands::row_is))]
-    pub fn row(self) -> Row
+    fn row(self) -> Row
         ensures { result ≡ row_of self }
     {
         row_at(self.opcode(), 0).unwrap()
@@ -91,6 +92,20 @@ impl Command {
             code,
             reg,
             place,
+        }
+    }
+
+    /// How many bytes an instruction has, whatever the numbers in its fields.
+    #[tactic(auto, unfolding(crate::specs::Commands::form_of, crate::specs::Commands::row_of, isa::specs::Encoding::form_length))]
+    pub fn length(self) -> u8
+        ensures value { result ≡ form_length (form_of self) }
+        ensures bound { result ≤ 5 }
+    {
+        match self {
+            Command::MoveByte(_) | Command::MoveToSegment(..) => 2,
+            Command::MoveWord(_) => 3,
+            Command::StoreWord | Command::OutByte | Command::Halt => 1,
+            Command::JumpFar => 5,
         }
     }
 }

@@ -86,7 +86,8 @@ fn bytes_of(command: Command, numbers: Numbers) -> Option<ArrayVec<u8, 14>>
     ensures some { IfSome result (λ bytes. (fits_row command numbers ≡ true) × (bytes.items ≡ bytes_of command numbers) × (length bytes.items ≡ form_length (form_of command))) }
     ensures none { IfNone result (fits_row command numbers ≡ false) }
 {
-    if !fits_field(command.row().field(), numbers) {
+    let form = command.form();
+    if !fits_field(form.row.field(), numbers) {
         return None;
     }
     let values = Values {
@@ -94,7 +95,7 @@ fn bytes_of(command: Command, numbers: Numbers) -> Option<ArrayVec<u8, 14>>
         number: numbers.immediate as u16,
         segment: numbers.segment as u16,
     };
-    Some(encode(&command.form(), values))
+    Some(encode(&form, values))
 }
 
 fn is_loadable(address: u32) -> bool
@@ -272,7 +273,7 @@ fn place_text(
     requires { offset_of spot < 2 ^ 24 }
     ensures ok { IfOk result (λ next. place_text symbols.now.entries (standing spot image.old) number text.now ≡ Ok (standing next image.new)) }
     ensures err { IfErr result (λ fault. Fails fault (place_text symbols.now.entries (standing spot image.old) number text.now)) }
-    ensures grows { IfOk result (λ next. offset_of next ≤ offset_of spot + 10) }
+    ensures grows { IfOk result (λ next. offset_of next ≤ offset_of spot + 8) }
 {
     let line = match read_line(text) {
         Ok(line) => line,

@@ -58,7 +58,7 @@ pub(crate) fn spot_after(
 ) -> Option<Location>
     requires { offset_of spot < 2 ^ 24 }
     ensures value { result ≡ spot_after (record { spot = spot; definitions = symbols.now.entries }) statement }
-    ensures grows { offset_of result ≤ offset_of spot + 10 }
+    ensures grows { offset_of result ≤ offset_of spot + 8 }
 {
     match statement {
         Statement::Empty => spot,
@@ -70,7 +70,7 @@ pub(crate) fn spot_after(
         Statement::Instruction(operation) => match spot {
             Some(at) => Some(Location {
                 segment: at.segment,
-                offset: at.offset + u32::from(operation.command.form().length()),
+                offset: at.offset + u32::from(operation.command.length()),
             }),
             None => None,
         },
@@ -152,7 +152,7 @@ fn add_line(reading: &mut Reading, line: Line) -> Result<(), AllocError>
     requires clean { early_fault (state_in reading.old) line ≡ None }
     requires room { offset_of reading.old.spot < 2 ^ 24 }
     ensures ok { OnOk result (state_in reading.new ≡ after (state_in reading.old) line) }
-    ensures grows { OnOk result (offset_of reading.new.spot ≤ offset_of reading.old.spot + 10) }
+    ensures grows { OnOk result (offset_of reading.new.spot ≤ offset_of reading.old.spot + 8) }
 {
     let next = spot_after(&reading.symbols, reading.spot, line.statement);
     match (line.statement, next) {
@@ -178,7 +178,7 @@ fn add_text(reading: &mut Reading, text: &[u8], number: u32) -> Result<(), AsmFa
     requires { offset_of reading.old.spot < 2 ^ 24 }
     ensures ok { OnOk result (add_text (state_in reading.old) number text.now ≡ Ok (state_in reading.new)) }
     ensures err { IfErr result (λ fault. Fails fault (add_text (state_in reading.old) number text.now)) }
-    ensures grows { OnOk result (offset_of reading.new.spot ≤ offset_of reading.old.spot + 10) }
+    ensures grows { OnOk result (offset_of reading.new.spot ≤ offset_of reading.old.spot + 8) }
 {
     let line = match read_line(text) {
         Ok(line) => line,

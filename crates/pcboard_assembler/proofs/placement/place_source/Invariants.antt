@@ -7,7 +7,7 @@ abbrev pub invariant-loop-text : goal.invariant-loop-text
 invariant-loop-text l = record {
   passed : place_texts l.symbols.entries (standing l.spot l.image) l.number (source_lines l.rest) ≡ place_texts l.symbols.entries (standing None []) 0 (source_lines l.fn.source);
   counted : l.number + length l.rest ≤ length l.fn.source;
-  room : offset_of l.spot + 10 * length l.rest ≤ 10 * length l.fn.source;
+  room : offset_of l.spot + 8 * length l.rest ≤ 8 * length l.fn.source;
 }
 
 abbrev pub decreases-loop-text : goal.decreases-loop-text
