@@ -14,7 +14,7 @@ use Rattle.loader.specs.HexText.{from, lines_of, row_lines, run}
 lt_yes : (a b : ℕ) → a < b → nat_lt a b ≡ true
 lt_yes a b h = grind (arith, nat_tests)
 
-lt_not : (a b : ℕ) → b ≤ a → nat_lt a b ≡ false
+pub lt_not : (a b : ℕ) → b ≤ a → nat_lt a b ≡ false
 lt_not a b h = grind (arith, nat_tests)
 
 le_yes : (a b : ℕ) → a ≤ b → nat_le a b ≡ true
@@ -23,10 +23,10 @@ le_yes a b h = grind (arith, nat_tests)
 le_not : (a b : ℕ) → b < a → nat_le a b ≡ false
 le_not a b h = grind (arith, nat_tests)
 
-eq_yes : (a b : ℕ) → a ≡ b → (a == b) ≡ true
+pub eq_yes : (a b : ℕ) → a ≡ b → (a == b) ≡ true
 eq_yes a b h = grind (arith, nat_tests)
 
-eq_not : (a b : ℕ) → b < a → (a == b) ≡ false
+pub eq_not : (a b : ℕ) → b < a → (a == b) ≡ false
 eq_not a b h = grind (arith, nat_tests)
 
 -- where an image has no byte at an address, it goes on behind it
@@ -45,7 +45,7 @@ gets_none a (e ∷ es) h = elim (cases_lt a e.0) [
     some_none : (b : ℕ) → Some b ≡ None → ⊥
     some_none b is = cc
 
-less_is : (a b : ℕ) → nat_cmp a b ≡ Less → a < b
+pub less_is : (a b : ℕ) → nat_cmp a b ≡ Less → a < b
 less_is a b is = elim (cases_lt a b) [
   | inl below ↦ below
   | inr not_below ↦ absurd (never (a == b) (rw (lt_not a b not_below) at is))
@@ -174,7 +174,7 @@ row_goes_on count start b row new whole es within sorted some pushed so_far goes
 pub some_row : (a b : ℕ) (es : List (ℕ × ℕ)) → IsStrictlySortedBy nat_cmp (keys_of es) → image_byte es a ≡ Some b → 0 < length (run 16 a (from a es))
 some_row a b es sorted some = rw (run_at 15 a b (from a es) (from (a + 1) es) (gets_some a b es sorted some)) (omega arith)
 
-row_lines_at : (a b : ℕ) (es rest : List (ℕ × ℕ)) (last : Option ℕ) → es ≡ (a, b) ∷ rest → 0 < length (run 16 a es)
+pub row_lines_at : (a b : ℕ) (es rest : List (ℕ × ℕ)) (last : Option ℕ) → es ≡ (a, b) ∷ rest → 0 < length (run 16 a es)
     → lines_of last 0 es ≡ row_lines last a (run 16 a es) ++ lines_of (Some (a / 65536)) (length (run 16 a es)) es
 row_lines_at a b es rest last is some = rw is (by_size (run 16 a ((a, b) ∷ rest)) (rw is at some))
   where

@@ -1,5 +1,6 @@
 pub mod HexFault
 pub mod HexText
+pub mod Laws
 pub mod Lines
 pub mod Reading
 pub mod RecordViews

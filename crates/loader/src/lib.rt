@@ -6,6 +6,7 @@ pub mod hex_fault;
 pub mod hex_reader;
 pub mod hex_record;
 pub mod hex_writer;
+pub mod laws;
 pub mod run_fault;
 pub mod run_file;
 pub mod run_reader;

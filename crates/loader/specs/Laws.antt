@@ -1,0 +1,52 @@
+-- What holds of HEX texts and images whatever they are.
+use Rattle.std.specs.Prelude.{ℕ, ◌<◌, ◌≡◌, ◌↔◌, ◌++◌, Bool, true, false, not, filter, map, List, [], ◌∷◌, Ok}
+use Rattle.std.specs.List.{AllByRecursion}
+use Rattle.board_types.specs.Image.{IsImage}
+use Rattle.loader.specs.HexText.{hex_text}
+use Rattle.loader.specs.declared.hex_record.Base.{Base}
+use Rattle.loader.specs.declared.hex_record.Base.TheVariants.{Segment}
+use Rattle.loader.specs.Lines.{text_lines, without_spaces}
+use Rattle.loader.specs.Reading.{image_of, is_blank}
+use Rattle.loader.specs.Records.{HexRecord, bytes_at, end_of_file, base_at, start_at, are_loadable, placed, record_of, with_bytes}
+
+-- each entry of an image is a byte
+abbrev pub HoldsBytes : List (ℕ × ℕ) → Type 0
+HoldsBytes image = AllByRecursion (λ entry. entry.1 < 256) image
+
+-- what is written for an image is read back as that image
+abbrev pub ReadsBack : Type 0
+ReadsBack = (image : List (ℕ × ℕ)) → IsImage image → HoldsBytes image → image_of (hex_text image) ≡ Ok image
+
+-- the lines that aren't blank, without the spaces at their ends
+abbrev pub filled : List (List ℕ) → List (List ℕ)
+filled lines = filter (λ line. not (is_blank line)) (map without_spaces lines)
+
+abbrev pub is_end : HexRecord → Bool
+is_end (bytes_at offset content) = false
+is_end end_of_file = true
+is_end (base_at base) = false
+is_end start_at = false
+
+-- the bytes of records in their order, each with its address: a data record's at the base in force
+abbrev pub bytes_of : Base → List HexRecord → List (ℕ × ℕ)
+bytes_of base [] = []
+bytes_of base (bytes_at offset content ∷ records) = placed base offset content ++ bytes_of base records
+bytes_of base (end_of_file ∷ records) = bytes_of base records
+bytes_of base (base_at next ∷ records) = bytes_of next records
+bytes_of base (start_at ∷ records) = bytes_of base records
+
+-- The lines that aren't blank are the lines of these records and then of the end record, the only one of its kind;
+-- all addresses are loadable, and the image is that of the records' bytes, put in one after another.
+pub record Gives (base : Base) (held : List (ℕ × ℕ)) (lines : List (List ℕ)) (image : List (ℕ × ℕ)) (records : List HexRecord) : Type 0 where
+  pub lines_are : map record_of (filled lines) ≡ map Ok (records ++ end_of_file ∷ [])
+  pub one_end : AllByRecursion (λ r. is_end r ≡ false) records
+  pub loadable : are_loadable (bytes_of base records) ≡ true
+  pub image_is : image ≡ with_bytes held (bytes_of base records)
+
+-- there are records which the text is made of, and whose bytes the image holds; at first the base is 0
+abbrev pub Loads : List ℕ → List (ℕ × ℕ) → Type 0
+Loads text image = (records : List HexRecord) × Gives (Segment 0) [] (text_lines text) image records
+
+-- a text gives an image exactly where it is made of such records
+abbrev pub LoadsRecords : Type 0
+LoadsRecords = (text : List ℕ) (image : List (ℕ × ℕ)) → (image_of text ≡ Ok image) ↔ Loads text image

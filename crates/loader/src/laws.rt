@@ -1,0 +1,14 @@
+//! What holds of HEX texts and images whatever they are. Each is an empty function whose contract states it.
+ghost use Rattle.loader.specs.Laws.{LoadsRecords, ReadsBack};
+
+/// The text that is written for an image gives that image, and no fault.
+#[tactic(auto, using(crate::proofs::ReadBack::reads_back))]
+pub fn reads_back()
+    ensures { ReadsBack }
+{}
+
+/// A text gives an image exactly where its lines are those of records, the end record last, and the image holds the
+/// bytes of these records, each at its address, put in one after another.
+pub fn loads_records()
+    ensures { LoadsRecords }
+{}
