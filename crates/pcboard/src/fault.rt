@@ -4,8 +4,8 @@ ghost use Rattle.std.specs.String.{string_bytes};
 ghost use Rattle.pcboard.specs.Faults.{fault_text, line_of, line_suffix, name_of, number_of};
 
 use board::board::BoardFault;
-use pcboard_assembler::fault::AsmFault;
 use loader::run_fault::RunFault;
+use pcboard_assembler::fault::AsmFault;
 use std::alloc::{AllocError, Global};
 
 /// A refusal, by the part that refuses.

@@ -11,8 +11,8 @@ use crate::report::Report;
 use crate::report_text::report_text;
 use board::board::{Board, BoardFault, Config};
 use board_types::image::Image;
-use pcboard_assembler::assembly::assemble;
 use loader::run_file::RunFile;
+use pcboard_assembler::assembly::assemble;
 use std::alloc::Global;
 
 /// Assembles `source`, runs its image on the board that the run file describes, with the file's stamped key codes,
