@@ -1,6 +1,7 @@
 pub mod Entries
 pub mod Fields
 pub mod HexLines
+pub mod LaterBytes
 pub mod Loaded
 pub mod ReadBack
 pub mod Rows

@@ -1,5 +1,5 @@
 //! What holds of HEX texts and images whatever they are. Each is an empty function whose contract states it.
-ghost use Rattle.loader.specs.Laws.{LoadsRecords, ReadsBack};
+ghost use Rattle.loader.specs.Laws.{LaterBytesWin, LoadsRecords, ReadsBack};
 
 /// The text that is written for an image gives that image, and no fault.
 #[tactic(auto, using(crate::proofs::ReadBack::reads_back))]
@@ -11,4 +11,11 @@ pub fn reads_back()
 /// bytes of these records, each at its address, put in one after another.
 pub fn loads_records()
     ensures { LoadsRecords }
+{}
+
+/// An image that bytes are put into holds at each address the last byte that was put there, and what it held before
+/// where none was.
+#[tactic(auto, using(crate::proofs::LaterBytes::later_bytes_win))]
+pub fn later_bytes_win()
+    ensures { LaterBytesWin }
 {}
