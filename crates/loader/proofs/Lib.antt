@@ -3,6 +3,7 @@ pub mod Fields
 pub mod HexLines
 pub mod LaterBytes
 pub mod Loaded
+pub mod OneImage
 pub mod ReadBack
 pub mod Rows
 pub mod Runs

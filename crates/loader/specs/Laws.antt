@@ -64,3 +64,7 @@ last_byte address (byte ∷ bytes) = later_or (last_byte address bytes) (if byte
 -- bytes put into an image: each address then has the last byte that was put there, or else what it had
 abbrev pub LaterBytesWin : Type 0
 LaterBytesWin = (image bytes : List (ℕ × ℕ)) (address : ℕ) → image_byte (with_bytes image bytes) address ≡ later_or (last_byte address bytes) (image_byte image address)
+
+-- the text that is written for an image loads that image and no other
+abbrev pub OneImage : Type 0
+OneImage = (image : List (ℕ × ℕ)) → IsImage image → HoldsBytes image → (other : List (ℕ × ℕ)) → Loads (hex_text image) other ↔ (image ≡ other)

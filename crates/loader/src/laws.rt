@@ -1,5 +1,5 @@
 //! What holds of HEX texts and images whatever they are. Each is an empty function whose contract states it.
-ghost use Rattle.loader.specs.Laws.{LaterBytesWin, LoadsRecords, ReadsBack};
+ghost use Rattle.loader.specs.Laws.{LaterBytesWin, LoadsRecords, OneImage, ReadsBack};
 
 /// The text that is written for an image gives that image, and no fault.
 #[tactic(auto, using(crate::proofs::ReadBack::reads_back))]
@@ -18,4 +18,9 @@ pub fn loads_records()
 #[tactic(auto, using(crate::proofs::LaterBytes::later_bytes_win))]
 pub fn later_bytes_win()
     ensures { LaterBytesWin }
+{}
+
+/// The text that is written for an image is made of records whose bytes that image holds, and no other image does.
+pub fn one_image()
+    ensures { OneImage }
 {}
