@@ -4,6 +4,7 @@ pub mod HexLines
 pub mod LaterBytes
 pub mod Loaded
 pub mod OneImage
+pub mod Places
 pub mod ReadBack
 pub mod Rows
 pub mod Runs

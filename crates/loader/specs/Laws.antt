@@ -1,5 +1,5 @@
 -- What holds of HEX texts and images whatever they are.
-use Rattle.std.specs.Prelude.{ℕ, ◌<◌, ◌≡◌, ◌↔◌, ◌++◌, Bool, true, false, not, filter, map, List, [], ◌∷◌, Ok, Option, None, Some, ◌==◌, if◌then◌else◌}
+use Rattle.std.specs.Prelude.{◌≢◌, ℕ, ◌<◌, ◌≡◌, ◌↔◌, ◌++◌, Bool, true, false, not, filter, map, List, [], ◌∷◌, Ok, Option, None, Some, ◌==◌, if◌then◌else◌}
 use Rattle.std.specs.List.{AllByRecursion}
 use Rattle.board_types.specs.Image.{IsImage, image_byte}
 use Rattle.loader.specs.HexText.{hex_text}
@@ -68,3 +68,11 @@ LaterBytesWin = (image bytes : List (ℕ × ℕ)) (address : ℕ) → image_byte
 -- the text that is written for an image loads that image and no other
 abbrev pub OneImage : Type 0
 OneImage = (image : List (ℕ × ℕ)) → IsImage image → HoldsBytes image → (other : List (ℕ × ℕ)) → Loads (hex_text image) other ↔ (image ≡ other)
+
+-- no byte of the one stands at an address of the other
+abbrev pub AreApart : List (ℕ × ℕ) → List (ℕ × ℕ) → Type 0
+AreApart one two = AllByRecursion (λ x. AllByRecursion (λ y. x.0 ≢ y.0) two) one
+
+-- the bytes of two records that share no address may be put in either order
+abbrev pub BytesChangePlaces : Type 0
+BytesChangePlaces = (image one two : List (ℕ × ℕ)) → AreApart one two → with_bytes (with_bytes image one) two ≡ with_bytes (with_bytes image two) one

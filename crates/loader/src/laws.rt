@@ -1,5 +1,5 @@
 //! What holds of HEX texts and images whatever they are. Each is an empty function whose contract states it.
-ghost use Rattle.loader.specs.Laws.{LaterBytesWin, LoadsRecords, OneImage, ReadsBack};
+ghost use Rattle.loader.specs.Laws.{BytesChangePlaces, LaterBytesWin, LoadsRecords, OneImage, ReadsBack};
 
 /// The text that is written for an image gives that image, and no fault.
 #[tactic(auto, using(crate::proofs::ReadBack::reads_back))]
@@ -23,4 +23,10 @@ pub fn later_bytes_win()
 /// The text that is written for an image is made of records whose bytes that image holds, and no other image does.
 pub fn one_image()
     ensures { OneImage }
+{}
+
+/// Of bytes that share no address it doesn't matter which are put into an image first.
+#[tactic(auto, using(crate::proofs::Places::bytes_change_places))]
+pub fn bytes_change_places()
+    ensures { BytesChangePlaces }
 {}
