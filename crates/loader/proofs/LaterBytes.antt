@@ -6,7 +6,6 @@ use Rattle.std.proofs.lemmas.Bool.{cases_lt, eqb-true}
 use Rattle.std.proofs.lemmas.Bool.Decides.{nat_tests}
 use Rattle.board_types.specs.Image.{image_byte}
 use Rattle.loader.specs.Laws.{last_byte, later_or, LaterBytesWin}
-use Rattle.loader.specs.Records.{with_bytes}
 use Rattle.loader.proofs.Runs.{eq_not, eq_yes, lt_not, lt_yes}
 
 above_not : (a b : ℕ) → a < b → (a == b) ≡ false

@@ -1,5 +1,5 @@
 -- The text of an image loads that image alone.
-use Rattle.std.proofs.Common.{◌≡◌, ◌∙◌, ap, sym}
+use Rattle.std.proofs.Common.{◌∙◌, ap, sym}
 use Rattle.loader.specs.Laws.{OneImage}
 use Rattle.loader.specs.HexText.{hex_text}
 use Rattle.loader.proofs.Loaded.{given_ok, loads_records, same_ok}

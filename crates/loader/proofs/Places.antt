@@ -4,7 +4,7 @@ use Rattle.std.specs.List.{AllByRecursion}
 use Rattle.std.specs.Ordering.{nat_cmp}
 use Rattle.std.specs.BTreeMap.{insert_entry}
 use Rattle.std.proofs.lemmas.Bool.{cases_lt}
-use Rattle.loader.specs.Laws.{AreApart, BytesChangePlaces}
+use Rattle.loader.specs.Laws.{BytesChangePlaces}
 use Rattle.loader.specs.Records.{with_bytes}
 use Rattle.loader.proofs.Runs.{eq_not, eq_yes, lt_not, lt_yes}
 
