@@ -1,7 +1,10 @@
 pub mod Entries
 pub mod Fields
 pub mod HexLines
+pub mod LaterBytes
 pub mod Loaded
+pub mod OneImage
+pub mod Places
 pub mod ReadBack
 pub mod Rows
 pub mod Runs

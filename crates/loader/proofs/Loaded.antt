@@ -12,10 +12,10 @@ use Rattle.loader.specs.Lines.{text_lines, without_spaces}
 use Rattle.loader.specs.Reading.{after_end, after_line, after_record, at_base, image_after, image_of, in_line, is_blank, standing}
 use Rattle.loader.specs.Records.{◌>>=◌, HexRecord, bytes_at, end_of_file, base_at, start_at, are_loadable, is_loadable, placed, record_of, with_bytes}
 
-abbrev given_ok : List (ℕ × ℕ) → Result (List (ℕ × ℕ)) HexFault
+abbrev pub given_ok : List (ℕ × ℕ) → Result (List (ℕ × ℕ)) HexFault
 given_ok image = Ok image
 
-same_ok : (x y : List (ℕ × ℕ)) → given_ok x ≡ given_ok y → x ≡ y
+pub same_ok : (x y : List (ℕ × ℕ)) → given_ok x ≡ given_ok y → x ≡ y
 same_ok x y is = cc
 
 end_blank : (number : ℕ) (held image : List (ℕ × ℕ)) (lines : List (List ℕ)) → after_end number held lines ≡ Ok image → (filled lines ≡ []) × (image ≡ held)

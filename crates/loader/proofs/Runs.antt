@@ -11,7 +11,7 @@ use Rattle.std.proofs.lemmas.Map.Keys.{sorted_tail}
 use Rattle.board_types.specs.Image.{IsLoadable, image_byte}
 use Rattle.loader.specs.HexText.{from, lines_of, row_lines, run}
 
-lt_yes : (a b : ℕ) → a < b → nat_lt a b ≡ true
+pub lt_yes : (a b : ℕ) → a < b → nat_lt a b ≡ true
 lt_yes a b h = grind (arith, nat_tests)
 
 pub lt_not : (a b : ℕ) → b ≤ a → nat_lt a b ≡ false

@@ -1,7 +1,7 @@
 -- What holds of HEX texts and images whatever they are.
-use Rattle.std.specs.Prelude.{ℕ, ◌<◌, ◌≡◌, ◌↔◌, ◌++◌, Bool, true, false, not, filter, map, List, [], ◌∷◌, Ok}
+use Rattle.std.specs.Prelude.{◌≢◌, ℕ, ◌<◌, ◌≡◌, ◌↔◌, ◌++◌, Bool, true, false, not, filter, map, List, [], ◌∷◌, Ok, Option, None, Some, ◌==◌, if◌then◌else◌}
 use Rattle.std.specs.List.{AllByRecursion}
-use Rattle.board_types.specs.Image.{IsImage}
+use Rattle.board_types.specs.Image.{IsImage, image_byte}
 use Rattle.loader.specs.HexText.{hex_text}
 use Rattle.loader.specs.declared.hex_record.Base.{Base}
 use Rattle.loader.specs.declared.hex_record.Base.TheVariants.{Segment}
@@ -50,3 +50,29 @@ Loads text image = (records : List HexRecord) × Gives (Segment 0) [] (text_line
 -- a text gives an image exactly where it is made of such records
 abbrev pub LoadsRecords : Type 0
 LoadsRecords = (text : List ℕ) (image : List (ℕ × ℕ)) → (image_of text ≡ Ok image) ↔ Loads text image
+
+-- what comes later, and where nothing does, what was there before
+abbrev pub later_or : Option ℕ → Option ℕ → Option ℕ
+later_or (Some byte) before = Some byte
+later_or None before = before
+
+-- the last byte that is put at an address
+abbrev pub last_byte : ℕ → List (ℕ × ℕ) → Option ℕ
+last_byte address [] = None
+last_byte address (byte ∷ bytes) = later_or (last_byte address bytes) (if byte.0 == address then Some byte.1 else None)
+
+-- bytes put into an image: each address then has the last byte that was put there, or else what it had
+abbrev pub LaterBytesWin : Type 0
+LaterBytesWin = (image bytes : List (ℕ × ℕ)) (address : ℕ) → image_byte (with_bytes image bytes) address ≡ later_or (last_byte address bytes) (image_byte image address)
+
+-- the text that is written for an image loads that image and no other
+abbrev pub OneImage : Type 0
+OneImage = (image : List (ℕ × ℕ)) → IsImage image → HoldsBytes image → (other : List (ℕ × ℕ)) → Loads (hex_text image) other ↔ (image ≡ other)
+
+-- no byte of the one stands at an address of the other
+abbrev pub AreApart : List (ℕ × ℕ) → List (ℕ × ℕ) → Type 0
+AreApart one two = AllByRecursion (λ x. AllByRecursion (λ y. x.0 ≢ y.0) two) one
+
+-- the bytes of two records that share no address may be put in either order
+abbrev pub BytesChangePlaces : Type 0
+BytesChangePlaces = (image one two : List (ℕ × ℕ)) → AreApart one two → with_bytes (with_bytes image one) two ≡ with_bytes (with_bytes image two) one

@@ -1,5 +1,5 @@
 //! What holds of HEX texts and images whatever they are. Each is an empty function whose contract states it.
-ghost use Rattle.loader.specs.Laws.{LoadsRecords, ReadsBack};
+ghost use Rattle.loader.specs.Laws.{BytesChangePlaces, LaterBytesWin, LoadsRecords, OneImage, ReadsBack};
 
 /// The text that is written for an image gives that image, and no fault.
 #[tactic(auto, using(crate::proofs::ReadBack::reads_back))]
@@ -11,4 +11,22 @@ pub fn reads_back()
 /// bytes of these records, each at its address, put in one after another.
 pub fn loads_records()
     ensures { LoadsRecords }
+{}
+
+/// An image that bytes are put into holds at each address the last byte that was put there, and what it held before
+/// where none was.
+#[tactic(auto, using(crate::proofs::LaterBytes::later_bytes_win))]
+pub fn later_bytes_win()
+    ensures { LaterBytesWin }
+{}
+
+/// The text that is written for an image is made of records whose bytes that image holds, and no other image does.
+pub fn one_image()
+    ensures { OneImage }
+{}
+
+/// Of bytes that share no address it doesn't matter which are put into an image first.
+#[tactic(auto, using(crate::proofs::Places::bytes_change_places))]
+pub fn bytes_change_places()
+    ensures { BytesChangePlaces }
 {}
