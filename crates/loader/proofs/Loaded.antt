@@ -46,7 +46,7 @@ all_append (x ∷ xs) ys = by (is_loadable x.0) (all_append xs ys)
     by true same = same
     by false same = refl
 
-put_append : (held xs ys : List (ℕ × ℕ)) → with_bytes held (xs ++ ys) ≡ with_bytes (with_bytes held xs) ys
+pub put_append : (held xs ys : List (ℕ × ℕ)) → with_bytes held (xs ++ ys) ≡ with_bytes (with_bytes held xs) ys
 put_append held [] ys = refl
 put_append held (x ∷ xs) ys = put_append (with_bytes held (x ∷ [])) xs ys
 

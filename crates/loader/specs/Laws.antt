@@ -76,3 +76,17 @@ AreApart one two = AllByRecursion (λ x. AllByRecursion (λ y. x.0 ≢ y.0) two)
 -- the bytes of two records that share no address may be put in either order
 abbrev pub BytesChangePlaces : Type 0
 BytesChangePlaces = (image one two : List (ℕ × ℕ)) → AreApart one two → with_bytes (with_bytes image one) two ≡ with_bytes (with_bytes image two) one
+
+-- the base in force behind records
+abbrev pub base_behind : Base → List HexRecord → Base
+base_behind base [] = base
+base_behind base (bytes_at offset content ∷ records) = base_behind base records
+base_behind base (end_of_file ∷ records) = base_behind base records
+base_behind base (base_at next ∷ records) = base_behind next records
+base_behind base (start_at ∷ records) = base_behind base records
+
+-- two neighbouring data records that share no address may change places: the records give the same image
+abbrev pub RecordsChangePlaces : Type 0
+RecordsChangePlaces = (base : Base) (image : List (ℕ × ℕ)) (before after : List HexRecord) (m n : ℕ) (one two : List ℕ)
+    → AreApart (placed (base_behind base before) m one) (placed (base_behind base before) n two)
+    → with_bytes image (bytes_of base (before ++ bytes_at m one ∷ bytes_at n two ∷ after)) ≡ with_bytes image (bytes_of base (before ++ bytes_at n two ∷ bytes_at m one ∷ after))

@@ -1,5 +1,5 @@
 //! What holds of HEX texts and images whatever they are. Each is an empty function whose contract states it.
-ghost use Rattle.loader.specs.Laws.{BytesChangePlaces, LaterBytesWin, LoadsRecords, OneImage, ReadsBack};
+ghost use Rattle.loader.specs.Laws.{BytesChangePlaces, LaterBytesWin, LoadsRecords, OneImage, ReadsBack, RecordsChangePlaces};
 
 /// The text that is written for an image gives that image, and no fault.
 #[tactic(auto, using(crate::proofs::ReadBack::reads_back))]
@@ -29,4 +29,10 @@ pub fn one_image()
 #[tactic(auto, using(crate::proofs::Places::bytes_change_places))]
 pub fn bytes_change_places()
     ensures { BytesChangePlaces }
+{}
+
+/// Two neighbouring data records that share no address may change places: the bytes of the records give the same image.
+#[tactic(auto, using(crate::proofs::Places::records_change_places))]
+pub fn records_change_places()
+    ensures { RecordsChangePlaces }
 {}
