@@ -35,13 +35,13 @@ moved_keeps c count due out = record { latch = refl; access = refl; high_next = 
 
 rate_keeps : (c : CounterState) → Kept c (after_rate_count c)
 rate_keeps c =
-    let count : ℕ = count_minus c.count_base c.count 1 in
+    let count : ℕ = count_minus c.count_radix c.count 1 in
     let out : Line = (if count == 1 then Low else c.out) in
     choose (c.count == 1) c (after_load c High) (record c { count = count; out = out }) (loaded_keeps High c) (moved_keeps c count c.strobe_due out)
 
 square_keeps : (c : CounterState) → Kept c (after_square_count c)
 square_keeps c =
-    let count : ℕ = count_minus c.count_base c.count (half_step c.count c.out) in
+    let count : ℕ = count_minus c.count_radix c.count (half_step c.count c.out) in
     let turn : Line = (if c.newest == 1 then High else opposite c.out) in
     choose (c.count == 1) c (after_load c High) (if count == 0 then after_load c turn else record c { count = count }) (loaded_keeps High c)
     (choose (count == 0) c (after_load c turn) (record c { count = count }) (loaded_keeps turn c) (moved_keeps c count c.strobe_due c.out))
@@ -81,7 +81,7 @@ ticks_keep c n = keeping after_tick (λ d. Kept c d) (more_kept c) n c (none_cha
 shown_held : (c : CounterState) (k : ℕ) → reading (after_ticks (after_latch c) k) ≡ reading c
 unfolding after_latch
 shown_held c k =
-    ap (λ o. unwrap_or o (digits_of (after_ticks (after_latch c) k).count_base (after_ticks (after_latch c) k).count)) (ticks_keep (after_latch c) k).latch
+    ap (λ o. unwrap_or o (digits_of (after_ticks (after_latch c) k).count_radix (after_ticks (after_latch c) k).count)) (ticks_keep (after_latch c) k).latch
 
 byte_of : Access → Bool → ℕ → ℕ
 byte_of access high_next word = if reads_high access high_next then word / 256 else word % 256
@@ -130,7 +130,7 @@ second_read c access high =
 pub latch_holds_both : LatchHoldsBoth
 unfolding byte_of after_latch
 latch_holds_both c access low free k m =
-    let word : reading c ≡ digits_of c.count_base c.count = ap (λ o. unwrap_or o (digits_of c.count_base c.count)) free in
+    let word : reading c ≡ digits_of c.count_radix c.count = ap (λ o. unwrap_or o (digits_of c.count_radix c.count)) free in
     let one : CounterState = after_ticks (after_latch c) k in
     let kept : Kept (after_latch c) one = ticks_keep (after_latch c) k in
     let read : after_read one ≡ record one { high_next = true } = first_read one (kept.access ∙ access) (kept.high_next ∙ low) in
@@ -139,7 +139,7 @@ latch_holds_both c access low free k m =
     let two_access : two.access ≡ LowThenHigh = again.access ∙ ap (λ s. s.access) read ∙ kept.access ∙ access in
     let two_high : two.high_next ≡ true = again.high_next ∙ ap (λ s. s.high_next) read in
     let two_latch : two.latch ≡ Some (reading c) = again.latch ∙ ap (λ s. s.latch) read ∙ kept.latch in
-    let two_shown : reading two ≡ digits_of c.count_base c.count = ap (λ o. unwrap_or o (digits_of two.count_base two.count)) two_latch ∙ word in (
+    let two_shown : reading two ≡ digits_of c.count_radix c.count = ap (λ o. unwrap_or o (digits_of two.count_radix two.count)) two_latch ∙ word in (
       held_byte c k ∙ ap (λ a. byte_of a c.high_next (reading c)) access ∙ ap (λ h. byte_of LowThenHigh h (reading c)) low ∙ ap (λ w. w % 256) word,
       read_is two ∙ ap (λ a. byte_of a two.high_next (reading two)) two_access ∙ ap (λ h. byte_of LowThenHigh h (reading two)) two_high ∙ ap (λ w. w / 256) two_shown,
       ap (λ s. s.latch) (second_read two two_access two_high),
@@ -149,7 +149,7 @@ latch_holds_both c access low free k m =
 pub reads_both : ReadsBoth
 unfolding byte_of
 reads_both c access low free =
-    let word : reading c ≡ digits_of c.count_base c.count = ap (λ o. unwrap_or o (digits_of c.count_base c.count)) free in
+    let word : reading c ≡ digits_of c.count_radix c.count = ap (λ o. unwrap_or o (digits_of c.count_radix c.count)) free in
     let first : after_read c ≡ record c { high_next = true } = first_read c access low in (
       read_is c ∙ ap (λ a. byte_of a c.high_next (reading c)) access ∙ ap (λ h. byte_of LowThenHigh h (reading c)) low ∙ ap (λ w. w % 256) word,
       ap next_byte first ∙ read_is (record c { high_next = true }) ∙ ap (λ a. byte_of a true (reading c)) access ∙ ap (λ w. w / 256) word,

@@ -65,12 +65,12 @@ tick_hardware_strobe c runs mode n due out =
 
 -- what the rules make of it, where the count falls to m
 
-pub countdown : (c : CounterState) (n m : ℕ) (due : Bool) (out : Line) → count_minus c.count_base n 1 ≡ m → after_countdown (with_count c n due out) ≡ with_count c m due (if m == 0 then High else out)
+pub countdown : (c : CounterState) (n m : ℕ) (due : Bool) (out : Line) → count_minus c.count_radix n 1 ≡ m → after_countdown (with_count c n due out) ≡ with_count c m due (if m == 0 then High else out)
 countdown c n m due out is = ap (λ k. with_count c k due (if k == 0 then High else out)) is
 
-pub rate_falls : (c : CounterState) (n m : ℕ) (due : Bool) (out : Line) → n ≢ 1 → count_minus c.count_base n 1 ≡ m → after_rate_count (with_count c n due out) ≡ with_count c m due (if m == 1 then Low else out)
+pub rate_falls : (c : CounterState) (n m : ℕ) (due : Bool) (out : Line) → n ≢ 1 → count_minus c.count_radix n 1 ≡ m → after_rate_count (with_count c n due out) ≡ with_count c m due (if m == 1 then Low else out)
 rate_falls c n m due out other is =
-    if_no (n == 1) (after_load c High) (with_count c (count_minus c.count_base n 1) due (if count_minus c.count_base n 1 == 1 then Low else out)) (differs n 1 other)
+    if_no (n == 1) (after_load c High) (with_count c (count_minus c.count_radix n 1) due (if count_minus c.count_radix n 1 == 1 then Low else out)) (differs n 1 other)
     ∙ ap (λ k. with_count c k due (if k == 1 then Low else out)) is
 
 pub rate_reloads : (c : CounterState) (n : ℕ) (due : Bool) (out : Line) → n ≡ 1 → after_rate_count (with_count c n due out) ≡ after_load c High
@@ -81,20 +81,20 @@ square_case c n m due out =
     if n == 1 then after_load c High else (
     if m == 0 then after_load c (if c.newest == 1 then High else opposite out) else with_count c m due out)
 
-square_is : (c : CounterState) (n m : ℕ) (due : Bool) (out : Line) → n ≢ 1 → count_minus c.count_base n (half_step n out) ≡ m → after_square_count (with_count c n due out) ≡ (if m == 0 then after_load c (if c.newest == 1 then High else opposite out) else with_count c m due out)
+square_is : (c : CounterState) (n m : ℕ) (due : Bool) (out : Line) → n ≢ 1 → count_minus c.count_radix n (half_step n out) ≡ m → after_square_count (with_count c n due out) ≡ (if m == 0 then after_load c (if c.newest == 1 then High else opposite out) else with_count c m due out)
 unfolding square_case
 square_is c n m due out other is =
-    let direct : after_square_count (with_count c n due out) ≡ square_case c n (count_minus c.count_base n (half_step n out)) due out = refl in
+    let direct : after_square_count (with_count c n due out) ≡ square_case c n (count_minus c.count_radix n (half_step n out)) due out = refl in
     direct ∙ ap (λ k. square_case c n k due out) is
     ∙ ap (λ b. if b then after_load c High else (if m == 0 then after_load c (if c.newest == 1 then High else opposite out) else with_count c m due out)) (differs n 1 other)
 
-pub square_falls : (c : CounterState) (n m : ℕ) (due : Bool) (out : Line) → n ≢ 1 → count_minus c.count_base n (half_step n out) ≡ m → m ≢ 0 → after_square_count (with_count c n due out) ≡ with_count c m due out
+pub square_falls : (c : CounterState) (n m : ℕ) (due : Bool) (out : Line) → n ≢ 1 → count_minus c.count_radix n (half_step n out) ≡ m → m ≢ 0 → after_square_count (with_count c n due out) ≡ with_count c m due out
 square_falls c n m due out other is some =
     square_is c n m due out other is
     ∙ if_no (m == 0) (after_load c (if c.newest == 1 then High else opposite out)) (with_count c m due out) (differs m 0 some)
 
-pub square_turns : (c : CounterState) (n : ℕ) (due : Bool) (out : Line) → n ≢ 1 → count_minus c.count_base n (half_step n out) ≡ 0 → after_square_count (with_count c n due out) ≡ after_load c (if c.newest == 1 then High else opposite out)
+pub square_turns : (c : CounterState) (n : ℕ) (due : Bool) (out : Line) → n ≢ 1 → count_minus c.count_radix n (half_step n out) ≡ 0 → after_square_count (with_count c n due out) ≡ after_load c (if c.newest == 1 then High else opposite out)
 square_turns c n due out other is = square_is c n 0 due out other is
 
-pub strobe_count : (c : CounterState) (n m : ℕ) (due : Bool) (out : Line) → count_minus c.count_base n 1 ≡ m → after_strobe_count (with_count c n due out) ≡ with_count c m (due && not ((m == 0) && due)) (if (m == 0) && due then Low else High)
+pub strobe_count : (c : CounterState) (n m : ℕ) (due : Bool) (out : Line) → count_minus c.count_radix n 1 ≡ m → after_strobe_count (with_count c n due out) ≡ with_count c m (due && not ((m == 0) && due)) (if (m == 0) && due then Low else High)
 strobe_count c n m due out is = ap (λ k. with_count c k (due && not ((k == 0) && due)) (if (k == 0) && due then Low else High)) is

@@ -3,7 +3,7 @@ use Rattle.std.proofs.Common.{◌≡◌, ◌≢◌, ℕ, ◌+◌, ◌*◌, ◌<�
 use Rattle.board_types.proofs.Iterate.{iterate_add, iterate_zero, iterate_more}
 use Rattle.board_types.specs.declared.line.Line.{Line}
 use Rattle.board_types.specs.declared.line.Line.TheVariants.{Low, High}
-use Rattle.pit8253.specs.declared.program.Base.TheVariants.{Binary}
+use Rattle.pit8253.specs.declared.program.Radix.TheVariants.{Binary}
 use Rattle.pit8253.specs.Counter.{CounterState, after_load, after_tick, after_ticks, after_control_word, after_write, after_gate}
 use Rattle.pit8253.specs.Laws.{after_setup, after_trigger, ticks_of, CountsOutAsTold, ShootsAsTriggered, DividesAsTold, MakesSquaresAsTold, StrobesAsTold, StrobesAsTriggered}
 use Rattle.pit8253.proofs.Counts.{length_some}

@@ -75,7 +75,7 @@ unfolding after_tick
 rate_waits Low c word other = refl
 rate_waits High c word other =
     let d : CounterState = record c { gate = High; load_due = false; progress = Loaded; mode = RateGenerator } in
-    let count : ℕ = count_minus c.count_base c.count 1 in
+    let count : ℕ = count_minus c.count_radix c.count 1 in
     let out : Line = (if count == 1 then Low else c.out) in
     if_no (c.count == 1) (after_load (after_full_count d word) High) (record (after_full_count d word) { count = count; out = out }) (differs c.count 1 other)
     ∙ sym (ap (λ s. after_full_count s word) (if_no (c.count == 1) (after_load d High) (record d { count = count; out = out }) (differs c.count 1 other)))
@@ -90,7 +90,7 @@ square_waits Low c word goes_on = refl
 square_waits High c word goes_on =
     let d : CounterState = record c { gate = High; load_due = false; progress = Loaded; mode = SquareWave } in
     let e : CounterState = after_full_count d word in
-    let count : ℕ = count_minus c.count_base c.count (half_step c.count c.out) in
+    let count : ℕ = count_minus c.count_radix c.count (half_step c.count c.out) in
     let facts = neither (c.count == 1) (count == 0) goes_on in
     if_no (c.count == 1) (after_load e High) (if count == 0 then after_load e (if e.newest == 1 then High else opposite c.out) else record e { count = count }) facts.0
     ∙ if_no (count == 0) (after_load e (if e.newest == 1 then High else opposite c.out)) (record e { count = count }) facts.1

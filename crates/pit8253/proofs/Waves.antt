@@ -8,7 +8,7 @@ use Rattle.board_types.specs.Lines.{is_high}
 use Rattle.board_types.specs.declared.line.Line.{Line}
 use Rattle.board_types.specs.declared.line.Line.TheVariants.{Low, High}
 use Rattle.pit8253.specs.declared.program.Mode.TheVariants.{RateGenerator, SquareWave}
-use Rattle.pit8253.specs.declared.program.Base.{Base}
+use Rattle.pit8253.specs.declared.program.Radix.{Radix}
 use Rattle.pit8253.specs.Program.{modulus, count_minus}
 use Rattle.pit8253.specs.Counter.{CounterState, after_load, after_count, after_countdown, after_rate_count, half_step, after_square_count, after_strobe_count, after_tick, after_ticks}
 use Rattle.pit8253.specs.Laws.{length_of, size, ticks_left, Runs, count_after, after_fall, after_strobe_fall, after_rate_fall, half_left, after_half_fall, TicksAdd, CountsDown, CountsToStrobe, CountsPeriod, CountsHalf, ReloadsAtOne, CountsPeriods, CountsHalves, CountsOut, ShootsOnce, Divides, MakesSquares, StaysHigh, StrobesOnce, StrobesOnTrigger}
@@ -28,19 +28,19 @@ either : {A : Type 0} (b : Bool) (x y : A) → x ≡ y → (if b then x else y) 
 either true x y is = is
 either false x y is = refl
 
-loaded_runs : (c : CounterState) (out : Line) → c.newest < modulus c.base → Runs (after_load c out)
+loaded_runs : (c : CounterState) (out : Line) → c.newest < modulus c.radix → Runs (after_load c out)
 loaded_runs c out within = record { loaded = refl; none_due = refl; within = within }
 
 -- modes 0 and 1
 
 -- OUT after one more tick
-fall_out : (base : Base) (count n : ℕ) (out : Line) → count < modulus base → (if count_after base count (n + 1) == 0 then High else (if nat_lt n (length_of base count) then out else High)) ≡ (if nat_lt (n + 1) (length_of base count) then out else High)
-fall_out base count n out within =
-    let next : ℕ = count_after base count (n + 1) in
-    let long : ℕ = length_of base count in
+fall_out : (radix : Radix) (count n : ℕ) (out : Line) → count < modulus radix → (if count_after radix count (n + 1) == 0 then High else (if nat_lt n (length_of radix count) then out else High)) ≡ (if nat_lt (n + 1) (length_of radix count) then out else High)
+fall_out radix count n out within =
+    let next : ℕ = count_after radix count (n + 1) in
+    let long : ℕ = length_of radix count in
     elim (cases_lt (n + 1) long) [
       | inl before ↦
-          let is = after_within base count (n + 1) within (omega arith) before in
+          let is = after_within radix count (n + 1) within (omega arith) before in
           if_no (next == 0) High (if nat_lt n long then out else High) (differs next 0 (omega arith))
           ∙ if_yes (nat_lt n long) out High (below n long (omega arith))
           ∙ sym (if_yes (nat_lt (n + 1) long) out High (below (n + 1) long before))
@@ -48,7 +48,7 @@ fall_out base count n out within =
           elim (cases_lt n long) [
             | inl last ↦
                 let at : n + 1 ≡ long = omega arith in
-                let end : next ≡ 0 = ap (λ k. count_after base count k) at ∙ after_end base count within in
+                let end : next ≡ 0 = ap (λ k. count_after radix count k) at ∙ after_end radix count within in
                 if_yes (next == 0) High (if nat_lt n long then out else High) (same next 0 end)
             | inr over ↦
                 ap (λ o. if next == 0 then High else o) (if_no (nat_lt n long) out High (not_below n long over))
@@ -60,13 +60,13 @@ fall_out base count n out within =
 falls : (c : CounterState) → Runs c → ((n : ℕ) (due : Bool) (out : Line) → after_tick (with_count c n due out) ≡ after_countdown (with_count c n due out)) → (n : ℕ) → after_ticks c n ≡ after_fall c n
 falls c runs rule n =
     let start : after_fall c 0 ≡ c =
-    unmoved c (count_after c.count_base c.count 0) c.strobe_due (if nat_lt 0 (ticks_left c) then c.out else High)
-    (after_none c.count_base c.count runs.within) refl
-    (if_yes (nat_lt 0 (ticks_left c)) c.out High (below 0 (ticks_left c) (lengths c.count_base c.count runs.within).some)) in
+    unmoved c (count_after c.count_radix c.count 0) c.strobe_due (if nat_lt 0 (ticks_left c) then c.out else High)
+    (after_none c.count_radix c.count runs.within) refl
+    (if_yes (nat_lt 0 (ticks_left c)) c.out High (below 0 (ticks_left c) (lengths c.count_radix c.count runs.within).some)) in
     by_steps after_tick (after_fall c) c n start
-    (λ k _. rule (count_after c.count_base c.count k) c.strobe_due (if nat_lt k (ticks_left c) then c.out else High)
-    ∙ countdown c (count_after c.count_base c.count k) (count_after c.count_base c.count (k + 1)) c.strobe_due (if nat_lt k (ticks_left c) then c.out else High) (after_more c.count_base c.count k runs.within)
-    ∙ ap (λ o. with_count c (count_after c.count_base c.count (k + 1)) c.strobe_due o) (fall_out c.count_base c.count k c.out runs.within))
+    (λ k _. rule (count_after c.count_radix c.count k) c.strobe_due (if nat_lt k (ticks_left c) then c.out else High)
+    ∙ countdown c (count_after c.count_radix c.count k) (count_after c.count_radix c.count (k + 1)) c.strobe_due (if nat_lt k (ticks_left c) then c.out else High) (after_more c.count_radix c.count k runs.within)
+    ∙ ap (λ o. with_count c (count_after c.count_radix c.count (k + 1)) c.strobe_due o) (fall_out c.count_radix c.count k c.out runs.within))
     n (omega arith)
 
 pub counts_down : CountsDown
@@ -102,19 +102,19 @@ strobe_over true false = record { due_then = refl; out_then = refl }
 strobe_over false true = record { due_then = refl; out_then = refl }
 strobe_over false false = record { due_then = refl; out_then = refl }
 
-strobe_step : (base : Base) (count n : ℕ) (due : Bool) → count < modulus base → Strobes due (count_after base count (n + 1) == 0) (nat_lt n (length_of base count)) (nat_lt (n + 1) (length_of base count)) (n + 1 == length_of base count)
-strobe_step base count n due within =
-    let next : ℕ = count_after base count (n + 1) in
-    let long : ℕ = length_of base count in
+strobe_step : (radix : Radix) (count n : ℕ) (due : Bool) → count < modulus radix → Strobes due (count_after radix count (n + 1) == 0) (nat_lt n (length_of radix count)) (nat_lt (n + 1) (length_of radix count)) (n + 1 == length_of radix count)
+strobe_step radix count n due within =
+    let next : ℕ = count_after radix count (n + 1) in
+    let long : ℕ = length_of radix count in
     elim (cases_lt (n + 1) long) [
       | inl before ↦
-          let is = after_within base count (n + 1) within (omega arith) before in
+          let is = after_within radix count (n + 1) within (omega arith) before in
           strobe_case due (next == 0) (nat_lt n long) (nat_lt (n + 1) long) (n + 1 == long) false true true false
           (differs next 0 (omega arith)) (below n long (omega arith)) (below (n + 1) long before) (differs (n + 1) long (omega arith)) (strobe_ahead due)
       | inr after ↦ elim (cases_lt n long) [
         | inl last ↦
             let at : n + 1 ≡ long = omega arith in
-            let end : next ≡ 0 = ap (λ k. count_after base count k) at ∙ after_end base count within in
+            let end : next ≡ 0 = ap (λ k. count_after radix count k) at ∙ after_end radix count within in
             strobe_case due (next == 0) (nat_lt n long) (nat_lt (n + 1) long) (n + 1 == long) true true false true
             (same next 0 end) (below n long last) (not_below (n + 1) long after) (same (n + 1) long at) (strobe_end due)
         | inr over ↦
@@ -128,22 +128,22 @@ strobe_step base count n due within =
 
 falls_to_strobe : (c : CounterState) → Runs c → ((n : ℕ) (due : Bool) (out : Line) → after_tick (with_count c n due out) ≡ after_strobe_count (with_count c n due out)) → (n : ℕ) → after_ticks c n ≡ after_strobe_fall c n
 falls_to_strobe c runs rule n =
-    let long : Lengths c.count_base c.count = lengths c.count_base c.count runs.within in
+    let long : Lengths c.count_radix c.count = lengths c.count_radix c.count runs.within in
     let start : after_strobe_fall c 0 ≡ c =
-    unmoved c (count_after c.count_base c.count 0) (c.strobe_due && nat_lt 0 (ticks_left c)) c.out
-    (after_none c.count_base c.count runs.within)
+    unmoved c (count_after c.count_radix c.count 0) (c.strobe_due && nat_lt 0 (ticks_left c)) c.out
+    (after_none c.count_radix c.count runs.within)
     (ap (λ b. c.strobe_due && b) (below 0 (ticks_left c) long.some) ∙ and_true c.strobe_due) refl in
     by_steps after_tick (after_strobe_fall c) c n start
     (λ k _.
-    let step : Strobes c.strobe_due (count_after c.count_base c.count (k + 1) == 0) (nat_lt k (ticks_left c)) (nat_lt (k + 1) (ticks_left c)) (k + 1 == ticks_left c) =
-    strobe_step c.count_base c.count k c.strobe_due runs.within in
+    let step : Strobes c.strobe_due (count_after c.count_radix c.count (k + 1) == 0) (nat_lt k (ticks_left c)) (nat_lt (k + 1) (ticks_left c)) (k + 1 == ticks_left c) =
+    strobe_step c.count_radix c.count k c.strobe_due runs.within in
     let due : Bool = c.strobe_due && nat_lt k (ticks_left c) in
     let level : Line = (if k == 0 then c.out else (if (k == ticks_left c) && c.strobe_due then Low else High)) in
-    let now : ℕ = count_after c.count_base c.count k in
-    let next : ℕ = count_after c.count_base c.count (k + 1) in
+    let now : ℕ = count_after c.count_radix c.count k in
+    let next : ℕ = count_after c.count_radix c.count (k + 1) in
     let out_next : Line = (if (k + 1 == ticks_left c) && c.strobe_due then Low else High) in
     rule now due level
-    ∙ strobe_count c now next due level (after_more c.count_base c.count k runs.within)
+    ∙ strobe_count c now next due level (after_more c.count_radix c.count k runs.within)
     ∙ ap (λ b. with_count c next b (if (next == 0) && due then Low else High)) step.due_then
     ∙ ap (λ o. with_count c next (c.strobe_due && nat_lt (k + 1) (ticks_left c)) o)
     (step.out_then ∙ sym (if_no (k + 1 == 0) c.out out_next (differs (k + 1) 0 (omega arith)))))
@@ -174,41 +174,41 @@ strobe_out n size some = elim (cases_lt 0 n) [
 pub mode_4 : StrobesOnce
 mode_4 c mode gate within n =
     ap (λ s. s.out) (counts_to_strobe (after_load c High) (loaded_runs c High within) (inl (mode, gate)) n)
-    ∙ strobe_out n (size c) (lengths c.base c.newest within).some
+    ∙ strobe_out n (size c) (lengths c.radix c.newest within).some
 
 pub mode_5 : StrobesOnTrigger
 mode_5 c mode within n =
     ap (λ s. s.out) (counts_to_strobe (after_load c High) (loaded_runs c High within) (inr mode) n)
-    ∙ strobe_out n (size c) (lengths c.base c.newest within).some
+    ∙ strobe_out n (size c) (lengths c.radix c.newest within).some
 
 -- mode 2
 
 rate_step : (c : CounterState) → Runs c → ((n : ℕ) (due : Bool) (out : Line) → after_tick (with_count c n due out) ≡ after_rate_count (with_count c n due out)) → (k : ℕ) → k + 1 < ticks_left c → after_tick (after_rate_fall c k) ≡ after_rate_fall c (k + 1)
 rate_step c runs rule k before =
-    let long : Lengths c.count_base c.count = lengths c.count_base c.count runs.within in
-    let now : ℕ = count_after c.count_base c.count k in
-    let next : ℕ = count_after c.count_base c.count (k + 1) in
+    let long : Lengths c.count_radix c.count = lengths c.count_radix c.count runs.within in
+    let now : ℕ = count_after c.count_radix c.count k in
+    let next : ℕ = count_after c.count_radix c.count (k + 1) in
     let out_now : Line = (if k == 0 then c.out else (if k + 1 == ticks_left c then Low else c.out)) in
     let out_next : Line = (if k + 1 + 1 == ticks_left c then Low else c.out) in
-    let is : next ≡ ticks_left c - (k + 1) = after_within c.count_base c.count (k + 1) runs.within (omega arith) before in
+    let is : next ≡ ticks_left c - (k + 1) = after_within c.count_radix c.count (k + 1) runs.within (omega arith) before in
     let level : out_now ≡ c.out =
     ap (λ o. if k == 0 then c.out else o) (if_no (k + 1 == ticks_left c) Low c.out (differs (k + 1) (ticks_left c) (omega arith))) ∙ either (k == 0) c.out c.out refl in
     rule now c.strobe_due out_now
-    ∙ rate_falls c now next c.strobe_due out_now (not_one c runs k before) (after_more c.count_base c.count k runs.within)
+    ∙ rate_falls c now next c.strobe_due out_now (not_one c runs k before) (after_more c.count_radix c.count k runs.within)
     ∙ ap (λ o. with_count c next c.strobe_due (if next == 1 then Low else o)) level
     ∙ ap (λ b. with_count c next c.strobe_due (if b then Low else c.out)) (last_but_one next (k + 1) (ticks_left c) is before)
     ∙ ap (λ o. with_count c next c.strobe_due o) (sym (if_no (k + 1 == 0) c.out out_next (differs (k + 1) 0 (omega arith))))
   where
-    not_one : (c : CounterState) → Runs c → (k : ℕ) → k + 1 < ticks_left c → count_after c.count_base c.count k ≢ 1
+    not_one : (c : CounterState) → Runs c → (k : ℕ) → k + 1 < ticks_left c → count_after c.count_radix c.count k ≢ 1
     not_one c runs zero before =
-        let long : Lengths c.count_base c.count = lengths c.count_base c.count runs.within in
-        let start = after_none c.count_base c.count runs.within in
+        let long : Lengths c.count_radix c.count = lengths c.count_radix c.count runs.within in
+        let start = after_none c.count_radix c.count runs.within in
         elim long.is [
           | inl none ↦ omega (arith, none.0)
           | inr more ↦ omega (arith, more.1)
         ]
     not_one c runs (suc k) before =
-        let is = after_within c.count_base c.count (suc k) runs.within (omega arith) (omega arith) in
+        let is = after_within c.count_radix c.count (suc k) runs.within (omega arith) (omega arith) in
         omega arith
 
     last_but_one : (next n long : ℕ) → next ≡ long - n → n < long → (next == 1) ≡ (n + 1 == long)
@@ -220,42 +220,42 @@ rate_step c runs rule k before =
 pub counts_period : CountsPeriod
 counts_period c runs mode gate =
     let rule = tick_rate c runs mode gate in
-    let long : Lengths c.count_base c.count = lengths c.count_base c.count runs.within in
+    let long : Lengths c.count_radix c.count = lengths c.count_radix c.count runs.within in
     let start : after_rate_fall c 0 ≡ c =
-    unmoved c (count_after c.count_base c.count 0) c.strobe_due c.out (after_none c.count_base c.count runs.within) refl refl in
+    unmoved c (count_after c.count_radix c.count 0) c.strobe_due c.out (after_none c.count_radix c.count runs.within) refl refl in
     let last : ℕ = ticks_left c - 1 in
     let within : (n : ℕ) → n ≤ last → after_ticks c n ≡ after_rate_fall c n =
     by_steps after_tick (after_rate_fall c) c last start (λ k before. rate_step c runs rule k (omega arith)) in
     let whole : ticks_left c ≡ last + 1 = omega (arith, long.some) in (
       λ n before. within n (omega arith),
       ap (λ k. after_ticks c k) whole ∙ iterate_more after_tick last c ∙ ap after_tick (within last (omega arith))
-          ∙ rule (count_after c.count_base c.count last) c.strobe_due (if last == 0 then c.out else (if last + 1 == ticks_left c then Low else c.out))
-          ∙ rate_reloads c (count_after c.count_base c.count last) c.strobe_due (if last == 0 then c.out else (if last + 1 == ticks_left c then Low else c.out)) (last_is_one c runs last whole),
+          ∙ rule (count_after c.count_radix c.count last) c.strobe_due (if last == 0 then c.out else (if last + 1 == ticks_left c then Low else c.out))
+          ∙ rate_reloads c (count_after c.count_radix c.count last) c.strobe_due (if last == 0 then c.out else (if last + 1 == ticks_left c then Low else c.out)) (last_is_one c runs last whole),
     )
   where
-    last_is_one : (c : CounterState) → Runs c → (last : ℕ) → ticks_left c ≡ last + 1 → count_after c.count_base c.count last ≡ 1
+    last_is_one : (c : CounterState) → Runs c → (last : ℕ) → ticks_left c ≡ last + 1 → count_after c.count_radix c.count last ≡ 1
     last_is_one c runs zero whole =
-        let long : Lengths c.count_base c.count = lengths c.count_base c.count runs.within in
-        after_none c.count_base c.count runs.within ∙ elim long.is [
-          | inl none ↦ omega (arith, none.1, modulus_large c.count_base)
+        let long : Lengths c.count_radix c.count = lengths c.count_radix c.count runs.within in
+        after_none c.count_radix c.count runs.within ∙ elim long.is [
+          | inl none ↦ omega (arith, none.1, modulus_large c.count_radix)
           | inr more ↦ omega (arith, more.1)
         ]
-    last_is_one c runs (suc k) whole = after_within c.count_base c.count (suc k) runs.within (omega arith) (omega arith) ∙ omega arith
+    last_is_one c runs (suc k) whole = after_within c.count_radix c.count (suc k) runs.within (omega arith) (omega arith) ∙ omega arith
 
 pub counts_periods : CountsPeriods
 counts_periods c mode gate within n =
     let period = counts_period (after_load c High) (loaded_runs c High within) mode gate in
     round_again after_tick (size c) (after_load c High) period.1 n
-    ∙ period.0 (n % size c) (mod_below n (size c) (lengths c.base c.newest within).some)
+    ∙ period.0 (n % size c) (mod_below n (size c) (lengths c.radix c.newest within).some)
 
 pub mode_2 : Divides
 mode_2 c mode gate within other n =
     ap (λ s. s.out) (counts_periods c mode gate within n) ∙ low_last (n % size c) (size c) (one c within other)
   where
-    one : (c : CounterState) → c.newest < modulus c.base → c.newest ≢ 1 → size c ≢ 1
+    one : (c : CounterState) → c.newest < modulus c.radix → c.newest ≢ 1 → size c ≢ 1
     one c within other =
-        let large = modulus_large c.base in
-        elim (lengths c.base c.newest within).is [
+        let large = modulus_large c.radix in
+        elim (lengths c.radix c.newest within).is [
           | inl none ↦ omega (arith, none.1)
           | inr more ↦ omega (arith, more.1)
         ]
@@ -276,82 +276,82 @@ even_step n out even = if_yes (n % 2 == 0) 2 (if is_high out then 1 else 3) (sam
 odd_step : (n : ℕ) (out : Line) → n % 2 ≡ 1 → half_step n out ≡ (if is_high out then 1 else 3)
 odd_step n out odd = if_no (n % 2 == 0) 2 (if is_high out then 1 else 3) (differs (n % 2) 0 (omega arith))
 
-falls_by : (base : Base) (n by m : ℕ) (out : Line) → half_step n out ≡ by → count_minus base n by ≡ m → count_minus base n (half_step n out) ≡ m
-falls_by base n by m out step is = ap (λ s. count_minus base n s) step ∙ is
+falls_by : (radix : Radix) (n by m : ℕ) (out : Line) → half_step n out ≡ by → count_minus radix n by ≡ m → count_minus radix n (half_step n out) ≡ m
+falls_by radix n by m out step is = ap (λ s. count_minus radix n s) step ∙ is
 
 -- a half of so many ticks: the first of them leaves twice the ticks that are then to come
-record Half (base : Base) (count : ℕ) (out : Line) (len : ℕ) : Type 0 where
+record Half (radix : Radix) (count : ℕ) (out : Line) (len : ℕ) : Type 0 where
   some : 0 < len
-  first : count_minus base count (half_step count out) ≡ 2 * (len - 1)
+  first : count_minus radix count (half_step count out) ≡ 2 * (len - 1)
 
-half : (base : Base) (count : ℕ) (out : Line) → count < modulus base → count ≢ 1 → Half base count out (if is_high out then (length_of base count + 1) / 2 else length_of base count / 2)
-half base count High within other =
-    let len : ℕ = (length_of base count + 1) / 2 in
-    elim (lengths base count within).is [
+half : (radix : Radix) (count : ℕ) (out : Line) → count < modulus radix → count ≢ 1 → Half radix count out (if is_high out then (length_of radix count + 1) / 2 else length_of radix count / 2)
+half radix count High within other =
+    let len : ℕ = (length_of radix count + 1) / 2 in
+    elim (lengths radix count within).is [
       | inl none ↦
-          let even = modulus_even base in
-          let large = modulus_large base in
-          let step = minus_around base count 2 (omega (arith, none.0)) in
-          record { some = omega (arith, none.1); first = falls_by base count 2 (2 * (len - 1)) High (even_step count High (omega (arith, none.0))) (omega (arith, none.0, none.1)) }
+          let even = modulus_even radix in
+          let large = modulus_large radix in
+          let step = minus_around radix count 2 (omega (arith, none.0)) in
+          record { some = omega (arith, none.1); first = falls_by radix count 2 (2 * (len - 1)) High (even_step count High (omega (arith, none.0))) (omega (arith, none.0, none.1)) }
       | inr more ↦ elim (cases_lt (count % 2) 1) [
         | inl even ↦
-            let step = minus_within base count 2 (omega (arith, more.0)) in
-            record { some = omega (arith, more.0, more.1); first = falls_by base count 2 (2 * (len - 1)) High (even_step count High (omega arith)) (omega (arith, more.0, more.1)) }
+            let step = minus_within radix count 2 (omega (arith, more.0)) in
+            record { some = omega (arith, more.0, more.1); first = falls_by radix count 2 (2 * (len - 1)) High (even_step count High (omega arith)) (omega (arith, more.0, more.1)) }
         | inr odd ↦
-            let step = minus_within base count 1 (omega (arith, more.0)) in
-            record { some = omega (arith, more.0, more.1); first = falls_by base count 1 (2 * (len - 1)) High (odd_step count High (omega arith)) (omega (arith, more.0, more.1)) }
+            let step = minus_within radix count 1 (omega (arith, more.0)) in
+            record { some = omega (arith, more.0, more.1); first = falls_by radix count 1 (2 * (len - 1)) High (odd_step count High (omega arith)) (omega (arith, more.0, more.1)) }
       ]
     ]
-half base count Low within other =
-    let len : ℕ = length_of base count / 2 in
-    elim (lengths base count within).is [
+half radix count Low within other =
+    let len : ℕ = length_of radix count / 2 in
+    elim (lengths radix count within).is [
       | inl none ↦
-          let even = modulus_even base in
-          let large = modulus_large base in
-          let step = minus_around base count 2 (omega (arith, none.0)) in
-          record { some = omega (arith, none.1); first = falls_by base count 2 (2 * (len - 1)) Low (even_step count Low (omega (arith, none.0))) (omega (arith, none.0, none.1)) }
+          let even = modulus_even radix in
+          let large = modulus_large radix in
+          let step = minus_around radix count 2 (omega (arith, none.0)) in
+          record { some = omega (arith, none.1); first = falls_by radix count 2 (2 * (len - 1)) Low (even_step count Low (omega (arith, none.0))) (omega (arith, none.0, none.1)) }
       | inr more ↦ elim (cases_lt (count % 2) 1) [
         | inl even ↦
-            let step = minus_within base count 2 (omega (arith, more.0)) in
-            record { some = omega (arith, more.0, more.1); first = falls_by base count 2 (2 * (len - 1)) Low (even_step count Low (omega arith)) (omega (arith, more.0, more.1)) }
+            let step = minus_within radix count 2 (omega (arith, more.0)) in
+            record { some = omega (arith, more.0, more.1); first = falls_by radix count 2 (2 * (len - 1)) Low (even_step count Low (omega arith)) (omega (arith, more.0, more.1)) }
         | inr odd ↦
-            let step = minus_within base count 3 (omega (arith, more.0)) in
-            record { some = omega (arith, more.0, more.1); first = falls_by base count 3 (2 * (len - 1)) Low (odd_step count Low (omega arith)) (omega (arith, more.0, more.1)) }
+            let step = minus_within radix count 3 (omega (arith, more.0)) in
+            record { some = omega (arith, more.0, more.1); first = falls_by radix count 3 (2 * (len - 1)) Low (odd_step count Low (omega arith)) (omega (arith, more.0, more.1)) }
       ]
     ]
 
 -- the count k ticks into a half, and what it falls to
-record HalfStep (base : Base) (n : ℕ) (out : Line) (next : ℕ) : Type 0 where
+record HalfStep (radix : Radix) (n : ℕ) (out : Line) (next : ℕ) : Type 0 where
   other : n ≢ 1
-  falls_to : count_minus base n (half_step n out) ≡ next
+  falls_to : count_minus radix n (half_step n out) ≡ next
 
-half_falls : (base : Base) (count len : ℕ) (out : Line) → count ≢ 1 → Half base count out len → (k : ℕ) → k < len → HalfStep base (if k == 0 then count else 2 * (len - k)) out (2 * (len - (k + 1)))
-half_falls base count len out other start zero before =
+half_falls : (radix : Radix) (count len : ℕ) (out : Line) → count ≢ 1 → Half radix count out len → (k : ℕ) → k < len → HalfStep radix (if k == 0 then count else 2 * (len - k)) out (2 * (len - (k + 1)))
+half_falls radix count len out other start zero before =
     let one : len - (zero + 1) ≡ len - 1 = omega arith in
     record { other = other; falls_to = start.first ∙ ap (λ j. 2 * j) (sym one) }
-half_falls base count len out other start (suc k) before =
+half_falls radix count len out other start (suc k) before =
     let now : ℕ = 2 * (len - suc k) in
     let is : (if suc k == 0 then count else now) ≡ now = if_no (suc k == 0) count now (differs (suc k) 0 (omega arith)) in
-    let step = minus_within base now 2 (omega arith) in
-    subst (λ n. HalfStep base n out (2 * (len - (suc k + 1)))) (sym is)
-    (record { other = omega arith; falls_to = falls_by base now 2 (2 * (len - (suc k + 1))) out (even_step now out (omega arith)) (omega arith) })
+    let step = minus_within radix now 2 (omega arith) in
+    subst (λ n. HalfStep radix n out (2 * (len - (suc k + 1)))) (sym is)
+    (record { other = omega arith; falls_to = falls_by radix now 2 (2 * (len - (suc k + 1))) out (even_step now out (omega arith)) (omega arith) })
 
 pub counts_half : CountsHalf
 counts_half c runs mode gate other =
     let rule = tick_square c runs mode gate in
-    let start : Half c.count_base c.count c.out (half_left c) = half c.count_base c.count c.out runs.within other in
+    let start : Half c.count_radix c.count c.out (half_left c) = half c.count_radix c.count c.out runs.within other in
     let last : ℕ = half_left c - 1 in
     let within : (n : ℕ) → n ≤ last → after_ticks c n ≡ after_half_fall c n =
     by_steps after_tick (after_half_fall c) c last refl (λ k before.
     let now : ℕ = (if k == 0 then c.count else 2 * (half_left c - k)) in
     let next : ℕ = 2 * (half_left c - (k + 1)) in
-    let step : HalfStep c.count_base now c.out next = half_falls c.count_base c.count (half_left c) c.out other start k (omega arith) in
+    let step : HalfStep c.count_radix now c.out next = half_falls c.count_radix c.count (half_left c) c.out other start k (omega arith) in
     rule now c.strobe_due c.out
     ∙ square_falls c now next c.strobe_due c.out step.other step.falls_to (omega arith)
     ∙ ap (λ m. with_count c m c.strobe_due c.out) (sym (if_no (k + 1 == 0) c.count next (differs (k + 1) 0 (omega arith))))) in
     let now : ℕ = (if last == 0 then c.count else 2 * (half_left c - last)) in
-    let end : HalfStep c.count_base now c.out (2 * (half_left c - (last + 1))) =
-    half_falls c.count_base c.count (half_left c) c.out other start last (omega (arith, start.some)) in
+    let end : HalfStep c.count_radix now c.out (2 * (half_left c - (last + 1))) =
+    half_falls c.count_radix c.count (half_left c) c.out other start last (omega (arith, start.some)) in
     let whole : half_left c ≡ last + 1 = omega (arith, start.some) in
     let none : 2 * (half_left c - (last + 1)) ≡ 0 = omega arith in (
       λ n before. within n (omega arith),
@@ -375,7 +375,7 @@ counts_halves c mode gate within other n =
     ap (λ k. after_ticks (after_load c High) k) whole ∙ iterate_add after_tick high (size c / 2) (after_load c High)
     ∙ ap (λ s. after_ticks s (size c / 2)) turn ∙ back in
     let k : ℕ = n % size c in
-    let left : k < size c = mod_below n (size c) (lengths c.base c.newest within).some in
+    let left : k < size c = mod_below n (size c) (lengths c.radix c.newest within).some in
     round_again after_tick (size c) (after_load c High) period n
     ∙ elim (cases_lt k high) [
       | inl in_first ↦

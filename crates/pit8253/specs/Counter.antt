@@ -8,18 +8,18 @@ use Rattle.pit8253.specs.declared.program.Mode.{Mode}
 use Rattle.pit8253.specs.declared.program.Mode.TheVariants.{TerminalCount, OneShot, RateGenerator, SquareWave, SoftwareStrobe, HardwareStrobe}
 use Rattle.pit8253.specs.declared.program.Access.{Access}
 use Rattle.pit8253.specs.declared.program.Access.TheVariants.{LowByte, HighByte, LowThenHigh}
-use Rattle.pit8253.specs.declared.program.Base.{Base}
-use Rattle.pit8253.specs.declared.program.Base.TheVariants.{Binary}
+use Rattle.pit8253.specs.declared.program.Radix.{Radix}
+use Rattle.pit8253.specs.declared.program.Radix.TheVariants.{Binary}
 use Rattle.pit8253.specs.declared.program.Progress.{Progress}
 use Rattle.pit8253.specs.declared.program.Progress.TheVariants.{Awaited, Written, Loaded}
 use Rattle.board_types.specs.Lines.{is_high, opposite}
-use Rattle.pit8253.specs.Program.{mode_of, access_of, base_of, count_of, digits_of, count_minus}
+use Rattle.pit8253.specs.Program.{mode_of, access_of, radix_of, count_of, digits_of, count_minus}
 
 pub record CounterState : Type 0 where
   pub mode : Mode
   pub access : Access
-  -- the base of the control word, in which counts are written
-  pub base : Base
+  -- the radix of the control word, in which counts are written
+  pub radix : Radix
   -- the low byte of a count of two bytes whose high byte is still to come
   pub first_byte : Option ℕ
   -- the newest full count since the control word
@@ -27,10 +27,10 @@ pub record CounterState : Type 0 where
   pub progress : Progress
   -- whether the next tick loads the newest count: a write or a trigger asked for it
   pub load_due : Bool
-  -- the running count, and the base that it was loaded in: a control word doesn't change how it is read (this
+  -- the running count, and the radix that it was loaded in: a control word doesn't change how it is read (this
   -- board's choice)
   pub count : ℕ
-  pub count_base : Base
+  pub count_radix : Radix
   -- whether the loaded count's strobe is still to come
   pub strobe_due : Bool
   -- what a latch holds, as it is read
@@ -46,13 +46,13 @@ abbrev pub power_on : Line → CounterState
 power_on gate = record {
   mode = TerminalCount;
   access = LowThenHigh;
-  base = Binary;
+  radix = Binary;
   first_byte = None;
   newest = 0;
   progress = Awaited;
   load_due = false;
   count = 0;
-  count_base = Binary;
+  count_radix = Binary;
   strobe_due = false;
   latch = None;
   high_next = false;
@@ -85,7 +85,7 @@ out_at_load HardwareStrobe out = High
 abbrev pub after_load : CounterState → Line → CounterState
 after_load c out = record c {
   count = c.newest;
-  count_base = c.base;
+  count_radix = c.radix;
   progress = Loaded;
   load_due = false;
   strobe_due = true;
@@ -95,13 +95,13 @@ after_load c out = record c {
 -- modes 0 and 1: the count falls by 1, and at 0 OUT goes high
 abbrev pub after_countdown : CounterState → CounterState
 after_countdown c =
-    let count : ℕ = count_minus c.count_base c.count 1 in
+    let count : ℕ = count_minus c.count_radix c.count 1 in
     record c { count = count; out = (if count == 0 then High else c.out) }
 
 -- mode 2: at 1 the newest count is loaded with OUT high; else the count falls by 1, and at 1 OUT goes low
 abbrev pub after_rate_count : CounterState → CounterState
 after_rate_count c =
-    let count : ℕ = count_minus c.count_base c.count 1 in
+    let count : ℕ = count_minus c.count_radix c.count 1 in
     if c.count == 1 then after_load c High else record c { count = count; out = (if count == 1 then Low else c.out) }
 
 -- mode 3: by how much a count falls. An odd one, which was loaded just before, falls by 1 in the high half
@@ -114,7 +114,7 @@ half_step count out = if count % 2 == 0 then 2 else (if is_high out then 1 else 
 -- tick loads again with OUT high (this board's choice)
 abbrev pub after_square_count : CounterState → CounterState
 after_square_count c =
-    let count : ℕ = count_minus c.count_base c.count (half_step c.count c.out) in
+    let count : ℕ = count_minus c.count_radix c.count (half_step c.count c.out) in
     if c.count == 1 then after_load c High else (
     if count == 0 then after_load c (if c.newest == 1 then High else opposite c.out) else record c { count = count })
 
@@ -122,7 +122,7 @@ after_square_count c =
 -- choice)
 abbrev pub after_strobe_count : CounterState → CounterState
 after_strobe_count c =
-    let count : ℕ = count_minus c.count_base c.count 1 in
+    let count : ℕ = count_minus c.count_radix c.count 1 in
     let strobes : Bool = (count == 0) && c.strobe_due in
     record c { count = count; strobe_due = c.strobe_due && not strobes; out = (if strobes then Low else High) }
 
@@ -159,21 +159,21 @@ out_at_control SquareWave = High
 out_at_control SoftwareStrobe = High
 out_at_control HardwareStrobe = High
 
--- what the counter shows: the latch, or else the running count in the base that it was loaded in
+-- what the counter shows: the latch, or else the running count in the radix that it was loaded in
 abbrev pub reading : CounterState → ℕ
-reading c = unwrap_or c.latch (digits_of c.count_base c.count)
+reading c = unwrap_or c.latch (digits_of c.count_radix c.count)
 
 -- a latch holds what the counter shows: what was latched before and isn't read yet stays (this board's choice)
 unfoldable pub after_latch : CounterState → CounterState
 after_latch c = record c { latch = Some (reading c) }
 
--- a control word that programs: the mode, the access and the base are new, OUT takes the mode's first level,
+-- a control word that programs: the mode, the access and the radix are new, OUT takes the mode's first level,
 -- and the count runs no more; it stays to be read. The gate is as before. Both byte orders begin anew.
-abbrev pub after_program : CounterState → Mode → Access → Base → CounterState
-after_program c mode access base = record c {
+abbrev pub after_program : CounterState → Mode → Access → Radix → CounterState
+after_program c mode access radix = record c {
   mode = mode;
   access = access;
-  base = base;
+  radix = radix;
   first_byte = None;
   newest = 0;
   progress = Awaited;
@@ -188,7 +188,7 @@ after_program c mode access base = record c {
 unfoldable pub after_control_word : CounterState → ℕ → CounterState
 after_control_word c word =
     if word / 16 % 4 == 0 then after_latch c else
-    after_program c (mode_of (word / 2 % 8)) (access_of (word / 16 % 4)) (base_of (word % 2))
+    after_program c (mode_of (word / 2 % 8)) (access_of (word / 16 % 4)) (radix_of (word % 2))
 
 -- Writing a count.
 
@@ -214,7 +214,7 @@ out_at_write HardwareStrobe out = out
 abbrev pub after_full_count : CounterState → ℕ → CounterState
 after_full_count c word = record c {
   first_byte = None;
-  newest = count_of c.base word;
+  newest = count_of c.radix word;
   progress = (if is_loaded c.progress then Loaded else Written);
   load_due = c.load_due || loads_when_written c.mode c.progress;
   out = out_at_write c.mode c.out;

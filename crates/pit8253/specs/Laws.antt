@@ -5,8 +5,8 @@ use Rattle.board_types.specs.Lines.{is_high, opposite}
 use Rattle.board_types.specs.declared.line.Line.TheVariants.{Low, High}
 use Rattle.pit8253.specs.declared.program.Mode.TheVariants.{TerminalCount, OneShot, RateGenerator, SquareWave, SoftwareStrobe, HardwareStrobe}
 use Rattle.pit8253.specs.declared.program.Access.TheVariants.{LowThenHigh}
-use Rattle.pit8253.specs.declared.program.Base.{Base}
-use Rattle.pit8253.specs.declared.program.Base.TheVariants.{Binary, Decimal}
+use Rattle.pit8253.specs.declared.program.Radix.{Radix}
+use Rattle.pit8253.specs.declared.program.Radix.TheVariants.{Binary, Decimal}
 use Rattle.pit8253.specs.declared.program.Progress.TheVariants.{Loaded}
 use Rattle.pit8253.specs.Program.{modulus, count_of, digits_of, count_minus}
 use Rattle.pit8253.specs.Counter.{CounterState, is_awaited, is_loaded, after_load, half_step, after_tick, after_ticks, reading, after_latch, after_control_word, after_full_count, after_write, next_byte, after_read, after_gate}
@@ -14,16 +14,16 @@ use Rattle.pit8253.specs.Pit as pit
 use Rattle.pit8253.specs.Pit.{PitState}
 
 -- how many ticks a count stands for: 0 is the largest count, 65,536 or 10,000
-abbrev pub length_of : Base → ℕ → ℕ
-length_of base count = if count == 0 then modulus base else count
+abbrev pub length_of : Radix → ℕ → ℕ
+length_of radix count = if count == 0 then modulus radix else count
 
 -- the newest count's length
 abbrev pub size : CounterState → ℕ
-size c = length_of c.base c.newest
+size c = length_of c.radix c.newest
 
 -- how many ticks bring the running count to 0
 abbrev pub ticks_left : CounterState → ℕ
-ticks_left c = length_of c.count_base c.count
+ticks_left c = length_of c.count_radix c.count
 
 -- k ticks and then m ticks are k + m ticks
 abbrev pub TicksAdd : Type 0
@@ -33,23 +33,23 @@ TicksAdd = (k m : ℕ) (c : CounterState) → after_ticks (after_ticks c k) m �
 pub record Runs (c : CounterState) : Type 0 where
   pub loaded : c.progress ≡ Loaded
   pub none_due : c.load_due ≡ false
-  pub within : c.count < modulus c.count_base
+  pub within : c.count < modulus c.count_radix
 
 -- a count that falls by 1 at each of n ticks, and goes on from FFFFh or 9999 below 0
-abbrev pub count_after : Base → ℕ → ℕ → ℕ
-count_after base count n = (count + modulus base - n % modulus base) % modulus base
+abbrev pub count_after : Radix → ℕ → ℕ → ℕ
+count_after radix count n = (count + modulus radix - n % modulus radix) % modulus radix
 
 -- modes 0 and 1, n ticks on: OUT is high from the end of the count
 abbrev pub after_fall : CounterState → ℕ → CounterState
 after_fall c n = record c {
-  count = count_after c.count_base c.count n;
+  count = count_after c.count_radix c.count n;
   out = (if nat_lt n (ticks_left c) then c.out else High);
 }
 
 -- modes 4 and 5, n ticks on: OUT is low at the end of the count alone, where a strobe is due
 abbrev pub after_strobe_fall : CounterState → ℕ → CounterState
 after_strobe_fall c n = record c {
-  count = count_after c.count_base c.count n;
+  count = count_after c.count_radix c.count n;
   strobe_due = c.strobe_due && nat_lt n (ticks_left c);
   out = (if n == 0 then c.out else (if (n == ticks_left c) && c.strobe_due then Low else High));
 }
@@ -57,7 +57,7 @@ after_strobe_fall c n = record c {
 -- mode 2, n ticks on in the same period: OUT goes low for its last tick
 abbrev pub after_rate_fall : CounterState → ℕ → CounterState
 after_rate_fall c n = record c {
-  count = count_after c.count_base c.count n;
+  count = count_after c.count_radix c.count n;
   out = (if n == 0 then c.out else (if n + 1 == ticks_left c then Low else c.out));
 }
 
@@ -105,7 +105,7 @@ ReloadsAtOne =
 -- mode 2: after a load the count goes round its periods
 abbrev pub CountsPeriods : Type 0
 CountsPeriods =
-    (c : CounterState) → c.mode ≡ RateGenerator → c.gate ≡ High → c.newest < modulus c.base → (n : ℕ)
+    (c : CounterState) → c.mode ≡ RateGenerator → c.gate ≡ High → c.newest < modulus c.radix → (n : ℕ)
     → after_ticks (after_load c High) n ≡ after_rate_fall (after_load c High) (n % size c)
 
 -- mode 3, k ticks into a period
@@ -117,7 +117,7 @@ after_square_fall c k =
 -- mode 3: after a load the count goes round its two halves
 abbrev pub CountsHalves : Type 0
 CountsHalves =
-    (c : CounterState) → c.mode ≡ SquareWave → c.gate ≡ High → c.newest < modulus c.base → c.newest ≢ 1 → (n : ℕ)
+    (c : CounterState) → c.mode ≡ SquareWave → c.gate ≡ High → c.newest < modulus c.radix → c.newest ≢ 1 → (n : ℕ)
     → after_ticks (after_load c High) n ≡ after_square_fall c (n % size c)
 
 -- modes 2 and 3: a count of 1 is loaded again at each tick, and OUT stays high
@@ -129,38 +129,38 @@ StaysHigh =
 -- mode 0: n ticks after the load OUT is low below the count, and high from then on
 abbrev pub CountsOut : Type 0
 CountsOut =
-    (c : CounterState) → c.mode ≡ TerminalCount → c.gate ≡ High → c.first_byte ≡ None → c.newest < modulus c.base → (n : ℕ)
+    (c : CounterState) → c.mode ≡ TerminalCount → c.gate ≡ High → c.first_byte ≡ None → c.newest < modulus c.radix → (n : ℕ)
     → (after_ticks (after_load c Low) n).out ≡ (if nat_lt n (size c) then Low else High)
 
 -- mode 1: the same, whatever the gate
 abbrev pub ShootsOnce : Type 0
 ShootsOnce =
-    (c : CounterState) → c.mode ≡ OneShot → c.newest < modulus c.base → (n : ℕ)
+    (c : CounterState) → c.mode ≡ OneShot → c.newest < modulus c.radix → (n : ℕ)
     → (after_ticks (after_load c Low) n).out ≡ (if nat_lt n (size c) then Low else High)
 
 -- mode 2: OUT is low for the last tick of each period, whose length is the count
 abbrev pub Divides : Type 0
 Divides =
-    (c : CounterState) → c.mode ≡ RateGenerator → c.gate ≡ High → c.newest < modulus c.base → c.newest ≢ 1 → (n : ℕ)
+    (c : CounterState) → c.mode ≡ RateGenerator → c.gate ≡ High → c.newest < modulus c.radix → c.newest ≢ 1 → (n : ℕ)
     → (after_ticks (after_load c High) n).out ≡ (if n % size c + 1 == size c then Low else High)
 
 -- mode 3: each period is high for the first half of the count and low for the second. Of an odd count N the
 -- halves are (N + 1) / 2 and (N - 1) / 2.
 abbrev pub MakesSquares : Type 0
 MakesSquares =
-    (c : CounterState) → c.mode ≡ SquareWave → c.gate ≡ High → c.newest < modulus c.base → c.newest ≢ 1 → (n : ℕ)
+    (c : CounterState) → c.mode ≡ SquareWave → c.gate ≡ High → c.newest < modulus c.radix → c.newest ≢ 1 → (n : ℕ)
     → (after_ticks (after_load c High) n).out ≡ (if nat_lt (n % size c) ((size c + 1) / 2) then High else Low)
 
 -- mode 4: OUT is low for one tick, the one that ends the count, and never again
 abbrev pub StrobesOnce : Type 0
 StrobesOnce =
-    (c : CounterState) → c.mode ≡ SoftwareStrobe → c.gate ≡ High → c.newest < modulus c.base → (n : ℕ)
+    (c : CounterState) → c.mode ≡ SoftwareStrobe → c.gate ≡ High → c.newest < modulus c.radix → (n : ℕ)
     → (after_ticks (after_load c High) n).out ≡ (if n == size c then Low else High)
 
 -- mode 5: the same, whatever the gate
 abbrev pub StrobesOnTrigger : Type 0
 StrobesOnTrigger =
-    (c : CounterState) → c.mode ≡ HardwareStrobe → c.newest < modulus c.base → (n : ℕ)
+    (c : CounterState) → c.mode ≡ HardwareStrobe → c.newest < modulus c.radix → (n : ℕ)
     → (after_ticks (after_load c High) n).out ≡ (if n == size c then Low else High)
 
 -- modes 2 and 3: a low gate sets OUT high at once, and leaves all else as it is
@@ -178,8 +178,8 @@ RiseReloads =
 abbrev pub ReadsBoth : Type 0
 ReadsBoth =
     (c : CounterState) → c.access ≡ LowThenHigh → c.high_next ≡ false → c.latch ≡ None
-    → (next_byte c ≡ digits_of c.count_base c.count % 256)
-    × (next_byte (after_read c) ≡ digits_of c.count_base c.count / 256)
+    → (next_byte c ≡ digits_of c.count_radix c.count % 256)
+    × (next_byte (after_read c) ≡ digits_of c.count_radix c.count / 256)
     × (after_read (after_read c) ≡ c)
 
 -- a read after a latch and any ticks gives the byte that a read at the latch would have given
@@ -190,8 +190,8 @@ LatchHolds = (c : CounterState) (k : ℕ) → next_byte (after_ticks (after_latc
 abbrev pub LatchHoldsBoth : Type 0
 LatchHoldsBoth =
     (c : CounterState) → c.access ≡ LowThenHigh → c.high_next ≡ false → c.latch ≡ None → (k m : ℕ)
-    → (next_byte (after_ticks (after_latch c) k) ≡ digits_of c.count_base c.count % 256)
-    × (next_byte (after_ticks (after_read (after_ticks (after_latch c) k)) m) ≡ digits_of c.count_base c.count / 256)
+    → (next_byte (after_ticks (after_latch c) k) ≡ digits_of c.count_radix c.count % 256)
+    × (next_byte (after_ticks (after_read (after_ticks (after_latch c) k)) m) ≡ digits_of c.count_radix c.count / 256)
     × ((after_read (after_ticks (after_read (after_ticks (after_latch c) k)) m)).latch ≡ None)
 
 -- a second latch before the first is read changes nothing
@@ -225,7 +225,7 @@ FirstByteStops =
 
 -- mode 3: whether the next tick that counts ends the half
 abbrev pub ends_half : CounterState → Bool
-ends_half c = (c.count == 1) || (count_minus c.count_base c.count (half_step c.count c.out) == 0)
+ends_half c = (c.count == 1) || (count_minus c.count_radix c.count (half_step c.count c.out) == 0)
 
 -- modes 2 and 3: a new count waits for the end of the period, or of the half. Before that, to write it and to
 -- tick is to tick and to write it.

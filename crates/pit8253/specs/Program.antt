@@ -5,8 +5,8 @@ use Rattle.pit8253.specs.declared.program.Mode.{Mode}
 use Rattle.pit8253.specs.declared.program.Mode.TheVariants.{TerminalCount, OneShot, RateGenerator, SquareWave, SoftwareStrobe, HardwareStrobe}
 use Rattle.pit8253.specs.declared.program.Access.{Access}
 use Rattle.pit8253.specs.declared.program.Access.TheVariants.{LowByte, HighByte, LowThenHigh}
-use Rattle.pit8253.specs.declared.program.Base.{Base}
-use Rattle.pit8253.specs.declared.program.Base.TheVariants.{Binary, Decimal}
+use Rattle.pit8253.specs.declared.program.Radix.{Radix}
+use Rattle.pit8253.specs.declared.program.Radix.TheVariants.{Binary, Decimal}
 
 -- bits 3 to 1 of the control word: 0, 1, 4 and 5 name their mode, x10 is mode 2 and x11 mode 3
 abbrev pub mode_of : ℕ → Mode
@@ -22,25 +22,25 @@ abbrev pub access_of : ℕ → Access
 access_of bits = if bits == 1 then LowByte else (if bits == 2 then HighByte else LowThenHigh)
 
 -- bit 0 of the control word
-abbrev pub base_of : ℕ → Base
-base_of bit = if bit == 0 then Binary else Decimal
+abbrev pub radix_of : ℕ → Radix
+radix_of bit = if bit == 0 then Binary else Decimal
 
 -- how many counts there are
-abbrev pub modulus : Base → ℕ
+abbrev pub modulus : Radix → ℕ
 modulus Binary = 65536
 modulus Decimal = 10000
 
 -- the count that sixteen bits give, modulo the number of counts: 0 is then the largest count, 65,536 or
 -- 10,000. A decimal digit above 9 counts by its weight (this board's choice).
-abbrev pub count_of : Base → ℕ → ℕ
+abbrev pub count_of : Radix → ℕ → ℕ
 count_of Binary word = word
 count_of Decimal word = (1000 * (word / 4096) + 100 * (word / 256 % 16) + 10 * (word / 16 % 16) + word % 16) % 10000
 
 -- the sixteen bits that show a count
-abbrev pub digits_of : Base → ℕ → ℕ
+abbrev pub digits_of : Radix → ℕ → ℕ
 digits_of Binary count = count
 digits_of Decimal count = 4096 * (count / 1000 % 10) + 256 * (count / 100 % 10) + 16 * (count / 10 % 10) + count % 10
 
 -- the count after counting down by some; below 0 it goes on from FFFFh or 9999
-abbrev pub count_minus : Base → ℕ → ℕ → ℕ
-count_minus base count by = if nat_lt count by then count + modulus base - by else count - by
+abbrev pub count_minus : Radix → ℕ → ℕ → ℕ
+count_minus radix count by = if nat_lt count by then count + modulus radix - by else count - by

@@ -1,10 +1,10 @@
 //! One counter of the timer (Intel 8253 data sheet, "Mode Definition").
 ghost use Rattle.std.specs.Prelude.{◌≡◌, ◌≤◌, ◌<◌, ◌/◌, ◌%◌, ◌+◌, ◌*◌};
 ghost use Rattle.board_types.specs.declared.line.Line.{Line};
-ghost use Rattle.pit8253.specs.Program.{mode_of, access_of, base_of, count_of, digits_of, count_minus};
+ghost use Rattle.pit8253.specs.Program.{mode_of, access_of, radix_of, count_of, digits_of, count_minus};
 ghost use Rattle.pit8253.specs.Counter.{power_on, is_awaited, out_at_load, after_load, after_countdown, after_rate_count, half_step, after_square_count, after_strobe_count, after_count, after_tick, after_ticks, out_at_control, reading, after_latch, after_program, after_control_word, loads_when_written, after_full_count, after_first_byte, after_write, next_byte, after_read, rises, is_triggered, out_at_gate, after_gate};
 
-use crate::program::{Access, Base, Mode, Progress};
+use crate::program::{Access, Mode, Progress, Radix};
 use board_types::line::Line;
 use std::marker::Model;
 
@@ -13,13 +13,13 @@ use std::marker::Model;
 pub struct Counter {
     mode: Mode,
     access: Access,
-    base: Base,
+    radix: Radix,
     first_byte: Option<u8>,
     newest: u16,
     progress: Progress,
     load_due: bool,
     count: u16,
-    count_base: Base,
+    count_radix: Radix,
     strobe_due: bool,
     latch: Option<u16>,
     high_next: bool,
@@ -32,9 +32,9 @@ impl Model for Counter {
 
     ghost Value = { CounterState };
 
-    ghost view = { λ c. record { mode = c.mode; access = c.access; base = c.base; first_byte = c.first_byte; newest = c.newest; progress = c.progress; load_due = c.load_due; count = c.count; count_base = c.count_base; strobe_due = c.strobe_due; latch = c.latch; high_next = c.high_next; gate = c.gate; out = c.out } };
+    ghost view = { λ c. record { mode = c.mode; access = c.access; radix = c.radix; first_byte = c.first_byte; newest = c.newest; progress = c.progress; load_due = c.load_due; count = c.count; count_radix = c.count_radix; strobe_due = c.strobe_due; latch = c.latch; high_next = c.high_next; gate = c.gate; out = c.out } };
 
-    ghost inverse = { λ c. record { mode = c.mode; access = c.access; base = c.base; first_byte = c.first_byte; newest = c.newest; progress = c.progress; load_due = c.load_due; count = c.count; count_base = c.count_base; strobe_due = c.strobe_due; latch = c.latch; high_next = c.high_next; gate = c.gate; out = c.out } };
+    ghost inverse = { λ c. record { mode = c.mode; access = c.access; radix = c.radix; first_byte = c.first_byte; newest = c.newest; progress = c.progress; load_due = c.load_due; count = c.count; count_radix = c.count_radix; strobe_due = c.strobe_due; latch = c.latch; high_next = c.high_next; gate = c.gate; out = c.out } };
 }
 
 impl Counter {
@@ -45,13 +45,13 @@ impl Counter {
         Counter {
             mode: Mode::TerminalCount,
             access: Access::LowThenHigh,
-            base: Base::Binary,
+            radix: Radix::Binary,
             first_byte: None,
             newest: 0,
             progress: Progress::Awaited,
             load_due: false,
             count: 0,
-            count_base: Base::Binary,
+            count_radix: Radix::Binary,
             strobe_due: false,
             latch: None,
             high_next: false,
@@ -101,7 +101,7 @@ impl Counter {
             2 => Access::HighByte,
             _ => Access::LowThenHigh,
         };
-        self.program(mode_of(word / 2 % 8), access, base_of(word % 2));
+        self.program(mode_of(word / 2 % 8), access, radix_of(word % 2));
     }
 
     /// Holds what the counter shows for the reads to come. What a latch holds already stays.
@@ -169,15 +169,15 @@ impl Counter {
         self.gate = line;
     }
 
-    fn program(&mut self, mode: Mode, access: Access, base: Base)
-        ensures { self.new ≡ after_program self.old mode access base }
+    fn program(&mut self, mode: Mode, access: Access, radix: Radix)
+        ensures { self.new ≡ after_program self.old mode access radix }
     {
         *self = Counter {
             mode,
             access,
-            base,
+            radix,
             count: self.count,
-            count_base: self.count_base,
+            count_radix: self.count_radix,
             out: out_at_control(mode),
             ..Counter::new(self.gate)
         };
@@ -188,7 +188,7 @@ impl Counter {
     {
         match self.latch {
             Some(word) => word,
-            None => digits_of(self.count_base, self.count),
+            None => digits_of(self.count_radix, self.count),
         }
     }
 
@@ -196,7 +196,7 @@ impl Counter {
         ensures { self.new ≡ after_full_count self.old word }
     {
         self.first_byte = None;
-        self.newest = count_of(self.base, word);
+        self.newest = count_of(self.radix, word);
         self.load_due = self.load_due || loads_when_written(self.mode, self.progress);
         if is_awaited(self.progress) {
             self.progress = Progress::Written;
@@ -219,7 +219,7 @@ impl Counter {
         ensures { self.new ≡ after_load self.old out }
     {
         self.count = self.newest;
-        self.count_base = self.base;
+        self.count_radix = self.radix;
         self.progress = Progress::Loaded;
         self.load_due = false;
         self.strobe_due = true;
@@ -246,7 +246,7 @@ impl Counter {
     fn count_down(&mut self)
         ensures { self.new ≡ after_countdown self.old }
     {
-        self.count = count_minus(self.count_base, self.count, 1);
+        self.count = count_minus(self.count_radix, self.count, 1);
         if self.count == 0 {
             self.out = Line::High;
         }
@@ -258,7 +258,7 @@ impl Counter {
         if self.count == 1 {
             self.load(Line::High);
         } else {
-            self.count = count_minus(self.count_base, self.count, 1);
+            self.count = count_minus(self.count_radix, self.count, 1);
             if self.count == 1 {
                 self.out = Line::Low;
             }
@@ -268,7 +268,11 @@ impl Counter {
     fn square(&mut self)
         ensures { self.new ≡ after_square_count self.old }
     {
-        let count = count_minus(self.count_base, self.count, half_step(self.count, self.out));
+        let count = count_minus(
+            self.count_radix,
+            self.count,
+            half_step(self.count, self.out),
+        );
         if self.count == 1 {
             self.load(Line::High);
         } else if count == 0 {
@@ -286,7 +290,7 @@ impl Counter {
     fn strobe(&mut self)
         ensures { self.new ≡ after_strobe_count self.old }
     {
-        self.count = count_minus(self.count_base, self.count, 1);
+        self.count = count_minus(self.count_radix, self.count, 1);
         if self.count == 0 && self.strobe_due {
             self.strobe_due = false;
             self.out = Line::Low;
@@ -320,16 +324,16 @@ fn half_step(count: u16, out: Line) -> u16
     }
 }
 
-fn count_minus(base: Base, count: u16, by: u16) -> u16
+fn count_minus(radix: Radix, count: u16, by: u16) -> u16
     requires { by ≤ 3 }
-    ensures { result ≡ count_minus base count by }
+    ensures { result ≡ count_minus radix count by }
 {
     if by <= count {
         count - by
     } else {
-        match base {
-            Base::Binary => u16::MAX - by + 1 + count,
-            Base::Decimal => 10_000 - by + count,
+        match radix {
+            Radix::Binary => u16::MAX - by + 1 + count,
+            Radix::Decimal => 10_000 - by + count,
         }
     }
 }
@@ -398,22 +402,22 @@ fn mode_of(bits: u8) -> Mode
     }
 }
 
-fn base_of(bit: u8) -> Base
-    ensures { result ≡ base_of bit }
+fn radix_of(bit: u8) -> Radix
+    ensures { result ≡ radix_of bit }
 {
     if bit == 0 {
-        Base::Binary
+        Radix::Binary
     } else {
-        Base::Decimal
+        Radix::Decimal
     }
 }
 
-fn count_of(base: Base, word: u16) -> u16
-    ensures { result ≡ count_of base word }
+fn count_of(radix: Radix, word: u16) -> u16
+    ensures { result ≡ count_of radix word }
 {
-    match base {
-        Base::Binary => word,
-        Base::Decimal => (1000 * (word / 4096)
+    match radix {
+        Radix::Binary => word,
+        Radix::Decimal => (1000 * (word / 4096)
             + 100 * (word / 256 % 16)
             + 10 * (word / 16 % 16)
             + word % 16)
@@ -421,12 +425,12 @@ fn count_of(base: Base, word: u16) -> u16
     }
 }
 
-fn digits_of(base: Base, count: u16) -> u16
-    ensures { result ≡ digits_of base count }
+fn digits_of(radix: Radix, count: u16) -> u16
+    ensures { result ≡ digits_of radix count }
 {
-    match base {
-        Base::Binary => count,
-        Base::Decimal => 4096 * (count / 1000 % 10)
+    match radix {
+        Radix::Binary => count,
+        Radix::Decimal => 4096 * (count / 1000 % 10)
             + 256 * (count / 100 % 10)
             + 16 * (count / 10 % 10)
             + count % 10,

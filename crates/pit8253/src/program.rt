@@ -28,7 +28,7 @@ pub enum Access {
 
 /// How a count is written in its sixteen bits.
 #[derive(Clone, Copy)]
-pub enum Base {
+pub enum Radix {
     Binary,
     /// Four decimal digits, each in four bits.
     Decimal,

@@ -27,7 +27,7 @@ rate_setup c = choose_setup (c.count == 1) (setup c) _ _ refl refl
 square_setup : (c : CounterState) → setup (after_square_count c) ≡ setup c
 square_setup c =
     choose_setup (c.count == 1) (setup c) _ _ refl
-    (choose_setup (count_minus c.count_base c.count (half_step c.count c.out) == 0) (setup c) _ _ refl refl)
+    (choose_setup (count_minus c.count_radix c.count (half_step c.count c.out) == 0) (setup c) _ _ refl refl)
 
 count_setup : (c : CounterState) (mode : Mode) → setup (after_count c mode) ≡ setup c
 count_setup c TerminalCount = choose_setup (is_loaded c.progress && is_high c.gate && is_none c.first_byte) (setup c) _ _ refl refl

@@ -28,7 +28,7 @@ rate_unread c = choose (c.count == 1) _ _ _ _ refl refl
 square_unread : IsUnread after_square_count
 square_unread c =
     choose (c.count == 1) _ _ _ _ refl
-    (choose (count_minus c.count_base c.count (half_step c.count c.out) == 0) _ _ _ _ refl refl)
+    (choose (count_minus c.count_radix c.count (half_step c.count c.out) == 0) _ _ _ _ refl refl)
 
 count_unread : (mode : Mode) → IsUnread (λ c. after_count c mode)
 count_unread TerminalCount c = choose (is_loaded c.progress && is_high c.gate && is_none c.first_byte) _ _ _ _ refl refl

@@ -1,7 +1,7 @@
 -- The wires between the chips, and a clock of theirs (IBM PC Technical Reference, "System Board": IR0 is OUT0, IR1
 -- the full keyboard latch, the other request lines are low; gates 0 and 1 are high and gate 2 is port B bit 0; port
 -- B bit 7 clears the latch). When they settle is this board's choice.
-use Rattle.std.specs.Prelude.{ℕ, ◌+◌, ◌%◌, ◌==◌, if◌then◌else◌, List, fold, is_some}
+use Rattle.std.specs.Prelude.{ℕ, Bool, ◌+◌, ◌%◌, ◌==◌, if◌then◌else◌, List, fold, is_some}
 use Rattle.board_types.specs.Bits.{has_bit}
 use Rattle.board_types.specs.Iterate.{iterate}
 use Rattle.board_types.specs.Lines.{from_bool}
@@ -63,6 +63,13 @@ after_arrivals s codes = fold after_arrival s codes
 -- the keyboard settles to the lines of port B, and then the wires settle
 unfoldable pub after_key_settling : ChipsState → ChipsState
 after_key_settling s = after_settling (record s { keyboard = keys.after_settling s.keyboard (lines_b s.ppi) })
+
+-- whether an interrupt is requested, and the type that its acknowledge answers
+abbrev pub is_requested : ChipsState → Bool
+is_requested s = pic.is_requesting s.pic
+
+abbrev pub requested_type : ChipsState → ℕ
+requested_type s = pic.vector s.pic
 
 -- the processor acknowledges a request; where no level may be taken nothing changes
 unfoldable pub after_acknowledge : ChipsState → ChipsState
