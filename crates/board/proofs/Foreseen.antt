@@ -1,13 +1,16 @@
--- The speaker's level at the next clock, known from the step's port writes.
-use Rattle.std.proofs.Common.{◌≡◌, ℕ, ◌+◌, ◌-◌, Bool, true, false, if◌then◌else◌, List, [], ◌∷◌, Option, None, Some, refl, sym, ap, ◌∙◌}
+-- The speaker's level at the next clock, known from the port writes of what the processor does.
+use Rattle.std.proofs.Common.{◌≡◌, ℕ, ◌+◌, ◌-◌, Bool, true, false, if◌then◌else◌, List, [], ◌∷◌, refl, sym, ap, ◌∙◌, subst}
 use Rattle.board_types.specs.Lines.{from_bool}
 use Rattle.board_types.specs.declared.keys.StampedKey.{StampedKey}
 use Rattle.bus.specs.PortWrites.{after_port_writes}
 use Rattle.decode.specs.declared.decoded.Decoded.{Decoded}
 use Rattle.execute.specs.Cpu.{CpuState}
 use Rattle.execute.specs.Meaning.{after_step}
+use Rattle.execute.specs.Boundaries.{after_enter}
+use Rattle.execute.specs.declared.boundary.Cause.{Cause}
+use Rattle.execute.specs.declared.boundary.Cause.TheVariants as causes
 use Rattle.execute.specs.PortWrites.{EachAccessKeeps, WritesAlone, port_writes_of}
-use Rattle.execute.proofs.Writes.{port_writes_tell}
+use Rattle.execute.proofs.Writes.{port_writes_tell, again_keeps_any, enter_keeps_any}
 use Rattle.mda_text.specs.Mda.{with_text_byte}
 use Rattle.memory.specs.Kinds.{is_text_address}
 use Rattle.memory.specs.Map as map
@@ -15,12 +18,15 @@ use Rattle.wiring.specs.Chips.{ChipsState}
 use Rattle.wiring.specs.Laws.{SoundsAlike}
 use Rattle.wiring.specs.Ports.{chips_bus, with_byte, after_input, after_output}
 use Rattle.wiring.specs.Speaker.{is_speaker_high, is_speaker_high_after}
-use Rattle.wiring.specs.Wires.{after_settling}
+use Rattle.wiring.specs.Wires.{after_settling, after_acknowledge, requested_type}
+use Rattle.wiring.proofs.Entries.{no_entry_touches}
 use Rattle.wiring.proofs.Alike.{alike_after_input, alike_after_output, depends_on_writes, no_key_touches}
 use Rattle.wiring.proofs.Settling.{settles_once}
 use Rattle.wiring.proofs.Unread.{unread}
+use Rattle.board.specs.declared.act.Act.{Act}
+use Rattle.board.specs.declared.act.Act.TheVariants.{Nothing, Request, SingleStep, Iteration, Instruction}
 use Rattle.board.specs.Laws.{writes_of, WiresHold, LevelIsForeseen}
-use Rattle.board.specs.Plain.{Plain, after_act, after_clock, chips_after_clock, codes_at, next_step, speaker_level}
+use Rattle.board.specs.Plain.{Plain, after_act, after_clock, chips_after_clock, codes_at, next_act, speaker_level}
 
 -- what the speaker's next level depends on, beside some other board's rest
 abbrev sounding : ChipsState → ChipsState → ChipsState
@@ -103,9 +109,25 @@ step_foreseen cpu s decoded still =
     ∙ depends_on_writes _ (after_port_writes after_output s writes) [] (writes_sound s s (sounding s s) writes (sounds_as s s))
     ∙ none_more s writes
 
-act_foreseen : (cpu : CpuState) (busy : ℕ) (s : ChipsState) (next : Option Decoded) → after_settling s ≡ s → is_speaker_high_after (after_act cpu busy s next).bus [] ≡ is_speaker_high_after s (writes_of cpu next)
-act_foreseen cpu busy s None still = refl
-act_foreseen cpu busy s (Some decoded) still = step_foreseen cpu s decoded still
+-- a memory write leaves what the level depends on
+byte_alike : (s : ChipsState) (address byte : ℕ) → SoundsAlike (with_byte s address byte) s
+byte_alike s address byte =
+    alike_then _ _ _ (sounds_from s (with_byte s address byte)) (subst (λ t. SoundsAlike t s) (sym (sounding_with_byte s s address byte)) (sounds_as s s))
+
+byte_foreseen : (s t : ChipsState) (address byte : ℕ) → is_speaker_high_after t [] ≡ is_speaker_high_after s [] → is_speaker_high_after (with_byte t address byte) [] ≡ is_speaker_high_after s []
+byte_foreseen s t address byte same = depends_on_writes (with_byte t address byte) t [] (byte_alike t address byte) ∙ same
+
+enter_foreseen : (cpu : CpuState) (s : ChipsState) (kind : ℕ) (cause : Cause) → is_speaker_high_after (after_enter chips_bus cpu s kind cause).bus [] ≡ is_speaker_high_after s []
+enter_foreseen cpu s kind cause =
+    enter_keeps_any chips_bus (λ (t : ChipsState). is_speaker_high_after t [] ≡ is_speaker_high_after s []) (byte_foreseen s) cpu s kind cause refl
+
+act_foreseen : (cpu : CpuState) (busy : ℕ) (s : ChipsState) (next : Act) → after_settling s ≡ s → is_speaker_high_after (after_act cpu busy s next).bus [] ≡ is_speaker_high_after s (writes_of cpu next)
+act_foreseen cpu busy s Nothing still = refl
+act_foreseen cpu busy s Request still = enter_foreseen cpu (after_acknowledge s) (requested_type s) causes.Request ∙ no_entry_touches s []
+act_foreseen cpu busy s SingleStep still = enter_foreseen cpu s 1 causes.SingleStep
+act_foreseen cpu busy s Iteration still =
+    again_keeps_any chips_bus (λ (t : ChipsState). is_speaker_high_after t [] ≡ is_speaker_high_after s []) (byte_foreseen s) cpu s refl
+act_foreseen cpu busy s (Instruction decoded) still = step_foreseen cpu s decoded still
 
 clock_foreseen : (s : ChipsState) (keys : List StampedKey) → is_speaker_high (chips_after_clock s keys) ≡ is_speaker_high_after s []
 unfolding chips_after_clock
@@ -114,7 +136,7 @@ clock_foreseen s keys = no_key_touches s [] (codes_at keys (s.clock + 1))
 pub foreseen : LevelIsForeseen
 unfolding after_clock speaker_level
 foreseen s holds =
-    ap from_bool (clock_foreseen (after_act s.cpu s.busy s.chips (next_step s)).bus s.keys ∙ act_foreseen s.cpu s.busy s.chips (next_step s) holds.settled)
+    ap from_bool (clock_foreseen (after_act s.cpu s.busy s.chips (next_act s)).bus s.keys ∙ act_foreseen s.cpu s.busy s.chips (next_act s) holds.settled)
 
-pub foreseen_by : (s : Plain) (next : Option Decoded) (high : Bool) → WiresHold s.chips → next ≡ next_step s → high ≡ is_speaker_high_after s.chips (writes_of s.cpu next) → from_bool high ≡ speaker_level (after_clock s)
+pub foreseen_by : (s : Plain) (next : Act) (high : Bool) → WiresHold s.chips → next ≡ next_act s → high ≡ is_speaker_high_after s.chips (writes_of s.cpu next) → from_bool high ≡ speaker_level (after_clock s)
 foreseen_by s next high holds is told = ap from_bool told ∙ ap (λ n. from_bool (is_speaker_high_after s.chips (writes_of s.cpu n))) is ∙ sym (foreseen s holds)

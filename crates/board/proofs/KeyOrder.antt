@@ -13,7 +13,7 @@ use Rattle.wiring.specs.Chips.{ChipsState}
 use Rattle.wiring.specs.Wires.{after_arrival, after_arrivals}
 use Rattle.board.specs.Plain.{codes_at}
 
-none_due : (c : ℕ) (ks : List StampedKey) → ((i : ℕ) (d : StampedKey) → i < length ks → (get_or ks i d).stamp ≢ c) → codes_at ks c ≡ []
+pub none_due : (c : ℕ) (ks : List StampedKey) → ((i : ℕ) (d : StampedKey) → i < length ks → (get_or ks i d).stamp ≢ c) → codes_at ks c ≡ []
 none_due c [] all = refl
 none_due c (k ∷ ks) all =
     let first : k.stamp ≢ c = all 0 k (omega arith) in

@@ -1,11 +1,13 @@
 -- The wires at every clock of a board.
-use Rattle.std.proofs.Common.{◌≡◌, ℕ, ◌+◌, ◌*◌, zero, suc, List, [], ◌∷◌, Option, None, Some, refl, sym, ap, ◌∙◌, subst}
+use Rattle.std.proofs.Common.{◌≡◌, ℕ, ◌+◌, ◌*◌, zero, suc, List, [], ◌∷◌, refl, sym, ap, ◌∙◌, subst}
 use Rattle.board_types.specs.Iterate.{iterate}
 use Rattle.board_types.specs.declared.keys.StampedKey.{StampedKey}
-use Rattle.decode.specs.declared.decoded.Decoded.{Decoded}
 use Rattle.execute.specs.Cpu.{CpuState}
-use Rattle.execute.specs.Meaning.{StepResult, after_step}
-use Rattle.execute.proofs.Writes.{step_keeps_any}
+use Rattle.execute.specs.Boundaries.{after_enter}
+use Rattle.execute.specs.Meaning.{StepResult}
+use Rattle.execute.specs.declared.boundary.Cause.{Cause}
+use Rattle.execute.specs.declared.boundary.Cause.TheVariants as causes
+use Rattle.execute.proofs.Writes.{again_keeps_any, enter_keeps_any, step_keeps_any}
 use Rattle.wiring.proofs.FixedWires.{wires_stay}
 use Rattle.wiring.proofs.PowerOn.{power_on_settled, power_on_keys_settled}
 use Rattle.wiring.proofs.Settling.{settles_once, keys_settle_once}
@@ -14,10 +16,12 @@ use Rattle.wiring.specs.Chips.{ChipsState}
 use Rattle.wiring.specs.Laws.{FixedWires, KeysSettled}
 use Rattle.wiring.specs.Ports.{chips_bus}
 use Rattle.wiring.specs.Wires as wires
-use Rattle.wiring.specs.Wires.{after_settling, after_arrival, after_arrivals, after_key_settling}
+use Rattle.wiring.specs.Wires.{after_settling, after_arrival, after_arrivals, after_key_settling, after_acknowledge, requested_type}
+use Rattle.board.specs.declared.act.Act.{Act}
+use Rattle.board.specs.declared.act.Act.TheVariants.{Nothing, Request, SingleStep, Iteration, Instruction}
 use Rattle.board.specs.declared.board.Config.{Config}
 use Rattle.board.specs.Laws.{WiresHold, WiresAlwaysHold}
-use Rattle.board.specs.Plain.{Plain, after_act, after_clock, after_clocks, chips_after_clock, codes_at, next_step, power_on}
+use Rattle.board.specs.Plain.{Plain, after_act, after_clock, after_clocks, chips_after_clock, codes_at, next_act, power_on}
 
 -- the wires that nothing drives
 
@@ -25,9 +29,15 @@ fixed_after_arrivals : (codes : List ℕ) (s : ChipsState) → FixedWires s → 
 fixed_after_arrivals [] s holds = holds
 fixed_after_arrivals (code ∷ codes) s holds = fixed_after_arrivals codes (after_arrival s code) (wires_stay.key s code holds)
 
-fixed_after_act : (cpu : CpuState) (busy : ℕ) (s : ChipsState) (next : Option Decoded) → FixedWires s → FixedWires (after_act cpu busy s next).bus
-fixed_after_act cpu busy s None holds = holds
-fixed_after_act cpu busy s (Some decoded) holds =
+fixed_after_enter : (cpu : CpuState) (s : ChipsState) (kind : ℕ) (cause : Cause) → FixedWires s → FixedWires (after_enter chips_bus cpu s kind cause).bus
+fixed_after_enter cpu s kind cause holds = enter_keeps_any chips_bus FixedWires wires_stay.byte cpu s kind cause holds
+
+fixed_after_act : (cpu : CpuState) (busy : ℕ) (s : ChipsState) (next : Act) → FixedWires s → FixedWires (after_act cpu busy s next).bus
+fixed_after_act cpu busy s Nothing holds = holds
+fixed_after_act cpu busy s Request holds = fixed_after_enter cpu (after_acknowledge s) (requested_type s) causes.Request (wires_stay.request s holds)
+fixed_after_act cpu busy s SingleStep holds = fixed_after_enter cpu s 1 causes.SingleStep holds
+fixed_after_act cpu busy s Iteration holds = again_keeps_any chips_bus FixedWires wires_stay.byte cpu s holds
+fixed_after_act cpu busy s (Instruction decoded) holds =
     step_keeps_any chips_bus FixedWires wires_stay.byte wires_stay.input wires_stay.output cpu s decoded holds
 
 fixed_after_clock : (s : ChipsState) (keys : List StampedKey) → FixedWires s → FixedWires (chips_after_clock s keys)
@@ -45,7 +55,7 @@ unfolding chips_after_clock
 keys_after_clock s keys = keys_settle_once _
 
 -- the chips after a clock, whatever the processor did in it
-pub holds_next : (cpu : CpuState) (busy : ℕ) (s : ChipsState) (next : Option Decoded) (acted : StepResult ChipsState) (keys : List StampedKey) (t : ChipsState) → acted ≡ after_act cpu busy s next → t ≡ chips_after_clock acted.bus keys → WiresHold s → WiresHold t
+pub holds_next : (cpu : CpuState) (busy : ℕ) (s : ChipsState) (next : Act) (acted : StepResult ChipsState) (keys : List StampedKey) (t : ChipsState) → acted ≡ after_act cpu busy s next → t ≡ chips_after_clock acted.bus keys → WiresHold s → WiresHold t
 holds_next cpu busy s next acted keys t is after holds =
     let fixed : FixedWires acted.bus = subst (λ (r : StepResult ChipsState). FixedWires r.bus) (sym is) (fixed_after_act cpu busy s next holds.fixed) in
     let all : WiresHold (chips_after_clock acted.bus keys) = record {
@@ -57,7 +67,7 @@ holds_next cpu busy s next acted keys t is after holds =
 
 one_holds : (s : Plain) → WiresHold s.chips → WiresHold (after_clock s).chips
 unfolding after_clock
-one_holds s holds = holds_next s.cpu s.busy s.chips (next_step s) (after_act s.cpu s.busy s.chips (next_step s)) s.keys _ refl refl holds
+one_holds s holds = holds_next s.cpu s.busy s.chips (next_act s) (after_act s.cpu s.busy s.chips (next_act s)) s.keys _ refl refl holds
 
 all_hold : (n : ℕ) (s : Plain) → WiresHold s.chips → WiresHold (after_clocks s n).chips
 unfolding iterate

@@ -1,14 +1,15 @@
 -- Which addresses take bytes, at every clock of a board.
-use Rattle.std.proofs.Common.{◌≡◌, ℕ, ◌+◌, ◌*◌, ◌-◌, ◌<◌, ◌≤◌, ◌⊎◌, inl, inr, zero, suc, Bool, true, false, if◌then◌else◌, List, [], ◌∷◌, length, Option, None, Some, refl, sym, ap, ◌∙◌, arith, IsTrue}
+use Rattle.std.proofs.Common.{◌≡◌, ℕ, ◌+◌, ◌*◌, ◌-◌, ◌<◌, ◌≤◌, ◌⊎◌, inl, inr, zero, suc, Bool, true, false, if◌then◌else◌, List, [], ◌∷◌, length, refl, sym, ap, ◌∙◌, arith, IsTrue}
 use Rattle.std.specs.Prelude.{nat_lt, nat_le, ◌&&◌}
 use Rattle.std.proofs.lemmas.Grind.{common_steps}
 use Rattle.std.proofs.lemmas.Bool.Decides.{nat_tests}
 use Rattle.board_types.specs.Iterate.{iterate}
 use Rattle.board_types.specs.declared.keys.StampedKey.{StampedKey}
-use Rattle.decode.specs.declared.decoded.Decoded.{Decoded}
 use Rattle.execute.specs.Cpu.{CpuState}
-use Rattle.execute.specs.Meaning.{after_step}
-use Rattle.execute.proofs.Writes.{step_keeps_any}
+use Rattle.execute.specs.Boundaries.{after_enter}
+use Rattle.execute.specs.declared.boundary.Cause.{Cause}
+use Rattle.execute.specs.declared.boundary.Cause.TheVariants as causes
+use Rattle.execute.proofs.Writes.{again_keeps_any, enter_keeps_any, step_keeps_any}
 use Rattle.mda_text.proofs.ScreenLaws.{is_blank}
 use Rattle.mda_text.specs.Mda as mda
 use Rattle.memory.specs.Kinds.{is_text_address, IsTextAddress}
@@ -20,10 +21,12 @@ use Rattle.wiring.specs.Chips.{ChipsState}
 use Rattle.wiring.specs.Chips as chips
 use Rattle.wiring.specs.Ports.{chips_bus, is_writable}
 use Rattle.wiring.specs.Wires as wires
-use Rattle.wiring.specs.Wires.{after_arrival, after_arrivals, after_key_settling}
+use Rattle.wiring.specs.Wires.{after_arrival, after_arrivals, after_key_settling, after_acknowledge, requested_type}
+use Rattle.board.specs.declared.act.Act.{Act}
+use Rattle.board.specs.declared.act.Act.TheVariants.{Nothing, Request, SingleStep, Iteration, Instruction}
 use Rattle.board.specs.declared.board.Config.{Config}
 use Rattle.board.specs.Laws.{MemoryTakesBytes}
-use Rattle.board.specs.Plain.{Plain, after_act, after_clock, after_clocks, chips_after_clock, codes_at, next_step, power_on}
+use Rattle.board.specs.Plain.{Plain, after_act, after_clock, after_clocks, chips_after_clock, codes_at, next_act, power_on}
 
 -- an address that takes bytes goes on taking them
 
@@ -50,11 +53,27 @@ chips_take s keys address =
     ∙ after_codes (codes_at keys (s.clock + 1)) (wires.after_clock s) address
     ∙ same_writable (wires.after_clock s) s address (same_after_clock s)
 
-act_takes : (cpu : CpuState) (busy : ℕ) (s : ChipsState) (next : Option Decoded) (address : ℕ) → is_writable (after_act cpu busy s next).bus address ≡ is_writable s address
-act_takes cpu busy s None address = refl
-act_takes cpu busy s (Some decoded) address =
+byte_takes : (s t : ChipsState) (address other byte : ℕ) → is_writable t address ≡ is_writable s address → is_writable (chips_bus.after_write t other byte) address ≡ is_writable s address
+byte_takes s t address other byte same = chips_keep_bytes.fixed t other byte address ∙ same
+
+enter_takes : (cpu : CpuState) (s : ChipsState) (kind : ℕ) (cause : Cause) (address : ℕ) → is_writable (after_enter chips_bus cpu s kind cause).bus address ≡ is_writable s address
+enter_takes cpu s kind cause address =
+    enter_keeps_any chips_bus (λ (t : ChipsState). is_writable t address ≡ is_writable s address) (λ t other byte same. byte_takes s t address other byte same) cpu s kind cause refl
+
+same_after_acknowledge : (s : ChipsState) → SameBytes (after_acknowledge s) s
+unfolding after_acknowledge
+same_after_acknowledge s = record { memory = refl; text = refl }
+
+act_takes : (cpu : CpuState) (busy : ℕ) (s : ChipsState) (next : Act) (address : ℕ) → is_writable (after_act cpu busy s next).bus address ≡ is_writable s address
+act_takes cpu busy s Nothing address = refl
+act_takes cpu busy s Request address =
+    enter_takes cpu (after_acknowledge s) (requested_type s) causes.Request address ∙ same_writable (after_acknowledge s) s address (same_after_acknowledge s)
+act_takes cpu busy s SingleStep address = enter_takes cpu s 1 causes.SingleStep address
+act_takes cpu busy s Iteration address =
+    again_keeps_any chips_bus (λ (t : ChipsState). is_writable t address ≡ is_writable s address) (λ t other byte same. byte_takes s t address other byte same) cpu s refl
+act_takes cpu busy s (Instruction decoded) address =
     step_keeps_any chips_bus (λ (t : ChipsState). is_writable t address ≡ is_writable s address)
-    (λ t other byte same. chips_keep_bytes.fixed t other byte address ∙ same)
+    (λ t other byte same. byte_takes s t address other byte same)
     (λ t port same. chips_keep_bytes.input_fixed t port address ∙ same)
     (λ t port byte same. chips_keep_bytes.output_fixed t port byte address ∙ same)
     cpu s decoded refl
@@ -62,7 +81,7 @@ act_takes cpu busy s (Some decoded) address =
 one_takes : (s : Plain) (address : ℕ) → is_writable (after_clock s).chips address ≡ is_writable s.chips address
 unfolding after_clock
 one_takes s address =
-    chips_take (after_act s.cpu s.busy s.chips (next_step s)).bus s.keys address ∙ act_takes s.cpu s.busy s.chips (next_step s) address
+    chips_take (after_act s.cpu s.busy s.chips (next_act s)).bus s.keys address ∙ act_takes s.cpu s.busy s.chips (next_act s) address
 
 all_take : (n : ℕ) (s : Plain) (address : ℕ) → is_writable (after_clocks s n).chips address ≡ is_writable s.chips address
 unfolding iterate

@@ -1,5 +1,5 @@
 -- The plain board: what stands at a clock, what one clock makes of it, and what it makes of n clocks.
-use Rattle.std.specs.Prelude.{ℕ, ◌+◌, ◌-◌, ◌*◌, ◌==◌, Bool, true, false, ◌&&◌, if◌then◌else◌, List, [], ◌∷◌, map, filter, Option, None, Some}
+use Rattle.std.specs.Prelude.{ℕ, ◌+◌, ◌-◌, ◌*◌, ◌==◌, Bool, if◌then◌else◌, List, [], ◌∷◌, map, filter}
 use Rattle.std.specs.Bool.{beq}
 use Rattle.board_types.specs.Iterate.{iterate, gathered}
 use Rattle.board_types.specs.Lines.{from_bool, is_high}
@@ -7,25 +7,30 @@ use Rattle.board_types.specs.declared.keys.StampedKey.{StampedKey}
 use Rattle.board_types.specs.declared.line.Line.{Line}
 use Rattle.board_types.specs.declared.regs.Regs.{Regs}
 use Rattle.board_types.specs.declared.state.State.{State}
-use Rattle.board_types.specs.declared.state.State.TheVariants.{Running, Halted, Jammed}
 use Rattle.decode.specs.declared.decoded.Decoded.{Decoded}
 use Rattle.decode.specs.Decoding.{code_at, decoded_from}
 use Rattle.execute.specs.Cpu.{CpuState, initial_cpu, regs_of}
-use Rattle.execute.specs.Meaning.{StepResult, step_result, after_step}
+use Rattle.execute.specs.Meaning.{StepResult, step_result, after_step, after_again}
+use Rattle.execute.specs.Boundaries.{boundary_of, after_enter}
+use Rattle.execute.specs.declared.boundary.Boundary.{Boundary}
+use Rattle.execute.specs.declared.boundary.Boundary.TheVariants as boundaries
+use Rattle.execute.specs.declared.boundary.Cause.TheVariants as causes
 use Rattle.mda_text.specs.Screen.{screen_text}
 use Rattle.wiring.specs.Chips as chips
 use Rattle.wiring.specs.Chips.{ChipsState}
 use Rattle.wiring.specs.Ports.{chips_bus, byte_at}
 use Rattle.wiring.specs.Speaker.{is_speaker_high}
 use Rattle.wiring.specs.Wires as wires
-use Rattle.wiring.specs.Wires.{after_arrivals, after_key_settling}
+use Rattle.wiring.specs.Wires.{after_arrivals, after_key_settling, after_acknowledge, is_requested, requested_type}
+use Rattle.board.specs.declared.act.Act.{Act}
+use Rattle.board.specs.declared.act.Act.TheVariants.{Nothing, Request, SingleStep, Iteration, Instruction}
 use Rattle.board.specs.declared.board.Config.{Config}
 use Rattle.board.specs.declared.board.SpeakerChange.{SpeakerChange}
 use Rattle.board.specs.Reset.{reset}
 
 pub record Plain : Type 0 where
   pub cpu : CpuState
-  -- the clocks that the processor's last step still takes
+  -- the clocks that the processor's last step or entry still takes
   pub busy : ℕ
   pub chips : ChipsState
   -- every key code with its clock; those whose clock is reached have arrived
@@ -35,12 +40,7 @@ pub record Plain : Type 0 where
 unfoldable pub clock_of : Plain → ℕ
 clock_of s = s.chips.clock
 
-abbrev pub is_running : State → Bool
-is_running Running = true
-is_running Halted = false
-is_running Jammed = false
-
--- the processor is free where its last step's clocks are over
+-- the processor is free where the clocks of its last step or entry are over
 abbrev pub is_free : Plain → Bool
 is_free s = s.busy == 0
 
@@ -48,14 +48,25 @@ is_free s = s.busy == 0
 abbrev pub decoded_at : CpuState → ChipsState → Decoded
 decoded_at cpu chips = decoded_from (code_at (byte_at chips) cpu.registers.cs cpu.registers.ip)
 
--- what a free processor that runs is about to step over; a busy, halted or jammed one makes no step
-unfoldable pub next_step : Plain → Option Decoded
-next_step s = if is_free s && is_running s.cpu.state then Some (decoded_at s.cpu s.chips) else None
+-- what the processor does at a free boundary of this case
+abbrev pub act_at : CpuState → ChipsState → Boundary → Act
+act_at cpu chips boundaries.Request = Request
+act_at cpu chips boundaries.SingleStep = SingleStep
+act_at cpu chips boundaries.Nothing = Nothing
+act_at cpu chips boundaries.Iteration = Iteration
+act_at cpu chips boundaries.Instruction = Instruction (decoded_at cpu chips)
 
--- the processor's part of a clock: a step, at once and whole (this board's choice), or none
-abbrev pub after_act : CpuState → ℕ → ChipsState → Option Decoded → StepResult ChipsState
-after_act cpu busy chips None = step_result cpu chips busy
-after_act cpu busy chips (Some decoded) = after_step chips_bus cpu chips decoded
+-- what the processor does in a clock; a busy one does nothing
+unfoldable pub next_act : Plain → Act
+next_act s = if is_free s then act_at s.cpu s.chips (boundary_of s.cpu (is_requested s.chips)) else Nothing
+
+-- The processor's part of a clock, at once and whole (this board's choice). A request is acknowledged as it is entered.
+abbrev pub after_act : CpuState → ℕ → ChipsState → Act → StepResult ChipsState
+after_act cpu busy chips Nothing = step_result cpu chips busy
+after_act cpu busy chips Request = after_enter chips_bus cpu (after_acknowledge chips) (requested_type chips) causes.Request
+after_act cpu busy chips SingleStep = after_enter chips_bus cpu chips 1 causes.SingleStep
+after_act cpu busy chips Iteration = after_again chips_bus cpu chips
+after_act cpu busy chips (Instruction decoded) = after_step chips_bus cpu chips decoded
 
 -- the codes of the keys that are stamped with a clock, in order
 abbrev pub codes_at : List StampedKey → ℕ → List ℕ
@@ -70,7 +81,7 @@ chips_after_clock s keys = after_key_settling (after_arrivals (wires.after_clock
 -- board's choice)
 unfoldable pub after_clock : Plain → Plain
 after_clock s =
-    let acted : StepResult ChipsState = after_act s.cpu s.busy s.chips (next_step s) in
+    let acted : StepResult ChipsState = after_act s.cpu s.busy s.chips (next_act s) in
     record { cpu = acted.cpu; busy = acted.clocks - 1; chips = chips_after_clock acted.bus s.keys; keys = s.keys }
 
 abbrev pub after_clocks : Plain → ℕ → Plain

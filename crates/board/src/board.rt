@@ -187,7 +187,7 @@ impl<A: Allocator> Board<A> {
         ensures err { OnErr result (IsHeldBack self.old self.new) }
         ensures fault { IfErr result (λ fault. fault ≡ BoardFault.Memory) }
     {
-        let next = self.system.next_step();
+        let next = self.system.next_act();
         let high = self.system.is_high_next(&next);
         self.list_change(high)?;
         self.system.tick(&next);

@@ -1,8 +1,8 @@
 //! What holds of every plain board, over the definitions alone.
-ghost use Rattle.board.specs.Laws.{LevelIsForeseen, WiresAlwaysHold, MemoryTakesBytes};
+ghost use Rattle.board.specs.Laws.{HaltIsQuiet, JamIsQuiet, LevelIsForeseen, MemoryTakesBytes, NoRequestWithoutIf, RequestIsTaken, StayingRequestIsTaken, WiresAlwaysHold};
 
-/// Where the wires hold, the speaker's level at the next clock is known from the port writes of the step that is about
-/// to be made, before it is made.
+/// Where the wires hold, the speaker's level at the next clock is known from the port writes that the processor is
+/// about to make: no read, entry, iteration or key touches it.
 pub fn level_is_foreseen()
     ensures { LevelIsForeseen }
 {}
@@ -16,4 +16,28 @@ pub fn wires_always_hold()
 /// At every clock of every board, each address of RAM and of text memory takes bytes.
 pub fn memory_takes_bytes()
     ensures { MemoryTakesBytes }
+{}
+
+/// The processor takes a request in a clock exactly where one stands and it may: it is free and not jammed, IF is set,
+/// and no instruction keeps requests off. So a request that stays is taken, at the first clock at which it may be.
+pub fn request_is_taken()
+    ensures taken { RequestIsTaken }
+    ensures staying { StayingRequestIsTaken }
+{}
+
+/// A processor whose IF is 0 at each of some clocks takes no request in any of them.
+pub fn no_request_without_if()
+    ensures { NoRequestWithoutIf }
+{}
+
+/// A halted processor that is free, with no single step due, no key that comes, and IF 0 or no request in each of some
+/// clocks, stays as it is in them, with memory, keyboard, parallel port and text; the chips alone go on.
+pub fn halt_is_quiet()
+    ensures { HaltIsQuiet }
+{}
+
+/// A jammed processor that is free stays as it is in some clocks, whatever is requested, where no key comes; the chips
+/// alone go on.
+pub fn jam_is_quiet()
+    ensures { JamIsQuiet }
 {}

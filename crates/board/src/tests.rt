@@ -14,31 +14,78 @@ use std::test::Fail;
 /// JMP FAR 0F000h:0, from the reset vector.
 const JUMP: [u8; 5] = [0xEA, 0x00, 0x00, 0x00, 0xF0];
 
-/// Programs counter 2 to divide by 2, and lets it through to the speaker.
-const TONE: [u8; 25] = [
-    0xB0, 0x94, 0xBA, 0x43, 0x00, 0xEE, 0xB0, 0x02, 0xBA, 0x42, 0x00, 0xEE, 0xB0, 0x99, 0xBA, 0x63,
-    0x00, 0xEE, 0xB0, 0x03, 0xBA, 0x61, 0x00, 0xEE, 0xF4,
-];
+/// A program at F0000h that has counter 2 divide by 2 and lets it through to the speaker, and what a board shows of it.
+struct Tone {
+    program: &'static [u8],
+    /// The clocks at which the speaker changes, each with whether it goes high.
+    changes: &'static [(u64, bool)],
+    /// The clock before the third change, and IP at it.
+    held: u64,
+    held_ip: u16,
+    /// After 100 clocks.
+    ax: u16,
+    dx: u16,
+    ip: u16,
+    state: State,
+}
 
-/// The clocks at which the speaker changes while `TONE` runs, each with whether it goes high.
-const TONE_CHANGES: [(u64, bool); 8] = [
-    (72, true),
-    (76, false),
-    (80, true),
-    (84, false),
-    (88, true),
-    (92, false),
-    (96, true),
-    (100, false),
-];
+/// Its ports are named by DX, and it ends with HLT.
+const HALTING: Tone = Tone {
+    program: &[
+        0xB0, 0x94, 0xBA, 0x43, 0x00, 0xEE, 0xB0, 0x02, 0xBA, 0x42, 0x00, 0xEE, 0xB0, 0x99, 0xBA,
+        0x63, 0x00, 0xEE, 0xB0, 0x03, 0xBA, 0x61, 0x00, 0xEE, 0xF4,
+    ],
+    changes: &[
+        (72, true),
+        (76, false),
+        (80, true),
+        (84, false),
+        (88, true),
+        (92, false),
+        (96, true),
+        (100, false),
+    ],
+    held: 79,
+    held_ip: 0x0018,
+    ax: 0x0003,
+    dx: 0x0061,
+    ip: 0x0019,
+    state: State::Halted,
+};
 
-/// A board with 64 KB of RAM and `TONE` at F0000h, to which the reset vector leads.
-fn tone_board(rt: &impl Abort, alloc: Global) -> Result<Board, Fail>
+/// Its ports are bytes of the instructions, and the third change falls on the first clock of a MUL.
+const MULTIPLYING: Tone = Tone {
+    program: &[
+        0xB0, 0x94, 0xE6, 0x43, 0xB0, 0x02, 0xE6, 0x42, 0xB0, 0x99, 0xE6, 0x63, 0xB0, 0x03, 0xE6,
+        0x61, 0xF6, 0xE3, 0xF4,
+    ],
+    changes: &[
+        (62, true),
+        (68, false),
+        (72, true),
+        (76, false),
+        (80, true),
+        (84, false),
+        (88, true),
+        (92, false),
+        (96, true),
+        (100, false),
+    ],
+    held: 71,
+    held_ip: 0x0010,
+    ax: 0x0000,
+    dx: 0x0000,
+    ip: 0x0012,
+    state: State::Running,
+};
+
+/// A board with 64 KB of RAM and `tone`'s program, to which the reset vector leads.
+fn tone_board(rt: &impl Abort, alloc: Global, tone: &Tone) -> Result<Board, Fail>
     ensures { IfOk result (λ board. board.changes ≡ []) }
 {
     let mut image = Image::new(alloc);
     put_all(rt, &mut image, 0xFFFF0, &JUMP)?;
-    put_all(rt, &mut image, 0xF0000, &TONE)?;
+    put_all(rt, &mut image, 0xF0000, tone.program)?;
     let config = Config {
         ram_kb: 64,
         sw1: 0,
@@ -58,19 +105,19 @@ fn put_all(rt: &impl Abort, image: &mut Image, start: u32, bytes: &[u8]) -> Resu
     Ok(())
 }
 
-/// Whether the board after 100 clocks of `TONE` shows what it has to.
-fn assert_tone<A: Allocator>(rt: &impl Abort, board: &Board<A>) {
+/// Whether the board after 100 clocks of `tone` shows what it has to.
+fn assert_tone<A: Allocator>(rt: &impl Abort, board: &Board<A>, tone: &Tone) {
     let wanted = Regs {
-        ax: 0x0003,
-        dx: 0x0061,
+        ax: tone.ax,
+        dx: tone.dx,
         cs: 0xF000,
-        ip: 0x0019,
+        ip: tone.ip,
         ..Regs::default()
     };
     assert_eq!(rt; board.clock().get(), 100);
     assert_eq!(rt; board.regs(), wanted);
-    assert_eq!(rt; board.state(), State::Halted);
-    assert_changes(rt, board, &TONE_CHANGES);
+    assert_eq!(rt; board.state(), tone.state);
+    assert_changes(rt, board, tone.changes);
 }
 
 fn assert_changes<A: Allocator>(rt: &impl Abort, board: &Board<A>, wanted: &[(u64, bool)]) {
@@ -82,37 +129,44 @@ fn assert_changes<A: Allocator>(rt: &impl Abort, board: &Board<A>, wanted: &[(u6
     }
 }
 
-#[test]
-fn a_change_without_memory_stops_the_run_before_it(rt: HostRuntime) -> Result<(), Fail> {
-    let heap = LocalHeap::new(rt.alloc(), 4_096)?;
-    let board = tone_board(&rt, rt.alloc())?;
+/// Whether a run of `tone` without memory for its third change is refused before it, and with memory goes on.
+fn assert_held(rt: &impl Abort, alloc: Global, tone: &Tone) -> Result<(), Fail> {
+    let heap = LocalHeap::new(alloc, 4_096)?;
+    let board = tone_board(rt, alloc, tone)?;
     let mut board = board.with_changes(Vec::with_capacity(&heap, 2)?);
     // all the rest of the heap is taken but for 32 bytes, and four changes need 64
     let filler: Vec<u8, &LocalHeap> = Vec::with_capacity(&heap, heap.free().saturating_sub(32))?;
+    let rest = 100_u64.saturating_sub(tone.held);
     assert_eq!(rt; board.reserve_speaker(9), Err(BoardFault::Memory));
     assert_eq!(rt; board.run(100), Err(BoardFault::Memory));
-    assert_eq!(rt; board.clock().get(), 79);
+    assert_eq!(rt; board.clock().get(), tone.held);
     assert_eq!(rt; board.state(), State::Running);
-    assert_eq!(rt; board.regs().ip, 0x0018);
-    assert_changes(&rt, &board, &TONE_CHANGES[..2]);
+    assert_eq!(rt; board.regs().ip, tone.held_ip);
+    assert_changes(rt, &board, tone.changes.get(..2).unwrap_or(&[]));
     // refused again where nothing has changed
-    assert_eq!(rt; board.run(21), Err(BoardFault::Memory));
-    assert_eq!(rt; board.clock().get(), 79);
+    assert_eq!(rt; board.run(rest), Err(BoardFault::Memory));
+    assert_eq!(rt; board.clock().get(), tone.held);
     drop(filler);
-    board.run(21)?;
-    assert_tone(&rt, &board);
+    board.run(rest)?;
+    assert_tone(rt, &board, tone);
     Ok(())
+}
+
+#[test]
+fn a_change_without_memory_stops_the_run_before_it(rt: HostRuntime) -> Result<(), Fail> {
+    assert_held(&rt, rt.alloc(), &HALTING)?;
+    assert_held(&rt, rt.alloc(), &MULTIPLYING)
 }
 
 #[test]
 fn room_that_is_reserved_needs_no_memory(rt: HostRuntime) -> Result<(), Fail> {
     let heap = LocalHeap::new(rt.alloc(), 4_096)?;
-    let board = tone_board(&rt, rt.alloc())?;
+    let board = tone_board(&rt, rt.alloc(), &HALTING)?;
     let mut board = board.with_changes(Vec::new(&heap));
     board.reserve_speaker(8)?;
     let filler: Vec<u8, &LocalHeap> = Vec::with_capacity(&heap, heap.free().saturating_sub(64))?;
     board.run(100)?;
-    assert_tone(&rt, &board);
+    assert_tone(&rt, &board, &HALTING);
     drop(filler);
     Ok(())
 }

@@ -1,2 +1,2 @@
-pub mod Halves
 pub mod Writes
+pub mod Order

@@ -1,6 +1,5 @@
-pub mod FlagState
 pub mod Cpu
-pub mod Locations
 pub mod Meaning
+pub mod Boundaries
 pub mod PortWrites
 pub mod Laws

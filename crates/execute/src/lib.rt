@@ -1,10 +1,13 @@
 //! The processor's instructions, each an exact step over any bus (8086 Family User's Manual, "Instruction Set").
 #![tactic(auto)]
 
+pub mod boundary;
 pub mod cpu;
 pub mod laws;
-pub mod location;
-pub mod registers;
-mod step;
+mod perform;
+pub mod port_writes;
+pub mod repeating;
+pub mod shadow;
+pub mod step;
 
 pub use bus::Bus;

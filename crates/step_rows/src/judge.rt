@@ -1,40 +1,115 @@
-//! Whether a line's values are those of the program.
+//! Whether what was done is what a line wants.
 
-use crate::notes::{Notes, read_byte};
+use crate::bench::{Bench, Done, boundary_name};
+use crate::ram::{Access, Ram};
+use crate::words::{NAMES, read_access, read_cell, read_words, words_in, words_of};
 use anyhow::{Context, Result, bail};
-use board_types::regs::{Flags, Regs};
 use board_types::state::State;
-use decode::decode::decode;
-use execute::cpu::{Cpu, port_writes, step};
+use execute::cpu::Cpu;
 use std::alloc::Global;
 
-/// Fails with what differs in a line, or with why it can't be read.
-pub fn judge(alloc: Global, line: &str) -> Result<()> {
-    let fields: Vec<&str> = line.split('|').collect(alloc)?;
-    match *fields {
-        [regs, code, read, after, written, ports, cost, state] => {
-            let regs = read_regs(regs)?;
-            let mut notes = Notes::read(regs.cs, regs.ip, code.trim(), read)?;
-            let mut cpu = Cpu::new(regs);
-            let decoded = decode(&notes, regs.cs, regs.ip);
-            judge_outputs(port_writes(&cpu, &decoded).as_slice(), ports).context(
-                "told beforehand",
-            )?;
-            let clocks = step(&mut cpu, &mut notes, &decoded).0;
-            if clocks != cost.trim().parse()? {
-                bail!("costs {clocks}");
-            }
-            if cpu.regs() != read_regs(after)? {
-                bail!("other registers");
-            }
-            if state_name(cpu.state()) != state.trim() {
-                bail!("another state");
-            }
-            judge_written(&notes, written)?;
-            judge_outputs(notes.outputs.as_slice(), ports)
-        }
-        _ => bail!("no such line"),
+/// The fields of a line that tell what is found after a step.
+#[derive(Clone, Copy)]
+pub struct Wanted<'a> {
+    pub after: &'a str,
+    pub written: &'a str,
+    pub ports: &'a str,
+    pub cost: &'a str,
+    pub due: &'a str,
+}
+
+/// Fails with what differs, or with why a field can't be read.
+pub fn judge(alloc: Global, bench: &Bench, done: &Done, wanted: &Wanted) -> Result<()> {
+    judge_registers(&bench.cpu, wanted.after)?;
+    judge_written(alloc, &bench.ram, wanted.written)?;
+    judge_accesses(alloc, bench.ram.accesses(), wanted.ports)?;
+    judge_told(bench.ram.accesses(), done.told.as_slice())?;
+    if done.clocks != wanted.cost.trim().parse()? {
+        bail!("costs {}", done.clocks);
     }
+    judge_due(alloc, &bench.cpu, wanted.due)
+}
+
+fn judge_registers(cpu: &Cpu, text: &str) -> Result<()> {
+    let wanted = read_words(text)?;
+    let found = words_of(cpu.regs());
+    for (i, name) in NAMES.iter().enumerate() {
+        if found[i] != wanted[i] {
+            bail!("{name} {:04X}", found[i]);
+        }
+    }
+    Ok(())
+}
+
+/// Each byte in the list was written, and no other.
+fn judge_written(alloc: Global, ram: &Ram, list: &str) -> Result<()> {
+    let words = words_in(alloc, list)?;
+    let mut wanted = Vec::with_capacity(alloc, words.len())?;
+    for word in &words {
+        let (addr, byte) = read_cell(word)?;
+        if !ram.written().contains(&addr) || !ram.holds(addr, byte) {
+            bail!("{word} isn't written");
+        }
+        wanted.push(addr)?;
+    }
+    for addr in ram.written() {
+        if !wanted.contains(addr) {
+            bail!("{addr:05X} is written");
+        }
+    }
+    Ok(())
+}
+
+/// The port accesses are those in the list, in order.
+fn judge_accesses(alloc: Global, found: &[Access], list: &str) -> Result<()> {
+    let words = words_in(alloc, list)?;
+    if found.len() != words.len() {
+        bail!("{} port accesses", found.len());
+    }
+    for (access, word) in found.iter().zip(&words) {
+        if *access != read_access(word)? {
+            bail!("another port access than {word}");
+        }
+    }
+    Ok(())
+}
+
+/// The port writes are those that were told, in order.
+fn judge_told(found: &[Access], told: &[(u16, u8)]) -> Result<()> {
+    let mut told = told.iter();
+    for access in found {
+        if let Access::Write(port, byte) = *access {
+            match told.next() {
+                Some(write) if write.0 == port && write.1 == byte => {}
+                _ => bail!("a port write that wasn't told"),
+            }
+        }
+    }
+    match told.next() {
+        Some(_) => bail!("fewer port writes than told"),
+        None => Ok(()),
+    }
+}
+
+/// `STATE MARKS` and the cases of the next boundary without a request and with one. The marks aren't seen by
+/// themselves.
+fn judge_due(alloc: Global, cpu: &Cpu, text: &str) -> Result<()> {
+    let words: Vec<&str> = text.split_whitespace().collect(alloc)?;
+    let [state, _marks, alone, requested] = *words else {
+        bail!("no four words");
+    };
+    if state_name(cpu.state()) != state {
+        bail!("{}", state_name(cpu.state()));
+    }
+    let found = boundary_name(cpu.may_take(false));
+    if found != alone {
+        bail!("then {found}");
+    }
+    let found = boundary_name(cpu.may_take(true));
+    if found != requested {
+        bail!("then {found} at a request");
+    }
+    Ok(())
 }
 
 fn state_name(state: State) -> &'static str {
@@ -42,91 +117,5 @@ fn state_name(state: State) -> &'static str {
         State::Running => "running",
         State::Halted => "halted",
         State::Jammed => "jammed",
-    }
-}
-
-/// Each byte in the list was written, and no other.
-fn judge_written(notes: &Notes, list: &str) -> Result<()> {
-    let mut wanted = 0usize;
-    for word in list.split_whitespace() {
-        if word == "-" {
-            continue;
-        }
-        wanted = wanted.saturating_add(1);
-        let (address, byte) = read_byte(word)?;
-        if !notes
-            .written
-            .as_slice()
-            .iter()
-            .any(|w| w.0 == address && w.1 == byte)
-        {
-            bail!("{word} isn't written");
-        }
-    }
-    if notes.written.len() != wanted {
-        bail!("{} bytes written", notes.written.len());
-    }
-    Ok(())
-}
-
-/// These port writes are those in the list, in order.
-fn judge_outputs(outputs: &[(u16, u8)], list: &str) -> Result<()> {
-    let mut rest = outputs.iter();
-    for word in list.split_whitespace() {
-        if word == "-" {
-            continue;
-        }
-        let (port, byte) = word.split_once('=').context("no =")?;
-        let port = u16::from_str_radix(port.strip_prefix('O').context("no O")?, 16)?;
-        let byte = u8::from_str_radix(byte, 16)?;
-        match rest.next() {
-            Some(output) if output.0 == port && output.1 == byte => {}
-            _ => bail!("another port write"),
-        }
-    }
-    match rest.next() {
-        Some(_) => bail!("more port writes"),
-        None => Ok(()),
-    }
-}
-
-fn read_regs(text: &str) -> Result<Regs> {
-    let mut words = [0u16; 14];
-    for (i, word) in text.split_whitespace().enumerate() {
-        match words.get_mut(i) {
-            Some(register) => *register = u16::from_str_radix(word, 16)?,
-            None => bail!("more than 14 words"),
-        }
-    }
-    let [ax, cx, dx, bx, sp, bp, si, di, es, cs, ss, ds, ip, word] = words;
-    Ok(Regs {
-        ax,
-        cx,
-        dx,
-        bx,
-        sp,
-        bp,
-        si,
-        di,
-        es,
-        cs,
-        ss,
-        ds,
-        ip,
-        flags: read_flags(word),
-    })
-}
-
-fn read_flags(word: u16) -> Flags {
-    Flags {
-        carry: word % 2 == 1,
-        parity: word / 4 % 2 == 1,
-        auxiliary_carry: word / 16 % 2 == 1,
-        zero: word / 64 % 2 == 1,
-        sign: word / 128 % 2 == 1,
-        trap: word / 256 % 2 == 1,
-        interrupt_enable: word / 512 % 2 == 1,
-        direction: word / 1024 % 2 == 1,
-        overflow: word / 2048 % 2 == 1,
     }
 }

@@ -1,0 +1,26 @@
+//! The repeat in progress.
+ghost use Rattle.std.specs.Prelude.{◌≡◌};
+
+use arrayvec::ArrayVec;
+use isa::form::Instr;
+use isa::operation::Text;
+
+/// A repeated string instruction between two of its iterations, with all its prefixes.
+#[derive(Drop)]
+pub struct Repeating {
+    pub text: Text,
+    pub instr: Instr,
+}
+
+/// The same instruction once more; it takes no memory.
+pub(crate) fn copied(instr: &Instr) -> Instr
+    ensures { result ≡ instr.now }
+{
+    let mut prefixes = ArrayVec::new();
+    let _ = prefixes.try_extend_from_slice(instr.prefixes.as_slice());
+    Instr {
+        prefixes,
+        form: instr.form,
+        values: instr.values,
+    }
+}

@@ -1,0 +1,4 @@
+pub mod Kept
+pub mod Decimal
+pub mod InAl
+pub mod Order

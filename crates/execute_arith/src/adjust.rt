@@ -1,0 +1,159 @@
+//! Adjustments of AL and AX: decimal and ASCII digits, and signs.
+ghost use Rattle.std.specs.Prelude.{◌≡◌, ◌<◌};
+ghost use Rattle.execute_arith.specs.Meaning.{adjusts_high, adjusts_low, after_aaa, after_aad, after_aam, after_aas, after_adjust, after_cbw, after_cwd, after_daa, after_das, decimal_change, with_packed, with_unpacked};
+ghost use Rattle.execute_machine.specs.Flags.{flag_state};
+
+use board_types::regs::Flags;
+use execute_machine::flags::with_result;
+use execute_machine::registers::Registers;
+use execute_machine::width::Width;
+use isa::operation::Adjust;
+
+/// Performs DAA, DAS, AAA, AAS, AAM, AAD, CBW or CWD.
+#[tactic(auto, unfolding(crate::specs::Meaning::after_adjust))]
+pub fn perform_adjust(registers: &mut Registers, operation: Adjust)
+    ensures { registers.new ≡ after_adjust registers.old operation }
+{
+    match operation {
+        Adjust::Daa => daa(registers),
+        Adjust::Das => das(registers),
+        Adjust::Aaa => aaa(registers),
+        Adjust::Aas => aas(registers),
+        Adjust::Aam => aam(registers),
+        Adjust::Aad => aad(registers),
+        Adjust::Cbw => cbw(registers),
+        Adjust::Cwd => cwd(registers),
+    }
+}
+
+/// The low digit of AL is above 9, or AF is set.
+fn adjusts_low(flags: Flags, al: u16) -> bool
+    ensures { result ≡ adjusts_low (flag_state flags) al }
+{
+    al % 16 > 9 || flags.auxiliary_carry
+}
+
+/// AL is above 99h, or CF is set.
+fn adjusts_high(flags: Flags, al: u16) -> bool
+    ensures { result ≡ adjusts_high (flag_state flags) al }
+{
+    al > 0x99 || flags.carry
+}
+
+/// By how much DAA and DAS change AL.
+fn decimal_change(flags: Flags, al: u16) -> u16
+    ensures value { result ≡ decimal_change (flag_state flags) al }
+    ensures bound { result < 103 }
+{
+    let low = if adjusts_low(flags, al) { 6 } else { 0 };
+    let high = if adjusts_high(flags, al) { 0x60 } else { 0 };
+    low + high
+}
+
+/// Puts a packed number into AL. AF and CF tell which of its digits were adjusted.
+fn set_packed(registers: &mut Registers, al: u16)
+    requires { al < 256 }
+    ensures { registers.new ≡ with_packed registers.old al }
+{
+    let flags = registers.flags.get();
+    let old = registers.ax % 256;
+    registers.ax = registers.ax / 256 * 256 + al;
+    registers.flags.set(Flags {
+        auxiliary_carry: adjusts_low(flags, old),
+        carry: adjusts_high(flags, old),
+        ..with_result(flags, Width::Byte, al)
+    });
+}
+
+#[tactic(auto, unfolding(crate::specs::Meaning::after_daa))]
+fn daa(registers: &mut Registers)
+    ensures { registers.new ≡ after_daa registers.old }
+{
+    let al = registers.ax % 256;
+    let change = decimal_change(registers.flags.get(), al);
+    set_packed(registers, (al + change) % 256);
+}
+
+#[tactic(auto, unfolding(crate::specs::Meaning::after_das))]
+fn das(registers: &mut Registers)
+    ensures { registers.new ≡ after_das registers.old }
+{
+    let al = registers.ax % 256;
+    let change = decimal_change(registers.flags.get(), al);
+    set_packed(registers, (al + 256 - change) % 256);
+}
+
+/// Puts a digit into AL and a byte into AH. AF and CF tell whether the digit was adjusted.
+fn set_unpacked(registers: &mut Registers, ah: u16, digit: u16, adjusted: bool)
+    requires high { ah < 256 }
+    requires low { digit < 16 }
+    ensures { registers.new ≡ with_unpacked registers.old ah digit adjusted }
+{
+    registers.ax = 256 * ah + digit;
+    registers.flags.set(Flags {
+        auxiliary_carry: adjusted,
+        carry: adjusted,
+        ..registers.flags.get()
+    });
+}
+
+#[tactic(auto, unfolding(crate::specs::Meaning::after_aaa))]
+fn aaa(registers: &mut Registers)
+    ensures { registers.new ≡ after_aaa registers.old }
+{
+    let (ah, al) = (registers.ax / 256, registers.ax % 256);
+    if adjusts_low(registers.flags.get(), al) {
+        set_unpacked(registers, (ah + 1) % 256, (al + 6) % 16, true);
+    } else {
+        set_unpacked(registers, ah, al % 16, false);
+    }
+}
+
+#[tactic(auto, unfolding(crate::specs::Meaning::after_aas))]
+fn aas(registers: &mut Registers)
+    ensures { registers.new ≡ after_aas registers.old }
+{
+    let (ah, al) = (registers.ax / 256, registers.ax % 256);
+    if adjusts_low(registers.flags.get(), al) {
+        set_unpacked(registers, (ah + 256 - 1) % 256, (al + 256 - 6) % 16, true);
+    } else {
+        set_unpacked(registers, ah, al % 16, false);
+    }
+}
+
+#[tactic(auto, unfolding(crate::specs::Meaning::after_aam))]
+fn aam(registers: &mut Registers)
+    ensures { registers.new ≡ after_aam registers.old }
+{
+    let al = registers.ax % 256;
+    registers.ax = 256 * (al / 10) + al % 10;
+    registers
+        .flags
+        .set(with_result(registers.flags.get(), Width::Byte, al % 10));
+}
+
+#[tactic(auto, unfolding(crate::specs::Meaning::after_aad))]
+fn aad(registers: &mut Registers)
+    ensures { registers.new ≡ after_aad registers.old }
+{
+    let al = (10 * (registers.ax / 256) + registers.ax % 256) % 256;
+    registers.ax = al;
+    registers
+        .flags
+        .set(with_result(registers.flags.get(), Width::Byte, al));
+}
+
+#[tactic(auto, unfolding(crate::specs::Meaning::after_cbw))]
+fn cbw(registers: &mut Registers)
+    ensures { registers.new ≡ after_cbw registers.old }
+{
+    let al = registers.ax % 256;
+    registers.ax = if al < 128 { al } else { 0xFF00 + al };
+}
+
+#[tactic(auto, unfolding(crate::specs::Meaning::after_cwd))]
+fn cwd(registers: &mut Registers)
+    ensures { registers.new ≡ after_cwd registers.old }
+{
+    registers.dx = if registers.ax < 32768 { 0 } else { 0xFFFF };
+}

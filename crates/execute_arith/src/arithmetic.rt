@@ -1,0 +1,83 @@
+//! Arithmetic and logic on two operands.
+ghost use Rattle.std.specs.Prelude.{◌≡◌, ◌<◌};
+ghost use Rattle.execute_arith.specs.Meaning.{after_arithmetic, keeps_result, result_of, with_flags_of, with_logic};
+ghost use Rattle.execute_machine.specs.Locations.{machine};
+ghost use Rattle.execute_machine.specs.Widths.{size_of};
+
+use crate::sums::{add, subtract};
+use board_types::regs::Flags;
+use bus::Bus;
+use execute_machine::flags::{FlagRegister, with_result};
+use execute_machine::location::{locate, operand, put};
+use execute_machine::registers::Registers;
+use execute_machine::width::Width;
+use isa::form::Instr;
+use isa::operation::Arithmetic;
+
+/// Performs ADD, OR, ADC, SBB, AND, SUB, XOR, CMP or TEST on the instruction's operands.
+#[tactic(auto, unfolding(crate::specs::Meaning::after_arithmetic))]
+pub fn perform_arithmetic<B: Bus>(
+    bus: &mut B,
+    registers: &mut Registers,
+    operation: Arithmetic,
+    instr: &Instr,
+)
+    ensures { machine registers.new (B.state bus.new) ≡ after_arithmetic B.meaning (machine registers.old (B.state bus.old)) operation instr.now }
+{
+    let to = locate(registers, instr, instr.form.row.first());
+    let from = locate(registers, instr, instr.form.row.second());
+    let width = to.width();
+    let a = operand(bus, registers, to, width);
+    let b = operand(bus, registers, from, width);
+    let result = calculate(&mut registers.flags, operation, width, a, b);
+    if keeps_result(operation) {
+        put(bus, registers, to, result);
+    }
+}
+
+/// What the operation makes of two numbers of this width and of the flags.
+#[tactic(auto, unfolding(crate::specs::Meaning::result_of, crate::specs::Meaning::with_flags_of))]
+fn calculate(flags: &mut FlagRegister, operation: Arithmetic, width: Width, a: u16, b: u16) -> u16
+    requires first { a < size_of width }
+    requires second { b < size_of width }
+    ensures value { result ≡ result_of operation flags.old width a b }
+    ensures flags { flags.new ≡ with_flags_of operation flags.old width a b }
+{
+    match operation {
+        Arithmetic::Add => add(flags, width, a, b, false),
+        Arithmetic::Adc => {
+            let carry = flags.carry();
+            add(flags, width, a, b, carry)
+        }
+        Arithmetic::Sub | Arithmetic::Cmp => subtract(flags, width, a, b, false),
+        Arithmetic::Sbb => {
+            let borrow = flags.carry();
+            subtract(flags, width, a, b, borrow)
+        }
+        Arithmetic::And | Arithmetic::Test => logical(flags, width, a & b),
+        Arithmetic::Or => logical(flags, width, a | b),
+        Arithmetic::Xor => logical(flags, width, a ^ b),
+    }
+}
+
+/// The flags of a result of logic.
+#[tactic(auto, unfolding(crate::specs::Meaning::with_logic))]
+fn logical(flags: &mut FlagRegister, width: Width, value: u16) -> u16
+    ensures value { result ≡ value }
+    ensures flags { flags.new ≡ with_logic flags.old width value }
+{
+    flags.set(Flags {
+        carry: false,
+        auxiliary_carry: false,
+        overflow: false,
+        ..with_result(flags.get(), width, value)
+    });
+    value
+}
+
+/// CMP and TEST keep no result.
+fn keeps_result(operation: Arithmetic) -> bool
+    ensures { result ≡ keeps_result operation }
+{
+    !matches!(operation, Arithmetic::Cmp | Arithmetic::Test)
+}

@@ -1,0 +1,67 @@
+//! What arithmetic and the adjustments mean for numbers.
+ghost use Rattle.execute_arith.specs.Laws.{AaaAdds, AadJoins, AadUndoesAam, AamParts, AasSubtracts, CmpTells, ComparisonTells, DaaAdds, DasSubtracts, NotInverts, SignsExtend, SumsStandInAl};
+
+use bus::Bus;
+
+/// After a comparison, CF tells whether the first number lies below the second as an unsigned one, ZF whether they are
+/// the same, and SF differs from OF exactly where the first lies below the second as a signed one.
+pub fn comparison_tells()
+    ensures { ComparisonTells }
+{}
+
+/// After a CMP, the flags tell so of its operands.
+pub fn cmp_tells<B: Bus>()
+    ensures { CmpTells B.meaning }
+{}
+
+/// ADD, ADC, SUB and SBB whose first operand is AL leave there and in the flags a sum or a difference.
+pub fn sums_stand_in_al<B: Bus>()
+    ensures { SumsStandInAl B.meaning }
+{}
+
+/// DAA after ADD or ADC of two packed decimal numbers gives their decimal sum with its carry.
+pub fn daa_adds()
+    ensures { DaaAdds }
+{}
+
+/// DAS after SUB or SBB of two packed decimal numbers gives their decimal difference with its borrow.
+pub fn das_subtracts()
+    ensures { DasSubtracts }
+{}
+
+/// AAA after ADD or ADC of two bytes whose low halves are decimal digits gives their sum's digit, and its carry, which
+/// AH takes too.
+pub fn aaa_adds()
+    ensures { AaaAdds }
+{}
+
+/// AAS after SUB or SBB of two bytes whose low halves are decimal digits gives their difference's digit, and its
+/// borrow, which AH gives.
+pub fn aas_subtracts()
+    ensures { AasSubtracts }
+{}
+
+/// AAM makes two unpacked digits of a number below 100.
+pub fn aam_parts()
+    ensures { AamParts }
+{}
+
+/// AAD makes a number of two unpacked digits.
+pub fn aad_joins()
+    ensures { AadJoins }
+{}
+
+/// AAD gives back the AL that AAM parted, whatever it was.
+pub fn aad_undoes_aam()
+    ensures { AadUndoesAam }
+{}
+
+/// CBW and CWD keep the signed number.
+pub fn signs_extend()
+    ensures { SignsExtend }
+{}
+
+/// NOT inverts each bit.
+pub fn not_inverts()
+    ensures { NotInverts }
+{}

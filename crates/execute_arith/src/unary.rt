@@ -1,0 +1,66 @@
+//! Arithmetic and logic on one operand.
+ghost use Rattle.std.specs.Prelude.{◌≡◌, ◌<◌, ◌-◌};
+ghost use Rattle.execute_arith.specs.Meaning.{after_unary, unary_result_of, with_unary_flags_of};
+ghost use Rattle.execute_machine.specs.Locations.{machine};
+ghost use Rattle.execute_machine.specs.Widths.{size_of};
+
+use crate::sums::{add, subtract};
+use bus::Bus;
+use execute_machine::flags::FlagRegister;
+use execute_machine::location::{locate, operand, put};
+use execute_machine::registers::Registers;
+use execute_machine::width::Width;
+use isa::form::Instr;
+use isa::operation::Unary;
+
+/// Performs INC, DEC, NOT or NEG on the instruction's operand.
+#[tactic(auto, unfolding(crate::specs::Meaning::after_unary))]
+pub fn perform_unary<B: Bus>(
+    bus: &mut B,
+    registers: &mut Registers,
+    operation: Unary,
+    instr: &Instr,
+)
+    ensures { machine registers.new (B.state bus.new) ≡ after_unary B.meaning (machine registers.old (B.state bus.old)) operation instr.now }
+{
+    let to = locate(registers, instr, instr.form.row.first());
+    let width = to.width();
+    let a = operand(bus, registers, to, width);
+    let result = calculate(&mut registers.flags, operation, width, a);
+    put(bus, registers, to, result);
+}
+
+/// What the operation makes of a number of this width and of the flags.
+#[tactic(auto, unfolding(crate::specs::Meaning::unary_result_of, crate::specs::Meaning::with_unary_flags_of))]
+fn calculate(flags: &mut FlagRegister, operation: Unary, width: Width, a: u16) -> u16
+    requires { a < size_of width }
+    ensures value { result ≡ unary_result_of operation width a }
+    ensures flags { flags.new ≡ with_unary_flags_of operation flags.old width a }
+{
+    let carry = flags.carry();
+    match operation {
+        Unary::Inc => {
+            let sum = add(flags, width, a, 1, false);
+            flags.set_carry(carry);
+            sum
+        }
+        Unary::Dec => {
+            let difference = subtract(flags, width, a, 1, false);
+            flags.set_carry(carry);
+            difference
+        }
+        Unary::Not => inverse(width, a),
+        Unary::Neg => subtract(flags, width, 0, a, false),
+    }
+}
+
+/// The operand with each bit inverted.
+fn inverse(width: Width, a: u16) -> u16
+    requires { a < size_of width }
+    ensures { result ≡ size_of width - 1 - a }
+{
+    match width {
+        Width::Byte => 0xFF - a,
+        Width::Word => 0xFFFF - a,
+    }
+}

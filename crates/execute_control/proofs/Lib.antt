@@ -1,0 +1,5 @@
+pub mod Kept
+pub mod Loops
+pub mod FlagsWord
+pub mod StackWords
+pub mod Returns

@@ -1,0 +1,96 @@
+-- The laws of conditions, loops, calls and interrupts.
+use Rattle.std.specs.Prelude.{ℕ, ◌≡◌, ◌+◌, ◌-◌, ◌<◌, ◌==◌, true, not, nat_lt, if◌then◌else◌}
+use Rattle.board_types.specs.Address.{physical, offset_after}
+use Rattle.board_types.specs.Iterate.{iterate}
+use Rattle.isa.specs.declared.operation.Condition.{Condition}
+use Rattle.isa.specs.declared.operation.Condition.TheVariants.{Overflow, NotOverflow, Below, NotBelow, Zero, NotZero, BelowOrZero, Above, Sign, NotSign, Parity, NotParity, Less, NotLess, LessOrZero, Greater}
+use Rattle.isa.specs.declared.operation.Looping.TheVariants.{Loop}
+use Rattle.isa.specs.declared.operation.Control.TheVariants.{Call, Ret, CallFar, Retf, Iret}
+use Rattle.isa.specs.declared.form.Instr.{Instr}
+use Rattle.bus.specs.Bus.{BusMeaning}
+use Rattle.execute_machine.specs.declared.registers.Registers.{Registers}
+use Rattle.execute_machine.specs.FlagState.{FlagState}
+use Rattle.execute_machine.specs.Locations.{Machine, machine}
+use Rattle.execute_machine.specs.Stack.{after_entry}
+use Rattle.execute_control.specs.Meaning.{holds, is_loop_taken, after_looping, after_control, control_operand}
+
+-- the other condition of a pair: their opcodes differ in the lowest bit
+abbrev pub contrary : Condition → Condition
+contrary Overflow = NotOverflow
+contrary NotOverflow = Overflow
+contrary Below = NotBelow
+contrary NotBelow = Below
+contrary Zero = NotZero
+contrary NotZero = Zero
+contrary BelowOrZero = Above
+contrary Above = BelowOrZero
+contrary Sign = NotSign
+contrary NotSign = Sign
+contrary Parity = NotParity
+contrary NotParity = Parity
+contrary Less = NotLess
+contrary NotLess = Less
+contrary LessOrZero = Greater
+contrary Greater = LessOrZero
+
+-- of each pair exactly one condition holds
+abbrev pub ConditionsAreContrary : Type 0
+ConditionsAreContrary = (c : Condition) (f : FlagState) → holds (contrary c) f ≡ not (holds c f)
+
+-- how often a LOOP runs from this CX: 0 counts as 65,536
+abbrev pub loop_rounds : ℕ → ℕ
+loop_rounds cx = if cx == 0 then 65536 else cx
+
+-- a round: what the loop repeats, and then the LOOP
+abbrev pub after_round : (Registers → Registers) → Instr → Registers → Registers
+after_round body i r = after_looping (body r) Loop i
+
+-- Take whatever a loop repeats, if it leaves CX as it is. The LOOP of each round jumps, but that of the last of CX
+-- rounds doesn't, and then CX is 0.
+pub record LoopRuns (body : Registers → Registers) (i : Instr) (r : Registers) : Type 0 where
+  pub jumps : (k : ℕ) → k < loop_rounds r.cx → is_loop_taken (body (iterate (after_round body i) k r)) Loop ≡ nat_lt (k + 1) (loop_rounds r.cx)
+  pub ends : (iterate (after_round body i) (loop_rounds r.cx) r).cx ≡ 0
+
+abbrev pub LoopRunsCxTimes : Type 0
+LoopRunsCxTimes = (body : Registers → Registers) → ((r : Registers) → (body r).cx ≡ r.cx) → (i : Instr) (r : Registers) → r.cx < 65536 → LoopRuns body i r
+
+-- the address of the byte so far above the top of the stack
+abbrev pub stack_address : Registers → ℕ → ℕ
+stack_address r more = physical r.ss (offset_after r.sp more)
+
+-- the next so many bytes that are pushed find addresses that take them
+abbrev pub TakesPushes : {S : Type 0} → BusMeaning S → Machine S → ℕ → Type 0
+TakesPushes bus m bytes = (k : ℕ) → k < bytes → bus.is_writable m.bus (stack_address m.registers (65535 - k)) ≡ true
+
+-- a subroutine or a handler, which finds the machine `before` and leaves it as `after` where it returns: SS and SP are
+-- again what they were, and so are so many bytes on top of the stack
+pub record KeepsStack {S : Type 0} (bus : BusMeaning S) (before after : Machine S) (bytes : ℕ) : Type 0 where
+  pub ss : after.registers.ss ≡ before.registers.ss
+  pub sp : after.registers.sp ≡ before.registers.sp
+  pub held : (k : ℕ) → k < bytes → bus.byte_at after.bus (stack_address before.registers k) ≡ bus.byte_at before.bus (stack_address before.registers k)
+
+-- a return from a near call: IP is that of the instruction after the CALL, and SP is what it was before the CALL and as
+-- much more as the return says; all else is as the subroutine left it
+abbrev pub CallReturns : {S : Type 0} → BusMeaning S → Type 0
+CallReturns {S} bus =
+    (m n : Machine S) (call return : Instr) → m.registers.sp < 65536 → TakesPushes bus m 2
+    → KeepsStack bus (after_control bus m Call call) n 2
+    → after_control bus n Ret return
+    ≡ machine (record n.registers { ip = m.registers.ip; sp = offset_after m.registers.sp (control_operand bus n return) }) n.bus
+
+-- the same of a far call, with CS
+abbrev pub FarCallReturns : {S : Type 0} → BusMeaning S → Type 0
+FarCallReturns {S} bus =
+    (m n : Machine S) (call return : Instr) → m.registers.sp < 65536 → TakesPushes bus m 4
+    → KeepsStack bus (after_control bus m CallFar call) n 4
+    → after_control bus n Retf return
+    ≡ machine (record n.registers { ip = m.registers.ip; cs = m.registers.cs; sp = offset_after m.registers.sp (control_operand bus n return) }) n.bus
+
+-- an interrupt of any type, and the IRET of its handler: flags, CS, IP and SP are again what they were; all else is as
+-- the handler left it
+abbrev pub InterruptReturns : {S : Type 0} → BusMeaning S → Type 0
+InterruptReturns {S} bus =
+    (m n : Machine S) (kind : ℕ) (return : Instr) → m.registers.sp < 65536 → TakesPushes bus m 6
+    → KeepsStack bus (after_entry bus m kind) n 6
+    → after_control bus n Iret return
+    ≡ machine (record n.registers { ip = m.registers.ip; cs = m.registers.cs; flags = m.registers.flags; sp = m.registers.sp }) n.bus

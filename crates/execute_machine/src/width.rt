@@ -1,0 +1,32 @@
+//! The two widths of an operand.
+ghost use Rattle.std.specs.Prelude.{◌≡◌};
+ghost use Rattle.execute_machine.specs.Widths.{half_size, size_of};
+
+/// A byte or a word.
+#[derive(Clone, Copy)]
+pub enum Width {
+    Byte,
+    Word,
+}
+
+impl Width {
+    /// How many values it has: 256 or 65,536.
+    pub fn size(self) -> u32
+        ensures { result ≡ size_of self }
+    {
+        match self {
+            Width::Byte => 256,
+            Width::Word => 65536,
+        }
+    }
+
+    /// Half of them: from there on a value is negative as a signed one.
+    pub fn half_size(self) -> u16
+        ensures { result ≡ half_size self }
+    {
+        match self {
+            Width::Byte => 128,
+            Width::Word => 32768,
+        }
+    }
+}

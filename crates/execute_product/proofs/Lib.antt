@@ -1,0 +1,4 @@
+pub mod Kept
+pub mod Unsigned
+pub mod Signs
+pub mod Signed

@@ -1,0 +1,4 @@
+pub mod Exchange
+pub mod Halves
+pub mod Kept
+pub mod Stack

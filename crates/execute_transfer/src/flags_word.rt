@@ -1,0 +1,59 @@
+//! The flags as a word or a byte.
+ghost use Rattle.std.specs.Prelude.{◌≡◌};
+ghost use Rattle.execute_machine.specs.Flags.{flag_state};
+ghost use Rattle.execute_machine.specs.Locations.{machine};
+ghost use Rattle.execute_transfer.specs.Meaning.{after_lahf, after_popf, after_pushf, after_sahf, with_low_flags};
+
+use board_types::regs::Flags;
+use bus::Bus;
+use execute_machine::flags::popped_flags;
+use execute_machine::registers::{Registers, set_byte};
+use execute_machine::stack::{pop, push};
+use isa::register::ByteRegister;
+
+#[tactic(auto, unfolding(crate::specs::Meaning::after_pushf))]
+pub(crate) fn perform_pushf<B: Bus>(bus: &mut B, registers: &mut Registers)
+    ensures { machine registers.new (B.state bus.new) ≡ after_pushf B.meaning (machine registers.old (B.state bus.old)) }
+{
+    let word = registers.flags.get().word();
+    push(bus, registers, word);
+}
+
+#[tactic(auto, unfolding(crate::specs::Meaning::after_popf))]
+pub(crate) fn perform_popf<B: Bus>(bus: &B, registers: &mut Registers)
+    ensures { machine registers.new (B.state bus.now) ≡ after_popf B.meaning (machine registers.old (B.state bus.now)) }
+{
+    let word = pop(bus, registers);
+    registers.flags.set(popped_flags(word));
+}
+
+/// These flags, with CF, PF, AF, ZF and SF from others.
+fn with_low_flags(flags: Flags, low: Flags) -> Flags
+    ensures { flag_state result ≡ with_low_flags (flag_state flags) (flag_state low) }
+{
+    Flags {
+        carry: low.carry,
+        parity: low.parity,
+        auxiliary_carry: low.auxiliary_carry,
+        zero: low.zero,
+        sign: low.sign,
+        ..flags
+    }
+}
+
+#[tactic(auto, unfolding(crate::specs::Meaning::after_sahf))]
+pub(crate) fn perform_sahf(registers: &mut Registers)
+    ensures { registers.new ≡ after_sahf registers.old }
+{
+    let low = popped_flags(registers.ax / 256);
+    let flags = registers.flags.get();
+    registers.flags.set(with_low_flags(flags, low));
+}
+
+#[tactic(auto, unfolding(crate::specs::Meaning::after_lahf))]
+pub(crate) fn perform_lahf(registers: &mut Registers)
+    ensures { registers.new ≡ after_lahf registers.old }
+{
+    let word = registers.flags.get().word();
+    set_byte(registers, ByteRegister::Ah, (word % 256) as u8);
+}

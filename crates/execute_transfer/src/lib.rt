@@ -1,0 +1,9 @@
+//! Data transfer (8086 Family User's Manual, "Data Transfer Instructions"): MOV to LDS, the stack, the flags word and
+//! the ports. A part of `execute`, which alone uses it.
+#![tactic(auto)]
+
+pub mod flags_word;
+pub mod laws;
+pub mod places;
+pub mod ports;
+pub mod transfer;

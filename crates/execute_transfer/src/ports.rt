@@ -1,0 +1,81 @@
+//! IN and OUT.
+ghost use Rattle.std.specs.Prelude.{◌≡◌};
+ghost use Rattle.execute_machine.specs.Locations.{machine};
+ghost use Rattle.execute_transfer.specs.Meaning.{after_byte_input, after_in, after_out, after_word_input, is_ax, outputs_of, port_of};
+
+use arrayvec::ArrayVec;
+use bus::Bus;
+use execute_machine::registers::{Registers, set_byte};
+use isa::form::Instr;
+use isa::register::ByteRegister;
+use isa::row::Kind;
+
+/// The port of an IN or OUT.
+fn port_of(kind: Kind, dx: u16, number: u16) -> u16
+    ensures { result ≡ port_of kind dx number }
+{
+    match kind {
+        Kind::Dx => dx,
+        _ => number,
+    }
+}
+
+/// Whether an IN or OUT has two bytes.
+fn is_ax(kind: Kind) -> bool
+    ensures { result ≡ is_ax kind }
+{
+    matches!(kind, Kind::Ax)
+}
+
+#[tactic(auto, unfolding(crate::specs::Meaning::after_byte_input))]
+fn input_byte<B: Bus>(bus: &mut B, registers: &mut Registers, port: u16)
+    ensures { machine registers.new (B.state bus.new) ≡ after_byte_input B.meaning (machine registers.old (B.state bus.old)) port }
+{
+    set_byte(registers, ByteRegister::Al, bus.in8(port));
+}
+
+#[tactic(auto, unfolding(crate::specs::Meaning::after_word_input))]
+fn input_word<B: Bus>(bus: &mut B, registers: &mut Registers, port: u16)
+    ensures { machine registers.new (B.state bus.new) ≡ after_word_input B.meaning (machine registers.old (B.state bus.old)) port }
+{
+    let low = bus.in8(port);
+    let high = bus.in8(port.wrapping_add(1));
+    registers.ax = u16::from(low) + 256 * u16::from(high);
+}
+
+#[tactic(auto, unfolding(crate::specs::Meaning::after_in))]
+pub(crate) fn perform_in<B: Bus>(bus: &mut B, registers: &mut Registers, instr: &Instr)
+    ensures { machine registers.new (B.state bus.new) ≡ after_in B.meaning (machine registers.old (B.state bus.old)) instr.now }
+{
+    let port = port_of(instr.form.row.second(), registers.dx, instr.values.number);
+    if is_ax(instr.form.row.first()) {
+        input_word(bus, registers, port);
+    } else {
+        input_byte(bus, registers, port);
+    }
+}
+
+#[tactic(auto, unfolding(crate::specs::Meaning::after_out, crate::specs::Meaning::outputs_of))]
+pub(crate) fn perform_out<B: Bus>(bus: &mut B, registers: &Registers, instr: &Instr)
+    ensures { machine registers.now (B.state bus.new) ≡ after_out B.meaning (machine registers.now (B.state bus.old)) instr.now }
+{
+    let port = port_of(instr.form.row.first(), registers.dx, instr.values.number);
+    bus.out8(port, (registers.ax % 256) as u8);
+    if is_ax(instr.form.row.second()) {
+        bus.out8(port.wrapping_add(1), (registers.ax / 256) as u8);
+    }
+}
+
+/// The port writes of an OUT, in order: each a port and a byte.
+#[tactic(auto, unfolding(crate::specs::Meaning::outputs_of))]
+pub fn outputs(registers: &Registers, instr: &Instr) -> ArrayVec<(u16, u8), 2>
+    ensures { result.items ≡ outputs_of registers.now instr.now }
+{
+    let mut writes = ArrayVec::new();
+    let port = port_of(instr.form.row.first(), registers.dx, instr.values.number);
+    writes.push((port, (registers.ax % 256) as u8));
+    if is_ax(instr.form.row.second()) {
+        writes.push((port.wrapping_add(1), (registers.ax / 256) as u8));
+    }
+    writes
+}
