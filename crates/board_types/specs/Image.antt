@@ -1,7 +1,7 @@
 -- The bytes of an image: a finite map from addresses, kept in their order.
 use Rattle.std.specs.Prelude.{ℕ, ◌≤◌, ◌<◌, ◌⊎◌, List, All, Option}
 use Rattle.std.specs.List.Sorted.{IsStrictlySortedBy}
-use Rattle.std.specs.Map.{keys_of}
+use Rattle.std.specs.Map.{keys_of, values_of}
 use Rattle.std.specs.Ordering.{nat_cmp}
 use Rattle.std.specs.BTreeMap.{is_at}
 use Rattle.std.specs.Map.{lookup}
@@ -15,7 +15,8 @@ IsLoadable address = (address < 0xA0000) ⊎ ((0xF0000 ≤ address) × (address 
 abbrev pub image_byte : List (ℕ × ℕ) → ℕ → Option ℕ
 image_byte image address = lookup (is_at (nat_cmp address)) image
 
--- the addresses are loadable, and each has one byte
+-- the addresses are loadable, and each has one entry, a byte
 pub record IsImage (image : List (ℕ × ℕ)) : Type 0 where
   pub loadable : All IsLoadable (keys_of image)
   pub rising : IsStrictlySortedBy nat_cmp (keys_of image)
+  pub bytes : All (λ byte. byte < 256) (values_of image)

@@ -11,5 +11,3 @@ pub mod keys;
 pub mod line;
 pub mod regs;
 pub mod state;
-#[cfg(test)]
-mod tests;

@@ -8,7 +8,7 @@ use Rattle.board_types.specs.Image.{image_byte}
 use Rattle.loader.specs.Laws.{last_byte, later_or, LaterBytesWin}
 use Rattle.loader.proofs.Runs.{eq_not, eq_yes, lt_not, lt_yes}
 
-above_not : (a b : ℕ) → a < b → (a == b) ≡ false
+pub above_not : (a b : ℕ) → a < b → (a == b) ≡ false
 above_not a b h = grind (arith, nat_tests)
 
 at_is : (a k : ℕ) → is_eq (nat_cmp a k) ≡ (k == a)
@@ -20,7 +20,7 @@ at_is a k = elim (cases_lt a k) [
   ]
 ]
 
-first_byte : (a : ℕ) (e : ℕ × ℕ) (es : List (ℕ × ℕ)) → image_byte (e ∷ es) a ≡ (if e.0 == a then Some e.1 else image_byte es a)
+pub first_byte : (a : ℕ) (e : ℕ × ℕ) (es : List (ℕ × ℕ)) → image_byte (e ∷ es) a ≡ (if e.0 == a then Some e.1 else image_byte es a)
 first_byte a e es = ap (λ t. if t then Some e.1 else image_byte es a) (at_is a e.0)
 
 swapped : (t u : Bool) (x y z : Option ℕ) → (t ≡ true → u ≡ true → ⊥) → (if t then x else (if u then y else z)) ≡ (if u then y else (if t then x else z))
@@ -67,5 +67,5 @@ pub later_bytes_win : LaterBytesWin
 later_bytes_win image [] a = refl
 later_bytes_win image (byte ∷ bytes) a =
     later_bytes_win (insert_entry nat_cmp image byte.0 byte.1) bytes a
-    ∙ ap (later_or (last_byte a bytes)) (byte_put byte.0 byte.1 a image ∙ test_later (byte.0 == a) byte.1 (image_byte image a))
-    ∙ later_first (last_byte a bytes) (if byte.0 == a then Some byte.1 else None) (image_byte image a)
+    ∙ ap (later_or (last_byte bytes a)) (byte_put byte.0 byte.1 a image ∙ test_later (byte.0 == a) byte.1 (image_byte image a))
+    ∙ later_first (last_byte bytes a) (if byte.0 == a then Some byte.1 else None) (image_byte image a)

@@ -3,9 +3,11 @@ pub mod Fields
 pub mod HexLines
 pub mod LaterBytes
 pub mod Loaded
+pub mod Neighbours
 pub mod OneImage
 pub mod Places
 pub mod ReadBack
 pub mod Rows
 pub mod Runs
+pub mod SameBytes
 pub mod Scanning

@@ -5,7 +5,7 @@ use Rattle.std.specs.Ordering.{nat_cmp}
 use Rattle.std.specs.BTreeMap.{insert_entry}
 use Rattle.std.proofs.lemmas.Bool.{cases_lt}
 use Rattle.loader.specs.Laws.{bytes_of, BytesChangePlaces, RecordsChangePlaces}
-use Rattle.loader.specs.Records.{bytes_at, end_of_file, base_at, start_at, placed, with_bytes}
+use Rattle.loader.specs.Records.{bytes_at, end_of_file, extension_at, start_at, placed_bytes, with_bytes}
 use Rattle.loader.proofs.Loaded.{put_append}
 use Rattle.loader.proofs.Runs.{eq_not, eq_yes, lt_not, lt_yes}
 
@@ -69,13 +69,13 @@ both_put : (held xs ys rest : List (ℕ × ℕ)) → with_bytes held (xs ++ (ys 
 both_put held xs ys rest = put_append held xs (ys ++ rest) ∙ put_append (with_bytes held xs) ys rest
 
 pub records_change_places : RecordsChangePlaces
-records_change_places base held [] after m n one two apart =
-    let xs = placed base m one in
-    let ys = placed base n two in
-    let rest = bytes_of base after in
+records_change_places extension held [] after m n one two apart =
+    let xs = placed_bytes extension m one in
+    let ys = placed_bytes extension n two in
+    let rest = bytes_of extension after in
     both_put held xs ys rest ∙ ap (λ h. with_bytes h rest) (bytes_change_places held xs ys apart) ∙ sym (both_put held ys xs rest)
-records_change_places base held (bytes_at o c ∷ rs) after m n one two apart =
-    put_append held (placed base o c) _ ∙ records_change_places base (with_bytes held (placed base o c)) rs after m n one two apart ∙ sym (put_append held (placed base o c) _)
-records_change_places base held (end_of_file ∷ rs) after m n one two apart = records_change_places base held rs after m n one two apart
-records_change_places base held (base_at next ∷ rs) after m n one two apart = records_change_places next held rs after m n one two apart
-records_change_places base held (start_at ∷ rs) after m n one two apart = records_change_places base held rs after m n one two apart
+records_change_places extension held (bytes_at o c ∷ rs) after m n one two apart =
+    put_append held (placed_bytes extension o c) _ ∙ records_change_places extension (with_bytes held (placed_bytes extension o c)) rs after m n one two apart ∙ sym (put_append held (placed_bytes extension o c) _)
+records_change_places extension held (end_of_file ∷ rs) after m n one two apart = records_change_places extension held rs after m n one two apart
+records_change_places extension held (extension_at next ∷ rs) after m n one two apart = records_change_places next held rs after m n one two apart
+records_change_places extension held (start_at ∷ rs) after m n one two apart = records_change_places extension held rs after m n one two apart

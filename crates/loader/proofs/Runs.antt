@@ -9,7 +9,7 @@ use Rattle.std.proofs.lemmas.Bool.{cases_lt}
 use Rattle.std.proofs.lemmas.Bool.Decides.{nat_tests}
 use Rattle.std.proofs.lemmas.Map.Keys.{sorted_tail}
 use Rattle.board_types.specs.Image.{IsLoadable, image_byte}
-use Rattle.loader.specs.HexText.{from, lines_of, row_lines, run}
+use Rattle.loader.specs.HexText.{bytes_from, hex_lines, row_lines, longest_run}
 
 pub lt_yes : (a b : ℕ) → a < b → nat_lt a b ≡ true
 lt_yes a b h = grind (arith, nat_tests)
@@ -30,7 +30,7 @@ pub eq_not : (a b : ℕ) → b < a → (a == b) ≡ false
 eq_not a b h = grind (arith, nat_tests)
 
 -- where an image has no byte at an address, it goes on behind it
-pub gets_none : (a : ℕ) (es : List (ℕ × ℕ)) → image_byte es a ≡ None → from a es ≡ from (a + 1) es
+pub gets_none : (a : ℕ) (es : List (ℕ × ℕ)) → image_byte es a ≡ None → bytes_from es a ≡ bytes_from es (a + 1)
 gets_none a [] h = refl
 gets_none a (e ∷ es) h = elim (cases_lt a e.0) [
   | inl below ↦
@@ -67,7 +67,7 @@ unfolding IsStrictlySortedBy
 head_below e es sorted = sorted.0
 
 -- where it has one, that byte stands in front of those behind it
-pub gets_some : (a b : ℕ) (es : List (ℕ × ℕ)) → IsStrictlySortedBy nat_cmp (keys_of es) → image_byte es a ≡ Some b → from a es ≡ (a, b) ∷ from (a + 1) es
+pub gets_some : (a b : ℕ) (es : List (ℕ × ℕ)) → IsStrictlySortedBy nat_cmp (keys_of es) → image_byte es a ≡ Some b → bytes_from es a ≡ (a, b) ∷ bytes_from es (a + 1)
 gets_some a b [] sorted h = cc
 gets_some a b (e ∷ es) sorted h = elim (cases_lt a e.0) [
   | inl below ↦
@@ -93,11 +93,11 @@ gets_some a b (e ∷ es) sorted h = elim (cases_lt a e.0) [
     some_same is = cc
 
 -- the run at a byte
-pub run_at : (n a b : ℕ) (es rest : List (ℕ × ℕ)) → es ≡ (a, b) ∷ rest → run (suc n) a es ≡ b ∷ (if (a + 1) % 65536 == 0 then [] else run n (a + 1) rest)
+pub run_at : (n a b : ℕ) (es rest : List (ℕ × ℕ)) → es ≡ (a, b) ∷ rest → longest_run es a (suc n) ≡ b ∷ (if (a + 1) % 65536 == 0 then [] else longest_run rest (a + 1) n)
 run_at n a b es rest is = rw (is, eq_yes a a refl) refl
 
 -- there is none where there is no byte
-pub no_run : (n a : ℕ) (es : List (ℕ × ℕ)) → run n a (from (a + 1) es) ≡ []
+pub no_run : (n a : ℕ) (es : List (ℕ × ℕ)) → longest_run (bytes_from es (a + 1)) a n ≡ []
 no_run zero a es = refl
 no_run (suc n) a [] = refl
 no_run (suc n) a (e ∷ es) = elim (cases_lt e.0 (a + 1)) [
@@ -107,26 +107,26 @@ no_run (suc n) a (e ∷ es) = elim (cases_lt e.0 (a + 1)) [
 
 -- the lines behind a run are those from the address behind it
 abbrev pub Skips : ℕ → ℕ → List (ℕ × ℕ) → Option ℕ → Type 0
-Skips n a es last = lines_of last (length (run n a (from a es))) (from a es) ≡ lines_of last 0 (from (a + length (run n a (from a es))) es)
+Skips n a es last = hex_lines last (length (longest_run (bytes_from es a) a n)) (bytes_from es a) ≡ hex_lines last 0 (bytes_from es (a + length (longest_run (bytes_from es a) a n)))
 
 skips_none : (n a : ℕ) (es : List (ℕ × ℕ)) (last : Option ℕ) → image_byte es a ≡ None → Skips (suc n) a es last
 skips_none n a es last none =
-    let empty : run (suc n) a (from a es) ≡ [] = rw (gets_none a es none) (no_run (suc n) a es) in
+    let empty : longest_run (bytes_from es a) a (suc n) ≡ [] = rw (gets_none a es none) (no_run (suc n) a es) in
     let same : a + 0 ≡ a = omega arith in
     rw empty (rw same refl)
 
 skips_bank : (n a b : ℕ) (es : List (ℕ × ℕ)) (last : Option ℕ) (ends : Bool) → Skips n (a + 1) es last
-    → lines_of last (length (b ∷ (if ends then [] else run n (a + 1) (from (a + 1) es)))) ((a, b) ∷ from (a + 1) es)
-    ≡ lines_of last 0 (from (a + length (b ∷ (if ends then [] else run n (a + 1) (from (a + 1) es)))) es)
+    → hex_lines last (length (b ∷ (if ends then [] else longest_run (bytes_from es (a + 1)) (a + 1) n))) ((a, b) ∷ bytes_from es (a + 1))
+    ≡ hex_lines last 0 (bytes_from es (a + length (b ∷ (if ends then [] else longest_run (bytes_from es (a + 1)) (a + 1) n))))
 skips_bank n a b es last true more = let same : a + suc 0 ≡ a + 1 = omega arith in rw same refl
 skips_bank n a b es last false more =
-    let same : a + suc (length (run n (a + 1) (from (a + 1) es))) ≡ a + 1 + length (run n (a + 1) (from (a + 1) es)) = omega arith in
+    let same : a + suc (length (longest_run (bytes_from es (a + 1)) (a + 1) n)) ≡ a + 1 + length (longest_run (bytes_from es (a + 1)) (a + 1) n) = omega arith in
     rw same more
 
 skips_some : (n a b : ℕ) (es : List (ℕ × ℕ)) (last : Option ℕ) → IsStrictlySortedBy nat_cmp (keys_of es) → image_byte es a ≡ Some b → Skips n (a + 1) es last → Skips (suc n) a es last
 skips_some n a b es last sorted some more =
-    let is : from a es ≡ (a, b) ∷ from (a + 1) es = gets_some a b es sorted some in
-    rw (run_at n a b (from a es) (from (a + 1) es) is, is) (skips_bank n a b es last ((a + 1) % 65536 == 0) more)
+    let is : bytes_from es a ≡ (a, b) ∷ bytes_from es (a + 1) = gets_some a b es sorted some in
+    rw (run_at n a b (bytes_from es a) (bytes_from es (a + 1)) is, is) (skips_bank n a b es last ((a + 1) % 65536 == 0) more)
 
 skips_by : (n a : ℕ) (es : List (ℕ × ℕ)) (last found : Option ℕ) → IsStrictlySortedBy nat_cmp (keys_of es) → image_byte es a ≡ found → Skips n (a + 1) es last → Skips (suc n) a es last
 skips_by n a es last None sorted is more = skips_none n a es last is
@@ -138,63 +138,63 @@ skips (suc n) a es last sorted = skips_by n a es last (image_byte es a) sorted r
 
 -- a row ends where the image has no byte
 pub row_ends : (count start : ℕ) (row whole : List ℕ) (es : List (ℕ × ℕ)) → image_byte es (start + count) ≡ None
-    → row ++ run (16 - count) (start + count) (from (start + count) es) ≡ whole → row ≡ whole
+    → row ++ longest_run (bytes_from es (start + count)) (start + count) (16 - count) ≡ whole → row ≡ whole
 row_ends count start row whole es none so_far =
-    let empty : run (16 - count) (start + count) (from (start + count) es) ≡ [] = rw (gets_none (start + count) es none) (no_run (16 - count) (start + count) es) in
+    let empty : longest_run (bytes_from es (start + count)) (start + count) (16 - count) ≡ [] = rw (gets_none (start + count) es none) (no_run (16 - count) (start + count) es) in
     sym (append-nil row) ∙ ap (λ r. row ++ r) (sym empty) ∙ so_far
 
 row_step : (count start b : ℕ) (row new whole : List ℕ) (es : List (ℕ × ℕ)) → count < 16 → IsStrictlySortedBy nat_cmp (keys_of es) → image_byte es (start + count) ≡ Some b
-    → new ≡ row ++ b ∷ [] → row ++ run (16 - count) (start + count) (from (start + count) es) ≡ whole
-    → new ++ (if (start + count + 1) % 65536 == 0 then [] else run (16 - (count + 1)) (start + count + 1) (from (start + count + 1) es)) ≡ whole
+    → new ≡ row ++ b ∷ [] → row ++ longest_run (bytes_from es (start + count)) (start + count) (16 - count) ≡ whole
+    → new ++ (if (start + count + 1) % 65536 == 0 then [] else longest_run (bytes_from es (start + count + 1)) (start + count + 1) (16 - (count + 1))) ≡ whole
 row_step count start b row new whole es within sorted some pushed so_far =
     let left : 16 - count ≡ suc (16 - (count + 1)) = omega arith in
     let is = gets_some (start + count) b es sorted some in
-    let next = run_at (16 - (count + 1)) (start + count) b (from (start + count) es) (from (start + count + 1) es) is in
+    let next = run_at (16 - (count + 1)) (start + count) b (bytes_from es (start + count)) (bytes_from es (start + count + 1)) is in
     rw pushed (append_assoc row (b ∷ []) _ ∙ ap (λ r. row ++ r) (sym next) ∙ (rw left at so_far))
 
 -- it ends with its bank
 pub row_full : (count start b : ℕ) (row new whole : List ℕ) (es : List (ℕ × ℕ)) → count < 16 → IsStrictlySortedBy nat_cmp (keys_of es) → image_byte es (start + count) ≡ Some b
-    → new ≡ row ++ b ∷ [] → row ++ run (16 - count) (start + count) (from (start + count) es) ≡ whole → (start + count + 1) % 65536 ≡ 0 → new ≡ whole
+    → new ≡ row ++ b ∷ [] → row ++ longest_run (bytes_from es (start + count)) (start + count) (16 - count) ≡ whole → (start + count + 1) % 65536 ≡ 0 → new ≡ whole
 row_full count start b row new whole es within sorted some pushed so_far ends =
-    let P : Bool → Type 0 = λ t. new ++ (if t then [] else run (16 - (count + 1)) (start + count + 1) (from (start + count + 1) es)) ≡ whole in
+    let P : Bool → Type 0 = λ t. new ++ (if t then [] else longest_run (bytes_from es (start + count + 1)) (start + count + 1) (16 - (count + 1))) ≡ whole in
     sym (append-nil new) ∙ subst P (eq_yes ((start + count + 1) % 65536) 0 ends) (row_step count start b row new whole es within sorted some pushed so_far)
 
 -- and goes on elsewhere
 pub row_goes_on : (count start b : ℕ) (row new whole : List ℕ) (es : List (ℕ × ℕ)) → count < 16 → IsStrictlySortedBy nat_cmp (keys_of es) → image_byte es (start + count) ≡ Some b
-    → new ≡ row ++ b ∷ [] → row ++ run (16 - count) (start + count) (from (start + count) es) ≡ whole → ((start + count + 1) % 65536 ≡ 0 → ⊥)
-    → new ++ run (16 - (count + 1)) (start + (count + 1)) (from (start + (count + 1)) es) ≡ whole
+    → new ≡ row ++ b ∷ [] → row ++ longest_run (bytes_from es (start + count)) (start + count) (16 - count) ≡ whole → ((start + count + 1) % 65536 ≡ 0 → ⊥)
+    → new ++ longest_run (bytes_from es (start + (count + 1))) (start + (count + 1)) (16 - (count + 1)) ≡ whole
 row_goes_on count start b row new whole es within sorted some pushed so_far goes =
     let next : start + (count + 1) ≡ start + count + 1 = omega arith in
-    let P : Bool → Type 0 = λ t. new ++ (if t then [] else run (16 - (count + 1)) (start + count + 1) (from (start + count + 1) es)) ≡ whole in
+    let P : Bool → Type 0 = λ t. new ++ (if t then [] else longest_run (bytes_from es (start + count + 1)) (start + count + 1) (16 - (count + 1))) ≡ whole in
     rw next (subst P (other ((start + count + 1) % 65536) goes) (row_step count start b row new whole es within sorted some pushed so_far))
   where
     other : (x : ℕ) → (x ≡ 0 → ⊥) → (x == 0) ≡ false
     other x differs = grind (arith, nat_tests)
 
-pub some_row : (a b : ℕ) (es : List (ℕ × ℕ)) → IsStrictlySortedBy nat_cmp (keys_of es) → image_byte es a ≡ Some b → 0 < length (run 16 a (from a es))
-some_row a b es sorted some = rw (run_at 15 a b (from a es) (from (a + 1) es) (gets_some a b es sorted some)) (omega arith)
+pub some_row : (a b : ℕ) (es : List (ℕ × ℕ)) → IsStrictlySortedBy nat_cmp (keys_of es) → image_byte es a ≡ Some b → 0 < length (longest_run (bytes_from es a) a 16)
+some_row a b es sorted some = rw (run_at 15 a b (bytes_from es a) (bytes_from es (a + 1)) (gets_some a b es sorted some)) (omega arith)
 
-pub row_lines_at : (a b : ℕ) (es rest : List (ℕ × ℕ)) (last : Option ℕ) → es ≡ (a, b) ∷ rest → 0 < length (run 16 a es)
-    → lines_of last 0 es ≡ row_lines last a (run 16 a es) ++ lines_of (Some (a / 65536)) (length (run 16 a es)) es
-row_lines_at a b es rest last is some = rw is (by_size (run 16 a ((a, b) ∷ rest)) (rw is at some))
+pub row_lines_at : (a b : ℕ) (es rest : List (ℕ × ℕ)) (last : Option ℕ) → es ≡ (a, b) ∷ rest → 0 < length (longest_run es a 16)
+    → hex_lines last 0 es ≡ row_lines last a (longest_run es a 16) ++ hex_lines (Some (a / 65536)) (length (longest_run es a 16)) es
+row_lines_at a b es rest last is some = rw is (by_size (longest_run ((a, b) ∷ rest) a 16) (rw is at some))
   where
-    by_size : (row : List ℕ) → 0 < length row → row_lines last a row ++ lines_of (Some (a / 65536)) (length row - 1) rest ≡ row_lines last a row ++ lines_of (Some (a / 65536)) (length row) ((a, b) ∷ rest)
+    by_size : (row : List ℕ) → 0 < length row → row_lines last a row ++ hex_lines (Some (a / 65536)) (length row - 1) rest ≡ row_lines last a row ++ hex_lines (Some (a / 65536)) (length row) ((a, b) ∷ rest)
     by_size [] some = absurd (omega arith)
     by_size (x ∷ xs) some = let less : suc (length xs) - 1 ≡ length xs = omega arith in rw less refl
 
 -- a row's lines come before those behind it
 pub row_before : (a b : ℕ) (es : List (ℕ × ℕ)) (last : Option ℕ) → IsStrictlySortedBy nat_cmp (keys_of es) → image_byte es a ≡ Some b
-    → lines_of last 0 (from a es) ≡ row_lines last a (run 16 a (from a es)) ++ lines_of (Some (a / 65536)) 0 (from (a + length (run 16 a (from a es))) es)
+    → hex_lines last 0 (bytes_from es a) ≡ row_lines last a (longest_run (bytes_from es a) a 16) ++ hex_lines (Some (a / 65536)) 0 (bytes_from es (a + length (longest_run (bytes_from es a) a 16)))
 row_before a b es last sorted is =
-    row_lines_at a b (from a es) (from (a + 1) es) last (gets_some a b es sorted is) (some_row a b es sorted is)
-    ∙ ap (λ r. row_lines last a (run 16 a (from a es)) ++ r) (skips 16 a es (Some (a / 65536)) sorted)
+    row_lines_at a b (bytes_from es a) (bytes_from es (a + 1)) last (gets_some a b es sorted is) (some_row a b es sorted is)
+    ∙ ap (λ r. row_lines last a (longest_run (bytes_from es a) a 16) ++ r) (skips 16 a es (Some (a / 65536)) sorted)
 
-pub from_first : (es : List (ℕ × ℕ)) → from 0 es ≡ es
+pub from_first : (es : List (ℕ × ℕ)) → bytes_from es 0 ≡ es
 from_first [] = refl
 from_first (e ∷ es) = rw (le_yes 0 e.0 (omega arith)) (ap (λ r. e ∷ r) (from_first es))
 
 -- no byte of an image lies past the last address
-pub from_end : (a : ℕ) (es : List (ℕ × ℕ)) → AllByRecursion IsLoadable (keys_of es) → 0x100000 ≤ a → from a es ≡ []
+pub from_end : (a : ℕ) (es : List (ℕ × ℕ)) → AllByRecursion IsLoadable (keys_of es) → 0x100000 ≤ a → bytes_from es a ≡ []
 from_end a [] all past = refl
 from_end a (e ∷ es) all past = rw (le_not a e.0 (within all.0)) (from_end a es all.1 past)
   where

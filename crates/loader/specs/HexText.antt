@@ -32,23 +32,23 @@ row_lines last address bytes =
     (if is_bank last (address / 65536) then [] else bank_line (address / 65536)) ++ data_line address bytes
 
 -- the bytes that stand one after another from an address on, at most so many, within a bank
-abbrev pub run : ℕ → ℕ → List (ℕ × ℕ) → List ℕ
-run zero address bytes = []
-run (suc n) address [] = []
-run (suc n) address (byte ∷ bytes) =
-    if byte.0 == address then byte.1 ∷ (if (address + 1) % 65536 == 0 then [] else run n (address + 1) bytes) else []
+abbrev pub longest_run : List (ℕ × ℕ) → ℕ → ℕ → List ℕ
+longest_run bytes address zero = []
+longest_run [] address (suc n) = []
+longest_run (byte ∷ bytes) address (suc n) =
+    if byte.0 == address then byte.1 ∷ (if (address + 1) % 65536 == 0 then [] else longest_run bytes (address + 1) n) else []
 
 -- The lines of bytes in the order of their addresses, the first `skip` of them left out: each line has the longest
 -- run of up to 16.
-abbrev pub lines_of : Option ℕ → ℕ → List (ℕ × ℕ) → List ℕ
-lines_of last skip [] = end_line
-lines_of last (suc skip) (byte ∷ bytes) = lines_of last skip bytes
-lines_of last zero (byte ∷ bytes) =
-    row_lines last byte.0 (run 16 byte.0 (byte ∷ bytes)) ++ lines_of (Some (byte.0 / 65536)) (length (run 16 byte.0 (byte ∷ bytes)) - 1) bytes
+abbrev pub hex_lines : Option ℕ → ℕ → List (ℕ × ℕ) → List ℕ
+hex_lines last skip [] = end_line
+hex_lines last (suc skip) (byte ∷ bytes) = hex_lines last skip bytes
+hex_lines last zero (byte ∷ bytes) =
+    row_lines last byte.0 (longest_run (byte ∷ bytes) byte.0 16) ++ hex_lines (Some (byte.0 / 65536)) (length (longest_run (byte ∷ bytes) byte.0 16) - 1) bytes
 
 unfoldable pub hex_text : List (ℕ × ℕ) → List ℕ
-hex_text image = lines_of None 0 image
+hex_text image = hex_lines None 0 image
 
 -- the bytes from an address on
-abbrev pub from : ℕ → List (ℕ × ℕ) → List (ℕ × ℕ)
-from address bytes = filter (λ byte. nat_le address byte.0) bytes
+abbrev pub bytes_from : List (ℕ × ℕ) → ℕ → List (ℕ × ℕ)
+bytes_from bytes address = filter (λ byte. nat_le address byte.0) bytes

@@ -1,55 +1,38 @@
 -- What holds of HEX texts and images whatever they are.
 use Rattle.std.specs.Prelude.{◌≢◌, ℕ, ◌<◌, ◌≡◌, ◌↔◌, ◌++◌, Bool, true, false, not, filter, map, List, [], ◌∷◌, Ok, Option, None, Some, ◌==◌, if◌then◌else◌}
 use Rattle.std.specs.List.{AllByRecursion}
-use Rattle.board_types.specs.Image.{IsImage, image_byte}
+use Rattle.std.specs.List.Sorted.{IsStrictlySortedBy}
+use Rattle.std.specs.Map.{keys_of}
+use Rattle.std.specs.Ordering.{nat_cmp}
+use Rattle.board_types.specs.Image.{image_byte}
 use Rattle.loader.specs.HexText.{hex_text}
-use Rattle.loader.specs.declared.hex_record.Base.{Base}
-use Rattle.loader.specs.declared.hex_record.Base.TheVariants.{Segment}
+use Rattle.loader.specs.declared.hex_record.Extension.{Extension}
+use Rattle.loader.specs.declared.hex_record.Extension.TheVariants.{Segment}
 use Rattle.loader.specs.Lines.{text_lines, without_spaces}
 use Rattle.loader.specs.Reading.{image_of, is_blank}
-use Rattle.loader.specs.Records.{HexRecord, bytes_at, end_of_file, base_at, start_at, are_loadable, placed, record_of, with_bytes}
-
--- each entry of an image is a byte
-abbrev pub HoldsBytes : List (ℕ × ℕ) → Type 0
-HoldsBytes image = AllByRecursion (λ entry. entry.1 < 256) image
+use Rattle.loader.specs.Records.{HexRecord, bytes_at, end_of_file, extension_at, start_at, are_loadable, placed_bytes, record_of, with_bytes}
 
 -- what is written for an image is read back as that image
-abbrev pub ReadsBack : Type 0
-ReadsBack = (image : List (ℕ × ℕ)) → IsImage image → HoldsBytes image → image_of (hex_text image) ≡ Ok image
+abbrev pub ReadsBack : List (ℕ × ℕ) → Type 0
+ReadsBack image = image_of (hex_text image) ≡ Ok image
 
 -- the lines that aren't blank, without the spaces at their ends
-abbrev pub filled : List (List ℕ) → List (List ℕ)
-filled lines = filter (λ line. not (is_blank line)) (map without_spaces lines)
+abbrev pub filled_lines : List (List ℕ) → List (List ℕ)
+filled_lines lines = filter (λ line. not (is_blank line)) (map without_spaces lines)
 
 abbrev pub is_end : HexRecord → Bool
 is_end (bytes_at offset content) = false
 is_end end_of_file = true
-is_end (base_at base) = false
+is_end (extension_at extension) = false
 is_end start_at = false
 
--- the bytes of records in their order, each with its address: a data record's at the base in force
-abbrev pub bytes_of : Base → List HexRecord → List (ℕ × ℕ)
-bytes_of base [] = []
-bytes_of base (bytes_at offset content ∷ records) = placed base offset content ++ bytes_of base records
-bytes_of base (end_of_file ∷ records) = bytes_of base records
-bytes_of base (base_at next ∷ records) = bytes_of next records
-bytes_of base (start_at ∷ records) = bytes_of base records
-
--- The lines that aren't blank are the lines of these records and then of the end record, the only one of its kind;
--- all addresses are loadable, and the image is that of the records' bytes, put in one after another.
-pub record Gives (base : Base) (held : List (ℕ × ℕ)) (lines : List (List ℕ)) (image : List (ℕ × ℕ)) (records : List HexRecord) : Type 0 where
-  pub lines_are : map record_of (filled lines) ≡ map Ok (records ++ end_of_file ∷ [])
-  pub one_end : AllByRecursion (λ r. is_end r ≡ false) records
-  pub loadable : are_loadable (bytes_of base records) ≡ true
-  pub image_is : image ≡ with_bytes held (bytes_of base records)
-
--- there are records which the text is made of, and whose bytes the image holds; at first the base is 0
-abbrev pub Loads : List ℕ → List (ℕ × ℕ) → Type 0
-Loads text image = (records : List HexRecord) × Gives (Segment 0) [] (text_lines text) image records
-
--- a text gives an image exactly where it is made of such records
-abbrev pub LoadsRecords : Type 0
-LoadsRecords = (text : List ℕ) (image : List (ℕ × ℕ)) → (image_of text ≡ Ok image) ↔ Loads text image
+-- the bytes of records in their order, each with its address: a data record's at the extension in force
+abbrev pub bytes_of : Extension → List HexRecord → List (ℕ × ℕ)
+bytes_of extension [] = []
+bytes_of extension (bytes_at offset content ∷ records) = placed_bytes extension offset content ++ bytes_of extension records
+bytes_of extension (end_of_file ∷ records) = bytes_of extension records
+bytes_of extension (extension_at next ∷ records) = bytes_of next records
+bytes_of extension (start_at ∷ records) = bytes_of extension records
 
 -- what comes later, and where nothing does, what was there before
 abbrev pub later_or : Option ℕ → Option ℕ → Option ℕ
@@ -57,17 +40,38 @@ later_or (Some byte) before = Some byte
 later_or None before = before
 
 -- the last byte that is put at an address
-abbrev pub last_byte : ℕ → List (ℕ × ℕ) → Option ℕ
-last_byte address [] = None
-last_byte address (byte ∷ bytes) = later_or (last_byte address bytes) (if byte.0 == address then Some byte.1 else None)
+abbrev pub last_byte : List (ℕ × ℕ) → ℕ → Option ℕ
+last_byte [] address = None
+last_byte (byte ∷ bytes) address = later_or (last_byte bytes address) (if byte.0 == address then Some byte.1 else None)
+
+-- The text's lines that aren't blank are the lines of these records and then of the end record, the only one of its
+-- kind; all addresses are loadable, and the image has at each address the last byte that a record puts there, and none
+-- where no record puts one. At first addresses are offsets.
+pub record IsMadeOf (text : List ℕ) (image : List (ℕ × ℕ)) (records : List HexRecord) : Type 0 where
+  pub lines : map record_of (filled_lines (text_lines text)) ≡ map Ok (records ++ end_of_file ∷ [])
+  pub one_end : AllByRecursion (λ r. is_end r ≡ false) records
+  pub loadable : are_loadable (bytes_of (Segment 0) records) ≡ true
+  pub bytes : (address : ℕ) → image_byte image address ≡ last_byte (bytes_of (Segment 0) records) address
+
+-- there are records which the text is made of, and whose bytes the image holds
+abbrev pub Loads : List ℕ → List (ℕ × ℕ) → Type 0
+Loads text image = (records : List HexRecord) × IsMadeOf text image records
+
+-- the addresses of an image rise
+abbrev pub Rises : List (ℕ × ℕ) → Type 0
+Rises image = IsStrictlySortedBy nat_cmp (keys_of image)
+
+-- a text gives an image exactly where it is made of such records
+abbrev pub LoadsRecords : Type 0
+LoadsRecords = (text : List ℕ) (image : List (ℕ × ℕ)) → Rises image → (image_of text ≡ Ok image) ↔ Loads text image
 
 -- bytes put into an image: each address then has the last byte that was put there, or else what it had
 abbrev pub LaterBytesWin : Type 0
-LaterBytesWin = (image bytes : List (ℕ × ℕ)) (address : ℕ) → image_byte (with_bytes image bytes) address ≡ later_or (last_byte address bytes) (image_byte image address)
+LaterBytesWin = (image bytes : List (ℕ × ℕ)) (address : ℕ) → image_byte (with_bytes image bytes) address ≡ later_or (last_byte bytes address) (image_byte image address)
 
 -- the text that is written for an image loads that image and no other
-abbrev pub OneImage : Type 0
-OneImage = (image : List (ℕ × ℕ)) → IsImage image → HoldsBytes image → (other : List (ℕ × ℕ)) → Loads (hex_text image) other ↔ (image ≡ other)
+abbrev pub LoadsAlone : List (ℕ × ℕ) → Type 0
+LoadsAlone image = (other : List (ℕ × ℕ)) → Rises other → Loads (hex_text image) other ↔ (image ≡ other)
 
 -- no byte of the one stands at an address of the other
 abbrev pub AreApart : List (ℕ × ℕ) → List (ℕ × ℕ) → Type 0
@@ -77,16 +81,26 @@ AreApart one two = AllByRecursion (λ x. AllByRecursion (λ y. x.0 ≢ y.0) two)
 abbrev pub BytesChangePlaces : Type 0
 BytesChangePlaces = (image one two : List (ℕ × ℕ)) → AreApart one two → with_bytes (with_bytes image one) two ≡ with_bytes (with_bytes image two) one
 
--- the base in force behind records
-abbrev pub base_behind : Base → List HexRecord → Base
-base_behind base [] = base
-base_behind base (bytes_at offset content ∷ records) = base_behind base records
-base_behind base (end_of_file ∷ records) = base_behind base records
-base_behind base (base_at next ∷ records) = base_behind next records
-base_behind base (start_at ∷ records) = base_behind base records
+-- the extension in force behind records
+abbrev pub extension_behind : Extension → List HexRecord → Extension
+extension_behind extension [] = extension
+extension_behind extension (bytes_at offset content ∷ records) = extension_behind extension records
+extension_behind extension (end_of_file ∷ records) = extension_behind extension records
+extension_behind extension (extension_at next ∷ records) = extension_behind next records
+extension_behind extension (start_at ∷ records) = extension_behind extension records
 
 -- two neighbouring data records that share no address may change places: the records give the same image
 abbrev pub RecordsChangePlaces : Type 0
-RecordsChangePlaces = (base : Base) (image : List (ℕ × ℕ)) (before after : List HexRecord) (m n : ℕ) (one two : List ℕ)
-    → AreApart (placed (base_behind base before) m one) (placed (base_behind base before) n two)
-    → with_bytes image (bytes_of base (before ++ bytes_at m one ∷ bytes_at n two ∷ after)) ≡ with_bytes image (bytes_of base (before ++ bytes_at n two ∷ bytes_at m one ∷ after))
+RecordsChangePlaces = (extension : Extension) (image : List (ℕ × ℕ)) (before after : List HexRecord) (m n : ℕ) (one two : List ℕ)
+    → AreApart (placed_bytes (extension_behind extension before) m one) (placed_bytes (extension_behind extension before) n two)
+    → with_bytes image (bytes_of extension (before ++ bytes_at m one ∷ bytes_at n two ∷ after)) ≡ with_bytes image (bytes_of extension (before ++ bytes_at n two ∷ bytes_at m one ∷ after))
+
+-- Two texts have the same lines, but that two neighbours have changed places. They are the lines of data records that
+-- share no address behind the records before them. Then an image that the one gives is given by the other.
+abbrev pub LinesChangePlaces : Type 0
+LinesChangePlaces = (text other : List ℕ) (before after : List (List ℕ)) (one two : List ℕ) (records : List HexRecord) (m n : ℕ) (xs ys : List ℕ)
+    → text_lines text ≡ before ++ one ∷ two ∷ after → text_lines other ≡ before ++ two ∷ one ∷ after
+    → map record_of (filled_lines before) ≡ map Ok records
+    → record_of (without_spaces one) ≡ Ok (bytes_at m xs) → record_of (without_spaces two) ≡ Ok (bytes_at n ys)
+    → AreApart (placed_bytes (extension_behind (Segment 0) records) m xs) (placed_bytes (extension_behind (Segment 0) records) n ys)
+    → (image : List (ℕ × ℕ)) → Loads text image → Loads other image

@@ -4,34 +4,34 @@ use Rattle.loader.specs.declared.hex_fault.LineFault.{LineFault}
 use Rattle.loader.specs.declared.hex_fault.LineFault.TheVariants.{AfterEnd, NotLoadable}
 use Rattle.loader.specs.declared.hex_fault.HexFault.{HexFault}
 use Rattle.loader.specs.declared.hex_fault.HexFault.TheVariants.{InLine, NoEnd, Memory}
-use Rattle.loader.specs.declared.hex_record.Base.{Base}
-use Rattle.loader.specs.declared.hex_record.Base.TheVariants.{Segment}
+use Rattle.loader.specs.declared.hex_record.Extension.{Extension}
+use Rattle.loader.specs.declared.hex_record.Extension.TheVariants.{Segment}
 use Rattle.loader.specs.Lines.{text_lines, without_spaces}
-use Rattle.loader.specs.Records.{HexRecord, bytes_at, end_of_file, base_at, start_at, ◌>>=◌, are_loadable, placed, record_of, with_bytes}
+use Rattle.loader.specs.Records.{HexRecord, bytes_at, end_of_file, extension_at, start_at, ◌>>=◌, are_loadable, placed_bytes, record_of, with_bytes}
 
--- where reading stands behind a line: at a base, or past the end record; and the bytes so far
-pub record Standing : Type 0 where
-  pub base : Option Base
+-- where reading stands behind a line: what extends the offsets, or nothing past the end record; and the bytes so far
+pub record LoadState : Type 0 where
+  pub extension : Option Extension
   pub image : List (ℕ × ℕ)
 
-abbrev pub standing : Option Base → List (ℕ × ℕ) → Standing
-standing base image = record { base = base; image = image }
+abbrev pub load_state : Option Extension → List (ℕ × ℕ) → LoadState
+load_state extension image = record { extension = extension; image = image }
 
 -- what a record does; a byte that the board can't be loaded with is a fault
-abbrev pub after_record : Base → List (ℕ × ℕ) → HexRecord → Result Standing LineFault
-after_record base image (bytes_at offset content) =
-    if are_loadable (placed base offset content) then Ok (standing (Some base) (with_bytes image (placed base offset content))) else Err NotLoadable
-after_record base image end_of_file = Ok (standing None image)
-after_record base image (base_at next) = Ok (standing (Some next) image)
-after_record base image start_at = Ok (standing (Some base) image)
+abbrev pub after_record : Extension → List (ℕ × ℕ) → HexRecord → Result LoadState LineFault
+after_record extension image (bytes_at offset content) =
+    if are_loadable (placed_bytes extension offset content) then Ok (load_state (Some extension) (with_bytes image (placed_bytes extension offset content))) else Err NotLoadable
+after_record extension image end_of_file = Ok (load_state None image)
+after_record extension image (extension_at next) = Ok (load_state (Some next) image)
+after_record extension image start_at = Ok (load_state (Some extension) image)
 
 abbrev pub is_blank : List ℕ → Bool
 is_blank line = length line == 0
 
 -- the same of a line without the spaces at its end; a blank one does nothing
-unfoldable pub after_line : Base → List (ℕ × ℕ) → List ℕ → Result Standing LineFault
-after_line base image line =
-    if is_blank line then Ok (standing (Some base) image) else (record_of line >>= after_record base image)
+unfoldable pub after_line : Extension → List (ℕ × ℕ) → List ℕ → Result LoadState LineFault
+after_line extension image line =
+    if is_blank line then Ok (load_state (Some extension) image) else (record_of line >>= after_record extension image)
 
 -- a fault gets the number of its line
 abbrev pub in_line : {A B : Type 0} → ℕ → Result A LineFault → (A → Result B HexFault) → Result B HexFault
@@ -44,15 +44,15 @@ after_end number image [] = Ok image
 after_end number image (line ∷ lines) =
     if is_blank (without_spaces line) then after_end (number + 1) image lines else Err (InLine AfterEnd (number + 1))
 
-abbrev pub at_base : {A : Type 0} → Option Base → A → (Base → A) → A
-at_base None ended more = ended
-at_base (Some base) ended more = more base
+abbrev pub at_extension : {A : Type 0} → Option Extension → A → (Extension → A) → A
+at_extension None ended more = ended
+at_extension (Some extension) ended more = more extension
 
 -- the image that the lines give behind this many lines, or the fault of the first bad one
-abbrev pub image_after : ℕ → Base → List (ℕ × ℕ) → List (List ℕ) → Result (List (ℕ × ℕ)) HexFault
-image_after number base image [] = Err NoEnd
-image_after number base image (line ∷ lines) =
-    in_line (number + 1) (after_line base image (without_spaces line)) (λ s. at_base s.base (after_end (number + 1) s.image lines)
+abbrev pub image_after : ℕ → Extension → List (ℕ × ℕ) → List (List ℕ) → Result (List (ℕ × ℕ)) HexFault
+image_after number extension image [] = Err NoEnd
+image_after number extension image (line ∷ lines) =
+    in_line (number + 1) (after_line extension image (without_spaces line)) (λ s. at_extension s.extension (after_end (number + 1) s.image lines)
     (λ next. image_after (number + 1) next s.image lines))
 
 unfoldable pub image_of : List ℕ → Result (List (ℕ × ℕ)) HexFault

@@ -3,20 +3,20 @@ use Rattle.std.specs.Prelude.{◌≡◌, ◌<◌, Bool, false, length, Result, O
 use Rattle.loader.specs.declared.hex_fault.LineFault.TheVariants.{NotLoadable}
 use Rattle.loader.specs.declared.hex_fault.LineFault.{LineFault}
 use Rattle.loader.specs.declared.hex_record.Record.{Record}
-use Rattle.loader.specs.declared.hex_record.Record.TheVariants.{Bytes, End, Base, Start}
+use Rattle.loader.specs.declared.hex_record.Record.TheVariants.{Bytes, End, Extension, Start}
 use Rattle.loader.specs.declared.hex_record.LineError.{LineError}
 use Rattle.loader.specs.declared.hex_record.LineError.TheVariants.{Fault, Memory}
-use Rattle.loader.specs.Records.{HexRecord, bytes_at, end_of_file, base_at, start_at}
+use Rattle.loader.specs.Records.{HexRecord, bytes_at, end_of_file, extension_at, start_at}
 
-abbrev pub seen : Record → HexRecord
-seen (Bytes offset bytes) = bytes_at offset bytes.now
-seen End = end_of_file
-seen (Base base) = base_at base
-seen Start = start_at
+abbrev pub view_of : Record → HexRecord
+view_of (Bytes offset bytes) = bytes_at offset bytes.now
+view_of End = end_of_file
+view_of (Extension extension) = extension_at extension
+view_of Start = start_at
 
-abbrev pub seen_in : Result Record LineFault → Result HexRecord LineFault
-seen_in (Ok record') = Ok (seen record')
-seen_in (Err fault) = Err fault
+abbrev pub view_in : Result Record LineFault → Result HexRecord LineFault
+view_in (Ok record') = Ok (view_of record')
+view_in (Err fault) = Err fault
 
 -- the error is the fault that was meant, or the want of memory
 abbrev pub Refuses : {A : Type 0} → LineError → Result A LineFault → Type 0
@@ -32,5 +32,5 @@ RefusesBytes (Fault fault) loadable = (fault ≡ NotLoadable) × (loadable ≡ f
 abbrev pub IsSmall : HexRecord → Type 0
 IsSmall (bytes_at offset content) = length content < 256
 IsSmall end_of_file = Unit {0}
-IsSmall (base_at base) = Unit {0}
+IsSmall (extension_at extension) = Unit {0}
 IsSmall start_at = Unit {0}

@@ -7,16 +7,16 @@ use Rattle.hex.specs.declared.error.FromHexError.{FromHexError}
 use Rattle.hex.specs.Hex.{decode_of}
 use Rattle.loader.specs.declared.hex_fault.LineFault.{LineFault}
 use Rattle.loader.specs.declared.hex_fault.LineFault.TheVariants.{BadRecord, BadSum, BadType}
-use Rattle.loader.specs.declared.hex_record.Base.{Base}
-use Rattle.loader.specs.declared.hex_record.Base.TheVariants.{Segment, Linear}
+use Rattle.loader.specs.declared.hex_record.Extension.{Extension}
+use Rattle.loader.specs.declared.hex_record.Extension.TheVariants.{Segment, Linear}
 
 pub data HexRecord : Type 0 where
   -- type 00: bytes from a load offset on
   bytes_at : ℕ → List ℕ → HexRecord
   -- type 01
   end_of_file : HexRecord
-  -- types 02 and 04: the base of the offsets that follow
-  base_at : Base → HexRecord
+  -- types 02 and 04: what extends the offsets that follow to addresses
+  extension_at : Extension → HexRecord
   -- types 03 and 05, where a program starts: nothing is loaded
   start_at : HexRecord
 
@@ -33,8 +33,8 @@ abbrev pub record_bytes : List ℕ → Result (List ℕ) LineFault
 record_bytes [] = Err BadRecord
 record_bytes (mark ∷ digits) = if mark == 58 then whole (decode_of digits) else Err BadRecord
 
-abbrev pub sized : ℕ → List ℕ → HexRecord → Result HexRecord LineFault
-sized n content found = if length content == n then Ok found else Err BadRecord
+abbrev pub record_of_size : ℕ → List ℕ → HexRecord → Result HexRecord LineFault
+record_of_size n content found = if length content == n then Ok found else Err BadRecord
 
 -- two bytes as a number, the high one first
 abbrev pub number_of_two : ℕ → ℕ → ℕ
@@ -47,11 +47,11 @@ number_in content = number_of_two (slice_index content 0) (slice_index content 1
 unfoldable pub record_of_type : ℕ → ℕ → List ℕ → Result HexRecord LineFault
 record_of_type kind offset content =
     if kind == 0 then Ok (bytes_at offset content) else (
-    if kind == 1 then sized 0 content end_of_file else (
-    if kind == 2 then sized 2 content (base_at (Segment (number_in content))) else (
-    if kind == 3 then sized 4 content start_at else (
-    if kind == 4 then sized 2 content (base_at (Linear (number_in content))) else (
-    if kind == 5 then sized 4 content start_at else Err BadType)))))
+    if kind == 1 then record_of_size 0 content end_of_file else (
+    if kind == 2 then record_of_size 2 content (extension_at (Segment (number_in content))) else (
+    if kind == 3 then record_of_size 4 content start_at else (
+    if kind == 4 then record_of_size 2 content (extension_at (Linear (number_in content))) else (
+    if kind == 5 then record_of_size 4 content start_at else Err BadType)))))
 
 -- all bytes of a record add to 0 modulo 256
 unfoldable pub record_in : List ℕ → Result HexRecord LineFault
@@ -68,15 +68,15 @@ abbrev pub ◌>>=◌ : {A B : Type 0} → Result A LineFault → (A → Result B
 unfoldable pub record_of : List ℕ → Result HexRecord LineFault
 record_of line = record_bytes line >>= record_in
 
--- the address of an offset: behind a segment's base it wraps within 65,536, and at 2^20
-abbrev pub address_in : Base → ℕ → ℕ
+-- the address of an offset: in a segment it wraps within 65,536, and at 2^20
+abbrev pub address_in : Extension → ℕ → ℕ
 address_in (Segment paragraph) offset = (16 * paragraph + offset % 65536) % 2 ^ 20
 address_in (Linear high) offset = 65536 * high + offset
 
 -- the bytes of a record, each with its address
-abbrev pub placed : Base → ℕ → List ℕ → List (ℕ × ℕ)
-placed base offset [] = []
-placed base offset (b ∷ bs) = (address_in base offset, b) ∷ placed base (offset + 1) bs
+abbrev pub placed_bytes : Extension → ℕ → List ℕ → List (ℕ × ℕ)
+placed_bytes extension offset [] = []
+placed_bytes extension offset (b ∷ bs) = (address_in extension offset, b) ∷ placed_bytes extension (offset + 1) bs
 
 abbrev pub is_loadable : ℕ → Bool
 is_loadable address = nat_lt address 0xA0000 || (nat_le 0xF0000 address && nat_lt address 0x100000)

@@ -1,14 +1,14 @@
 //! Reading HEX texts.
 ghost use Rattle.std.specs.Prelude.{◌≡◌, ◌+◌, ◌<◌, ◌^◌, IfErr, IfOk, Ok, OnOk, length, true};
-ghost use Rattle.loader.specs.Records.{are_loadable, is_loadable, placed, record_of, with_bytes};
-ghost use Rattle.loader.specs.RecordViews.{IsSmall, Refuses, RefusesBytes, seen};
-ghost use Rattle.loader.specs.Reading.{Fails, after_end, after_line, after_record, image_of, standing};
+ghost use Rattle.loader.specs.Records.{are_loadable, is_loadable, placed_bytes, record_of, with_bytes};
+ghost use Rattle.loader.specs.RecordViews.{IsSmall, Refuses, RefusesBytes, view_of};
+ghost use Rattle.loader.specs.Reading.{Fails, after_end, after_line, after_record, image_of, load_state};
 ghost use Rattle.std.specs.BTreeMap.{insert_entry};
 ghost use Rattle.std.specs.Ordering.{nat_cmp};
 ghost use Rattle.loader.specs.Lines.{text_lines};
 
 use crate::hex_fault::{HexFault, LineFault};
-use crate::hex_record::{Base, LineError, Record, record_bytes, record_in};
+use crate::hex_record::{Extension, LineError, Record, record_bytes, record_in};
 use crate::text_lines::{next_line, without_spaces};
 use board_types::image::{Image, is_loadable};
 use std::alloc::Global;
@@ -20,14 +20,14 @@ pub fn read_hex(alloc: Global, text: &[u8]) -> Result<Image, HexFault>
     ensures fault { IfErr result (λ fault. Fails fault (image_of text.now)) }
 {
     let mut image = Image::new(alloc);
-    let mut base = Base::Segment(0);
+    let mut extension = Extension::Segment(0);
     let mut number = 0;
     let mut rest = text;
     while let Some((line, after)) = next_line(rest) {
         number += 1;
         rest = after;
-        match read_line(alloc, &mut image, base, without_spaces(line)) {
-            Ok(Some(next)) => base = next,
+        match read_line(alloc, &mut image, extension, without_spaces(line)) {
+            Ok(Some(next)) => extension = next,
             Ok(None) => return ended(image, number, rest),
             Err(LineError::Fault(fault)) => return Err(HexFault::InLine(fault, number)),
             Err(LineError::Memory) => return Err(HexFault::Memory),
@@ -54,54 +54,63 @@ fn ended(image: Image, number: u64, text: &[u8]) -> Result<Image, HexFault>
     Ok(image)
 }
 
-/// Takes a line, without the spaces at its end, and answers the base behind it; none behind the end record.
+/// Takes a line, without the spaces at its end, and answers the extension behind it; none behind the end record.
 #[tactic(auto, unfolding(crate::specs::Reading::after_line, crate::specs::Records::record_of))]
 fn read_line(
     alloc: Global,
     image: &mut Image,
-    base: Base,
+    extension: Extension,
     line: &[u8],
-) -> Result<Option<Base>, LineError>
-    ensures ok { IfOk result (λ next. after_line base image.old line.now ≡ Ok (standing next image.new)) }
-    ensures err { IfErr result (λ error. Refuses error (after_line base image.old line.now)) }
+) -> Result<Option<Extension>, LineError>
+    ensures ok { IfOk result (λ next. after_line extension image.old line.now ≡ Ok (load_state next image.new)) }
+    ensures err { IfErr result (λ error. Refuses error (after_line extension image.old line.now)) }
 {
     if line.is_empty() {
-        return Ok(Some(base));
+        return Ok(Some(extension));
     }
     let bytes = record_bytes(alloc, line)?;
     match record_in(bytes.as_slice()) {
-        Ok(found) => take_record(image, base, found),
+        Ok(found) => take_record(image, extension, found),
         Err(fault) => Err(LineError::Fault(fault)),
     }
 }
 
-/// Takes a record, and answers the base behind it.
-fn take_record(image: &mut Image, base: Base, found: Record<'_>) -> Result<Option<Base>, LineError>
-    requires { IsSmall (seen found) }
-    ensures ok { IfOk result (λ next. after_record base image.old (seen found.entry) ≡ Ok (standing next image.new)) }
-    ensures err { IfErr result (λ error. Refuses error (after_record base image.old (seen found.entry))) }
+/// Takes a record, and answers the extension behind it.
+fn take_record(
+    image: &mut Image,
+    extension: Extension,
+    found: Record<'_>,
+) -> Result<Option<Extension>, LineError>
+    requires { IsSmall (view_of found) }
+    ensures ok { IfOk result (λ next. after_record extension image.old (view_of found.entry) ≡ Ok (load_state next image.new)) }
+    ensures err { IfErr result (λ error. Refuses error (after_record extension image.old (view_of found.entry))) }
 {
     match found {
         Record::Bytes { offset, bytes } => {
-            put_bytes(image, base, offset, bytes)?;
-            Ok(Some(base))
+            put_bytes(image, extension, offset, bytes)?;
+            Ok(Some(extension))
         }
         Record::End => Ok(None),
-        Record::Base(next) => Ok(Some(next)),
-        Record::Start => Ok(Some(base)),
+        Record::Extension(next) => Ok(Some(next)),
+        Record::Start => Ok(Some(extension)),
     }
 }
 
 /// Puts bytes from an offset on.
-fn put_bytes(image: &mut Image, base: Base, offset: u16, bytes: &[u8]) -> Result<(), LineError>
+fn put_bytes(
+    image: &mut Image,
+    extension: Extension,
+    offset: u16,
+    bytes: &[u8],
+) -> Result<(), LineError>
     requires { length bytes.now < 2 ^ 16 }
-    ensures loadable { OnOk result (are_loadable (placed base offset bytes.now) ≡ true) }
-    ensures placed { OnOk result (image.new ≡ with_bytes image.old (placed base offset bytes.now)) }
-    ensures refused { IfErr result (λ error. RefusesBytes error (are_loadable (placed base offset bytes.now))) }
+    ensures loadable { OnOk result (are_loadable (placed_bytes extension offset bytes.now) ≡ true) }
+    ensures placed_bytes { OnOk result (image.new ≡ with_bytes image.old (placed_bytes extension offset bytes.now)) }
+    ensures refused { IfErr result (λ error. RefusesBytes error (are_loadable (placed_bytes extension offset bytes.now))) }
 {
     let mut at = u64::from(offset);
     for byte in bytes {
-        put_byte(image, base.address(at), *byte)?;
+        put_byte(image, extension.address(at), *byte)?;
         at += 1;
     }
     Ok(())

@@ -1,29 +1,30 @@
 //! The records of a HEX text.
 ghost use Rattle.std.specs.Prelude.{◌≡◌, ◌<◌, ◌^◌, IfErr, IfOk, IsTrue, Ok, length, sum};
-ghost use Rattle.loader.specs.Records.{address_in, is_whole, number_of_two, record_bytes, record_in, record_of_type, sized};
-ghost use Rattle.loader.specs.RecordViews.{IsSmall, Refuses, seen, seen_in};
+ghost use Rattle.loader.specs.Records.{address_in, is_whole, number_of_two, record_bytes, record_in, record_of_type, record_of_size};
+ghost use Rattle.loader.specs.RecordViews.{IsSmall, Refuses, view_of, view_in};
 
 use crate::hex_fault::LineFault;
 use std::alloc::Global;
 
-/// What the offsets of data records count from.
+/// What extends the offsets of data records to addresses.
 #[derive(Clone, Copy)]
-pub enum Base {
+pub enum Extension {
     /// A paragraph of 16 bytes: offsets wrap within 65,536 bytes.
     Segment(u16),
     /// The upper 16 of 32 address bits.
     Linear(u16),
 }
 
-impl Base {
+impl Extension {
     /// The address of an offset.
     pub(crate) fn address(self, offset: u64) -> u64
         requires { offset < 2 ^ 32 }
         ensures { result ≡ address_in self offset }
     {
         match self {
-            Base::Segment(paragraph) => (16 * u64::from(paragraph) + offset % 65_536) % (1 << 20),
-            Base::Linear(high) => 65_536 * u64::from(high) + offset,
+            Extension::Segment(paragraph) => (16 * u64::from(paragraph) + offset % 65_536)
+                % (1 << 20),
+            Extension::Linear(high) => 65_536 * u64::from(high) + offset,
         }
     }
 }
@@ -35,8 +36,8 @@ pub enum Record<'a> {
     Bytes { offset: u16, bytes: &'a [u8] },
     /// The end of the text.
     End,
-    /// The base of the offsets that follow.
-    Base(Base),
+    /// What extends the offsets that follow.
+    Extension(Extension),
     /// Where a program starts; nothing is loaded.
     Start,
 }
@@ -75,8 +76,8 @@ fn is_whole(bytes: &[u8]) -> bool
 #[tactic(auto, unfolding(crate::specs::Records::record_in))]
 pub(crate) fn record_in(bytes: &[u8]) -> Result<Record<'_>, LineFault>
     requires { IsTrue (is_whole bytes.now) }
-    ensures found { seen_in result ≡ record_in bytes.now }
-    ensures small { IfOk result (λ found. IsSmall (seen found)) }
+    ensures found { view_in result ≡ record_in bytes.now }
+    ensures small { IfOk result (λ found. IsSmall (view_of found)) }
 {
     if sum(bytes) % 256 != 0 {
         return Err(LineFault::BadSum);
@@ -102,31 +103,35 @@ fn number_of_two(high: u8, low: u8) -> u16
 #[tactic(auto, unfolding(crate::specs::Records::record_of_type))]
 fn record_of_type(kind: u8, offset: u16, content: &[u8]) -> Result<Record<'_>, LineFault>
     requires { length content.now < 256 }
-    ensures found { seen_in result ≡ record_of_type kind offset content.now }
-    ensures small { IfOk result (λ found. IsSmall (seen found)) }
+    ensures found { view_in result ≡ record_of_type kind offset content.now }
+    ensures small { IfOk result (λ found. IsSmall (view_of found)) }
 {
     match kind {
         0 => Ok(Record::Bytes {
             offset,
             bytes: content,
         }),
-        1 => sized(0, content, Record::End),
-        2 if content.len() == 2 => Ok(Record::Base(Base::Segment(number_of_two(
+        1 => record_of_size(0, content, Record::End),
+        2 if content.len() == 2 => Ok(Record::Extension(Extension::Segment(number_of_two(
             content[0], content[1],
         )))),
-        4 if content.len() == 2 => Ok(Record::Base(Base::Linear(number_of_two(
+        4 if content.len() == 2 => Ok(Record::Extension(Extension::Linear(number_of_two(
             content[0], content[1],
         )))),
-        3 | 5 => sized(4, content, Record::Start),
+        3 | 5 => record_of_size(4, content, Record::Start),
         2 | 4 => Err(LineFault::BadRecord),
         _ => Err(LineFault::BadType),
     }
 }
 
-fn sized<'a>(size: usize, content: &[u8], found: Record<'a>) -> Result<Record<'a>, LineFault>
-    requires { IsSmall (seen found) }
-    ensures found { seen_in result ≡ sized size content.now (seen found.entry) }
-    ensures small { IfOk result (λ given. IsSmall (seen given)) }
+fn record_of_size<'a>(
+    size: usize,
+    content: &[u8],
+    found: Record<'a>,
+) -> Result<Record<'a>, LineFault>
+    requires { IsSmall (view_of found) }
+    ensures found { view_in result ≡ record_of_size size content.now (view_of found.entry) }
+    ensures small { IfOk result (λ given. IsSmall (view_of given)) }
 {
     if content.len() == size {
         Ok(found)

@@ -3,7 +3,7 @@ ghost use Rattle.std.specs.Prelude.{◌≡◌, ◌+◌, ◌<◌, ◌≤◌, ◌^
 ghost use Rattle.std.specs.Io.KnownBytes.{Appends};
 ghost use Rattle.arrayvec.specs.ArrayVec.{array_vec_len};
 ghost use Rattle.hex.specs.Hex.{encode_upper, upper_digits};
-ghost use Rattle.loader.specs.HexText.{checksum, from, hex_text, record_line, row_lines, run};
+ghost use Rattle.loader.specs.HexText.{bytes_from, checksum, hex_text, longest_run, record_line, row_lines};
 
 use crate::hex_record::sum;
 use arrayvec::ArrayVec;
@@ -22,9 +22,9 @@ pub enum WriteFault {
     Failed,
 }
 
-/// Writes the HEX text of an image: in upper case, addresses rising, before each 65,536-byte bank in use its base,
-/// in each record the longest run of up to 16 bytes in the bank. Refused where the writer fails; how much it took
-/// by then isn't said.
+/// Writes the HEX text of an image: in upper case, addresses rising, before each 65,536-byte bank in use a record of
+/// its paragraph, in each record the longest run of up to 16 bytes in the bank. Refused where the writer fails; how
+/// much it took by then isn't said.
 #[tactic(auto, unfolding(crate::specs::HexText::hex_text))]
 pub fn write_hex<W: Write>(image: &Image, to: &mut W) -> Result<(), WriteFault>
     ensures { OnOk result (Appends (W.contents to.old) (W.contents to.new) (hex_text image.now)) }
@@ -57,7 +57,7 @@ fn write_text<W: Write>(to: &mut W, text: &[u8]) -> Result<(), WriteFault>
 /// The longest run of up to 16 bytes of the image from an address on, within its bank of 65,536 bytes.
 fn row_at(image: &Image, start: u32) -> ArrayVec<u8, 16>
     requires { start < 2 ^ 20 }
-    ensures { result.items ≡ run 16 start (from start image.now) }
+    ensures { result.items ≡ longest_run (bytes_from image.now start) start 16 }
 {
     let mut row = ArrayVec::new();
     for count in 0..16 {
@@ -73,7 +73,7 @@ fn row_at(image: &Image, start: u32) -> ArrayVec<u8, 16>
     row
 }
 
-/// The lines of a run of bytes: that of its bank's base, unless `last` is its bank, and its own.
+/// The lines of a run of bytes: that of its bank's paragraph, unless `last` is its bank, and its own.
 fn row_text(last: Option<u32>, address: u32, row: &[u8]) -> ArrayVec<u8, 64>
     requires address { address < 2 ^ 20 }
     requires row { length row.now ≤ 16 }

@@ -1,11 +1,15 @@
-//! What holds of HEX texts and images whatever they are. Each is an empty function whose contract states it.
-ghost use Rattle.loader.specs.Laws.{BytesChangePlaces, LaterBytesWin, LoadsRecords, OneImage, ReadsBack, RecordsChangePlaces};
+//! What holds of HEX texts and images whatever they are. Each is the contract of a function that does nothing.
+ghost use Rattle.loader.specs.Laws.{BytesChangePlaces, LaterBytesWin, LinesChangePlaces, LoadsAlone, LoadsRecords, ReadsBack, RecordsChangePlaces};
+
+use board_types::image::Image;
 
 /// The text that is written for an image gives that image, and no fault.
-#[tactic(auto, using(crate::proofs::ReadBack::reads_back))]
-pub fn reads_back()
-    ensures { ReadsBack }
-{}
+pub fn reads_back(image: &Image)
+    ensures { ReadsBack image.now }
+{
+    // a read tells what every image keeps
+    let _ = image.get(0);
+}
 
 /// A text gives an image exactly where its lines are those of records, the end record last, and the image holds the
 /// bytes of these records, each at its address, put in one after another.
@@ -21,9 +25,12 @@ pub fn later_bytes_win()
 {}
 
 /// The text that is written for an image is made of records whose bytes that image holds, and no other image does.
-pub fn one_image()
-    ensures { OneImage }
-{}
+pub fn one_image(image: &Image)
+    ensures { LoadsAlone image.now }
+{
+    // a read tells what every image keeps
+    let _ = image.get(0);
+}
 
 /// Of bytes that share no address it doesn't matter which are put into an image first.
 #[tactic(auto, using(crate::proofs::Places::bytes_change_places))]
@@ -35,4 +42,9 @@ pub fn bytes_change_places()
 #[tactic(auto, using(crate::proofs::Places::records_change_places))]
 pub fn records_change_places()
     ensures { RecordsChangePlaces }
+{}
+
+/// Two neighbouring lines of data records that share no address may change places: the text gives the same image.
+pub fn lines_change_places()
+    ensures { LinesChangePlaces }
 {}

@@ -6,7 +6,7 @@ use Rattle.loader.proofs.hex_reader.read_hex.Given as goal
 abbrev pub invariant-loop-line : goal.invariant-loop-line
 invariant-loop-line l = record {
   small : l.number + length l.rest < 2 ^ 64;
-  rest : image_after l.number l.base l.image (text_lines l.rest) ≡ image_of l.text;
+  rest : image_after l.number l.extension l.image (text_lines l.rest) ≡ image_of l.text;
 }
 
 abbrev pub decreases-loop-line : goal.decreases-loop-line
