@@ -1,19 +1,10 @@
-//! The program `pcboard`: assembles a source, runs the board and prints the report.
+//! The program `pcboard`, on the files and streams of the system.
 #![tactic(auto)]
 
-pub mod fault;
-pub mod opener;
-pub mod program;
-pub mod report;
-pub mod report_text;
-pub mod run;
-
-use crate::fault::{Fault, fault_text};
-use crate::opener::Opener;
-use crate::program::program;
-use board::board::BoardFault;
-use std::alloc::AllocError;
+use pcboard_program::opener::Opener;
+use pcboard_program::program::{program, without_words};
 use std::fs::File;
+use std::io::ErrorKind;
 use std::process::ExitCode;
 use std::{env, fs, io};
 
@@ -34,6 +25,9 @@ impl Opener for SystemFiles<'_> {
 fn main(rt: HostRuntime) -> ExitCode {
     match status_of(&rt) {
         Ok(status) => ExitCode::from(status),
+        Err(error) if error.kind() == ErrorKind::OutOfMemory => {
+            ExitCode::from(without_words(rt.alloc(), &mut rt.stderr()))
+        }
         Err(_) => ExitCode::from(3),
     }
 }
@@ -58,6 +52,3 @@ fn status_of(rt: &HostRuntime) -> io::Result<u8> {
     );
     Ok(status)
 }
-
-#[cfg(test)]
-mod tests;

@@ -10,22 +10,24 @@ use Rattle.clap.specs.Walk.{stop_after}
 use Rattle.clap.proofs.WalkLemmas as walk
 use Rattle.pcboard_words.specs.declared.task.LineFault.{LineFault}
 use Rattle.pcboard_words.specs.declared.task.LineFault.TheVariants.{Usage, Memory}
-use Rattle.pcboard_words.specs.CommandLine.{Answers, OnUsage, app}
+use Rattle.pcboard_words.specs.CommandLine.{Answers, NamesTask, OnUsage, app}
 
 pub first_rows : (f : Found) (name : Text) → first_value f name ≡ first_of name (rows_of f)
 first_rows f name = walk.first_value-rows f name
 
-found_run : (is_it : Bool) (s : Shape) (words : List Text) → s.name ≡ codes "run" → IfSome (option_map (λ s. rows_at s words) (if is_it then Some s else None)) (λ found. found.0 ≡ codes "run")
-found_run true s words named = named
-found_run false s words named = tt
+found_one : (is_asm is_run : Bool) (asm run : Shape) (words : List Text) → asm.name ≡ codes "asm" → run.name ≡ codes "run"
+    → IfSome (option_map (λ s. rows_at s words) (if is_asm then Some asm else (if is_run then Some run else None))) (λ found. NamesTask found.0)
+found_one true is_run asm run words one other = inl one
+found_one false true asm run words one other = inr other
+found_one false false asm run words one other = tt
 
-named_run : (stop : Option (Text × List Text)) → IfSome (entered (built app) stop) (λ found. found.0 ≡ codes "run")
-named_run None = tt
-named_run (Some p) = found_run _ _ p.1 refl
+named_one : (stop : Option (Text × List Text)) → IfSome (entered (built app) stop) (λ found. NamesTask found.0)
+named_one None = tt
+named_one (Some p) = found_one _ _ _ _ p.1 refl refl
 
--- the one subcommand is `run`
-pub run_alone : (words : List Text) → IfSome (subcommand_of app words) (λ found. found.0 ≡ codes "run")
-run_alone words = named_run (stop_after (built app).top.rules (names_of (built app)) (argument_words app words))
+-- each subcommand is a task
+pub tasks_alone : (words : List Text) → IfSome (subcommand_of app words) (λ found. NamesTask found.0)
+tasks_alone words = named_one (stop_after (built app).top.rules (names_of (built app)) (argument_words app words))
 
 not_true : (b : Bool) → (b ≡ true → ⊥) → b ≡ false
 not_true true never = absurd (never refl)

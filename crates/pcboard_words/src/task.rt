@@ -5,8 +5,16 @@
 pub enum Task<'a> {
     /// Runs the program that follows its run file on standard input.
     Stored,
-    /// Runs the program of the file `file` as the run file `run` says.
-    Run { file: &'a str, run: &'a str },
+    /// Prints the HEX text of the image that the source `file` gives.
+    Asm {
+        file: &'a str,
+    },
+    /// Runs the program of `file`, a HEX text if `hex`, else a source, as the run file `run` says.
+    Run {
+        file: &'a str,
+        run: &'a str,
+        hex: bool,
+    },
 }
 
 /// Why the words name no task.

@@ -1,7 +1,7 @@
 use Rattle.std.proofs.Common.{ap, subst, ◌≡◌, ◌∙◌, map, List}
 use Rattle.clap.specs.Words.{App, Text, app_of, HasKind, fault_of, is_simple, is_simple_and_free, subcommand_of, subcommand_rows_of, takes}
 use Rattle.pcboard_words.specs.CommandLine.{app}
-use Rattle.pcboard_words.proofs.Matches.{refused, run_alone}
+use Rattle.pcboard_words.proofs.Matches.{refused, tasks_alone}
 use Rattle.pcboard_words.proofs.line.read_words.Goals as goal
 
 pub task-requires : goal.task-requires
@@ -10,7 +10,7 @@ task-requires c =
     let command : app_of c.in-Ok.command ≡ app = c.in-Ok.ensures in
     let held : subcommand_rows_of c.in-Ok-try_get_matches_from.matches ≡ subcommand_of app words =
     (c.in-Ok-try_get_matches_from.ensures.matches (ap is_simple command)).1 ∙ ap (λ (a : App). subcommand_of a words) command in
-    rw held (run_alone words)
+    rw held (tasks_alone words)
 
 pub returns-in-Err-try_get_matches_from : goal.returns-in-Err-try_get_matches_from
 returns-in-Err-try_get_matches_from c =

@@ -3,9 +3,9 @@ use Rattle.std.proofs.Common.{ℕ, List}
 use Rattle.board.specs.declared.board.BoardFault.{BoardFault}
 use Rattle.board.specs.declared.board.BoardFault.TheVariants.{RamSize, Memory, ClockLimit}
 use Rattle.loader.specs.declared.run_file.RunFile.{RunFile}
-use Rattle.pcboard.specs.declared.fault.Fault.TheVariants.{Board}
-use Rattle.pcboard.specs.Report.{FitsBoard}
-use Rattle.pcboard.specs.Faults.{IsTrueOfBoard, IsWantOfMemory}
+use Rattle.pcboard_program.specs.declared.fault.Fault.TheVariants.{Board}
+use Rattle.pcboard_program.specs.Report.{FitsBoard}
+use Rattle.pcboard_program.specs.Faults.{IsTrueOfBoard, IsWantOfMemory}
 
 pub memory_alone : (image : List (ℕ × ℕ)) (run : RunFile) (fault : BoardFault) → IsTrueOfBoard image run fault → FitsBoard image run → IsWantOfMemory (Board fault)
 memory_alone image run RamSize refused fits = absurd (refused fits)

@@ -5,28 +5,33 @@ use Rattle.pcboard_assembler.specs.declared.fault.AsmFault.{AsmFault}
 use Rattle.pcboard_assembler.specs.Gives.{Gives}
 use Rattle.pcboard_assembler.specs.FirstFault.{IsFirst, fault_number, fault_name, fault_line}
 use Rattle.loader.specs.declared.run_file.RunFile.{RunFile}
+use Rattle.loader.specs.HexFault.{hex_fault_line, hex_fault_name, hex_fault_number}
 use Rattle.loader.specs.RunFault.{run_fault_number, run_fault_name}
 use Rattle.pcboard_assembler.specs.declared.fault.AsmFault.TheVariants as asm
+use Rattle.loader.specs.declared.hex_fault.HexFault.TheVariants as hexes
 use Rattle.loader.specs.declared.run_fault.RunFault.TheVariants as runs
 use Rattle.board.specs.declared.board.BoardFault.TheVariants as boards
 use Rattle.board.specs.declared.board.BoardFault.{BoardFault}
 use Rattle.board.specs.Board.{board_fault_number, board_fault_name}
-use Rattle.pcboard.specs.declared.fault.Fault.{Fault}
-use Rattle.pcboard.specs.declared.fault.Fault.TheVariants.{Source, Run, Board}
-use Rattle.pcboard.specs.Report.{FitsBoard}
+use Rattle.pcboard_program.specs.declared.fault.Fault.{Fault}
+use Rattle.pcboard_program.specs.declared.fault.Fault.TheVariants.{Source, Hex, Run, Board}
+use Rattle.pcboard_program.specs.Report.{FitsBoard}
 
 abbrev pub number_of : Fault → ℕ
 number_of (Source fault) = fault_number fault
+number_of (Hex fault) = hex_fault_number fault
 number_of (Run fault) = run_fault_number fault
 number_of (Board fault) = board_fault_number fault
 
 abbrev pub name_of : Fault → List ℕ
 name_of (Source fault) = fault_name fault
+name_of (Hex fault) = hex_fault_name fault
 name_of (Run fault) = run_fault_name fault
 name_of (Board fault) = board_fault_name fault
 
 abbrev pub line_of : Fault → Option ℕ
 line_of (Source fault) = fault_line fault
+line_of (Hex fault) = hex_fault_line fault
 line_of (Run fault) = None
 line_of (Board fault) = None
 
@@ -43,6 +48,9 @@ abbrev pub IsWantOfMemory : Fault → Type 0
 IsWantOfMemory (Source asm.Memory) = Unit {0}
 IsWantOfMemory (Source (asm.InLine _ _)) = ⊥
 IsWantOfMemory (Source asm.SourceTooLong) = ⊥
+IsWantOfMemory (Hex hexes.Memory) = Unit {0}
+IsWantOfMemory (Hex (hexes.InLine _ _)) = ⊥
+IsWantOfMemory (Hex hexes.NoEnd) = ⊥
 IsWantOfMemory (Run runs.Memory) = Unit {0}
 IsWantOfMemory (Run runs.NotJson) = ⊥
 IsWantOfMemory (Run runs.BadField) = ⊥
@@ -59,9 +67,16 @@ IsTrueOfBoard image run boards.RamSize = ¬ (FitsBoard image run)
 IsTrueOfBoard image run boards.Memory = Unit {0}
 IsTrueOfBoard image run boards.ClockLimit = ⊥
 
--- a refusal of a run is true of the source: it is the source's first fault, or a board's of the image that the
--- source gives
+-- a refusal of a run is true of the image: it is the board's
+abbrev pub IsTrueOfImage : List (ℕ × ℕ) → RunFile → Fault → Type 0
+IsTrueOfImage image run (Source fault) = ⊥
+IsTrueOfImage image run (Hex fault) = ⊥
+IsTrueOfImage image run (Run fault) = ⊥
+IsTrueOfImage image run (Board fault) = IsTrueOfBoard image run fault
+
+-- a refusal of a run is true of the source: it is the source's first fault, or one of the image that the source gives
 abbrev pub IsTrueOfSource : List ℕ → RunFile → Fault → Type 0
 IsTrueOfSource source run (Source fault) = IsFirst source fault
+IsTrueOfSource source run (Hex fault) = ⊥
 IsTrueOfSource source run (Run fault) = ⊥
 IsTrueOfSource source run (Board fault) = (image : List (ℕ × ℕ)) × Gives source image × IsTrueOfBoard image run fault

@@ -1,9 +1,10 @@
 //! Why a run is refused.
 ghost use Rattle.std.specs.Prelude.{◌≡◌, IfOk};
 ghost use Rattle.std.specs.String.{string_bytes};
-ghost use Rattle.pcboard.specs.Faults.{fault_text, line_of, line_suffix, name_of, number_of};
+ghost use Rattle.pcboard_program.specs.Faults.{fault_text, line_of, line_suffix, name_of, number_of};
 
 use board::board::BoardFault;
+use loader::hex_fault::HexFault;
 use loader::run_fault::RunFault;
 use pcboard_assembler::fault::AsmFault;
 use std::alloc::{AllocError, Global};
@@ -12,6 +13,7 @@ use std::alloc::{AllocError, Global};
 #[derive(Clone, Copy, Debug, PartialEq, Eq)]
 pub enum Fault {
     Source(AsmFault),
+    Hex(HexFault),
     Run(RunFault),
     Board(BoardFault),
 }
@@ -23,6 +25,7 @@ impl Fault {
     {
         match self {
             Fault::Source(fault) => fault.number(),
+            Fault::Hex(fault) => fault.number(),
             Fault::Run(fault) => fault.number(),
             Fault::Board(fault) => fault.number(),
         }
@@ -34,23 +37,25 @@ impl Fault {
     {
         match self {
             Fault::Source(fault) => fault.name(),
+            Fault::Hex(fault) => fault.name(),
             Fault::Run(fault) => fault.name(),
             Fault::Board(fault) => fault.name(),
         }
     }
 
-    /// The line of the source, from 1 on, where the fault has one.
-    pub fn line(self) -> Option<u32>
+    /// The line of the source or HEX text, from 1 on, where the fault has one.
+    pub fn line(self) -> Option<u64>
         ensures { result ≡ line_of self }
     {
         match self {
-            Fault::Source(fault) => fault.line(),
+            Fault::Source(fault) => fault.line().map(u64::from),
+            Fault::Hex(fault) => fault.line(),
             Fault::Run(_) | Fault::Board(_) => None,
         }
     }
 }
 
-/// The line that tells a fault: its number and name, and where it has one the line of the source.
+/// The line that tells a fault: its number and name, and where it has one its line.
 #[tactic(auto, unfolding(crate::specs::Faults::fault_text))]
 pub fn fault_text(alloc: Global, fault: Fault) -> Result<String, AllocError>
     ensures { IfOk result (λ text. string_bytes text ≡ fault_text fault) }
@@ -61,7 +66,7 @@ pub fn fault_text(alloc: Global, fault: Fault) -> Result<String, AllocError>
     format!(in alloc; "fault {number} {name}{suffix}")
 }
 
-fn line_suffix(alloc: Global, line: Option<u32>) -> Result<String, AllocError>
+fn line_suffix(alloc: Global, line: Option<u64>) -> Result<String, AllocError>
     ensures { IfOk result (λ text. string_bytes text ≡ line_suffix line) }
 {
     match line {

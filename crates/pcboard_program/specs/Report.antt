@@ -8,8 +8,8 @@ use Rattle.board.specs.declared.board.Config.{Config}
 use Rattle.board.specs.Plain.{Plain, board_after, byte_of, changes_in, clock_of, power_on, registers_of, screen_of, state_of}
 use Rattle.pcboard_assembler.specs.Gives.{Gives}
 use Rattle.loader.specs.declared.run_file.RunFile.{RunFile}
-use Rattle.pcboard.specs.declared.report.Report.{Report}
-use Rattle.pcboard.specs.ReportText.{report_text}
+use Rattle.pcboard_program.specs.declared.report.Report.{Report}
+use Rattle.pcboard_program.specs.ReportText.{report_text}
 
 -- how a run file fits out the board
 abbrev pub config_of : RunFile → Config
@@ -18,6 +18,10 @@ config_of run = record { ram_kb = run.ram_kb; sw1 = run.sw1; sw2 = run.sw2 }
 -- the plain board after the run file's budget
 abbrev pub plain_of : List (ℕ × ℕ) → RunFile → Plain
 plain_of image run = board_after image (config_of run) run.keys run.budget
+
+-- the stated text of a run's report
+abbrev pub report_of : List (ℕ × ℕ) → RunFile → List ℕ
+report_of image run = report_text (plain_of image run) (changes_in (power_on image (config_of run) run.keys) run.budget)
 
 -- The report's board is the plain board of an image at the budget: its registers, its state, the byte at each
 -- of the 1,048,576 addresses, its screen and the speaker's changes; and the text is the one of that board.
@@ -29,7 +33,7 @@ pub record ReportsImage (image : List (ℕ × ℕ)) (run : RunFile) (report : Re
   pub bytes : (address : ℕ) → address < 2 ^ 20 → byte_of report.board.plain address ≡ byte_of (plain_of image run) address
   pub screen : screen_of report.board.plain ≡ screen_of (plain_of image run)
   pub changes : report.board.changes ≡ changes_in (power_on image (config_of run) run.keys) run.budget
-  pub text : string_bytes report.text ≡ report_text (plain_of image run) (changes_in (power_on image (config_of run) run.keys) run.budget)
+  pub text : string_bytes report.text ≡ report_of image run
 
 -- the encoding table gives the source an image, and the report is of that image's board
 pub record ReportsSource (source : List ℕ) (run : RunFile) (report : Report) : Type 0 where

@@ -3,7 +3,7 @@ ghost use Rattle.std.specs.Prelude.{◌≡◌, ◌++◌, IfOk, OnOk, Some};
 ghost use Rattle.std.specs.String.{string_bytes};
 ghost use Rattle.std.specs.List.{flat_map};
 ghost use Rattle.board.specs.Plain.{screen_of};
-ghost use Rattle.pcboard.specs.ReportText.{change_line, clock_line, general_line, hex_word, register_lines, report_text, segment_line, state_lines, state_name};
+ghost use Rattle.pcboard_program.specs.ReportText.{change_line, clock_line, general_line, hex_word, register_lines, report_text, segment_line, state_lines, state_name};
 
 use board::board::{Board, SpeakerChange};
 use board_types::regs::Regs;

@@ -1,10 +1,10 @@
-//! Running a source for a number of clocks.
+//! Running a source or an image for a number of clocks.
 ghost use Rattle.std.specs.Prelude.{◌≡◌, ℕ, List, [], IfOk, MatchResult, ⊤};
 ghost use Rattle.std.specs.Result.{IfErr};
 ghost use Rattle.board.specs.Plain.{changes_in, clock_of, power_on};
 ghost use Rattle.pcboard_assembler.specs.Gives.{Gives};
-ghost use Rattle.pcboard.specs.Report.{FitsBoard, ReportsImage, ReportsSource, config_of, plain_of};
-ghost use Rattle.pcboard.specs.Faults.{IsTrueOfBoard, IsTrueOfSource, IsWantOfMemory};
+ghost use Rattle.pcboard_program.specs.Report.{FitsBoard, ReportsImage, ReportsSource, config_of, plain_of};
+ghost use Rattle.pcboard_program.specs.Faults.{IsTrueOfBoard, IsTrueOfImage, IsTrueOfSource, IsWantOfMemory};
 
 use crate::fault::Fault;
 use crate::report::Report;
@@ -25,18 +25,29 @@ pub fn run_source(alloc: Global, source: &[u8], run: &RunFile) -> Result<Report,
     // Where the source gives an image that fits the board, only the want of memory refuses it.
     ensures accepted { (image : List (ℕ × ℕ)) → Gives source.now image → FitsBoard image run.now → IfErr result IsWantOfMemory }
 {
-    let image = match assemble(alloc, source) {
-        Ok(image) => image,
-        Err(fault) => return Err(Fault::Source(fault)),
-    };
-    match run_image(alloc, &image, run) {
+    match assemble(alloc, source) {
+        Ok(image) => run_image(alloc, &image, run),
+        Err(fault) => Err(Fault::Source(fault)),
+    }
+}
+
+/// Runs an image on the board that the run file describes, with the file's stamped key codes, for the file's budget,
+/// and reports that board. Refused with `RamSize` where the board can't have that RAM or the image doesn't keep
+/// within it, and for want of memory.
+pub fn run_image(alloc: Global, image: &Image, run: &RunFile) -> Result<Report, Fault>
+    ensures report { IfOk result (λ report. ReportsImage image.now run.now report) }
+    ensures fault { IfErr result (λ fault. IsTrueOfImage image.now run.now fault) }
+
+    // Where the image fits the board, only the want of memory refuses it.
+    ensures accepted { FitsBoard image.now run.now → IfErr result IsWantOfMemory }
+{
+    match report_image(alloc, image, run) {
         Ok(report) => Ok(report),
         Err(fault) => Err(Fault::Board(fault)),
     }
 }
 
-/// Runs an image on the board that the run file describes for the file's budget, and reports that board.
-fn run_image(alloc: Global, image: &Image, run: &RunFile) -> Result<Report, BoardFault>
+fn report_image(alloc: Global, image: &Image, run: &RunFile) -> Result<Report, BoardFault>
     ensures report { IfOk result (λ report. ReportsImage image.now run.now report) }
     ensures fault { IfErr result (λ fault. IsTrueOfBoard image.now run.now fault) }
 {

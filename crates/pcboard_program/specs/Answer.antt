@@ -1,0 +1,79 @@
+-- What the program prints.
+use Rattle.std.specs.Prelude.{ℕ, ◌≡◌, ◌+◌, ◌==◌, Bool, true, false, List, [], take, drop, Option, None, Some, IfSome, Ok, Err, position}
+use Rattle.std.specs.Io.KnownBytes.{Appends}
+use Rattle.pcboard_assembler.specs.Gives.{Gives}
+use Rattle.pcboard_assembler.specs.FirstFault.{IsFirst}
+use Rattle.pcboard_words.specs.CommandLine.{Answers as AnswersWords}
+use Rattle.pcboard_words.specs.declared.task.Task.{Task}
+use Rattle.pcboard_words.specs.declared.task.Task.TheVariants as tasks
+use Rattle.loader.specs.HexText.{hex_text}
+use Rattle.loader.specs.Reading.{Fails, image_of}
+use Rattle.loader.specs.declared.run_file.RunFile.{RunFile}
+use Rattle.loader.specs.RunFile.{Answers, run_of_text}
+use Rattle.pcboard_program.specs.declared.fault.Fault.{Fault}
+use Rattle.pcboard_program.specs.declared.fault.Fault.TheVariants.{Source, Hex, Run, Board}
+use Rattle.pcboard_program.specs.Report.{report_of}
+use Rattle.pcboard_program.specs.Faults.{IsTrueOfBoard}
+
+-- the first line of a stored run, and what follows it
+abbrev pub up_to : Option ℕ → List ℕ → List ℕ
+up_to None text = text
+up_to (Some at) text = take at text
+
+abbrev pub past : Option ℕ → List ℕ → List ℕ
+past None text = []
+past (Some at) text = drop (at + 1) text
+
+abbrev pub first_line_end : List ℕ → Option ℕ
+first_line_end text = position (λ byte. byte == 10) text
+
+abbrev pub run_text_of : List ℕ → List ℕ
+run_text_of text = up_to (first_line_end text) text
+
+abbrev pub source_of : List ℕ → List ℕ
+source_of text = past (first_line_end text) text
+
+-- what a file's bytes give: as a HEX text, if `hex`, else as a source
+abbrev pub GivesImage : Bool → List ℕ → List (ℕ × ℕ) → Type 0
+GivesImage true bytes image = image_of bytes ≡ Ok image
+GivesImage false bytes image = Gives bytes image
+
+-- the bytes give an image, the run file's text says how to run, and this is the text of the report
+pub record IsReport (hex : Bool) (bytes run text : List ℕ) : Type 0 where
+  pub image : List (ℕ × ℕ)
+  pub gives : GivesImage hex bytes image
+  pub run_file : RunFile
+  pub says : Answers (Ok run_file) (run_of_text run)
+  pub is_text : text ≡ report_of image run_file
+
+-- the source gives an image, and this is its HEX text
+pub record IsHexOf (source text : List ℕ) : Type 0 where
+  pub image : List (ℕ × ℕ)
+  pub gives : Gives source image
+  pub is_text : text ≡ hex_text image
+
+-- the known bytes grow by such a text
+abbrev pub AppendsA : (List ℕ → Type 0) → Option (List ℕ) → Option (List ℕ) → Type 0
+AppendsA Is old new = (text : List ℕ) × Is text × Appends old new text
+
+-- what a task's answer adds to the bytes that `out` holds, where the files and the input are known
+abbrev pub PrintsTask : Task → (List ℕ → Option (List ℕ)) → Option (List ℕ) → Option (List ℕ) → Option (List ℕ) → Type 0
+PrintsTask tasks.Stored files input old new = IfSome input (λ text. AppendsA (IsReport false (source_of text) (run_text_of text)) old new)
+PrintsTask (tasks.Asm file) files input old new = IfSome (files file.now) (λ source. AppendsA (IsHexOf source) old new)
+PrintsTask (tasks.Run file run hex) files input old new =
+    IfSome (files file.now) (λ bytes. IfSome (files run.now) (λ said. AppendsA (IsReport hex bytes said) old new))
+
+-- the words name a task, and its answer is added
+abbrev pub Prints : List (List ℕ) → (List ℕ → Option (List ℕ)) → Option (List ℕ) → Option (List ℕ) → Option (List ℕ) → Type 0
+Prints words files input old new = (task : Task) × AnswersWords words (Ok task) × PrintsTask task files input old new
+
+-- A refusal is true: the first fault of the source or HEX text; or the run file's, where an image was given; or the
+-- board's, of what image and run file say.
+abbrev pub IsTrueRefusal : Bool → List ℕ → List ℕ → Fault → Type 0
+IsTrueRefusal false bytes run (Source fault) = IsFirst bytes fault
+IsTrueRefusal true bytes run (Source fault) = ⊥
+IsTrueRefusal false bytes run (Hex fault) = ⊥
+IsTrueRefusal true bytes run (Hex fault) = Fails fault (image_of bytes)
+IsTrueRefusal hex bytes run (Run fault) = Answers (Err fault) (run_of_text run) × ((image : List (ℕ × ℕ)) × GivesImage hex bytes image)
+IsTrueRefusal hex bytes run (Board fault) =
+    (run_file : RunFile) × Answers (Ok run_file) (run_of_text run) × ((image : List (ℕ × ℕ)) × GivesImage hex bytes image × IsTrueOfBoard image run_file fault)

@@ -1,0 +1,17 @@
+//! Where the program finds its files.
+ghost use Rattle.std.specs.Prelude.{◌≡◌, ℕ, List, Option, None, Some, IfOk, IfSome};
+
+use std::io;
+use std::io::Read;
+
+/// What opens a file for reading by its name.
+pub trait Opener {
+    type Input: Read + Drop;
+
+    // the bytes of the file of this name, where they are known
+    ghost file_bytes: { Self → List ℕ → Option (List ℕ) } = { λ _ _. None };
+
+    /// Opens the file `path`.
+    fn open(&self, path: &str) -> io::Result<Self::Input>
+        ensures { IfSome (file_bytes self.now path.now) (λ bytes. IfOk result (λ file. Self.Input.remaining file ≡ Some bytes)) };
+}

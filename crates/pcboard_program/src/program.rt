@@ -1,0 +1,288 @@
+//! The program, over any files, standard input and writers.
+ghost use Rattle.std.specs.Prelude.{◌≡◌, ◌≤◌, ◌<◌, length, map, take, true, false, IfOk, IfSome, OnOk, string_bytes};
+ghost use Rattle.std.specs.Io.KnownBytes.{Appends, Keeps};
+ghost use Rattle.std.specs.Result.{IfErr};
+ghost use Rattle.pcboard_program.specs.Answer.{AppendsA, IsHexOf, IsReport, IsTrueRefusal, Prints, PrintsTask, first_line_end, run_text_of, source_of};
+
+use crate::fault::{Fault, fault_text};
+use crate::opener::Opener;
+use crate::report::Report;
+use crate::run::{run_image, run_source};
+use board::board::BoardFault;
+use loader::hex_fault::HexFault;
+use loader::hex_reader::read_hex;
+use loader::hex_writer::write_hex;
+use loader::run_fault::RunFault;
+use loader::run_reader::read_run_text;
+use pcboard_assembler::assembly::assemble;
+use pcboard_assembler::fault::AsmFault;
+use pcboard_words::line::read_words;
+use pcboard_words::task::{LineFault, Task};
+use std::alloc::Global;
+use std::io;
+use std::io::{ErrorKind, Read, Write};
+
+/// One byte more than a source may have, so that a longer one is seen to be too long.
+const SOURCE_READ_LIMIT: u64 = 1_048_577;
+
+/// Why the program ends without an answer to its task.
+#[derive(Clone, Copy)]
+enum Stop {
+    /// An opening, a read or a write failed.
+    Failed,
+    Refused(Fault),
+}
+
+impl From<Fault> for Stop {
+    fn from(fault: Fault) -> Self {
+        Stop::Refused(fault)
+    }
+}
+
+/// Does what `words`, those after the program's name, ask for, and answers the exit status: 0; 1 for a refusal,
+/// which `err` tells in a line; 2 for words that aren't the program's, with their usage on `err`; 3, with no
+/// text, for an opening, a read or a write that failed.
+pub fn program<F: Opener, I: Read, O: Write, E: Write>(
+    alloc: Global,
+    words: &[&str],
+    files: &F,
+    input: &mut I,
+    out: &mut O,
+    err: &mut E,
+) -> u8
+    ensures status { result ≤ 3 }
+
+    // At status 0 what `out` holds has grown by the stated text of the answer to the task that the words name.
+    ensures printed { result ≡ 0 → Prints (map (λ word. word.now) words.entry.now) (F.file_bytes files.now) (I.remaining input.old) (O.contents out.old) (O.contents out.new) }
+{
+    let task = match read_words(alloc, words) {
+        Ok(task) => task,
+        Err(LineFault::Usage(text)) => return told(err, text.as_str(), 2),
+        Err(LineFault::Memory) => return without_words(alloc, err),
+    };
+    match print_task(alloc, task, files, input, out) {
+        Ok(()) => 0,
+        Err(Stop::Refused(fault)) => refused(alloc, err, fault),
+        Err(Stop::Failed) => 3,
+    }
+}
+
+/// What `program` does where the words found no memory: it tells so, and answers the exit status.
+pub fn without_words<E: Write>(alloc: Global, err: &mut E) -> u8
+    ensures above { 0 < result }
+    ensures within { result ≤ 3 }
+{
+    refused(alloc, err, Fault::Board(BoardFault::Memory))
+}
+
+/// Prints the answer to a task.
+fn print_task<F: Opener, I: Read, O: Write>(
+    alloc: Global,
+    task: Task<'_>,
+    files: &F,
+    input: &mut I,
+    out: &mut O,
+) -> Result<(), Stop>
+    ensures { OnOk result (PrintsTask task.entry (F.file_bytes files.now) (I.remaining input.old) (O.contents out.old) (O.contents out.new)) }
+{
+    match task {
+        Task::Stored => print(out, stored_report(alloc, input)?),
+        Task::Asm { file } => print_hex(alloc, files, file, out),
+        Task::Run {
+            file,
+            run,
+            hex: false,
+        } => print(out, source_report(alloc, files, file, run)?),
+        Task::Run {
+            file,
+            run,
+            hex: true,
+        } => print(out, hex_report(alloc, files, file, run)?),
+    }
+}
+
+/// The report of a stored run: the first line is the run file, and the rest the source.
+fn stored_report<I: Read>(alloc: Global, input: &mut I) -> Result<Report, Stop>
+    ensures { IfSome (I.remaining input.old) (λ text. IfOk result (λ report. IsReport false (source_of text) (run_text_of text) (string_bytes report.text))) }
+{
+    let text = read_whole(alloc, input, Fault::Source(AsmFault::Memory))?;
+    let (run, source) = parted(text.as_slice());
+    Ok(answer_source(alloc, source, run)?)
+}
+
+/// The report of a source and a run file. Both are read before either is judged.
+fn source_report<F: Opener>(alloc: Global, files: &F, file: &str, run: &str) -> Result<Report, Stop>
+    ensures { IfSome (F.file_bytes files.now file.now) (λ source. IfSome (F.file_bytes files.now run.now) (λ said. IfOk result (λ report. IsReport false source said (string_bytes report.text)))) }
+{
+    let source = read_source(alloc, files, file)?;
+    let run = read_file(alloc, files, run, Fault::Run(RunFault::Memory))?;
+    Ok(answer_source(alloc, source.as_slice(), run.as_slice())?)
+}
+
+/// The report of a HEX text and a run file. Both are read before either is judged.
+fn hex_report<F: Opener>(alloc: Global, files: &F, file: &str, run: &str) -> Result<Report, Stop>
+    ensures { IfSome (F.file_bytes files.now file.now) (λ text. IfSome (F.file_bytes files.now run.now) (λ said. IfOk result (λ report. IsReport true text said (string_bytes report.text)))) }
+{
+    let text = read_file(alloc, files, file, Fault::Hex(HexFault::Memory))?;
+    let run = read_file(alloc, files, run, Fault::Run(RunFault::Memory))?;
+    Ok(answer_hex(alloc, text.as_slice(), run.as_slice())?)
+}
+
+/// Prints the HEX text of a source's image.
+fn print_hex<F: Opener, O: Write>(
+    alloc: Global,
+    files: &F,
+    file: &str,
+    out: &mut O,
+) -> Result<(), Stop>
+    ensures { OnOk result (IfSome (F.file_bytes files.now file.now) (λ source. AppendsA (IsHexOf source) (O.contents out.old) (O.contents out.new))) }
+{
+    let source = read_source(alloc, files, file)?;
+    let image = match assemble(alloc, source.as_slice()) {
+        Ok(image) => image,
+        Err(fault) => return Err(Stop::Refused(Fault::Source(fault))),
+    };
+    match write_hex(&image, out) {
+        Ok(()) => finish(out),
+        Err(_) => Err(Stop::Failed),
+    }
+}
+
+/// The report of a source under the text of a run file, or the first refusal: the source's fault, then the run
+/// file's, then the board's.
+fn answer_source(alloc: Global, source: &[u8], run: &[u8]) -> Result<Report, Fault>
+    ensures report { IfOk result (λ report. IsReport false source.now run.now (string_bytes report.text)) }
+    ensures fault { IfErr result (λ fault. IsTrueRefusal false source.now run.now fault) }
+{
+    match read_run_text(alloc, run) {
+        Ok(run) => run_source(alloc, source, &run),
+        Err(run_fault) => match assemble(alloc, source) {
+            Ok(_) => Err(Fault::Run(run_fault)),
+            Err(fault) => Err(Fault::Source(fault)),
+        },
+    }
+}
+
+/// The report of a HEX text under the text of a run file, or the first refusal: the HEX text's fault, then the run
+/// file's, then the board's.
+fn answer_hex(alloc: Global, text: &[u8], run: &[u8]) -> Result<Report, Fault>
+    ensures report { IfOk result (λ report. IsReport true text.now run.now (string_bytes report.text)) }
+    ensures fault { IfErr result (λ fault. IsTrueRefusal true text.now run.now fault) }
+{
+    let image = match read_hex(alloc, text) {
+        Ok(image) => image,
+        Err(fault) => return Err(Fault::Hex(fault)),
+    };
+    match read_run_text(alloc, run) {
+        Ok(run) => run_image(alloc, &image, &run),
+        Err(fault) => Err(Fault::Run(fault)),
+    }
+}
+
+/// The text before the first line feed, and the text after it: none where there is no line feed.
+fn parted(text: &[u8]) -> (&[u8], &[u8])
+    ensures run { result.0.now ≡ run_text_of text.now }
+    ensures source { result.1.now ≡ source_of text.now }
+{
+    match first_line_end(text) {
+        Some(at) => (text.split_at(at).0, text.split_at(at + 1).1),
+        None => (text, &[]),
+    }
+}
+
+fn first_line_end(text: &[u8]) -> Option<usize>
+    ensures end { result ≡ first_line_end text.now }
+    ensures bound { IfSome result (λ at. at < length text.now) }
+{
+    text.iter().position(|byte| *byte == b'\n')
+}
+
+/// The bytes of a source, as far as they have to be seen.
+fn read_source<F: Opener>(alloc: Global, files: &F, path: &str) -> Result<Vec<u8>, Stop>
+    ensures { IfSome (F.file_bytes files.now path.now) (λ known. IfOk result (λ bytes. bytes.items ≡ take SOURCE_READ_LIMIT known)) }
+{
+    let file = opened(files, path)?;
+    read_whole(
+        alloc,
+        &mut file.take(SOURCE_READ_LIMIT),
+        Fault::Source(AsmFault::Memory),
+    )
+}
+
+/// The bytes of a file.
+fn read_file<F: Opener>(alloc: Global, files: &F, path: &str, want: Fault) -> Result<Vec<u8>, Stop>
+    ensures { IfSome (F.file_bytes files.now path.now) (λ known. IfOk result (λ bytes. bytes.items ≡ known)) }
+{
+    let mut file = opened(files, path)?;
+    read_whole(alloc, &mut file, want)
+}
+
+fn opened<F: Opener>(files: &F, path: &str) -> Result<F::Input, Stop>
+    ensures { IfSome (F.file_bytes files.now path.now) (λ known. IfOk result (λ file. F.Input.remaining file ≡ Some known)) }
+{
+    match files.open(path) {
+        Ok(file) => Ok(file),
+        Err(_) => Err(Stop::Failed),
+    }
+}
+
+/// All that `input` still has to give.
+fn read_whole<R: Read>(alloc: Global, input: &mut R, want: Fault) -> Result<Vec<u8>, Stop>
+    ensures { IfSome (R.remaining input.old) (λ known. IfOk result (λ bytes. bytes.items ≡ known)) }
+{
+    let mut bytes = Vec::new(alloc);
+    match input.read_to_end(&mut bytes) {
+        Ok(_) => Ok(bytes),
+        Err(error) if error.kind() == ErrorKind::OutOfMemory => Err(Stop::Refused(want)),
+        Err(_) => Err(Stop::Failed),
+    }
+}
+
+/// Prints a report.
+fn print<W: Write>(to: &mut W, report: Report) -> Result<(), Stop>
+    ensures { OnOk result (Appends (W.contents to.old) (W.contents to.new) (string_bytes report.text)) }
+{
+    match to.write_all(report.text.as_bytes()) {
+        Ok(()) => finish(to),
+        Err(_) => Err(Stop::Failed),
+    }
+}
+
+/// Sees to it that what was written reaches its end.
+fn finish<W: Write>(to: &mut W) -> Result<(), Stop>
+    ensures { OnOk result (Keeps (W.contents to.old) (W.contents to.new)) }
+{
+    match to.flush() {
+        Ok(()) => Ok(()),
+        Err(_) => Err(Stop::Failed),
+    }
+}
+
+/// Tells a text, and answers `status`, or 3 where that failed.
+fn told<W: Write>(err: &mut W, text: &str, status: u8) -> u8
+    requires above { 0 < status }
+    requires within { status ≤ 3 }
+    ensures above { 0 < result }
+    ensures within { result ≤ 3 }
+{
+    match tell(err, text) {
+        Ok(()) => status,
+        Err(_) => 3,
+    }
+}
+
+fn tell<W: Write>(err: &mut W, text: &str) -> io::Result<()> {
+    err.write_all(text.as_bytes())?;
+    err.flush()
+}
+
+/// Tells a refusal, and answers the status.
+fn refused<W: Write>(alloc: Global, err: &mut W, fault: Fault) -> u8
+    ensures above { 0 < result }
+    ensures within { result ≤ 3 }
+{
+    match fault_text(alloc, fault) {
+        Ok(text) => told(err, text.as_str(), 1),
+        Err(_) => 1,
+    }
+}
