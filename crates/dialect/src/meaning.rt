@@ -1,0 +1,259 @@
+//! The words, and what each of them means.
+ghost use Rattle.std.specs.Prelude.{◌≡◌, find, is_some, map};
+ghost use Rattle.dialect.specs.Words.{entry_of, is_reserved, meaning_of, spells, words};
+
+use crate::keyword::Keyword;
+use crate::mnemonic::Mnemonic;
+use crate::register::Register;
+use isa::form::{Prefix, Repeat};
+use isa::operation::{
+    Adjust, Arithmetic, Condition, Control, Looping, Operation, Processor, Product, Shift, Text,
+    Transfer, Unary,
+};
+use isa::register::{ByteRegister, SegmentRegister, WordRegister};
+
+/// What a word of the dialect means.
+#[derive(Clone, Copy)]
+pub enum Meaning {
+    Mnemonic(Mnemonic),
+    Register(Register),
+    /// LOCK or a repeat. An override is a segment register and a colon, and so no word.
+    Prefix(Prefix),
+    Keyword(Keyword),
+}
+
+/// A word in upper case, and what it means.
+#[derive(Clone, Copy)]
+struct Entry {
+    word: &'static [u8],
+    meaning: Meaning,
+}
+
+/// A word, and what it means.
+macro_rules! word {
+    ($word:literal, Mnemonic::$mnemonic:ident) => {
+        word!(@ $word, Meaning::Mnemonic(Mnemonic::$mnemonic))
+    };
+    ($word:literal, ByteRegister::$register:ident) => {
+        word!(@ $word, Meaning::Register(Register::Byte(ByteRegister::$register)))
+    };
+    ($word:literal, WordRegister::$register:ident) => {
+        word!(@ $word, Meaning::Register(Register::Word(WordRegister::$register)))
+    };
+    ($word:literal, SegmentRegister::$register:ident) => {
+        word!(@ $word, Meaning::Register(Register::Segment(SegmentRegister::$register)))
+    };
+    ($word:literal, Prefix::Lock) => {
+        word!(@ $word, Meaning::Prefix(Prefix::Lock))
+    };
+    ($word:literal, Repeat::$repeat:ident) => {
+        word!(@ $word, Meaning::Prefix(Prefix::Repeat(Repeat::$repeat)))
+    };
+    ($word:literal, Keyword::$keyword:ident) => {
+        word!(@ $word, Meaning::Keyword(Keyword::$keyword))
+    };
+    ($word:literal, Condition::$condition:ident) => {
+        word!(@ $word, Meaning::Mnemonic(Mnemonic::Plain(Operation::Jump(Condition::$condition))))
+    };
+    ($word:literal, $group:ident::$operation:ident) => {
+        word!(@ $word, Meaning::Mnemonic(Mnemonic::Plain(Operation::$group($group::$operation))))
+    };
+    (@ $word:literal, $meaning:expr) => {
+        Entry { word: $word, meaning: $meaning }
+    };
+}
+
+static WORDS: [Entry; 152] = [
+    word!(b"ADD", Arithmetic::Add),
+    word!(b"OR", Arithmetic::Or),
+    word!(b"ADC", Arithmetic::Adc),
+    word!(b"SBB", Arithmetic::Sbb),
+    word!(b"AND", Arithmetic::And),
+    word!(b"SUB", Arithmetic::Sub),
+    word!(b"XOR", Arithmetic::Xor),
+    word!(b"CMP", Arithmetic::Cmp),
+    word!(b"TEST", Arithmetic::Test),
+    word!(b"ROL", Shift::Rol),
+    word!(b"ROR", Shift::Ror),
+    word!(b"RCL", Shift::Rcl),
+    word!(b"RCR", Shift::Rcr),
+    word!(b"SHL", Shift::Shl),
+    word!(b"SAL", Shift::Shl),
+    word!(b"SHR", Shift::Shr),
+    word!(b"SAR", Shift::Sar),
+    word!(b"MUL", Product::Mul),
+    word!(b"IMUL", Product::Imul),
+    word!(b"DIV", Product::Div),
+    word!(b"IDIV", Product::Idiv),
+    word!(b"INC", Unary::Inc),
+    word!(b"DEC", Unary::Dec),
+    word!(b"NOT", Unary::Not),
+    word!(b"NEG", Unary::Neg),
+    word!(b"JO", Condition::Overflow),
+    word!(b"JNO", Condition::NotOverflow),
+    word!(b"JB", Condition::Below),
+    word!(b"JC", Condition::Below),
+    word!(b"JNAE", Condition::Below),
+    word!(b"JNB", Condition::NotBelow),
+    word!(b"JNC", Condition::NotBelow),
+    word!(b"JAE", Condition::NotBelow),
+    word!(b"JZ", Condition::Zero),
+    word!(b"JE", Condition::Zero),
+    word!(b"JNZ", Condition::NotZero),
+    word!(b"JNE", Condition::NotZero),
+    word!(b"JBE", Condition::BelowOrZero),
+    word!(b"JNA", Condition::BelowOrZero),
+    word!(b"JA", Condition::Above),
+    word!(b"JNBE", Condition::Above),
+    word!(b"JS", Condition::Sign),
+    word!(b"JNS", Condition::NotSign),
+    word!(b"JP", Condition::Parity),
+    word!(b"JPE", Condition::Parity),
+    word!(b"JNP", Condition::NotParity),
+    word!(b"JPO", Condition::NotParity),
+    word!(b"JL", Condition::Less),
+    word!(b"JNGE", Condition::Less),
+    word!(b"JGE", Condition::NotLess),
+    word!(b"JNL", Condition::NotLess),
+    word!(b"JLE", Condition::LessOrZero),
+    word!(b"JNG", Condition::LessOrZero),
+    word!(b"JG", Condition::Greater),
+    word!(b"JNLE", Condition::Greater),
+    word!(b"LOOPNE", Looping::Loopne),
+    word!(b"LOOPNZ", Looping::Loopne),
+    word!(b"LOOPE", Looping::Loope),
+    word!(b"LOOPZ", Looping::Loope),
+    word!(b"LOOP", Looping::Loop),
+    word!(b"JCXZ", Looping::Jcxz),
+    word!(b"MOVSB", Text::Movsb),
+    word!(b"MOVSW", Text::Movsw),
+    word!(b"CMPSB", Text::Cmpsb),
+    word!(b"CMPSW", Text::Cmpsw),
+    word!(b"STOSB", Text::Stosb),
+    word!(b"STOSW", Text::Stosw),
+    word!(b"LODSB", Text::Lodsb),
+    word!(b"LODSW", Text::Lodsw),
+    word!(b"SCASB", Text::Scasb),
+    word!(b"SCASW", Text::Scasw),
+    word!(b"DAA", Adjust::Daa),
+    word!(b"DAS", Adjust::Das),
+    word!(b"AAA", Adjust::Aaa),
+    word!(b"AAS", Adjust::Aas),
+    word!(b"AAM", Adjust::Aam),
+    word!(b"AAD", Adjust::Aad),
+    word!(b"CBW", Adjust::Cbw),
+    word!(b"CWD", Adjust::Cwd),
+    word!(b"MOV", Transfer::Mov),
+    word!(b"XCHG", Transfer::Xchg),
+    word!(b"LEA", Transfer::Lea),
+    word!(b"LES", Transfer::Les),
+    word!(b"LDS", Transfer::Lds),
+    word!(b"PUSH", Transfer::Push),
+    word!(b"POP", Transfer::Pop),
+    word!(b"PUSHF", Transfer::Pushf),
+    word!(b"POPF", Transfer::Popf),
+    word!(b"SAHF", Transfer::Sahf),
+    word!(b"LAHF", Transfer::Lahf),
+    word!(b"XLAT", Transfer::Xlat),
+    word!(b"IN", Transfer::In),
+    word!(b"OUT", Transfer::Out),
+    word!(b"JMP", Mnemonic::Jmp),
+    word!(b"CALL", Mnemonic::Call),
+    word!(b"RET", Control::Ret),
+    word!(b"RETF", Control::Retf),
+    word!(b"INT3", Control::Int3),
+    word!(b"INT", Control::Int),
+    word!(b"INTO", Control::Into),
+    word!(b"IRET", Control::Iret),
+    word!(b"HLT", Processor::Hlt),
+    word!(b"CMC", Processor::Cmc),
+    word!(b"CLC", Processor::Clc),
+    word!(b"STC", Processor::Stc),
+    word!(b"CLI", Processor::Cli),
+    word!(b"STI", Processor::Sti),
+    word!(b"CLD", Processor::Cld),
+    word!(b"STD", Processor::Std),
+    word!(b"WAIT", Processor::Wait),
+    word!(b"ESC", Processor::Esc),
+    word!(b"NOP", Mnemonic::Nop),
+    word!(b"AL", ByteRegister::Al),
+    word!(b"CL", ByteRegister::Cl),
+    word!(b"DL", ByteRegister::Dl),
+    word!(b"BL", ByteRegister::Bl),
+    word!(b"AH", ByteRegister::Ah),
+    word!(b"CH", ByteRegister::Ch),
+    word!(b"DH", ByteRegister::Dh),
+    word!(b"BH", ByteRegister::Bh),
+    word!(b"AX", WordRegister::Ax),
+    word!(b"CX", WordRegister::Cx),
+    word!(b"DX", WordRegister::Dx),
+    word!(b"BX", WordRegister::Bx),
+    word!(b"SP", WordRegister::Sp),
+    word!(b"BP", WordRegister::Bp),
+    word!(b"SI", WordRegister::Si),
+    word!(b"DI", WordRegister::Di),
+    word!(b"ES", SegmentRegister::Es),
+    word!(b"CS", SegmentRegister::Cs),
+    word!(b"SS", SegmentRegister::Ss),
+    word!(b"DS", SegmentRegister::Ds),
+    word!(b"LOCK", Prefix::Lock),
+    word!(b"REPNE", Repeat::Repne),
+    word!(b"REPNZ", Repeat::Repne),
+    word!(b"REP", Repeat::Rep),
+    word!(b"REPE", Repeat::Rep),
+    word!(b"REPZ", Repeat::Rep),
+    word!(b"SEGMENT", Keyword::Segment),
+    word!(b"AT", Keyword::At),
+    word!(b"ENDS", Keyword::Ends),
+    word!(b"EQU", Keyword::Equ),
+    word!(b"ORG", Keyword::Org),
+    word!(b"DB", Keyword::Db),
+    word!(b"DW", Keyword::Dw),
+    word!(b"DD", Keyword::Dd),
+    word!(b"DUP", Keyword::Dup),
+    word!(b"SEG", Keyword::Seg),
+    word!(b"BYTE", Keyword::Byte),
+    word!(b"WORD", Keyword::Word),
+    word!(b"FAR", Keyword::Far),
+    word!(b"SHORT", Keyword::Short),
+];
+
+/// The words.
+#[tactic(auto, unfolding(crate::specs::Words::words))]
+fn entries() -> &'static [Entry]
+    ensures { map entry_of result.now ≡ words }
+{
+    &WORDS
+}
+
+/// What the word means, in any case. `None` where it is none of the dialect's.
+pub fn meaning_of(word: &[u8]) -> Option<Meaning>
+    ensures { result ≡ meaning_of word.now }
+{
+    Some(first_of(entries(), word)?.meaning)
+}
+
+/// The first entry of the word.
+fn first_of(entries: &[Entry], word: &[u8]) -> Option<Entry>
+    ensures { result ≡ find (λ e. spells word.now e.word.now) entries.now }
+{
+    entries
+        .iter()
+        .copied()
+        .find(|entry| spells(word, entry.word))
+}
+
+/// Whether the word is one of the dialect's, so that no name may be it.
+pub fn is_reserved(word: &[u8]) -> bool
+    ensures { result ≡ is_reserved word.now }
+{
+    meaning_of(word).is_some()
+}
+
+/// Whether the word is this keyword, in any case.
+#[tactic(auto, unfolding(crate::specs::Words::spells))]
+fn spells(word: &[u8], keyword: &[u8]) -> bool
+    ensures { result ≡ spells word.now keyword.now }
+{
+    word.eq_ignore_ascii_case(keyword)
+}

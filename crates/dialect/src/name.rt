@@ -1,0 +1,309 @@
+//! The names under which operations, registers, prefixes and keywords are written: of several the first.
+ghost use Rattle.std.specs.Prelude.{◌≡◌};
+ghost use Rattle.dialect.specs.Names.{adjust_name, arithmetic_name, byte_register_name, control_name, jump_name, keyword_name, looping_name, mnemonic_name, operation_name, prefix_name, processor_name, product_name, register_name, segment_register_name, shift_name, text_name, transfer_name, unary_name, word_register_name};
+
+use crate::keyword::Keyword;
+use crate::mnemonic::Mnemonic;
+use crate::register::Register;
+use isa::form::{Prefix, Repeat};
+use isa::operation::{
+    Adjust, Arithmetic, Condition, Control, Looping, Operation, Processor, Product, Shift, Text,
+    Transfer, Unary,
+};
+use isa::register::{ByteRegister, SegmentRegister, WordRegister};
+
+/// The operation's first mnemonic. The far jump and the far call have those of the near ones.
+pub fn operation_name(operation: Operation) -> &'static str
+    ensures { result.now ≡ operation_name operation }
+{
+    match operation {
+        Operation::Arithmetic(arithmetic) => arithmetic_name(arithmetic),
+        Operation::Shift(shift) => shift_name(shift),
+        Operation::Product(product) => product_name(product),
+        Operation::Unary(unary) => unary_name(unary),
+        Operation::Jump(condition) => jump_name(condition),
+        Operation::Looping(looping) => looping_name(looping),
+        Operation::Text(text) => text_name(text),
+        Operation::Adjust(adjust) => adjust_name(adjust),
+        Operation::Transfer(transfer) => transfer_name(transfer),
+        Operation::Control(control) => control_name(control),
+        Operation::Processor(processor) => processor_name(processor),
+    }
+}
+
+fn arithmetic_name(arithmetic: Arithmetic) -> &'static str
+    ensures { result.now ≡ arithmetic_name arithmetic }
+{
+    match arithmetic {
+        Arithmetic::Add => "ADD",
+        Arithmetic::Or => "OR",
+        Arithmetic::Adc => "ADC",
+        Arithmetic::Sbb => "SBB",
+        Arithmetic::And => "AND",
+        Arithmetic::Sub => "SUB",
+        Arithmetic::Xor => "XOR",
+        Arithmetic::Cmp => "CMP",
+        Arithmetic::Test => "TEST",
+    }
+}
+
+fn shift_name(shift: Shift) -> &'static str
+    ensures { result.now ≡ shift_name shift }
+{
+    match shift {
+        Shift::Rol => "ROL",
+        Shift::Ror => "ROR",
+        Shift::Rcl => "RCL",
+        Shift::Rcr => "RCR",
+        Shift::Shl => "SHL",
+        Shift::Shr => "SHR",
+        Shift::Sar => "SAR",
+    }
+}
+
+fn product_name(product: Product) -> &'static str
+    ensures { result.now ≡ product_name product }
+{
+    match product {
+        Product::Mul => "MUL",
+        Product::Imul => "IMUL",
+        Product::Div => "DIV",
+        Product::Idiv => "IDIV",
+    }
+}
+
+fn unary_name(unary: Unary) -> &'static str
+    ensures { result.now ≡ unary_name unary }
+{
+    match unary {
+        Unary::Inc => "INC",
+        Unary::Dec => "DEC",
+        Unary::Not => "NOT",
+        Unary::Neg => "NEG",
+    }
+}
+
+fn jump_name(condition: Condition) -> &'static str
+    ensures { result.now ≡ jump_name condition }
+{
+    match condition {
+        Condition::Overflow => "JO",
+        Condition::NotOverflow => "JNO",
+        Condition::Below => "JB",
+        Condition::NotBelow => "JNB",
+        Condition::Zero => "JZ",
+        Condition::NotZero => "JNZ",
+        Condition::BelowOrZero => "JBE",
+        Condition::Above => "JA",
+        Condition::Sign => "JS",
+        Condition::NotSign => "JNS",
+        Condition::Parity => "JP",
+        Condition::NotParity => "JNP",
+        Condition::Less => "JL",
+        Condition::NotLess => "JGE",
+        Condition::LessOrZero => "JLE",
+        Condition::Greater => "JG",
+    }
+}
+
+fn looping_name(looping: Looping) -> &'static str
+    ensures { result.now ≡ looping_name looping }
+{
+    match looping {
+        Looping::Loopne => "LOOPNE",
+        Looping::Loope => "LOOPE",
+        Looping::Loop => "LOOP",
+        Looping::Jcxz => "JCXZ",
+    }
+}
+
+fn text_name(text: Text) -> &'static str
+    ensures { result.now ≡ text_name text }
+{
+    match text {
+        Text::Movsb => "MOVSB",
+        Text::Movsw => "MOVSW",
+        Text::Cmpsb => "CMPSB",
+        Text::Cmpsw => "CMPSW",
+        Text::Stosb => "STOSB",
+        Text::Stosw => "STOSW",
+        Text::Lodsb => "LODSB",
+        Text::Lodsw => "LODSW",
+        Text::Scasb => "SCASB",
+        Text::Scasw => "SCASW",
+    }
+}
+
+fn adjust_name(adjust: Adjust) -> &'static str
+    ensures { result.now ≡ adjust_name adjust }
+{
+    match adjust {
+        Adjust::Daa => "DAA",
+        Adjust::Das => "DAS",
+        Adjust::Aaa => "AAA",
+        Adjust::Aas => "AAS",
+        Adjust::Aam => "AAM",
+        Adjust::Aad => "AAD",
+        Adjust::Cbw => "CBW",
+        Adjust::Cwd => "CWD",
+    }
+}
+
+fn transfer_name(transfer: Transfer) -> &'static str
+    ensures { result.now ≡ transfer_name transfer }
+{
+    match transfer {
+        Transfer::Mov => "MOV",
+        Transfer::Xchg => "XCHG",
+        Transfer::Lea => "LEA",
+        Transfer::Les => "LES",
+        Transfer::Lds => "LDS",
+        Transfer::Push => "PUSH",
+        Transfer::Pop => "POP",
+        Transfer::Pushf => "PUSHF",
+        Transfer::Popf => "POPF",
+        Transfer::Sahf => "SAHF",
+        Transfer::Lahf => "LAHF",
+        Transfer::Xlat => "XLAT",
+        Transfer::In => "IN",
+        Transfer::Out => "OUT",
+    }
+}
+
+fn control_name(control: Control) -> &'static str
+    ensures { result.now ≡ control_name control }
+{
+    match control {
+        Control::Jmp => "JMP",
+        Control::Call => "CALL",
+        Control::Ret => "RET",
+        Control::JmpFar => "JMP",
+        Control::CallFar => "CALL",
+        Control::Retf => "RETF",
+        Control::Int3 => "INT3",
+        Control::Int => "INT",
+        Control::Into => "INTO",
+        Control::Iret => "IRET",
+    }
+}
+
+fn processor_name(processor: Processor) -> &'static str
+    ensures { result.now ≡ processor_name processor }
+{
+    match processor {
+        Processor::Hlt => "HLT",
+        Processor::Cmc => "CMC",
+        Processor::Clc => "CLC",
+        Processor::Stc => "STC",
+        Processor::Cli => "CLI",
+        Processor::Sti => "STI",
+        Processor::Cld => "CLD",
+        Processor::Std => "STD",
+        Processor::Wait => "WAIT",
+        Processor::Esc => "ESC",
+    }
+}
+
+impl Mnemonic {
+    /// The first mnemonic with this meaning.
+    pub fn name(self) -> &'static str
+        ensures { result.now ≡ mnemonic_name self }
+    {
+        match self {
+            Mnemonic::Plain(operation) => operation_name(operation),
+            Mnemonic::Jmp => "JMP",
+            Mnemonic::Call => "CALL",
+            Mnemonic::Nop => "NOP",
+        }
+    }
+}
+
+impl Register {
+    /// Its name.
+    pub fn name(self) -> &'static str
+        ensures { result.now ≡ register_name self }
+    {
+        match self {
+            Register::Byte(register) => byte_register_name(register),
+            Register::Word(register) => word_register_name(register),
+            Register::Segment(register) => segment_register_name(register),
+        }
+    }
+}
+
+fn byte_register_name(register: ByteRegister) -> &'static str
+    ensures { result.now ≡ byte_register_name register }
+{
+    match register {
+        ByteRegister::Al => "AL",
+        ByteRegister::Cl => "CL",
+        ByteRegister::Dl => "DL",
+        ByteRegister::Bl => "BL",
+        ByteRegister::Ah => "AH",
+        ByteRegister::Ch => "CH",
+        ByteRegister::Dh => "DH",
+        ByteRegister::Bh => "BH",
+    }
+}
+
+fn word_register_name(register: WordRegister) -> &'static str
+    ensures { result.now ≡ word_register_name register }
+{
+    match register {
+        WordRegister::Ax => "AX",
+        WordRegister::Cx => "CX",
+        WordRegister::Dx => "DX",
+        WordRegister::Bx => "BX",
+        WordRegister::Sp => "SP",
+        WordRegister::Bp => "BP",
+        WordRegister::Si => "SI",
+        WordRegister::Di => "DI",
+    }
+}
+
+fn segment_register_name(register: SegmentRegister) -> &'static str
+    ensures { result.now ≡ segment_register_name register }
+{
+    match register {
+        SegmentRegister::Es => "ES",
+        SegmentRegister::Cs => "CS",
+        SegmentRegister::Ss => "SS",
+        SegmentRegister::Ds => "DS",
+    }
+}
+
+/// The first word for a prefix; of an override its segment register, behind which a colon is written.
+pub fn prefix_name(prefix: Prefix) -> &'static str
+    ensures { result.now ≡ prefix_name prefix }
+{
+    match prefix {
+        Prefix::Segment(register) => segment_register_name(register),
+        Prefix::Lock => "LOCK",
+        Prefix::Repeat(Repeat::Repne) => "REPNE",
+        Prefix::Repeat(Repeat::Rep) => "REP",
+    }
+}
+
+impl Keyword {
+    /// Its word.
+    pub fn name(self) -> &'static str
+        ensures { result.now ≡ keyword_name self }
+    {
+        match self {
+            Keyword::Segment => "SEGMENT",
+            Keyword::At => "AT",
+            Keyword::Ends => "ENDS",
+            Keyword::Equ => "EQU",
+            Keyword::Org => "ORG",
+            Keyword::Db => "DB",
+            Keyword::Dw => "DW",
+            Keyword::Dd => "DD",
+            Keyword::Dup => "DUP",
+            Keyword::Seg => "SEG",
+            Keyword::Byte => "BYTE",
+            Keyword::Word => "WORD",
+            Keyword::Far => "FAR",
+            Keyword::Short => "SHORT",
+        }
+    }
+}
