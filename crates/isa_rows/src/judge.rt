@@ -4,6 +4,7 @@ use crate::code::{Code, SEGMENT};
 use anyhow::{Context, Result, bail};
 use decode::decode::decode;
 use decode::decoded::Decoded;
+use disassembler::text::InstrText;
 use isa::clocks::cost;
 use isa::encoding::encode;
 use isa::outcome::Outcome;
@@ -16,6 +17,11 @@ pub fn judge(alloc: Global, line: &str) -> Result<()> {
         ["cost", bytes, cl, found, clocks] => judge_cost(bytes, cl, found, clocks),
         [ip, bytes, "none"] => judge_none(&Code::read(ip, bytes)?),
         [ip, bytes, length] => judge_found(&Code::read(ip, bytes)?, length),
+        [ip, bytes, length, ..] => {
+            let code = Code::read(ip, bytes)?;
+            judge_found(&code, length)?;
+            judge_text(alloc, &code, line.splitn(4, ' ').nth(3).context("no text")?)
+        }
         _ => bail!("no such line"),
     }
 }
@@ -48,6 +54,23 @@ fn judge_found(code: &Code, length: &str) -> Result<()> {
             }
             if prefixes.len() + again.len() != usize::from(found) {
                 bail!("encoded with another length");
+            }
+            Ok(())
+        }
+    }
+}
+
+fn judge_text(alloc: Global, code: &Code, text: &str) -> Result<()> {
+    match decode(code, SEGMENT, code.ip) {
+        Decoded::NoRow => bail!("no row"),
+        Decoded::Found(instr, _) => {
+            let shown = InstrText {
+                instr: &instr,
+                ip: code.ip,
+            };
+            let found = shown.to_string(alloc)?;
+            if found.as_str() != text {
+                bail!("shown as {found}");
             }
             Ok(())
         }

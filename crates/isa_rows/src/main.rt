@@ -2,8 +2,9 @@
 //! with its number, and then how many lines there were and how many of them differ. A line that can't be read differs.
 //! A blank line and a line that begins with `#` don't count.
 //!
-//! `IP BYTES LENGTH` or `IP BYTES none`: the instruction that stands at the offset IP, and how many bytes it has. Its
-//! bytes, encoded again, must be those that stand there. BYTES may go on behind it; all further bytes are 90h.
+//! `IP BYTES LENGTH TEXT`, `IP BYTES LENGTH` or `IP BYTES none`: the instruction that stands at the offset IP, how many
+//! bytes it has, and its text, one blank behind the length. Its bytes, encoded again, must be those that stand there.
+//! BYTES may go on behind it; all further bytes are 90h.
 //!
 //! `cost BYTES CL FOUND CLOCKS`: what a step of the instruction costs that found CL and `t`, a jump or interrupt that
 //! is taken; `f`, the first step; `z`, CX 0; `d`, a division without a quotient; `-`, none of them.

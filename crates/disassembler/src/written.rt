@@ -1,0 +1,194 @@
+//! What is written for the operands of an instruction.
+ghost use Rattle.std.specs.Prelude.{◌≡◌};
+ghost use Rattle.disassembler.specs.Written.{byte_operand, escape_operand, extended, far_size, memory_operand, size_beside, target_operand, tells_size, word_operand, written_operand};
+
+use dialect::keyword::Keyword;
+use dialect::register::Register;
+use isa::form::{Base, Form, Place, Values};
+use isa::operation::{Control, Operation};
+use isa::register::{ByteRegister, SegmentRegister, WordRegister};
+use isa::row::Kind;
+
+/// A place in memory as it is written.
+#[derive(Clone, Copy)]
+pub struct Memory {
+    /// BYTE, WORD or FAR.
+    pub size: Option<Keyword>,
+    pub base: Option<Base>,
+    pub displacement: Option<u16>,
+}
+
+/// What is written for an operand.
+#[derive(Clone, Copy)]
+pub enum Written {
+    Nothing,
+    Register(Register),
+    /// The count 1 of a shift.
+    One,
+    /// A number of two digits.
+    Byte(u8),
+    /// A number of four digits.
+    Word(u16),
+    /// SHORT and a target.
+    Short(u16),
+    /// FAR, a segment and an offset.
+    Far(u16, u16),
+    Memory(Memory),
+}
+
+/// What is written for the operand of kind `kind` beside one of kind `other`, where the next instruction stands at
+/// the offset `next`.
+#[tactic(auto, unfolding(crate::specs::Written::written_operand))]
+pub(crate) fn written_operand(
+    form: &Form,
+    values: Values,
+    next: u16,
+    kind: Kind,
+    other: Kind,
+) -> Written
+    ensures { result ≡ written_operand form.now values next kind other }
+{
+    match kind {
+        Kind::Nothing | Kind::Ten => Written::Nothing,
+        Kind::Al => Written::Register(Register::Byte(ByteRegister::Al)),
+        Kind::Ax => Written::Register(Register::Word(WordRegister::Ax)),
+        Kind::Cl => Written::Register(Register::Byte(ByteRegister::Cl)),
+        Kind::Dx => Written::Register(Register::Word(WordRegister::Dx)),
+        Kind::One => Written::One,
+        Kind::Code8 => Written::Register(Register::Byte(ByteRegister::numbered(form.code))),
+        Kind::Code16 => Written::Register(Register::Word(WordRegister::numbered(form.code))),
+        Kind::CodeSegment | Kind::CodeSegmentNotCs => {
+            Written::Register(Register::Segment(SegmentRegister::numbered(form.code)))
+        }
+        Kind::EscNumber => escape_operand(form.code, form.reg),
+        Kind::Reg8 => Written::Register(Register::Byte(ByteRegister::numbered(form.reg))),
+        Kind::Reg16 => Written::Register(Register::Word(WordRegister::numbered(form.reg))),
+        Kind::Segment | Kind::SegmentNotCs => {
+            Written::Register(Register::Segment(SegmentRegister::numbered(form.reg)))
+        }
+        Kind::Rm8 => byte_operand(
+            form.place,
+            size_beside(Keyword::Byte, other),
+            values.displacement,
+        ),
+        Kind::Rm16 => word_operand(
+            form.place,
+            size_beside(Keyword::Word, other),
+            values.displacement,
+        ),
+        Kind::Memory => word_operand(
+            form.place,
+            far_size(form.row.operation()),
+            values.displacement,
+        ),
+        Kind::Imm8 => Written::Byte((values.number % 256) as u8),
+        Kind::Imm16 => Written::Word(values.number),
+        Kind::Signed8 => Written::Word(extended(values.number)),
+        Kind::Rel8 => target_operand(
+            form.row.operation(),
+            next.wrapping_add(extended(values.number)),
+        ),
+        Kind::Rel16 => Written::Word(next.wrapping_add(values.number)),
+        Kind::At8 | Kind::At16 => Written::Memory(Memory {
+            size: None,
+            base: None,
+            displacement: Some(values.number),
+        }),
+        Kind::Far => Written::Far(values.segment, values.number),
+    }
+}
+
+/// A byte, extended to a word by its sign.
+fn extended(byte: u16) -> u16
+    ensures { result ≡ extended byte }
+{
+    if byte < 128 {
+        byte
+    } else {
+        byte.wrapping_add(0xFF00)
+    }
+}
+
+/// An ESC's number.
+fn escape_operand(code: u8, reg: u8) -> Written
+    ensures { result ≡ escape_operand code reg }
+{
+    Written::Byte(((8 * u16::from(code) + u16::from(reg)) % 256) as u8)
+}
+
+/// A target within a byte, which JMP marks by SHORT.
+fn target_operand(operation: Operation, target: u16) -> Written
+    ensures { result ≡ target_operand operation target }
+{
+    match operation {
+        Operation::Control(Control::Jmp) => Written::Short(target),
+        _ => Written::Word(target),
+    }
+}
+
+/// Whether it is a register beside memory that tells the memory's size; a shift's CL doesn't.
+fn tells_size(kind: Kind) -> bool
+    ensures { result ≡ tells_size kind }
+{
+    matches!(
+        kind,
+        Kind::Reg8 | Kind::Reg16 | Kind::Segment | Kind::SegmentNotCs
+    )
+}
+
+/// The size word of memory beside an operand of kind `other`.
+fn size_beside(size: Keyword, other: Kind) -> Option<Keyword>
+    ensures { result ≡ size_beside size other }
+{
+    if tells_size(other) { None } else { Some(size) }
+}
+
+/// FAR where the operation takes an offset and a segment from memory; LEA, LES and LDS have no size word.
+fn far_size(operation: Operation) -> Option<Keyword>
+    ensures { result ≡ far_size operation }
+{
+    match operation {
+        Operation::Control(_) => Some(Keyword::Far),
+        _ => None,
+    }
+}
+
+fn byte_operand(place: Place, size: Option<Keyword>, displacement: u16) -> Written
+    ensures { result ≡ byte_operand place size displacement }
+{
+    match place {
+        Place::Register(number) => Written::Register(Register::Byte(ByteRegister::numbered(
+            number,
+        ))),
+        _ => memory_operand(place, size, displacement),
+    }
+}
+
+fn word_operand(place: Place, size: Option<Keyword>, displacement: u16) -> Written
+    ensures { result ≡ word_operand place size displacement }
+{
+    match place {
+        Place::Register(number) => Written::Register(Register::Word(WordRegister::numbered(
+            number,
+        ))),
+        _ => memory_operand(place, size, displacement),
+    }
+}
+
+/// A place in memory; of any other place nothing.
+fn memory_operand(place: Place, size: Option<Keyword>, displacement: u16) -> Written
+    ensures { result ≡ memory_operand place size displacement }
+{
+    let (base, displacement) = match place {
+        Place::Absent | Place::Register(_) => return Written::Nothing,
+        Place::Direct => (None, Some(displacement)),
+        Place::Base(base) => (Some(base), None),
+        Place::BaseByte(base) => (Some(base), Some(extended(displacement))),
+        Place::BaseWord(base) => (Some(base), Some(displacement)),
+    };
+    Written::Memory(Memory {
+        size,
+        base,
+        displacement,
+    })
+}
