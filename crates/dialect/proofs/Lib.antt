@@ -1,3 +1,3 @@
 mod Looking
 mod Read
-mod Once
+pub mod Once

@@ -1,0 +1,5 @@
+mod Scanning
+mod Wording
+mod Parting
+mod Gathering
+mod Folding

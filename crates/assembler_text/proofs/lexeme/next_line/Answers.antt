@@ -1,0 +1,13 @@
+use Rattle.std.proofs.Common.{sym, ◌∙◌}
+use Rattle.assembler_text.proofs.Scanning.{last_at, ended_at}
+use Rattle.assembler_text.proofs.lexeme.next_line.Goals as goal
+
+pub returns-in-empty-clause-some : goal.returns-in-empty-clause-some
+returns-in-empty-clause-some c =
+    rw c.split_at.ensures.front
+    (last_at c.args.source.now c.line_length.result c.split_at.result.1.now (sym c.is_empty.ensures ∙ c.if-is_empty.false) c.line_length.ensures.size c.split_at.ensures.back c.in-empty.len_below)
+
+pub returns-in-len1-up-clause-some : goal.returns-in-len1-up-clause-some
+returns-in-len1-up-clause-some c =
+    rw (c.without_return.ensures, c.split_at.ensures.front)
+    (ended_at c.args.source.now c.line_length.result c.split_at.result.1.now c.line_length.ensures.size c.split_at.ensures.back c.in-len1-up.len_at_least)

@@ -1,0 +1,11 @@
+pub mod Lexemes
+pub mod Numbers
+pub mod Faults
+pub mod Tokens
+pub mod Parts
+pub mod Expressions
+pub mod Operands
+pub mod Items
+pub mod Statements
+pub mod Lines
+pub mod Laws

@@ -1,0 +1,43 @@
+//! Operands of instructions.
+
+use crate::expression::Expression;
+use crate::name::Name;
+use dialect::register::Register;
+use isa::form::Base;
+use isa::register::SegmentRegister;
+
+/// A size word before memory.
+#[derive(Clone, Copy)]
+pub enum Size {
+    Byte,
+    Word,
+    /// An offset and a segment.
+    Far,
+}
+
+/// A place in memory: `[BYTE|WORD|FAR] [sr:] [ .. ]`. Registers or an expression stand in the brackets, or both.
+#[derive(Drop)]
+pub struct Address {
+    pub size: Option<Size>,
+    /// The segment register before a colon.
+    pub segment: Option<SegmentRegister>,
+    pub base: Option<Base>,
+    pub displacement: Option<Expression>,
+}
+
+/// An operand.
+#[derive(Drop)]
+pub enum Operand {
+    Register(Register),
+    /// The number 1, written `1`: so, and in no other way, a shift's count is written.
+    One,
+    /// Any other expression.
+    Value(Expression),
+    Memory(Address),
+    /// SHORT and a target.
+    Short(Expression),
+    /// FAR and a label.
+    FarLabel(Name),
+    /// FAR, a segment, a colon and an offset.
+    FarPointer(Expression, Expression),
+}
