@@ -1,5 +1,5 @@
 -- Case outside quotes doesn't count.
-use Rattle.std.proofs.Common.{◌≡◌, ℕ, ◌+◌, ◌-◌, ◌*◌, ◌<◌, ◌≤◌, zero, suc, Bool, true, false, ◌==◌, ◌&&◌, ◌||◌, if◌then◌else◌, nat_lt, nat_le, cond, List, [], ◌∷◌, ◌++◌, length, map, take, get_or, replicate, codes, Option, Some, None, option_and_then, refl, sym, ap, ◌∙◌, arith, Result, Ok, Err}
+use Rattle.std.proofs.Common.{◌≡◌, ℕ, ◌+◌, ◌-◌, ◌*◌, Bool, true, false, ◌==◌, ◌||◌, if◌then◌else◌, nat_lt, List, [], ◌∷◌, ◌++◌, length, map, take, replicate, codes, Option, Some, None, option_and_then, refl, sym, ap, ◌∙◌, arith, Result, Err}
 use Rattle.std.specs.Prelude.{slice_index}
 use Rattle.std.specs.List.{list_all}
 use Rattle.std.specs.Option.{option_map, option_map_or}
@@ -14,10 +14,9 @@ use Rattle.dialect.proofs.Once.{case_is_nothing}
 use Rattle.assembler_text.specs.declared.fault.LineFault.{LineFault}
 use Rattle.assembler_text.specs.declared.fault.LineFault.TheVariants.{BadCharacter}
 use Rattle.assembler_text.specs.declared.name.Name.{Name}
-use Rattle.assembler_text.specs.declared.statement.Line.{Line}
 use Rattle.assembler_text.specs.declared.token.Token.{Token}
-use Rattle.assembler_text.specs.declared.token.Token.TheVariants.{One, Number, Named, Word, Mark}
-use Rattle.assembler_text.specs.Lexemes.{begins_with, is_letter, is_digit, is_character, lexemes}
+use Rattle.assembler_text.specs.declared.token.Token.TheVariants.{Named, Word, Mark}
+use Rattle.assembler_text.specs.Lexemes.{is_letter, is_digit, is_character, lexemes}
 use Rattle.assembler_text.specs.Numbers.{digit_of, spelled, in_bounds, number_to, number_of, last_byte, without_last}
 use Rattle.assembler_text.specs.Faults.{◌>>=◌, all_of, wanted}
 use Rattle.assembler_text.specs.Tokens.{name_of, word_token, number_token, mark_of, mark_token, token_of, tokens_of}

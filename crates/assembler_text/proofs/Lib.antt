@@ -3,3 +3,10 @@ mod Wording
 mod Parting
 mod Gathering
 mod Folding
+mod Weights
+mod SpelledTerms
+mod SpelledOperands
+mod SpelledLists
+mod SpelledLines
+mod Rows
+mod Ending

@@ -1,5 +1,5 @@
 -- Expressions: terms joined by signs.
-use Rattle.std.specs.Prelude.{ℕ, Bool, true, false, ◌&&◌, List, [], ◌∷◌, if◌then◌else◌, Result, Ok, Err}
+use Rattle.std.specs.Prelude.{Bool, true, false, List, [], ◌∷◌, if◌then◌else◌, Result, Ok, Err}
 use Rattle.std.specs.List.{list_all}
 use Rattle.dialect.specs.declared.meaning.Meaning.TheVariants.{Keyword}
 use Rattle.dialect.specs.declared.keyword.Keyword.TheVariants.{Seg}

@@ -1,5 +1,5 @@
 -- Items of data lines.
-use Rattle.std.specs.Prelude.{ℕ, List, [], ◌∷◌, if◌then◌else◌, Option, None, Some, Result, Ok, Err}
+use Rattle.std.specs.Prelude.{List, [], ◌∷◌, if◌then◌else◌, Option, None, Some, Result, Ok, Err}
 use Rattle.assembler_text.specs.declared.fault.LineFault.{LineFault}
 use Rattle.assembler_text.specs.declared.fault.LineFault.TheVariants.{BadLine}
 use Rattle.assembler_text.specs.declared.statement.Width.{Width}

@@ -1,9 +1,11 @@
 -- The laws of lines.
-use Rattle.std.specs.Prelude.{ℕ, ◌≡◌, ◌==◌, if◌then◌else◌, List, map}
+use Rattle.std.specs.Prelude.{ℕ, ◌≡◌, ◌==◌, if◌then◌else◌, List, map, Ok}
 use Rattle.std.specs.List.{list_all}
 use Rattle.std.specs.Char.{to_ascii_lowercase}
 use Rattle.assembler_text.specs.Lexemes.{begins_with, is_character, lexemes}
-use Rattle.assembler_text.specs.Lines.{read_line}
+use Rattle.assembler_text.specs.declared.statement.Line.{Line}
+use Rattle.assembler_text.specs.Lines.{line_of, read_line}
+use Rattle.assembler_text.specs.Spelling.{line_tokens, IsStatement}
 
 -- a lexeme, its case apart; within quotes case counts
 abbrev pub folded : List ℕ → List ℕ
@@ -13,3 +15,7 @@ folded lexeme = if begins_with (λ b. b == 39) lexeme then lexeme else map to_as
 abbrev pub CaseDoesNotCount : Type 0
 CaseDoesNotCount =
     (s t : List ℕ) → list_all is_character s ≡ list_all is_character t → map folded (lexemes s) ≡ map folded (lexemes t) → read_line s ≡ read_line t
+
+-- each line that the dialect has is read from its spelling
+abbrev pub EachLineIsRead : Type 0
+EachLineIsRead = (l : Line) → IsStatement l.statement → line_of (line_tokens l) ≡ Ok l

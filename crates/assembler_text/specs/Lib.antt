@@ -8,4 +8,6 @@ pub mod Operands
 pub mod Items
 pub mod Statements
 pub mod Lines
+pub mod Weights
+pub mod Spelling
 pub mod Laws

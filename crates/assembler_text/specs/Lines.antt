@@ -1,5 +1,5 @@
 -- A line: an optional label and a statement.
-use Rattle.std.specs.Prelude.{ℕ, if◌then◌else◌, List, [], ◌∷◌, Option, None, Some, Result, Ok, Err}
+use Rattle.std.specs.Prelude.{ℕ, if◌then◌else◌, List, ◌∷◌, Option, None, Some, Result, Ok, Err}
 use Rattle.std.specs.List.{list_all}
 use Rattle.assembler_text.specs.declared.fault.LineFault.{LineFault}
 use Rattle.assembler_text.specs.declared.fault.LineFault.TheVariants.{BadCharacter}

@@ -1,5 +1,5 @@
 -- Statements.
-use Rattle.std.specs.Prelude.{ℕ, Bool, true, false, List, [], ◌∷◌, if◌then◌else◌, Result, Ok, Err}
+use Rattle.std.specs.Prelude.{Bool, true, false, List, [], ◌∷◌, if◌then◌else◌, Result, Ok, Err}
 use Rattle.isa.specs.declared.register.SegmentRegister.{SegmentRegister}
 use Rattle.isa.specs.declared.form.Prefix.{Prefix as PrefixType}
 use Rattle.isa.specs.declared.form.Prefix.TheVariants as prefixes

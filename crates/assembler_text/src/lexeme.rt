@@ -1,5 +1,5 @@
 //! The lines of a source, and the lexemes of a line.
-ghost use Rattle.std.specs.Prelude.{false, ◌≡◌, ◌<◌, ◌≤◌, [], ◌∷◌, length, IfSome, IfNone};
+ghost use Rattle.std.specs.Prelude.{ℕ, false, ◌≡◌, ◌<◌, ◌≤◌, List, [], ◌∷◌, ◌++◌, length, IfSome, IfNone};
 ghost use Rattle.std.specs.Str.Lines.{strip_carriage_return};
 ghost use Rattle.assembler_text.specs.Lexemes.{begins_with, is_blank, is_character, is_digit, is_letter, is_word_byte, lexemes, line_size, source_lines, text_size, word_size};
 
@@ -8,6 +8,8 @@ ghost use Rattle.assembler_text.specs.Lexemes.{begins_with, is_blank, is_charact
 pub fn next_line(source: &[u8]) -> Option<(&[u8], &[u8])>
     ensures some { IfSome result (λ p. source_lines source.now ≡ p.0.now ∷ source_lines p.1.now) }
     ensures shorter { IfSome result (λ p. length p.1.now < length source.now) }
+    // The line stands in the source, and what follows it is the source's end.
+    ensures parts { IfSome result (λ p. (ending : List ℕ) × (source.now ≡ p.0.now ++ (ending ++ p.1.now))) }
     ensures none { IfNone result (source_lines source.now ≡ []) }
 {
     if source.is_empty() {

@@ -1,9 +1,10 @@
 //! Reading a line.
-ghost use Rattle.std.specs.Prelude.{◌≡◌, ◌∷◌};
+ghost use Rattle.std.specs.Prelude.{◌≡◌, ◌∷◌, length, IfOk};
 ghost use Rattle.std.specs.List.{list_all};
 ghost use Rattle.assembler_text.specs.Lexemes.{is_character};
 ghost use Rattle.assembler_text.specs.Faults.{Gives};
 ghost use Rattle.assembler_text.specs.Lines.{labelled, line_of, read_line, with_label};
+ghost use Rattle.assembler_text.specs.Weights.{IsWithin};
 
 mod expression;
 mod item;
@@ -20,9 +21,12 @@ use std::alloc::Global;
 
 /// What a line of a source says by itself, or why it is no line of the dialect: a fault of its characters comes
 /// first, then one of its words, then one of its grammar.
-#[tactic(auto, unfolding(crate::specs::Lines::read_line))]
+/// What it holds is no longer than the text: no expression has more terms than the text has bytes, nor has a data
+/// line more values and characters.
+#[tactic(auto, using(crate::proofs::Weights::line_within), unfolding(crate::specs::Lines::read_line))]
 pub fn read_line(alloc: Global, text: &[u8]) -> Result<Line, LineError>
-    ensures { Gives result (read_line text.now) }
+    ensures answer { Gives result (read_line text.now) }
+    ensures weight { IfOk result (λ line. IsWithin (length text.now) line.statement) }
 {
     if !are_characters(text) {
         return Err(LineError::Fault(LineFault::BadCharacter));
