@@ -1,0 +1,4 @@
+pub mod LeavesLength
+pub mod LeavesValues
+pub mod LeavesSizes
+pub mod LeavesBytes

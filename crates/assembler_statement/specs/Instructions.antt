@@ -1,0 +1,151 @@
+-- Instructions: what they ask of the encoding table, their prefixes, and the numbers in their fields.
+use Rattle.std.specs.Prelude.{ℕ, ℤ, pos, ◌≡◌, ◌+◌, nat_le, if◌then◌else◌, List, [], ◌∷◌, ◌++◌, length, map, Option, None, Some}
+use Rattle.std.specs.Option.{option_map}
+use Rattle.isa.specs.declared.register.SegmentRegister.{SegmentRegister}
+use Rattle.isa.specs.declared.form.Prefix.{Prefix}
+use Rattle.isa.specs.declared.form.Prefix.TheVariants.{Segment}
+use Rattle.isa.specs.declared.form.Form.{Form}
+use Rattle.isa.specs.declared.form.Values.{Values}
+use Rattle.isa.specs.Encoding.{encoding, form_length, prefix_byte}
+use Rattle.isa.specs.Table.{rows}
+use Rattle.assembler_text.specs.declared.expression.Term.{Term}
+use Rattle.assembler_text.specs.declared.operand.Size.{Size as WrittenSize}
+use Rattle.assembler_text.specs.declared.operand.Size.TheVariants as written
+use Rattle.assembler_text.specs.declared.operand.Address.{Address}
+use Rattle.assembler_text.specs.declared.operand.Operand.{Operand as Written}
+use Rattle.assembler_text.specs.declared.operand.Operand.TheVariants.{Register, One, Value, Memory, Short, FarLabel, FarPointer}
+use Rattle.assembler_text.specs.declared.statement.Instruction.{Instruction}
+use Rattle.assembler_form.specs.declared.operand.Number.{Number}
+use Rattle.assembler_form.specs.declared.operand.Number.TheVariants as numbers
+use Rattle.assembler_form.specs.declared.operand.Size.{Size}
+use Rattle.assembler_form.specs.declared.operand.Size.TheVariants as sizes
+use Rattle.assembler_form.specs.declared.operand.Memory.{Memory as MemoryAsked}
+use Rattle.assembler_form.specs.declared.operand.Operand.{Operand}
+use Rattle.assembler_form.specs.declared.operand.Operand.TheVariants as operands
+use Rattle.assembler_form.specs.declared.asked.Asked.{Asked}
+use Rattle.assembler_form.specs.declared.values.Numbers.{Numbers}
+use Rattle.assembler_form.specs.Asked.{asked}
+use Rattle.assembler_form.specs.Choice.{IsChosen, NoneTakes}
+use Rattle.assembler_statement.specs.declared.symbol.Location.{Location}
+use Rattle.assembler_statement.specs.Values.{Names, value_of, constant_of, label_of}
+
+-- the segment register before the brackets of the operand in memory; no row takes two operands in memory
+abbrev pub or_else : {A : Type 0} → Option A → Option A → Option A
+or_else None other = other
+or_else (Some x) other = Some x
+
+abbrev pub operand_override : Written → Option SegmentRegister
+operand_override (Memory a) = a.segment
+operand_override operand = None
+
+abbrev pub override_of : List Written → Option SegmentRegister
+override_of [] = None
+override_of (operand ∷ more) = or_else (operand_override operand) (override_of more)
+
+abbrev pub override_prefix : Option SegmentRegister → List Prefix
+override_prefix None = []
+override_prefix (Some segment) = Segment segment ∷ []
+
+-- the prefixes in written order, and just before the opcode the override of the operand
+unfoldable pub prefixes_of : Instruction → List Prefix
+prefixes_of i = i.prefixes ++ override_prefix (override_of i.operands)
+
+-- what an operand asks of the table, in the light of the names that are known: only a constant's value counts
+abbrev pub number_by : Option ℤ → Number
+number_by (Some n) = numbers.Constant n
+number_by None = numbers.Later
+
+abbrev pub number_asked : Names → List Term → Number
+number_asked names terms = number_by (constant_of names terms)
+
+abbrev pub displacement_asked : Names → Option (List Term) → Number
+displacement_asked names None = numbers.Constant (pos 0)
+displacement_asked names (Some terms) = number_asked names terms
+
+abbrev pub size_asked : WrittenSize → Size
+size_asked written.Byte = sizes.Byte
+size_asked written.Word = sizes.Word
+size_asked written.Far = sizes.Far
+
+abbrev pub memory_asked : Names → Address → MemoryAsked
+memory_asked names a = record {
+  size = option_map size_asked a.size;
+  base = a.base;
+  displacement = displacement_asked names a.displacement;
+}
+
+abbrev pub operand_asked : Names → Written → Operand
+operand_asked names (Register r) = operands.Register r
+operand_asked names One = operands.One
+operand_asked names (Value terms) = operands.Number (number_asked names terms)
+operand_asked names (Memory a) = operands.Memory (memory_asked names a)
+operand_asked names (Short terms) = operands.Short
+operand_asked names (FarLabel name) = operands.Far
+operand_asked names (FarPointer s o) = operands.Far
+
+-- no row has more than two operands
+abbrev pub operands_asked : Names → List Written → Option (Operand × Operand)
+operands_asked names [] = Some (operands.Nothing, operands.Nothing)
+operands_asked names (first ∷ []) = Some (operand_asked names first, operands.Nothing)
+operands_asked names (first ∷ second ∷ []) = Some (operand_asked names first, operand_asked names second)
+operands_asked names more = None
+
+-- an instruction has at most seven prefixes
+unfoldable pub instruction_asked : Names → Instruction → Option Asked
+instruction_asked names i =
+    if nat_le (length (prefixes_of i)) 7 then option_map (λ os. asked i.mnemonic os.0 os.1) (operands_asked names i.operands) else None
+
+-- the form that the table has for it, or none
+abbrev pub IsChosenFor : Asked → Option Form → Type 0
+IsChosenFor a (Some f) = IsChosen a f
+IsChosenFor a None = NoneTakes rows a
+
+abbrev pub IsFormFor : Option Asked → Option Form → Type 0
+IsFormFor (Some a) form = IsChosenFor a form
+IsFormFor None form = form ≡ None
+
+abbrev pub instruction_size : Form → Instruction → ℕ
+instruction_size f i = length (prefixes_of i) + form_length f
+
+-- the numbers that the operands name, in a line that stands at the offset `here`; none where a name isn't defined, or
+-- is no label behind FAR
+abbrev pub no_numbers : Numbers
+no_numbers = record { displacement = pos 0; number = pos 0; segment = pos 0 }
+
+abbrev pub with_number : Numbers → ℤ → Numbers
+with_number n number = record n { number = number }
+
+abbrev pub with_displacement : Numbers → ℤ → Numbers
+with_displacement n displacement = record n { displacement = displacement }
+
+abbrev pub with_label : Numbers → Location → Numbers
+with_label n place = record n { number = pos place.offset; segment = pos place.segment }
+
+abbrev pub with_pointer : Numbers → Option ℤ → Option ℤ → Option Numbers
+with_pointer n (Some segment) (Some offset) = Some (record n { number = offset; segment = segment })
+with_pointer n segment offset = None
+
+abbrev pub displacement_value : Names → ℕ → Option (List Term) → Option ℤ
+displacement_value names here None = Some (pos 0)
+displacement_value names here (Some terms) = value_of names here terms
+
+abbrev pub numbers_with : Names → ℕ → Numbers → Written → Option Numbers
+numbers_with names here n (Register r) = Some n
+numbers_with names here n One = Some (with_number n (pos 1))
+numbers_with names here n (Value terms) = option_map (with_number n) (value_of names here terms)
+numbers_with names here n (Short terms) = option_map (with_number n) (value_of names here terms)
+numbers_with names here n (Memory a) = option_map (with_displacement n) (displacement_value names here a.displacement)
+numbers_with names here n (FarLabel name) = option_map (with_label n) (label_of names name)
+numbers_with names here n (FarPointer s o) = with_pointer n (value_of names here s) (value_of names here o)
+
+abbrev pub numbers_behind : Names → ℕ → Option Numbers → List Written → Option Numbers
+numbers_behind names here None operands = None
+numbers_behind names here (Some n) [] = Some n
+numbers_behind names here (Some n) (operand ∷ more) = numbers_behind names here (numbers_with names here n operand) more
+
+unfoldable pub numbers_of : Names → ℕ → List Written → Option Numbers
+numbers_of names here operands = numbers_behind names here (Some no_numbers) operands
+
+-- the bytes of an instruction: its prefixes, and what the table gives its form
+abbrev pub code_bytes : Form → Instruction → Values → List ℕ
+code_bytes f i v = map prefix_byte (prefixes_of i) ++ encoding f v

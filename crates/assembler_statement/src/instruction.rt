@@ -1,0 +1,198 @@
+//! Instructions: the form that the table gives them, and the numbers in their fields.
+ghost use Rattle.std.specs.Prelude.{◌≡◌, ◌≤◌, ◌^◌, true, length, IfSome};
+ghost use Rattle.std.specs.List.{list_all};
+ghost use Rattle.std.specs.Option.{option_map};
+ghost use Rattle.isa.specs.Encoding.{IsForm};
+ghost use Rattle.assembler_text.specs.Weights.{is_displacement_within, is_operand_within};
+ghost use Rattle.assembler_statement.specs.Instructions.{IsFormFor, displacement_value, instruction_asked, instruction_size, memory_asked, numbers_of, numbers_with, operand_asked, override_of, prefixes_of, size_asked};
+ghost use Rattle.assembler_statement.specs.Values.{AreSmall, term_limit};
+
+use crate::constant::number_asked;
+use crate::symbol::{Symbols, label};
+use crate::value::value_of;
+use assembler_form::choose::choose;
+use assembler_form::operand::{Memory, Number, Operand as Asked, Size as AskedSize};
+use assembler_form::values::Numbers;
+use assembler_text::operand::{Address, Operand, Size};
+use assembler_text::statement::Instruction;
+use isa::form::Form;
+use isa::register::SegmentRegister;
+
+/// How many prefixes an instruction may have, the override of its operand counted.
+const PREFIX_LIMIT: usize = 7;
+
+/// The form of an instruction, if a row of the table takes it and its prefixes aren't too many.
+#[tactic(auto, unfolding(crate::specs::Instructions::instruction_asked))]
+pub fn form_of(symbols: &Symbols, instruction: &Instruction) -> Option<Form>
+    requires small { AreSmall symbols.now.entries }
+    requires short { list_all (is_operand_within term_limit) instruction.now.operands ≡ true }
+    ensures chosen { IsFormFor (instruction_asked symbols.now.entries instruction.now) result }
+    ensures form { IfSome result IsForm }
+{
+    if prefix_count(instruction) > PREFIX_LIMIT {
+        return None;
+    }
+    let (first, second) = match instruction.operands.as_slice() {
+        [] => (Asked::Nothing, Asked::Nothing),
+        [first] => (asked(symbols, first), Asked::Nothing),
+        [first, second] => (asked(symbols, first), asked(symbols, second)),
+        _ => return None,
+    };
+    choose(instruction.mnemonic, first, second)
+}
+
+/// How many prefixes the instruction has, the override of its operand counted.
+#[tactic(auto, unfolding(crate::specs::Instructions::prefixes_of))]
+pub fn prefix_count(instruction: &Instruction) -> usize
+    ensures { result ≡ length (prefixes_of instruction.now) }
+{
+    let written = instruction.prefixes.as_slice().len();
+    match override_of(instruction) {
+        Some(_) => written + 1,
+        None => written,
+    }
+}
+
+/// The segment register before a colon in the instruction's operand in memory. No row has two of them.
+pub fn override_of(instruction: &Instruction) -> Option<SegmentRegister>
+    ensures { result ≡ override_of instruction.now.operands }
+{
+    for operand in instruction.operands.as_slice() {
+        if let Operand::Memory(
+            Address {
+                segment: Some(segment),
+                ..
+            },
+        ) = operand
+        {
+            return Some(*segment);
+        }
+    }
+    None
+}
+
+/// What an operand asks of the table.
+fn asked(symbols: &Symbols, operand: &Operand) -> Asked
+    requires small { AreSmall symbols.now.entries }
+    requires short { is_operand_within term_limit operand.now ≡ true }
+    ensures { result ≡ operand_asked symbols.now.entries operand.now }
+{
+    match operand {
+        Operand::Register(register) => Asked::Register(*register),
+        Operand::One => Asked::One,
+        Operand::Value(value) => Asked::Number(number_asked(symbols, value)),
+        Operand::Memory(address) => Asked::Memory(memory_asked(symbols, address)),
+        Operand::Short(_) => Asked::Short,
+        Operand::FarLabel(_) | Operand::FarPointer(_, _) => Asked::Far,
+    }
+}
+
+fn memory_asked(symbols: &Symbols, address: &Address) -> Memory
+    requires small { AreSmall symbols.now.entries }
+    requires short { is_displacement_within term_limit address.now.displacement ≡ true }
+    ensures { result ≡ memory_asked symbols.now.entries address.now }
+{
+    let displacement = match &address.displacement {
+        Some(displacement) => number_asked(symbols, displacement),
+        None => Number::Constant(0),
+    };
+    Memory {
+        size: size_asked(address.size),
+        base: address.base,
+        displacement,
+    }
+}
+
+fn size_asked(size: Option<Size>) -> Option<AskedSize>
+    ensures { result ≡ option_map size_asked size }
+{
+    match size {
+        Some(Size::Byte) => Some(AskedSize::Byte),
+        Some(Size::Word) => Some(AskedSize::Word),
+        Some(Size::Far) => Some(AskedSize::Far),
+        None => None,
+    }
+}
+
+/// How many bytes the instruction has.
+pub fn instruction_size(form: Form, instruction: &Instruction) -> u64
+    requires few { length (prefixes_of instruction.now) ≤ 7 }
+    ensures value { result ≡ instruction_size form instruction.now }
+    ensures bound { result ≤ 17 }
+{
+    prefix_count(instruction) as u64 + u64::from(form.length())
+}
+
+/// The numbers that the instruction's operands name. `None` where a name in them isn't defined, or is no label where
+/// one is wanted.
+#[tactic(auto, unfolding(crate::specs::Instructions::numbers_of))]
+pub fn numbers_of(symbols: &Symbols, here: u64, instruction: &Instruction) -> Option<Numbers>
+    requires small { AreSmall symbols.now.entries }
+    requires here { here ≤ 2 ^ 40 }
+    requires short { list_all (is_operand_within term_limit) instruction.now.operands ≡ true }
+    ensures { result ≡ numbers_of symbols.now.entries here instruction.now.operands }
+{
+    let mut numbers = Numbers {
+        displacement: 0,
+        number: 0,
+        segment: 0,
+    };
+    for operand in instruction.operands.as_slice() {
+        numbers = numbers_with(symbols, here, numbers, operand)?;
+    }
+    Some(numbers)
+}
+
+/// The numbers with those of another operand. No row has two that name the same one.
+fn numbers_with(
+    symbols: &Symbols,
+    here: u64,
+    numbers: Numbers,
+    operand: &Operand,
+) -> Option<Numbers>
+    requires small { AreSmall symbols.now.entries }
+    requires here { here ≤ 2 ^ 40 }
+    requires short { is_operand_within term_limit operand.now ≡ true }
+    ensures { result ≡ numbers_with symbols.now.entries here numbers operand.now }
+{
+    match operand {
+        Operand::Register(_) => Some(numbers),
+        Operand::One => Some(Numbers {
+            number: 1,
+            ..numbers
+        }),
+        Operand::Value(value) | Operand::Short(value) => Some(Numbers {
+            number: value_of(symbols, here, value)?,
+            ..numbers
+        }),
+        Operand::Memory(address) => Some(Numbers {
+            displacement: displacement_of(symbols, here, address)?,
+            ..numbers
+        }),
+        Operand::FarLabel(name) => {
+            let place = label(symbols, *name)?;
+            Some(Numbers {
+                number: place.offset as i64,
+                segment: i64::from(place.segment),
+                ..numbers
+            })
+        }
+        Operand::FarPointer(segment, offset) => Some(Numbers {
+            number: value_of(symbols, here, offset)?,
+            segment: value_of(symbols, here, segment)?,
+            ..numbers
+        }),
+    }
+}
+
+fn displacement_of(symbols: &Symbols, here: u64, address: &Address) -> Option<i64>
+    requires small { AreSmall symbols.now.entries }
+    requires here { here ≤ 2 ^ 40 }
+    requires short { is_displacement_within term_limit address.now.displacement ≡ true }
+    ensures { result ≡ displacement_value symbols.now.entries here address.now.displacement }
+{
+    match &address.displacement {
+        Some(displacement) => value_of(symbols, here, displacement),
+        None => Some(0),
+    }
+}

@@ -1,0 +1,10 @@
+//! Statements of the assembler's dialect in the light of the names that are known: values of expressions, the form of an
+//! instruction, sizes, and bytes.
+#![tactic(auto)]
+
+pub mod bytes;
+pub mod constant;
+pub mod data;
+pub mod instruction;
+pub mod symbol;
+pub mod value;
