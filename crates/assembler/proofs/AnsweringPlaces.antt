@@ -1,0 +1,224 @@
+-- A row whose bytes the image holds has no fault of placing.
+use Rattle.std.proofs.Common.{◌≡◌, ◌∙◌, ℕ, ◌+◌, ◌<◌, ◌≤◌, ◌==◌, List, [], ◌∷◌, ◌++◌, length, refl, sym, ap, subst, arith, inl, inr, Bool, true, false, ◌&&◌, ◌||◌, Option, None, Some, is_some, nat_lt, if◌then◌else◌, append_assoc, append-nil, Contains}
+use Rattle.std.specs.List.{AllByRecursion, IsDistinct, list_all, list_any}
+use Rattle.std.specs.Map.{keys_of}
+use Rattle.std.specs.Ordering.{nat_cmp}
+use Rattle.std.specs.BTreeMap.{is_at}
+use Rattle.std.proofs.lemmas.Bool.{cases_lt}
+use Rattle.std.proofs.lemmas.Bool.Decides.{nat_tests}
+use Rattle.std.proofs.lemmas.Grind.{flat_map-append}
+use Rattle.std.proofs.lemmas.List.Elements.{All-contains, Contains-append_left, Contains-append_right}
+use Rattle.std.proofs.lemmas.Map.Views.{Contains-keys_from_lookup}
+use Rattle.board_types.specs.Image.{IsImage, IsLoadable, image_byte}
+use Rattle.assembler.specs.declared.fault.SourceFault.TheVariants.{BadLine, UnknownName, BadForm, TwiceDefined, NoSegment}
+use Rattle.assembler.specs.declared.row.Content.{Content}
+use Rattle.assembler_statement.specs.declared.symbol.Location.{Location}
+use Rattle.assembler_statement.specs.Values.{Names}
+use Rattle.assembler.specs.Placement.{content_of, bytes_by, bytes_from, address_behind, addresses_from, placed_at, placed_by, placed_by_all, lacks_name, has_wrong_number, is_past_end, is_loadable, is_placed, fault_at, late_fault, row_fault}
+use Rattle.assembler.specs.Rows.{Row, AreRows, IsCleanRow, names_of, early_fault, has_wrong_constant, has_unknown_constant, opens_within, lacks_form, defines_again, stands_outside}
+use Rattle.assembler.specs.Gives.{ArePlaced, Fits, FitsAt}
+use Rattle.assembler.proofs.AnsweringLength.{bytes_length}
+
+-- addresses that are apart: those behind are none of those before
+abbrev pub NoneIn : List ℕ → List ℕ → Type 0
+NoneIn xs ys = AllByRecursion (λ (y : ℕ). list_any (λ (a : ℕ). a == y) xs ≡ false) ys
+
+none_in_nothing : (ys : List ℕ) → NoneIn [] ys
+none_in_nothing [] = tt
+none_in_nothing (y ∷ ys) = (refl, none_in_nothing ys)
+
+neither : (a b : Bool) → a ≡ false → b ≡ false → (a || b) ≡ false
+neither a b left right = rw (left, right) refl
+
+both : (a b : Bool) → a ≡ true → b ≡ true → (a && b) ≡ true
+both a b left right = rw (left, right) refl
+
+none_in_more : (x : ℕ) (xs ys : List ℕ) → AllByRecursion (λ (y : ℕ). (x == y) ≡ false) ys → NoneIn xs ys → NoneIn (x ∷ xs) ys
+none_in_more x xs [] apart none = tt
+none_in_more x xs (y ∷ ys) apart none =
+    (neither (x == y) (list_any (λ (a : ℕ). a == y) xs) apart.0 none.0, none_in_more x xs ys apart.1 none.1)
+
+all_behind : (x : ℕ) (xs ys : List ℕ) → AllByRecursion (λ (y : ℕ). (x == y) ≡ false) (xs ++ ys) → AllByRecursion (λ (y : ℕ). (x == y) ≡ false) ys
+all_behind x [] ys apart = apart
+all_behind x (y ∷ xs) ys apart = all_behind x xs ys apart.1
+
+none_before : (xs ys : List ℕ) → IsDistinct (λ (a b : ℕ). a == b) (xs ++ ys) → NoneIn xs ys
+unfolding IsDistinct
+none_before [] ys apart = none_in_nothing ys
+none_before (x ∷ xs) ys apart = none_in_more x xs ys (all_behind x xs ys apart.0) (none_before xs ys apart.1)
+
+none_in_front : (xs ys zs : List ℕ) → NoneIn xs (ys ++ zs) → NoneIn xs ys
+none_in_front xs [] zs none = tt
+none_in_front xs (y ∷ ys) zs none = (none.0, none_in_front xs ys zs none.1)
+
+keys_append : (xs ys : List (ℕ × ℕ)) → keys_of (xs ++ ys) ≡ keys_of xs ++ keys_of ys
+keys_append [] ys = refl
+keys_append (x ∷ xs) ys = ap (λ (ks : List ℕ). x.0 ∷ ks) (keys_append xs ys)
+
+-- whether a byte was placed there is told by the addresses
+placed_is : (placed : List (ℕ × ℕ)) (address : ℕ) → is_placed placed address ≡ list_any (λ (a : ℕ). a == address) (keys_of placed)
+placed_is [] address = refl
+placed_is (entry ∷ placed) address = ap (λ (b : Bool). (entry.0 == address) || b) (placed_is placed address)
+
+none_taken : (placed : List (ℕ × ℕ)) (ys : List ℕ) → NoneIn (keys_of placed) ys → list_any (is_placed placed) ys ≡ false
+none_taken placed [] none = refl
+none_taken placed (y ∷ ys) none = neither (is_placed placed y) (list_any (is_placed placed) ys) (placed_is placed y ∙ none.0) (none_taken placed ys none.1)
+
+-- the addresses of bytes
+addresses_are : (spot : Location) (n : ℕ) (bytes : List ℕ) → keys_of (bytes_from spot n bytes) ≡ addresses_from spot n (length bytes)
+addresses_are spot n [] = refl
+addresses_are spot n (b ∷ bs) = ap (λ (ks : List ℕ). address_behind spot n ∷ ks) (addresses_are spot (n + 1) bs)
+
+-- the image can be loaded at its addresses
+lt_yes : (a b : ℕ) → a < b → nat_lt a b ≡ true
+lt_yes a b h = grind (arith, nat_tests)
+
+lt_not : (a b : ℕ) → b ≤ a → nat_lt a b ≡ false
+lt_not a b h = grind (arith, nat_tests)
+
+eq_not : (a b : ℕ) → b < a → (a == b) ≡ false
+eq_not a b h = grind (arith, nat_tests)
+
+never_true : false ≡ true → ⊥
+never_true is = cc
+
+at_same : (a b : ℕ) → is_at (nat_cmp a) b ≡ true → a ≡ b
+at_same a b is = elim (cases_lt a b) [
+  | inl below ↦ absurd (never_true (rw (lt_yes a b below) at is))
+  | inr not_below ↦ elim (cases_lt b a) [
+    | inl above ↦ absurd (never_true (rw (lt_not a b not_below, eq_not a b above) at is))
+    | inr not_above ↦ omega arith
+  ]
+]
+
+loadable_is : (a : ℕ) → IsLoadable a → is_loadable a ≡ true
+loadable_is a is = grind (arith, nat_tests)
+
+loadable_in : (image : List (ℕ × ℕ)) (address byte : ℕ) → IsImage image → image_byte image address ≡ Some byte → is_loadable address ≡ true
+loadable_in image address byte is at =
+    loadable_is address (All-contains IsLoadable (keys_of image) address is.loadable
+    (Contains-keys_from_lookup {eq = λ (a b : ℕ). is_at (nat_cmp a) b} at_same address image (ap (λ (o : Option ℕ). is_some o) at)))
+
+all_loadable : (placed : List (ℕ × ℕ)) → ((address byte : ℕ) → Contains placed (address, byte) → is_loadable address ≡ true) → list_all is_loadable (keys_of placed) ≡ true
+all_loadable [] each = refl
+all_loadable (entry ∷ placed) each =
+    both (is_loadable entry.0) (list_all is_loadable (keys_of placed)) (each entry.0 entry.1 (0, omega arith, refl))
+    (all_loadable placed (λ address byte there. each address byte (Contains-append_right (entry ∷ []) placed (address, byte) there)))
+
+-- what a list of rows places is what those before a row place, what it places, and what those behind it place
+pub placed_parts : (names : Names) (front : List Row) (row : Row) (back : List Row)
+    → placed_by_all names (front ++ row ∷ back) ≡ placed_by_all names front ++ (placed_by names row ++ placed_by_all names back)
+placed_parts names front row back = flat_map-append (placed_by names) front (row ∷ back)
+
+pub fits_there : (names : Names) (front : List Row) (row : Row) (back : List Row) → AllByRecursion (Fits names) (front ++ row ∷ back) → Fits names row
+fits_there names [] row back fits = fits.0
+fits_there names (first ∷ front) row back fits = fits_there names front row back fits.1
+
+-- a row that the texts make is clean behind those before it
+pub record CleanThere (before : List Row) (row : Row) : Type 0 where
+  pub text : List ℕ
+  pub clean : IsCleanRow before text row
+
+clean_there : (before : List Row) (texts : List (List ℕ)) (front : List Row) (row : Row) (back : List Row) → AreRows before texts (front ++ row ∷ back) → CleanThere (before ++ front) row
+clean_there before [] [] row back are = absurd are
+clean_there before (text ∷ texts) [] row back are = record {
+  text = text;
+  clean = subst (λ (rs : List Row). IsCleanRow rs text row) (sym (append-nil before)) are.0;
+}
+clean_there before [] (first ∷ front) row back are = absurd are
+clean_there before (text ∷ texts) (first ∷ front) row back are =
+    subst (λ (rs : List Row). CleanThere rs row) (append_assoc before (first ∷ []) front)
+    (clean_there (before ++ first ∷ []) texts front row back are.1)
+
+second_false : (a b c d e : Bool) → (if a then Some BadLine else (if b then Some UnknownName else (if c then Some BadForm else (if d then Some TwiceDefined else (if e then Some NoSegment else None))))) ≡ None → b ≡ false
+second_false true b c d e none = absurd (let never : Some BadLine ≡ None = none in cc)
+second_false false true c d e none = absurd (let never : Some UnknownName ≡ None = none in cc)
+second_false false false c d e none = refl
+
+pub knows_constants : (known : Names) (row : Row) → early_fault known row.spot row.line row.form ≡ None → has_unknown_constant known row.line.statement ≡ false
+unfolding early_fault
+knows_constants known row none =
+    second_false (opens_within row.spot row.line.statement || has_wrong_constant known row.line.statement) (has_unknown_constant known row.line.statement)
+    (lacks_form row.line.statement row.form) (defines_again known row.line) (stands_outside row.spot row.line) none
+
+no_fault_at : (names : Names) (is_taken : ℕ → Bool) (has_label : Bool) (spot : Location) (size : ℕ) (content : Option Content)
+    → lacks_name names spot content ≡ false → has_wrong_number names spot size content ≡ false → is_past_end spot size has_label ≡ false
+    → list_any is_taken (addresses_from spot 0 size) ≡ false → list_all is_loadable (addresses_from spot 0 size) ≡ true
+    → fault_at names is_taken has_label spot size content ≡ None
+no_fault_at names is_taken has_label spot size content known fits within free loadable = rw (known, fits, within, free, loadable) refl
+
+-- how a row's bytes stand in an image
+pub record StandsIn (names : Names) (front : List Row) (row : Row) (spot : Location) : Type 0 where
+  pub length_is : length (bytes_by names spot row.size (content_of row.line.statement row.form)) ≡ row.size
+  pub free : list_any (is_placed (placed_by_all names front)) (addresses_from spot 0 row.size) ≡ false
+  pub loadable : list_all is_loadable (addresses_from spot 0 row.size) ≡ true
+
+pub placed_there : (names : Names) (row : Row) (spot : Location) → row.spot ≡ Some spot → placed_by names row ≡ bytes_from spot 0 (bytes_by names spot row.size (content_of row.line.statement row.form))
+unfolding placed_by
+placed_there names row spot at = ap (λ (o : Option Location). placed_at names o row.size (content_of row.line.statement row.form)) at
+
+names_split : (front : List Row) (row : Row) (back : List Row) → names_of (front ++ row ∷ back) ≡ names_of front ++ names_of (row ∷ back)
+names_split front row back = flat_map-append (λ (r : Row). r.names) front (row ∷ back)
+
+-- a clean row has as many bytes as its size says
+pub row_length : (front : List Row) (row : Row) (back : List Row) (text : List ℕ) (spot : Location)
+    → IsCleanRow front text row → FitsAt (names_of (front ++ row ∷ back)) row spot
+    → length (bytes_by (names_of (front ++ row ∷ back)) spot row.size (content_of row.line.statement row.form)) ≡ row.size
+row_length front row back text spot clean fits =
+    let whole : names_of (front ++ row ∷ back) ≡ names_of front ++ names_of (row ∷ back) = names_split front row back in
+    let Length : Names → Type 0 = λ names. length (bytes_by names spot row.size (content_of row.line.statement row.form)) ≡ row.size in
+    subst Length (sym whole)
+    (bytes_length (names_of front) (names_of (row ∷ back)) spot row.size row.line.statement row.form
+    (knows_constants (names_of front) row clean.clean)
+    (subst (λ (names : Names). lacks_name names spot (content_of row.line.statement row.form) ≡ false) whole fits.known)
+    (subst (λ (names : Names). has_wrong_number names spot row.size (content_of row.line.statement row.form) ≡ false) whole fits.fits)
+    ∙ sym clean.is_row.size)
+
+stands_in : (names : Names) (front : List Row) (row : Row) (back : List Row) (spot : Location) (image : List (ℕ × ℕ)) → row.spot ≡ Some spot
+    → length (bytes_by names spot row.size (content_of row.line.statement row.form)) ≡ row.size
+    → IsDistinct (λ (a b : ℕ). a == b) (keys_of (placed_by_all names (front ++ row ∷ back))) → IsImage image
+    → ((address byte : ℕ) → Contains (placed_by_all names (front ++ row ∷ back)) (address, byte) → image_byte image address ≡ Some byte)
+    → StandsIn names front row spot
+stands_in names front row back spot image at long once is_image holds =
+    let before : List (ℕ × ℕ) = placed_by_all names front in
+    let own : List (ℕ × ℕ) = placed_by names row in
+    let behind : List (ℕ × ℕ) = placed_by_all names back in
+    let parts : placed_by_all names (front ++ row ∷ back) ≡ before ++ (own ++ behind) = placed_parts names front row back in
+    let keys : keys_of (placed_by_all names (front ++ row ∷ back)) ≡ keys_of before ++ (keys_of own ++ keys_of behind) =
+    ap (λ (es : List (ℕ × ℕ)). keys_of es) parts ∙ (keys_append before (own ++ behind) ∙ ap (λ (ks : List ℕ). keys_of before ++ ks) (keys_append own behind)) in
+    let addresses : keys_of own ≡ addresses_from spot 0 row.size =
+    ap (λ (es : List (ℕ × ℕ)). keys_of es) (placed_there names row spot at)
+    ∙ (addresses_are spot 0 (bytes_by names spot row.size (content_of row.line.statement row.form)) ∙ ap (addresses_from spot 0) long) in
+    let apart : NoneIn (keys_of before) (keys_of own) =
+    none_in_front (keys_of before) (keys_of own) (keys_of behind)
+    (none_before (keys_of before) (keys_of own ++ keys_of behind) (subst (IsDistinct (λ (a b : ℕ). a == b)) keys once)) in
+    record {
+      length_is = long;
+      free = ap (list_any (is_placed before)) (sym addresses) ∙ none_taken before (keys_of own) apart;
+      loadable = ap (list_all is_loadable) (sym addresses)
+          ∙ all_loadable own (λ address byte there. loadable_in image address byte is_image (holds address byte
+          (subst (λ (es : List (ℕ × ℕ)). Contains es (address, byte)) (sym parts)
+          (Contains-append_right before (own ++ behind) (address, byte) (Contains-append_left own behind (address, byte) there)))));
+    }
+
+no_late : (names : Names) (is_taken : ℕ → Bool) (has_label : Bool) (spot : Option Location) (size : ℕ) (content : Option Content)
+    → ((place : Location) → spot ≡ Some place → fault_at names is_taken has_label place size content ≡ None) → late_fault names is_taken has_label spot size content ≡ None
+unfolding late_fault
+no_late names is_taken has_label None size content each = refl
+no_late names is_taken has_label (Some place) size content each = each place refl
+
+-- rows that place an image have no fault
+pub no_row_fault : (texts : List (List ℕ)) (front : List Row) (row : Row) (back : List Row) (image : List (ℕ × ℕ)) → AreRows [] texts (front ++ row ∷ back)
+    → ArePlaced (front ++ row ∷ back) image → row_fault (names_of (front ++ row ∷ back)) front row ≡ None
+no_row_fault texts front row back image are placed =
+    let names : Names = names_of (front ++ row ∷ back) in
+    let there : CleanThere front row = clean_there [] texts front row back are in
+    let each : (place : Location) → row.spot ≡ Some place
+    → fault_at names (is_placed (placed_by_all names front)) (is_some row.line.label) place row.size (content_of row.line.statement row.form) ≡ None = λ place at.
+    let fits : FitsAt names row place = fits_there names front row back placed.fit place at in
+    let stands : StandsIn names front row place =
+    stands_in names front row back place image at (row_length front row back there.text place there.clean fits) placed.once placed.is_image
+    (λ address byte contained. (placed.bytes address byte).1 contained) in
+    no_fault_at names (is_placed (placed_by_all names front)) (is_some row.line.label) place row.size (content_of row.line.statement row.form)
+    fits.known fits.fits fits.within stands.free stands.loadable in
+    no_late names (is_placed (placed_by_all names front)) (is_some row.line.label) row.spot row.size (content_of row.line.statement row.form) each

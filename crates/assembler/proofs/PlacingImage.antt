@@ -1,0 +1,205 @@
+-- What an image holds behind bytes that are put into it.
+use Rattle.std.proofs.Common.{suc, ◌+◌, drop, get_or, length, ◌≡◌, ◌∙◌, ℕ, ◌<◌, ◌≤◌, ◌==◌, ◌||◌, List, [], ◌∷◌, refl, sym, ap, inl, inr, arith, Bool, true, false, Option, None, Some, is_some, nat_lt, if◌then◌else◌}
+use Rattle.std.specs.Prelude.{Contains, ◌↔◌}
+use Rattle.std.specs.Ordering.{nat_cmp, is_eq}
+use Rattle.std.specs.BTreeMap.{insert_entry}
+use Rattle.std.specs.List.{AllByRecursion, IsDistinct}
+use Rattle.std.specs.List.Sorted.{IsStrictlySortedBy}
+use Rattle.std.specs.Map.{keys_of, lookup}
+use Rattle.std.specs.declared.cmp.Ordering.TheVariants.{Less, Equal, Greater}
+use Rattle.std.proofs.lemmas.Bool.{cases_lt, eqb-true}
+use Rattle.std.proofs.lemmas.Bool.Decides.{nat_tests}
+use Rattle.std.proofs.Math.Seq.{drop-cons}
+use Rattle.std.proofs.lemmas.List.{drop_all}
+use Rattle.std.proofs.lemmas.Cmp.{nat_eq_equiv}
+use Rattle.std.proofs.lemmas.Map.Keys.{IsDistinct-head, IsDistinct-tail}
+use Rattle.std.proofs.lemmas.Map.Views.{Contains-from_lookup, lookup-from_Contains}
+use Rattle.board_types.specs.Image.{IsImage, IsLoadable, image_byte}
+use Rattle.board_types.proofs.Images.{image_put}
+use Rattle.assembler_statement.specs.declared.symbol.Location.{Location}
+use Rattle.assembler.specs.Placement.{address_behind, bytes_from, is_placed}
+use Rattle.assembler.specs.SecondPass.{has_byte, with_entries}
+
+lt_yes : (a b : ℕ) → a < b → nat_lt a b ≡ true
+lt_yes a b h = grind (arith, nat_tests)
+
+lt_not : (a b : ℕ) → b ≤ a → nat_lt a b ≡ false
+lt_not a b h = grind (arith, nat_tests)
+
+eq_yes : (a b : ℕ) → a ≡ b → (a == b) ≡ true
+eq_yes a b h = grind (arith, nat_tests)
+
+eq_not : (a b : ℕ) → b < a → (a == b) ≡ false
+eq_not a b h = grind (arith, nat_tests)
+
+above_not : (a b : ℕ) → a < b → (a == b) ≡ false
+above_not a b h = grind (arith, nat_tests)
+
+at_is : (a k : ℕ) → is_eq (nat_cmp a k) ≡ (k == a)
+at_is a k = elim (cases_lt a k) [
+  | inl below ↦ rw (lt_yes a k below, eq_not k a below) refl
+  | inr not_below ↦ elim (cases_lt k a) [
+    | inl above ↦ rw (lt_not a k not_below, eq_not a k above, above_not k a above) refl
+    | inr not_above ↦ rw (lt_not a k not_below, eq_yes a k (omega arith), eq_yes k a (omega arith)) refl
+  ]
+]
+
+first_byte : (a : ℕ) (e : ℕ × ℕ) (es : List (ℕ × ℕ)) → image_byte (e ∷ es) a ≡ (if e.0 == a then Some e.1 else image_byte es a)
+first_byte a e es = ap (λ t. if t then Some e.1 else image_byte es a) (at_is a e.0)
+
+swapped : (t u : Bool) (x y z : Option ℕ) → (t ≡ true → u ≡ true → ⊥) → (if t then x else (if u then y else z)) ≡ (if u then y else (if t then x else z))
+swapped true true x y z never = absurd (never refl refl)
+swapped true false x y z never = refl
+swapped false true x y z never = refl
+swapped false false x y z never = refl
+
+twice : (t : Bool) (x y z : Option ℕ) → (if t then x else z) ≡ (if t then x else (if t then y else z))
+twice true x y z = refl
+twice false x y z = refl
+
+-- the byte that is put stands at its address, and all others stay
+byte_put : (k v a : ℕ) (es : List (ℕ × ℕ)) → image_byte (insert_entry nat_cmp es k v) a ≡ (if k == a then Some v else image_byte es a)
+byte_put k v a [] = first_byte a (k, v) []
+byte_put k v a (e ∷ es) = elim (cases_lt k e.0) [
+  | inl below ↦ rw (lt_yes k e.0 below) (first_byte a (k, v) (e ∷ es))
+  | inr not_below ↦ elim (cases_lt e.0 k) [
+    | inl above ↦
+        let tail : image_byte (e ∷ insert_entry nat_cmp es k v) a ≡ (if k == a then Some v else image_byte (e ∷ es) a) =
+        first_byte a e (insert_entry nat_cmp es k v) ∙ ap (λ r. if e.0 == a then Some e.1 else r) (byte_put k v a es)
+        ∙ swapped (e.0 == a) (k == a) (Some e.1) (Some v) (image_byte es a)
+        (λ one two. let first = eqb-true e.0 a one in let second = eqb-true k a two in omega (arith, first, second))
+        ∙ ap (λ r. if k == a then Some v else r) (sym (first_byte a e es)) in
+        rw (lt_not k e.0 not_below, eq_not k e.0 above) tail
+    | inr not_above ↦
+        let same : e.0 ≡ k = omega arith in
+        let tail : image_byte ((e.0, v) ∷ es) a ≡ (if k == a then Some v else image_byte (e ∷ es) a) =
+        first_byte a (e.0, v) es ∙ twice (e.0 == a) (Some v) (Some e.1) (image_byte es a)
+        ∙ ap (λ r. if e.0 == a then Some v else r) (sym (first_byte a e es))
+        ∙ ap (λ x. if x == a then Some v else image_byte (e ∷ es) a) same in
+        rw (lt_not k e.0 not_below, eq_yes k e.0 (sym same)) tail
+  ]
+]
+
+-- addresses keep rising
+less_is : (a b : ℕ) → nat_cmp a b ≡ Less → a < b
+less_is a b is = elim (cases_lt a b) [
+  | inl below ↦ below
+  | inr not_below ↦ absurd (never (a == b) (rw (lt_not a b not_below) at is))
+]
+  where
+    never : (same : Bool) → (if same then Equal else Greater) ≡ Less → ⊥
+    never true is = cc
+    never false is = cc
+
+is_less : (a b : ℕ) → a < b → nat_cmp a b ≡ Less
+is_less a b h = rw (lt_yes a b h) refl
+
+abbrev AllAbove : ℕ → List (ℕ × ℕ) → Type 0
+AllAbove k es = AllByRecursion (λ y. nat_cmp k y ≡ Less) (keys_of es)
+
+above_put : (k l v : ℕ) (es : List (ℕ × ℕ)) → k < l → AllAbove k es → AllAbove k (insert_entry nat_cmp es l v)
+above_put k l v [] h above = (is_less k l h, tt)
+above_put k l v (e ∷ es) h above = elim (cases_lt l e.0) [
+  | inl below ↦ rw (lt_yes l e.0 below) (is_less k l h, above)
+  | inr not_below ↦ elim (cases_lt e.0 l) [
+    | inl over ↦ rw (lt_not l e.0 not_below, eq_not l e.0 over) (above.0, above_put k l v es h above.1)
+    | inr not_over ↦ rw (lt_not l e.0 not_below, eq_yes l e.0 (omega arith)) above
+  ]
+]
+
+all_higher : (k l : ℕ) (es : List (ℕ × ℕ)) → k < l → AllAbove l es → AllAbove k es
+all_higher k l [] h above = tt
+all_higher k l (e ∷ es) h above =
+    let over : l < e.0 = less_is l e.0 above.0 in
+    (is_less k e.0 (omega arith), all_higher k l es h above.1)
+
+sorted_put : (l v : ℕ) (es : List (ℕ × ℕ)) → IsStrictlySortedBy nat_cmp (keys_of es) → IsStrictlySortedBy nat_cmp (keys_of (insert_entry nat_cmp es l v))
+unfolding IsStrictlySortedBy
+sorted_put l v [] s = (tt, tt)
+sorted_put l v (e ∷ es) s = elim (cases_lt l e.0) [
+  | inl below ↦ rw (lt_yes l e.0 below) ((is_less l e.0 below, all_higher l e.0 es below s.0), s)
+  | inr not_below ↦ elim (cases_lt e.0 l) [
+    | inl over ↦ rw (lt_not l e.0 not_below, eq_not l e.0 over) (above_put e.0 l v es over s.0, sorted_put l v es s.1)
+    | inr not_over ↦ rw (lt_not l e.0 not_below, eq_yes l e.0 (omega arith)) s
+  ]
+]
+
+-- a byte more leaves an image
+pub still_image : (image : List (ℕ × ℕ)) (address byte : ℕ) → IsImage image → IsLoadable address → byte < 256 → IsImage (insert_entry nat_cmp image address byte)
+still_image image address byte whole loadable small =
+    image_put image (insert_entry nat_cmp image address byte) address byte refl (sorted_put address byte image whole.rising) whole loadable small
+
+-- the addresses that have a byte
+byte_or : (t r : Bool) (v : ℕ) (o : Option ℕ) → (r || is_some (if t then Some v else o)) ≡ ((t || r) || is_some o)
+byte_or true true v o = refl
+byte_or true false v o = refl
+byte_or false true v o = refl
+byte_or false false v o = refl
+
+has_byte_with : (image placed : List (ℕ × ℕ)) (a : ℕ) → has_byte (with_entries image placed) a ≡ (is_placed placed a || has_byte image a)
+has_byte_with image [] a = refl
+has_byte_with image (e ∷ es) a =
+    has_byte_with (insert_entry nat_cmp image e.0 e.1) es a
+    ∙ ap (λ (o : Option ℕ). is_placed es a || is_some o) (byte_put e.0 e.1 a image)
+    ∙ byte_or (e.0 == a) (is_placed es a) e.1 (image_byte image a)
+
+or_not : (b : Bool) → (b || false) ≡ b
+or_not true = refl
+or_not false = refl
+
+-- a taken address is a placed one
+pub taken_is : (placed : List (ℕ × ℕ)) → has_byte (with_entries [] placed) ≡ is_placed placed
+taken_is placed = λ i a. (has_byte_with [] placed a ∙ or_not (is_placed placed a)) i
+
+-- the bytes
+abbrev pub found : List (ℕ × ℕ) → ℕ → Option ℕ
+found placed a = lookup (λ k. a == k) placed
+
+abbrev pub or_else : Option ℕ → Option ℕ → Option ℕ
+or_else None o = o
+or_else (Some b) o = Some b
+
+flipped : (a b : ℕ) → (a == b) ≡ (b == a)
+flipped a b = grind (arith, nat_tests)
+
+found_none : (a : ℕ) (es : List (ℕ × ℕ)) → AllByRecursion (λ k. (a == k) ≡ false) (keys_of es) → found es a ≡ None
+found_none a [] other = refl
+found_none a (e ∷ es) other = rw other.0 (found_none a es other.1)
+
+found_first : (a : ℕ) (e : ℕ × ℕ) (es : List (ℕ × ℕ)) (o : Option ℕ) (t : Bool) → (a == e.0) ≡ t → (t ≡ true → found es a ≡ None)
+    → or_else (found es a) (if t then Some e.1 else o) ≡ or_else (if t then Some e.1 else found es a) o
+found_first a e es o true is none = ap (λ (f : Option ℕ). or_else f (Some e.1)) (none refl)
+found_first a e es o false is none = refl
+
+bytes_with : (image placed : List (ℕ × ℕ)) (a : ℕ) → IsDistinct (λ x y. x == y) (keys_of placed) → image_byte (with_entries image placed) a ≡ or_else (found placed a) (image_byte image a)
+bytes_with image [] a distinct = refl
+bytes_with image (e ∷ es) a distinct =
+    bytes_with (insert_entry nat_cmp image e.0 e.1) es a (IsDistinct-tail (λ x y. x == y) e.0 (keys_of es) distinct)
+    ∙ ap (or_else (found es a)) (byte_put e.0 e.1 a image ∙ ap (λ (t : Bool). if t then Some e.1 else image_byte image a) (flipped e.0 a))
+    ∙ found_first a e es (image_byte image a) (a == e.0) refl
+    (λ same. found_none a es (rw (sym (eqb-true a e.0 same)) at (IsDistinct-head (λ x y. x == y) e.0 (keys_of es) distinct)))
+
+or_nothing : (o : Option ℕ) → or_else o None ≡ o
+or_nothing None = refl
+or_nothing (Some b) = refl
+
+-- of distinct addresses each has its byte
+pub bytes_are : (placed : List (ℕ × ℕ)) → IsDistinct (λ x y. x == y) (keys_of placed)
+    → (address byte : ℕ) → (image_byte (with_entries [] placed) address ≡ Some byte) ↔ Contains placed (address, byte)
+bytes_are placed distinct address byte =
+    let is : image_byte (with_entries [] placed) address ≡ found placed address = bytes_with [] placed address distinct ∙ or_nothing (found placed address) in
+    (λ some. Contains-from_lookup (λ x y. eqb-true x y) address byte placed (sym is ∙ some), λ has. is ∙ lookup-from_Contains nat_eq_equiv address byte placed distinct has)
+
+-- byte by byte
+pub next_byte : (bytes : List ℕ) (i : ℕ) → i < length bytes → drop i bytes ≡ get_or bytes i 0 ∷ drop (i + 1) bytes
+next_byte bytes i within = let one : i + 1 ≡ suc i = omega arith in rw one (drop-cons bytes i 0 within)
+
+pub put_next : (image new whole : List (ℕ × ℕ)) (spot : Location) (bytes : List ℕ) (at i address : ℕ) → i < length bytes → address ≡ address_behind spot at
+    → new ≡ insert_entry nat_cmp image address (get_or bytes i 0) → with_entries image (bytes_from spot at (drop i bytes)) ≡ whole
+    → with_entries new (bytes_from spot (at + 1) (drop (i + 1) bytes)) ≡ whole
+put_next image new whole spot bytes at i address within is put held =
+    ap (λ (im : List (ℕ × ℕ)). with_entries im (bytes_from spot (at + 1) (drop (i + 1) bytes))) (put ∙ ap (λ (a : ℕ). insert_entry nat_cmp image a (get_or bytes i 0)) is)
+    ∙ sym (ap (λ (bs : List ℕ). with_entries image (bytes_from spot at bs)) (next_byte bytes i within)) ∙ held
+
+pub no_byte : (bytes : List ℕ) (i : ℕ) → length bytes ≤ i → drop i bytes ≡ []
+no_byte bytes i past = drop_all i bytes past

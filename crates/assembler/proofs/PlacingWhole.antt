@@ -1,0 +1,359 @@
+-- What the second pass answers is what the definitions of the image and of the first fault say.
+use Rattle.std.proofs.Common.{suc, zero, ◌≡◌, ◌∙◌, ℕ, ◌+◌, ◌<◌, ◌≤◌, ◌==◌, ◌&&◌, List, [], ◌∷◌, ◌++◌, length, take, drop, get_or, append_assoc, append-nil, length-take, refl, sym, ap, subst, arith, inr, Bool, true, false, Option, None, Some, is_some, if◌then◌else◌}
+use Rattle.std.specs.List.{AllByRecursion, IsDistinct, list_any}
+use Rattle.std.specs.List.Sorted.{IsStrictlySortedBy}
+use Rattle.std.specs.Map.{keys_of}
+use Rattle.std.specs.Ordering.{nat_cmp}
+use Rattle.std.specs.BTreeMap.{insert_entry}
+use Rattle.std.proofs.Math.Seq.{drop-cons}
+use Rattle.std.proofs.lemmas.List.{map-append, take_all, take_more, take-append-drop}
+use Rattle.std.proofs.lemmas.Grind.{flat_map-append}
+use Rattle.std.proofs.lemmas.List.Sums.{fold-append}
+use Rattle.std.specs.Prelude.{Contains, ◌↔◌}
+use Rattle.board_types.specs.Image.{IsImage, image_byte}
+use Rattle.assembler_text.specs.Lexemes.{begins_with, onto_first, source_lines}
+use Rattle.assembler.specs.declared.fault.SourceFault.{SourceFault}
+use Rattle.assembler.specs.declared.fault.AsmFault.{AsmFault}
+use Rattle.assembler.specs.declared.fault.AsmFault.TheVariants.{SourceTooLong, InLine, Memory}
+use Rattle.assembler.specs.declared.row.Content.{Content}
+use Rattle.assembler.specs.declared.row.KeptRow.{KeptRow}
+use Rattle.assembler_statement.specs.declared.symbol.Location.{Location}
+use Rattle.assembler_statement.specs.Values.{Names}
+use Rattle.assembler.specs.Rows.{AreRows, Row, names_of}
+use Rattle.assembler.specs.Placement.{addresses_from, bytes_by, content_of, is_past_end, is_placed, late_fault, placed_at, placed_by, placed_by_all, row_fault}
+use Rattle.assembler.specs.Gives.{ArePlaced, Fits, FitsAt, Gives}
+use Rattle.assembler.specs.FirstFault.{AreFaultless, HasLateFault, IsFirst}
+use Rattle.assembler.specs.Kept.{AreKept, Reads, content_in}
+use Rattle.assembler.specs.SecondPass.{AreFaultlessKept, AreKeptRows, HasSize, HasSizeAt, IsKept, KeepsSize, RowHasSize, StopsAt, entries_by, entries_by_all, has_byte, kept_fault, with_entries}
+use Rattle.assembler.proofs.PlacingAddresses.{addresses_differ, keys_are, still_differ}
+use Rattle.assembler.proofs.PlacingImage.{bytes_are, taken_is}
+use Rattle.assembler.proofs.PlacingLength.{row_length}
+use Rattle.assembler.proofs.PlacingRows.{can_stand, ends_within}
+
+-- ---- rows as they are kept
+are_kept_rows : (source : List ℕ) (texts : List (List ℕ)) (kepts : List KeptRow) (rows : List Row) → AreKept source texts kepts rows → AreKeptRows kepts rows
+are_kept_rows source [] [] [] are = tt
+are_kept_rows source [] [] (row ∷ rows) are = absurd are
+are_kept_rows source [] (kept ∷ kepts) [] are = absurd are
+are_kept_rows source [] (kept ∷ kepts) (row ∷ rows) are = absurd are
+are_kept_rows source (text ∷ texts) [] [] are = absurd are
+are_kept_rows source (text ∷ texts) [] (row ∷ rows) are = absurd are
+are_kept_rows source (text ∷ texts) (kept ∷ kepts) [] are = absurd are
+are_kept_rows source (text ∷ texts) (kept ∷ kepts) (row ∷ rows) are =
+    (record { label = are.0.label; spot = are.0.spot; size = are.0.size; content = are.0.content }, are_kept_rows source texts kepts rows are.1)
+
+kept_count : (source : List ℕ) (texts : List (List ℕ)) (kepts : List KeptRow) (rows : List Row) → AreKept source texts kepts rows → length kepts ≡ length texts
+kept_count source [] [] [] are = refl
+kept_count source [] [] (row ∷ rows) are = absurd are
+kept_count source [] (kept ∷ kepts) [] are = absurd are
+kept_count source [] (kept ∷ kepts) (row ∷ rows) are = absurd are
+kept_count source (text ∷ texts) [] [] are = absurd are
+kept_count source (text ∷ texts) [] (row ∷ rows) are = absurd are
+kept_count source (text ∷ texts) (kept ∷ kepts) [] are = absurd are
+kept_count source (text ∷ texts) (kept ∷ kepts) (row ∷ rows) are = ap suc (kept_count source texts kepts rows are.1)
+
+onto_count : (b n : ℕ) (lines : List (List ℕ)) → length lines ≤ n → length (onto_first b lines) ≤ suc n
+onto_count b n [] few = omega arith
+onto_count b n (line ∷ lines) few = omega arith
+
+line_count : (ends returns : Bool) (b n : ℕ) (lines : List (List ℕ)) → length lines ≤ n
+    → length (if ends then [] ∷ lines else (if returns then lines else onto_first b lines)) ≤ suc n
+line_count true returns b n lines few = omega arith
+line_count false true b n lines few = omega arith
+line_count false false b n lines few = onto_count b n lines few
+
+-- a source has no more lines than bytes
+lines_few : (source : List ℕ) → length (source_lines source) ≤ length source
+lines_few [] = omega arith
+lines_few (b ∷ bs) = line_count (b == 10) (b == 13 && begins_with (λ c. c == 10) bs) b (length bs) (source_lines bs) (lines_few bs)
+
+pub few_rows : (source : List ℕ) (names : Names) (kepts : List KeptRow) → Reads source names kepts → length kepts ≤ 1048576
+few_rows source names kepts reads =
+    let same : length kepts ≡ length (source_lines source) = kept_count source (source_lines source) kepts reads.rows reads.are_kept in
+    let few : length (source_lines source) ≤ length source = lines_few source in
+    let limit : length source ≤ 1048576 = reads.within in
+    omega arith
+
+same_length : (kepts : List KeptRow) (rows : List Row) → AreKeptRows kepts rows → length rows ≡ length kepts
+same_length [] [] are = refl
+same_length [] (row ∷ rows) are = absurd are
+same_length (kept ∷ kepts) [] are = absurd are
+same_length (kept ∷ kepts) (row ∷ rows) are = ap suc (same_length kepts rows are.1)
+
+-- ---- rows have their sizes
+size_here : (names : Names) (row : Row) (here : Option Location) → row.spot ≡ here → ((spot : Location) → HasSizeAt names spot row.size (content_of row.line.statement row.form))
+    → HasSize names here row.size (content_of row.line.statement row.form)
+size_here names row None at each = tt
+size_here names row (Some spot) at each = each spot
+
+rows_sized : (names : Names) (before : List Row) (texts : List (List ℕ)) (rows : List Row) → AreRows before texts rows → names ≡ names_of (before ++ rows) → AllByRecursion (RowHasSize names) rows
+rows_sized names before [] [] are is = tt
+rows_sized names before [] (row ∷ rows) are is = absurd are
+rows_sized names before (text ∷ texts) [] are is = absurd are
+rows_sized names before (text ∷ texts) (row ∷ rows) are is =
+    let all : names ≡ names_of before ++ names_of (row ∷ rows) = is ∙ flat_map-append (λ (r : Row). r.names) before (row ∷ rows) in (
+      size_here names row row.spot refl
+          (λ spot. row_length (names_of before) (names_of (row ∷ rows)) names row.spot spot row.line row.form row.size are.0.clean are.0.is_row.size all),
+      rows_sized names (before ++ row ∷ []) texts rows are.1 (is ∙ ap names_of (sym (append_assoc before (row ∷ []) rows))),
+    )
+
+kept_sized : (names : Names) (kept : KeptRow) (row : Row) → IsKept kept row → RowHasSize names row → KeepsSize names kept
+kept_sized names kept row is size =
+    subst (λ (o : Option Location). HasSize names o kept.size (content_in kept)) (sym is.spot)
+    (subst (λ (n : ℕ). HasSize names row.spot n (content_in kept)) (sym is.size) (subst (λ (o : Option Content). HasSize names row.spot row.size o) (sym is.content) size))
+
+kepts_sized : (names : Names) (kepts : List KeptRow) (rows : List Row) → AreKeptRows kepts rows → AllByRecursion (RowHasSize names) rows → AllByRecursion (KeepsSize names) kepts
+kepts_sized names [] [] are sized = tt
+kepts_sized names [] (row ∷ rows) are sized = absurd are
+kepts_sized names (kept ∷ kepts) [] are sized = absurd are
+kepts_sized names (kept ∷ kepts) (row ∷ rows) are sized = (kept_sized names kept row are.0 sized.0, kepts_sized names kepts rows are.1 sized.1)
+
+reads_sized : (source : List ℕ) (names : Names) (kepts : List KeptRow) (reads : Reads source names kepts) → AllByRecursion (RowHasSize names) reads.rows
+reads_sized source names kepts reads = rows_sized names [] (source_lines source) reads.rows reads.are_rows reads.names_are
+
+pub all_sized : (source : List ℕ) (names : Names) (kepts : List KeptRow) → Reads source names kepts → AllByRecursion (KeepsSize names) kepts
+all_sized source names kepts reads =
+    kepts_sized names kepts reads.rows (are_kept_rows source (source_lines source) kepts reads.rows reads.are_kept) (reads_sized source names kepts reads)
+
+-- ---- what rows place, and their faults
+entries_is : (names : Names) (kept : KeptRow) (row : Row) → IsKept kept row → entries_by names kept ≡ placed_by names row
+unfolding placed_by
+entries_is names kept row is =
+    ap (λ (o : Option Location). placed_at names o kept.size (content_in kept)) is.spot
+    ∙ ap (λ (n : ℕ). placed_at names row.spot n (content_in kept)) is.size ∙ ap (λ (o : Option Content). placed_at names row.spot row.size o) is.content
+
+entries_are : (names : Names) (kepts : List KeptRow) (rows : List Row) → AreKeptRows kepts rows → entries_by_all names kepts ≡ placed_by_all names rows
+entries_are names [] [] are = refl
+entries_are names [] (row ∷ rows) are = absurd are
+entries_are names (kept ∷ kepts) [] are = absurd are
+entries_are names (kept ∷ kepts) (row ∷ rows) are =
+    ap (λ (es : List (ℕ × ℕ)). es ++ entries_by_all names kepts) (entries_is names kept row are.0)
+    ∙ ap (λ (es : List (ℕ × ℕ)). placed_by names row ++ es) (entries_are names kepts rows are.1)
+
+fault_is : (names : Names) (is_taken : ℕ → Bool) (kept : KeptRow) (row : Row) → IsKept kept row
+    → late_fault names is_taken (is_some row.line.label) row.spot row.size (content_of row.line.statement row.form) ≡ kept_fault names is_taken kept
+fault_is names is_taken kept row is =
+    sym (ap (λ (b : Bool). late_fault names is_taken b kept.spot kept.size (content_in kept)) is.label
+    ∙ ap (λ (o : Option Location). late_fault names is_taken (is_some row.line.label) o kept.size (content_in kept)) is.spot
+    ∙ ap (λ (n : ℕ). late_fault names is_taken (is_some row.line.label) row.spot n (content_in kept)) is.size
+    ∙ ap (λ (o : Option Content). late_fault names is_taken (is_some row.line.label) row.spot row.size o) is.content)
+
+row_fault_is : (names : Names) (befores : List KeptRow) (before : List Row) (kept : KeptRow) (row : Row) → AreKeptRows befores before → IsKept kept row
+    → row_fault names before row ≡ kept_fault names (is_placed (entries_by_all names befores)) kept
+row_fault_is names befores before kept row are is =
+    fault_is names (is_placed (placed_by_all names before)) kept row is
+    ∙ ap (λ (es : List (ℕ × ℕ)). kept_fault names (is_placed es) kept) (sym (entries_are names befores before are))
+
+kept_push : (befores : List KeptRow) (before : List Row) (kept : KeptRow) (row : Row) → AreKeptRows befores before → IsKept kept row → AreKeptRows (befores ++ kept ∷ []) (before ++ row ∷ [])
+kept_push [] [] kept row are is = (is, tt)
+kept_push [] (r ∷ rs) kept row are is = absurd are
+kept_push (k ∷ ks) [] kept row are is = absurd are
+kept_push (k ∷ ks) (r ∷ rs) kept row are is = (are.0, kept_push ks rs kept row are.1 is)
+
+faultless_are : (names : Names) (befores : List KeptRow) (before : List Row) (kepts : List KeptRow) (rows : List Row) → AreKeptRows befores before → AreKeptRows kepts rows
+    → AreFaultlessKept names befores kepts → AreFaultless names before rows
+faultless_are names befores before [] [] front are free = tt
+faultless_are names befores before [] (row ∷ rows) front are free = absurd are
+faultless_are names befores before (kept ∷ kepts) [] front are free = absurd are
+faultless_are names befores before (kept ∷ kepts) (row ∷ rows) front are free = (
+  row_fault_is names befores before kept row front are.0 ∙ free.0,
+  faultless_are names (befores ++ kept ∷ []) (before ++ row ∷ []) kepts rows (kept_push befores before kept row front are.0) are.1 free.1,
+)
+
+-- ---- faultless rows fit, and no address is placed twice
+few_bytes : (spot : Location) (size : ℕ) (has_label : Bool) → is_past_end spot size has_label ≡ false → size ≤ 65536
+few_bytes spot zero has_label within = omega arith
+few_bytes spot (suc n) has_label within = let ends = ends_within spot (suc n) has_label within (omega arith) in omega (arith, ends)
+
+keys_at : (names : Names) (spot : Location) (size : ℕ) (content : Option Content) → length (bytes_by names spot size content) ≡ size
+    → keys_of (placed_at names (Some spot) size content) ≡ addresses_from spot 0 size
+keys_at names spot size content long = keys_are spot 0 (bytes_by names spot size content) ∙ ap (addresses_from spot 0) long
+
+pub record Stands (names : Names) (before : List (ℕ × ℕ)) (here : Option Location) (size : ℕ) (content : Option Content) : Type 0 where
+  pub differ : IsDistinct (λ a b. a == b) (keys_of (placed_at names here size content))
+  pub free : list_any (is_placed before) (keys_of (placed_at names here size content)) ≡ false
+
+stands : (names : Names) (before : List (ℕ × ℕ)) (has_label : Bool) (here : Option Location) (size : ℕ) (content : Option Content)
+    → late_fault names (is_placed before) has_label here size content ≡ None → HasSize names here size content → Stands names before here size content
+unfolding IsDistinct
+stands names before has_label None size content none has_size = record { differ = tt; free = refl }
+stands names before has_label (Some spot) size content none has_size =
+    let can = can_stand names (is_placed before) has_label spot size content none in
+    let keys = keys_at names spot size content (has_size can.known can.fits) in
+    record {
+      differ = subst (λ (ks : List ℕ). IsDistinct (λ a b. a == b) ks) (sym keys) (addresses_differ spot 0 size (few_bytes spot size has_label can.within));
+      free = ap (list_any (is_placed before)) keys ∙ can.free;
+    }
+
+fits_at : (names : Names) (is_taken : ℕ → Bool) (row : Row) (spot : Location) → row.spot ≡ Some spot
+    → late_fault names is_taken (is_some row.line.label) row.spot row.size (content_of row.line.statement row.form) ≡ None → FitsAt names row spot
+fits_at names is_taken row spot at none =
+    let can = can_stand names is_taken (is_some row.line.label) spot row.size (content_of row.line.statement row.form)
+    (ap (λ (o : Option Location). late_fault names is_taken (is_some row.line.label) o row.size (content_of row.line.statement row.form)) (sym at) ∙ none) in
+    record { known = can.known; fits = can.fits; within = can.within }
+
+all_fit : (names : Names) (before rows : List Row) → AreFaultless names before rows → AllByRecursion (Fits names) rows
+all_fit names before [] free = tt
+all_fit names before (row ∷ rows) free =
+    ((λ spot at. fits_at names (is_placed (placed_by_all names before)) row spot at free.0), all_fit names (before ++ row ∷ []) rows free.1)
+
+row_stands : (names : Names) (before : List Row) (row : Row) → row_fault names before row ≡ None → RowHasSize names row
+    → Stands names (placed_by_all names before) row.spot row.size (content_of row.line.statement row.form)
+row_stands names before row none has_size =
+    stands names (placed_by_all names before) (is_some row.line.label) row.spot row.size (content_of row.line.statement row.form) none has_size
+
+keys_differ : (names : Names) (before : List Row) (row : Row) → row_fault names before row ≡ None → RowHasSize names row → IsDistinct (λ a b. a == b) (keys_of (placed_by_all names before))
+    → IsDistinct (λ a b. a == b) (keys_of (placed_by_all names (before ++ row ∷ [])))
+unfolding placed_by
+keys_differ names before row none has_size differ =
+    let here = placed_at names row.spot row.size (content_of row.line.statement row.form) in
+    let at = row_stands names before row none has_size in
+    let all : placed_by_all names (before ++ row ∷ []) ≡ placed_by_all names before ++ here =
+    flat_map-append (placed_by names) before (row ∷ []) ∙ ap (λ (es : List (ℕ × ℕ)). placed_by_all names before ++ es) (append-nil here) in
+    let keys : keys_of (placed_by_all names (before ++ row ∷ [])) ≡ keys_of (placed_by_all names before) ++ keys_of here =
+    ap keys_of all ∙ map-append (λ (e : ℕ × ℕ). e.0) (placed_by_all names before) here in
+    subst (λ (ks : List ℕ). IsDistinct (λ a b. a == b) ks) (sym keys) (still_differ (placed_by_all names before) (keys_of here) differ at.differ at.free)
+
+all_differ : (names : Names) (before rows : List Row) → AreFaultless names before rows → AllByRecursion (RowHasSize names) rows
+    → IsDistinct (λ a b. a == b) (keys_of (placed_by_all names before)) → IsDistinct (λ a b. a == b) (keys_of (placed_by_all names (before ++ rows)))
+all_differ names before [] free sized differ = subst (λ (rs : List Row). IsDistinct (λ a b. a == b) (keys_of (placed_by_all names rs))) (sym (append-nil before)) differ
+all_differ names before (row ∷ rows) free sized differ =
+    subst (λ (rs : List Row). IsDistinct (λ a b. a == b) (keys_of (placed_by_all names rs))) (append_assoc before (row ∷ []) rows)
+    (all_differ names (before ++ row ∷ []) rows free.1 sized.1 (keys_differ names before row free.0 sized.0 differ))
+
+none_differ : IsDistinct (λ (a b : ℕ). a == b) []
+unfolding IsDistinct
+none_differ = tt
+
+-- ---- the image of all rows
+are_placed : (names : Names) (rows : List Row) → AreFaultless names [] rows → AllByRecursion (RowHasSize names) rows → names ≡ names_of rows → IsImage (with_entries [] (placed_by_all names rows))
+    → ArePlaced rows (with_entries [] (placed_by_all names rows))
+are_placed names rows free sized is is_image =
+    let differ : IsDistinct (λ a b. a == b) (keys_of (placed_by_all names rows)) = all_differ names [] rows free sized none_differ in
+    record {
+      fit = subst (λ (n : Names). AllByRecursion (Fits n) rows) is (all_fit names [] rows free);
+      once = subst (λ (n : Names). IsDistinct (λ a b. a == b) (keys_of (placed_by_all n rows))) is differ;
+      is_image = is_image;
+      bytes = subst (λ (n : Names). (address byte : ℕ) → (image_byte (with_entries [] (placed_by_all names rows)) address ≡ Some byte) ↔ Contains (placed_by_all n rows) (address, byte)) is
+          (bytes_are (placed_by_all names rows) differ);
+    }
+
+pub gives : (source : List ℕ) (names : Names) (kepts : List KeptRow) (image : List (ℕ × ℕ)) → Reads source names kepts → image ≡ with_entries [] (entries_by_all names kepts)
+    → AreFaultlessKept names [] kepts → IsImage image → Gives source image
+gives source names kepts image reads is free is_image =
+    let kept = are_kept_rows source (source_lines source) kepts reads.rows reads.are_kept in
+    let same : image ≡ with_entries [] (placed_by_all names reads.rows) = is ∙ ap (with_entries []) (entries_are names kepts reads.rows kept) in
+    record {
+      within = reads.within;
+      rows = reads.rows;
+      are_rows = reads.are_rows;
+      placed = subst (λ (im : List (ℕ × ℕ)). ArePlaced reads.rows im) (sym same)
+          (are_placed names reads.rows (faultless_are names [] [] kepts reads.rows tt kept free) (reads_sized source names kepts reads) reads.names_are
+          (subst (λ (im : List (ℕ × ℕ)). IsImage im) same is_image));
+    }
+
+-- ---- the fault of a row
+pub record SplitsAt (front : List KeptRow) (kept : KeptRow) (rows : List Row) : Type 0 where
+  pub before : List Row
+  pub row : Row
+  pub back : List Row
+  pub split : rows ≡ before ++ row ∷ back
+  pub are_kept : AreKeptRows front before
+  pub is_kept : IsKept kept row
+
+splits_at : (front : List KeptRow) (kept : KeptRow) (back : List KeptRow) (rows : List Row) → AreKeptRows (front ++ kept ∷ back) rows → SplitsAt front kept rows
+splits_at [] kept back [] are = absurd are
+splits_at [] kept back (row ∷ rows) are = record { before = []; row = row; back = rows; split = refl; are_kept = tt; is_kept = are.0 }
+splits_at (k ∷ ks) kept back [] are = absurd are
+splits_at (k ∷ ks) kept back (row ∷ rows) are =
+    let rest = splits_at ks kept back rows are.1 in
+    record {
+      before = row ∷ rest.before;
+      row = rest.row;
+      back = rest.back;
+      split = ap (λ (rs : List Row). row ∷ rs) rest.split;
+      are_kept = (are.0, rest.are_kept);
+      is_kept = rest.is_kept;
+    }
+
+late_fault_at : (names : Names) (front : List KeptRow) (kept : KeptRow) (rows : List Row) (fault : SourceFault) (number : ℕ) → SplitsAt front kept rows → names ≡ names_of rows
+    → AreFaultlessKept names [] front → kept_fault names (is_placed (entries_by_all names front)) kept ≡ Some fault → number ≡ length front + 1 → HasLateFault rows fault number
+late_fault_at names front kept rows fault number at is free found counted = record {
+  front = at.before;
+  row = at.row;
+  back = at.back;
+  split = at.split;
+  counted = ap (λ (n : ℕ). n + 1) (same_length front at.before at.are_kept) ∙ sym counted;
+  placed = subst (λ (n : Names). AreFaultless n [] at.before) is (faultless_are names [] [] front at.before tt at.are_kept free);
+  found = subst (λ (n : Names). row_fault n at.before at.row ≡ Some fault) is (row_fault_is names front at.before kept at.row at.are_kept at.is_kept ∙ found);
+}
+
+item_split : (kepts : List KeptRow) (i : ℕ) (kept : KeptRow) → i < length kepts → get_or kepts i kept ≡ kept → kepts ≡ take i kepts ++ kept ∷ drop (suc i) kepts
+item_split kepts i kept within is =
+    sym (take-append-drop i kepts) ∙ ap (λ (ks : List KeptRow). take i kepts ++ ks) (drop-cons kepts i kept within ∙ ap (λ (k : KeptRow). k ∷ drop (suc i) kepts) is)
+
+first_fault : (source : List ℕ) (names : Names) (kepts : List KeptRow) (image : List (ℕ × ℕ)) (i : ℕ) (kept : KeptRow) (fault : SourceFault) (number : ℕ)
+    → Reads source names kepts → i < length kepts → get_or kepts i kept ≡ kept → image ≡ with_entries [] (entries_by_all names (take i kepts))
+    → AreFaultlessKept names [] (take i kepts) → kept_fault names (has_byte image) kept ≡ Some fault → number ≡ i + 1 → IsFirst source (InLine fault number)
+first_fault source names kepts image i kept fault number reads within item is free found counted =
+    let are = are_kept_rows source (source_lines source) kepts reads.rows reads.are_kept in
+    let at : SplitsAt (take i kepts) kept reads.rows =
+    splits_at (take i kepts) kept (drop (suc i) kepts) reads.rows (subst (λ (ks : List KeptRow). AreKeptRows ks reads.rows) (item_split kepts i kept within item) are) in
+    let judged : kept_fault names (is_placed (entries_by_all names (take i kepts))) kept ≡ Some fault =
+    sym (ap (λ (im : List (ℕ × ℕ)). kept_fault names (has_byte im) kept) is
+    ∙ ap (λ (t : ℕ → Bool). kept_fault names t kept) (taken_is (entries_by_all names (take i kepts)))) ∙ found in
+    let long : length (take i kepts) ≡ i = simp length-take (omega arith) in (
+      reads.within,
+      inr (record {
+        rows = reads.rows;
+        clean = reads.are_rows;
+        found = late_fault_at names (take i kepts) kept reads.rows fault number at reads.names_are free judged (counted ∙ ap (λ (n : ℕ). n + 1) (sym long));
+      }),
+    )
+
+pub stops_first : (source : List ℕ) (names : Names) (kepts : List KeptRow) (image : List (ℕ × ℕ)) (i : ℕ) (kept : KeptRow) (fault : AsmFault) (number : ℕ)
+    → Reads source names kepts → i < length kepts → get_or kepts i kept ≡ kept → image ≡ with_entries [] (entries_by_all names (take i kepts))
+    → AreFaultlessKept names [] (take i kepts) → StopsAt number (kept_fault names (has_byte image) kept) fault → number ≡ i + 1 → IsFirst source fault
+stops_first source names kepts image i kept (InLine fault at) number reads within item is free stops counted =
+    first_fault source names kepts image i kept fault at reads within item is free stops.1 (stops.0 ∙ counted)
+stops_first source names kepts image i kept SourceTooLong number reads within item is free stops counted = absurd stops
+stops_first source names kepts image i kept Memory number reads within item is free stops counted = tt
+
+-- ---- a row more
+front_more : (kepts : List KeptRow) (i : ℕ) (kept : KeptRow) → i < length kepts → get_or kepts i kept ≡ kept → take (i + 1) kepts ≡ take i kepts ++ kept ∷ []
+front_more kepts i kept within is = take_more kepts i kept within ∙ ap (λ (k : KeptRow). take i kepts ++ k ∷ []) is
+
+pub placed_more : (names : Names) (kepts : List KeptRow) (i : ℕ) (kept : KeptRow) (image new : List (ℕ × ℕ)) → i < length kepts → get_or kepts i kept ≡ kept
+    → image ≡ with_entries [] (entries_by_all names (take i kepts)) → new ≡ with_entries image (entries_by names kept) → new ≡ with_entries [] (entries_by_all names (take (i + 1) kepts))
+placed_more names kepts i kept image new within item is put =
+    let all : entries_by_all names (take (i + 1) kepts) ≡ entries_by_all names (take i kepts) ++ entries_by names kept =
+    ap (entries_by_all names) (front_more kepts i kept within item) ∙ flat_map-append (entries_by names) (take i kepts) (kept ∷ [])
+    ∙ ap (λ (es : List (ℕ × ℕ)). entries_by_all names (take i kepts) ++ es) (append-nil (entries_by names kept)) in
+    put ∙ ap (λ (im : List (ℕ × ℕ)). with_entries im (entries_by names kept)) is
+    ∙ sym (ap (with_entries []) all
+    ∙ fold-append (λ (held : List (ℕ × ℕ)) (entry : ℕ × ℕ). insert_entry nat_cmp held entry.0 entry.1) [] (entries_by_all names (take i kepts)) (entries_by names kept))
+
+faultless_push : (names : Names) (before front : List KeptRow) (kept : KeptRow) → AreFaultlessKept names before front → kept_fault names (is_placed (entries_by_all names (before ++ front))) kept ≡ None
+    → AreFaultlessKept names before (front ++ kept ∷ [])
+faultless_push names before [] kept free none = (ap (λ (ks : List KeptRow). kept_fault names (is_placed (entries_by_all names ks)) kept) (sym (append-nil before)) ∙ none, tt)
+faultless_push names before (k ∷ ks) kept free none = (
+  free.0,
+  faultless_push names (before ++ k ∷ []) ks kept free.1
+      (ap (λ (rs : List KeptRow). kept_fault names (is_placed (entries_by_all names rs)) kept) (append_assoc before (k ∷ []) ks) ∙ none),
+)
+
+pub faultless_more : (names : Names) (kepts : List KeptRow) (i : ℕ) (kept : KeptRow) (image : List (ℕ × ℕ)) → i < length kepts → get_or kepts i kept ≡ kept
+    → image ≡ with_entries [] (entries_by_all names (take i kepts)) → AreFaultlessKept names [] (take i kepts) → kept_fault names (has_byte image) kept ≡ None
+    → AreFaultlessKept names [] (take (i + 1) kepts)
+faultless_more names kepts i kept image within item is free none =
+    let judged : kept_fault names (is_placed (entries_by_all names (take i kepts))) kept ≡ None =
+    sym (ap (λ (im : List (ℕ × ℕ)). kept_fault names (has_byte im) kept) is
+    ∙ ap (λ (t : ℕ → Bool). kept_fault names t kept) (taken_is (entries_by_all names (take i kepts)))) ∙ none in
+    subst (λ (ks : List KeptRow). AreFaultlessKept names [] ks) (sym (front_more kepts i kept within item)) (faultless_push names [] (take i kepts) kept free judged)
+
+pub whole : (kepts : List KeptRow) (i : ℕ) → length kepts ≤ i → take i kepts ≡ kepts
+whole kepts i past = take_all i kepts past
+
+pub no_entries : IsImage []
+unfolding IsStrictlySortedBy
+no_entries = record { loadable = λ k d h. absurd (omega arith); rising = tt; bytes = λ k d h. absurd (omega arith) }

@@ -1,0 +1,161 @@
+-- From one line of a source to the next.
+use Rattle.std.proofs.Common.{◌≡◌, ℕ, ◌+◌, ◌-◌, ◌*◌, ◌^◌, ◌<◌, ◌≤◌, inl, refl, sym, ap, ◌∙◌, subst, arith, List, [], ◌∷◌, ◌++◌, length, take, drop, Option, None, length-append, append_assoc}
+use Rattle.std.proofs.Math.Seq.{drop-append_seam, take-append_seam}
+use Rattle.assembler_text.specs.Lexemes.{source_lines}
+use Rattle.assembler.specs.declared.fault.AsmFault.{AsmFault}
+use Rattle.assembler.specs.declared.fault.AsmFault.TheVariants.{SourceTooLong, InLine, Memory}
+use Rattle.assembler.specs.declared.fault.SourceFault.{SourceFault}
+use Rattle.assembler.specs.declared.row.KeptRow.{KeptRow}
+use Rattle.assembler.specs.declared.segment.State.{State}
+use Rattle.assembler_statement.specs.declared.symbol.Location.{Location}
+use Rattle.assembler_statement.specs.Values.{AreSmall, Names}
+use Rattle.assembler.specs.Rows.{Row, AreRows, IsCleanRow, IsRow, early_fault, names_of, spot_behind}
+use Rattle.assembler.specs.FirstFault.{IsFirst, IsTextFault}
+use Rattle.assembler.specs.FirstPass.{HasRead, KeepsRow, KeepsText, StopsAt, offset_of, size_limit}
+use Rattle.assembler.specs.Gives.{source_limit}
+use Rattle.std.specs.List.{AllByRecursion}
+use Rattle.assembler.specs.Kept.{AreKept, IsSteady, Keeps, Reads}
+use Rattle.assembler.proofs.ReadingNames.{small_none}
+use Rattle.assembler.proofs.ReadingRows.{all_push, kept_push, names_push, no_more, rows_push, spot_push}
+
+-- a line of the rest, and what follows it
+pub record IsLine (rest text after : List ℕ) : Type 0 where
+  pub lines : source_lines rest ≡ text ∷ source_lines after
+  pub parts : (ending : List ℕ) × (rest ≡ text ++ (ending ++ after))
+  pub shorter : length after < length rest
+
+-- its bytes are in front of what follows it
+taken : (rest text after : List ℕ) → IsLine rest text after → List ℕ
+taken rest text after line = text ++ line.parts.0
+
+taken_is : (rest text after : List ℕ) (line : IsLine rest text after) → rest ≡ taken rest text after line ++ after
+unfolding taken
+taken_is rest text after line = line.parts.1 ∙ sym (append_assoc text line.parts.0 after)
+
+taken_size : (rest text after : List ℕ) (line : IsLine rest text after) → length text ≤ length (taken rest text after line)
+unfolding taken
+taken_size rest text after line = omega (arith, length-append text line.parts.0)
+
+-- where the text stands in the source
+inside_source : (source passed rest text after : List ℕ) (start : ℕ) → source ≡ passed ++ rest → IsLine rest text after → start ≡ length passed
+    → start + length text ≤ length source
+inside_source source passed rest text after start is line starts =
+    omega (arith, ap length is, length-append passed rest, ap length line.parts.1, length-append text (line.parts.0 ++ after))
+
+drop_passed : (source passed rest : List ℕ) → source ≡ passed ++ rest → drop (length passed) source ≡ rest
+drop_passed source passed rest is = ap (λ (s : List ℕ). drop (length passed) s) is ∙ drop-append_seam passed rest
+
+text_stands : (source passed rest text after : List ℕ) (start : ℕ) → source ≡ passed ++ rest → IsLine rest text after → start ≡ length passed
+    → take (length text) (drop start source) ≡ text
+text_stands source passed rest text after start is line starts =
+    ap (λ (n : ℕ). take (length text) (drop n source)) starts ∙ ap (λ (s : List ℕ). take (length text) s) (drop_passed source passed rest is ∙ line.parts.1)
+    ∙ take-append_seam text (line.parts.0 ++ after)
+
+keeps_it : (source text : List ℕ) (start : ℕ) (kept : KeptRow) (row : Row) → start + length text ≤ length source → take (length text) (drop start source) ≡ text
+    → KeepsRow start (length text) kept row → Keeps source text kept row
+keeps_it source text start kept row inside stands keeps = record {
+  inside = omega (arith, keeps.starts, keeps.ends);
+  text = ap (λ (n : ℕ). take n (drop kept.start source)) keeps.ends ∙ ap (λ (n : ℕ). take (length text) (drop n source)) keeps.starts ∙ stands;
+  label = keeps.label;
+  spot = keeps.spot;
+  size = keeps.size;
+  content = keeps.content;
+}
+
+-- a row that is clean in the light of a state is clean behind the rows that left the state
+clean_in : (state : State) (rows : List Row) (text : List ℕ) (row : Row) → state.symbols.entries ≡ names_of rows → state.spot ≡ spot_behind rows
+    → IsRow state.symbols.entries state.spot text row → early_fault state.symbols.entries row.spot row.line row.form ≡ None → IsCleanRow rows text row
+clean_in state rows text row names spot is clean = record {
+  is_row = subst (λ (n : Names). IsRow n (spot_behind rows) text row) names (subst (λ (o : Option Location). IsRow state.symbols.entries o text row) spot is);
+  clean = subst (λ (n : Names). early_fault n row.spot row.line row.form ≡ None) names clean;
+}
+
+room_left : (a b n p q : ℕ) → a ≤ 2 ^ 20 * p → b ≤ a + size_limit n + 65535 → n ≤ q → 0 < q → b ≤ 2 ^ 20 * (p + q)
+room_left a b n p q room grows fits some = omega arith
+
+pub reads_more : (source rest text after : List ℕ) (number start : ℕ) (old new : State) (kept more : List KeptRow)
+    → HasRead source rest number old kept → IsLine rest text after → start ≡ length source - length rest → KeepsText old new start text kept more
+    → HasRead source after (number + 1) new more
+reads_more source rest text after number start old new kept more read line starts keeps =
+    let at : start ≡ length read.passed = omega (arith, starts, ap length read.bytes, length-append read.passed rest) in
+    let row = keeps.adds.row in
+    let adds = keeps.adds.adds in
+    let took = taken rest text after line in
+    let size : length (read.passed ++ took) ≡ length read.passed + length took = length-append read.passed took in
+    let some : 0 < length took = omega (arith, line.shorter, ap length (taken_is rest text after line), length-append took after) in
+    record {
+      front = read.front ++ text ∷ [];
+      rows = read.rows ++ row ∷ [];
+      passed = read.passed ++ took;
+      texts = read.texts ∙ ap (λ (ls : List (List ℕ)). read.front ++ ls) line.lines ∙ sym (append_assoc read.front (text ∷ []) (source_lines after));
+      bytes = read.bytes ∙ ap (λ (r : List ℕ). read.passed ++ r) (taken_is rest text after line) ∙ sym (append_assoc read.passed took after);
+      are_rows = rows_push [] read.front read.rows text row read.are_rows (clean_in old read.rows text row read.names read.spot keeps.adds.is_row keeps.adds.clean);
+      are_kept = subst (λ (ks : List KeptRow). AreKept source (read.front ++ text ∷ []) ks (read.rows ++ row ∷ [])) (sym keeps.kept_last)
+          (kept_push source read.front kept read.rows text keeps.kept row read.are_kept
+          (keeps_it source text start keeps.kept row (inside_source source read.passed rest text after start read.bytes line at) (text_stands source read.passed rest text after start read.bytes line at) adds.keeps));
+      names = adds.names ∙ ap (λ (ns : Names). ns ++ row.names) read.names ∙ sym (names_push read.rows row);
+      spot = adds.spot ∙ sym (spot_push read.rows row);
+      counted = omega (arith, read.counted, length-append read.front (text ∷ []));
+      each_takes = omega (arith, read.each_takes, size, some);
+      room = rw size (room_left (offset_of old.spot) (offset_of new.spot) (length text) (length read.passed) (length took) read.room adds.grows (taken_size rest text after line) some);
+      small = adds.small;
+      steady = subst (λ (ks : List KeptRow). AllByRecursion IsSteady ks) (sym keeps.kept_last) (all_push IsSteady kept keeps.kept read.steady adds.steady);
+    }
+
+-- where no line is left the source is read
+pub reads_all : (source rest : List ℕ) (number : ℕ) (state : State) (kept : List KeptRow) → HasRead source rest number state kept → source_lines rest ≡ [] → length source ≤ source_limit
+    → Reads source state.symbols.entries kept
+reads_all source rest number state kept read none within =
+    let all : source_lines source ≡ read.front = read.texts ∙ ap (λ (ls : List (List ℕ)). read.front ++ ls) none ∙ no_more read.front in
+    record {
+      within = within;
+      rows = read.rows;
+      are_rows = subst (λ (ts : List (List ℕ)). AreRows [] ts read.rows) (sym all) read.are_rows;
+      are_kept = subst (λ (ts : List (List ℕ)). AreKept source ts kept read.rows) (sym all) read.are_kept;
+      names_are = read.names;
+      small = read.small;
+      steady = read.steady;
+    }
+
+fault_behind : (state : State) (rows : List Row) (text : List ℕ) (fault : SourceFault) → state.symbols.entries ≡ names_of rows → state.spot ≡ spot_behind rows
+    → IsTextFault state.symbols.entries state.spot text fault → IsTextFault (names_of rows) (spot_behind rows) text fault
+fault_behind state rows text fault names spot found =
+    subst (λ (n : Names). IsTextFault n (spot_behind rows) text fault) names (subst (λ (o : Option Location). IsTextFault state.symbols.entries o text fault) spot found)
+
+-- the fault of the next line is the source's first
+pub stops_first : (source rest text after : List ℕ) (number : ℕ) (state : State) (kept : List KeptRow) (fault : AsmFault)
+    → HasRead source rest number state kept → IsLine rest text after → length source ≤ source_limit → StopsAt state text (number + 1) fault → IsFirst source fault
+stops_first source rest text after number state kept SourceTooLong read line within stops = absurd stops
+stops_first source rest text after number state kept Memory read line within stops = tt
+stops_first source rest text after number state kept (InLine fault at) read line within stops = (
+  within,
+  inl (record {
+    front = read.front;
+    text = text;
+    back = source_lines after;
+    texts = read.texts ∙ ap (λ (ls : List (List ℕ)). read.front ++ ls) line.lines;
+    counted = omega (arith, read.counted, stops.0);
+    rows = read.rows;
+    clean = read.are_rows;
+    found = fault_behind state read.rows text fault read.names read.spot stops.1;
+  }),
+)
+
+-- nothing is read yet
+pub starts : (source : List ℕ) (state : State) (kept : List KeptRow) → state.symbols.entries ≡ [] → state.spot ≡ None → kept ≡ [] → HasRead source source 0 state kept
+starts source state kept names spot none = record {
+  front = [];
+  rows = [];
+  passed = [];
+  texts = refl;
+  bytes = refl;
+  are_rows = tt;
+  are_kept = subst (λ (ks : List KeptRow). AreKept source [] ks []) (sym none) tt;
+  names = names;
+  spot = spot;
+  counted = refl;
+  each_takes = omega arith;
+  room = subst (λ (o : Option Location). offset_of o ≤ 0) (sym spot) (omega arith);
+  small = subst (λ (n : Names). AreSmall n) (sym names) small_none;
+  steady = subst (λ (ks : List KeptRow). AllByRecursion IsSteady ks) (sym none) tt;
+}

@@ -1,0 +1,7 @@
+use Rattle.std.proofs.Common.{◌≡◌, ◌++◌}
+use Rattle.std.specs.String.{string_bytes}
+use Rattle.assembler.specs.Listing.{spaces}
+use Rattle.assembler.proofs.listing.push_spaces.Given as goal
+
+abbrev pub invariant-loop-n : goal.invariant-loop-n
+invariant-loop-n l = string_bytes l.text ≡ string_bytes l.initial.text ++ spaces l._n

@@ -1,0 +1,14 @@
+use Rattle.std.proofs.Common.{◌∙◌, length, sym}
+use Rattle.assembler.proofs.ReadingFaults.{is_short, row_fault}
+use Rattle.assembler.proofs.reading.read_row.Goals as goal
+
+pub statement_form-form-requires-clause-short : goal.statement_form-form-requires-clause-short
+statement_form-form-requires-clause-short c = is_short c.args.start (length c.args.text.now) c.in-Ok.line.statement c.requires.place c.in-Ok.ensures.weight
+
+pub early_fault-requires-clause-short : goal.early_fault-requires-clause-short
+early_fault-requires-clause-short c = is_short c.args.start (length c.args.text.now) c.in-Ok.line.statement c.requires.place c.in-Ok.ensures.weight
+
+pub returns-in-Some-clause-err : goal.returns-in-Some-clause-err
+returns-in-Some-clause-err c =
+    row_fault c.args.state.now.symbols.entries c.args.state.now.spot c.args.text.now c.in-Ok.line c.statement_form-form.result c.in-Some.fault
+    c.in-Ok.ensures.answer c.statement_form-form.ensures.chosen (sym c.early_fault.ensures ∙ c.in-Some.is)

@@ -1,0 +1,113 @@
+-- The first fault of a source.
+use Rattle.std.specs.Prelude.{ℕ, ◌≡◌, ◌≤◌, ◌<◌, ◌+◌, ◌⊎◌, codes, List, [], ◌∷◌, ◌++◌, length, Option, None, Some, Err}
+use Rattle.assembler_text.specs.declared.fault.LineFault.{LineFault}
+use Rattle.assembler_text.specs.declared.fault.LineFault.TheVariants as line_faults
+use Rattle.assembler_text.specs.Lexemes.{source_lines}
+use Rattle.assembler_text.specs.Lines.{read_line}
+use Rattle.assembler.specs.declared.fault.SourceFault.{SourceFault}
+use Rattle.assembler.specs.declared.fault.SourceFault.TheVariants.{BadCharacter, BadLine, UnknownName, BadForm, TwiceDefined, Undefined, OutOfRange, OutOfSegment, Overlap, NoSegment, NotLoadable}
+use Rattle.assembler.specs.declared.fault.AsmFault.{AsmFault}
+use Rattle.assembler.specs.declared.fault.AsmFault.TheVariants.{SourceTooLong, InLine, Memory}
+use Rattle.assembler_statement.specs.declared.symbol.Location.{Location}
+use Rattle.assembler_statement.specs.Values.{Names}
+use Rattle.assembler.specs.Rows.{Row, IsRow, AreRows, early_fault, names_of, spot_behind}
+use Rattle.assembler.specs.Placement.{row_fault}
+use Rattle.assembler.specs.Gives.{source_limit}
+
+abbrev pub fault_of_line : LineFault → SourceFault
+fault_of_line line_faults.BadCharacter = BadCharacter
+fault_of_line line_faults.BadLine = BadLine
+fault_of_line line_faults.UnknownName = UnknownName
+
+-- a text that doesn't read has that fault, and one that does has the fault of its row in the light of the lines before
+abbrev pub IsReadFault : List ℕ → SourceFault → Type 0
+IsReadFault text fault = (found : LineFault) × (read_line text ≡ Err found) × (fault ≡ fault_of_line found)
+
+abbrev pub IsRowFault : Names → Option Location → List ℕ → SourceFault → Type 0
+IsRowFault names spot text fault = (row : Row) × IsRow names spot text row × (early_fault names row.spot row.line row.form ≡ Some fault)
+
+abbrev pub IsTextFault : Names → Option Location → List ℕ → SourceFault → Type 0
+IsTextFault names spot text fault = IsReadFault text fault ⊎ IsRowFault names spot text fault
+
+-- the lines before the one with this number are clean, and it has the fault
+pub record IsEarlyFault (source : List ℕ) (fault : SourceFault) (number : ℕ) : Type 0 where
+  pub front : List (List ℕ)
+  pub text : List ℕ
+  pub back : List (List ℕ)
+  pub texts : source_lines source ≡ front ++ text ∷ back
+  pub counted : length front + 1 ≡ number
+  pub rows : List Row
+  pub clean : AreRows [] front rows
+  pub found : IsTextFault (names_of rows) (spot_behind rows) text fault
+
+-- each of these rows has no fault behind those before it
+abbrev pub AreFaultless : Names → List Row → List Row → Type 0
+AreFaultless names before [] = Unit {0}
+AreFaultless names before (row ∷ rows) = (row_fault names before row ≡ None) × AreFaultless names (before ++ row ∷ []) rows
+
+-- of these rows those before the one with this number can be placed, and it has the fault
+pub record HasLateFault (rows : List Row) (fault : SourceFault) (number : ℕ) : Type 0 where
+  pub front : List Row
+  pub row : Row
+  pub back : List Row
+  pub split : rows ≡ front ++ row ∷ back
+  pub counted : length front + 1 ≡ number
+  pub placed : AreFaultless (names_of rows) [] front
+  pub found : row_fault (names_of rows) front row ≡ Some fault
+
+-- all lines are clean, and the first of their rows that can't be placed has the fault
+pub record IsLateFault (source : List ℕ) (fault : SourceFault) (number : ℕ) : Type 0 where
+  pub rows : List Row
+  pub clean : AreRows [] (source_lines source) rows
+  pub found : HasLateFault rows fault number
+
+-- A source that is too long has that fault; else the fault of reading in the least line comes first, and else the
+-- fault of placing in the least line. Of memory nothing is said.
+abbrev pub IsFirst : List ℕ → AsmFault → Type 0
+IsFirst source SourceTooLong = source_limit < length source
+IsFirst source (InLine fault number) = (length source ≤ source_limit) × (IsEarlyFault source fault number ⊎ IsLateFault source fault number)
+IsFirst source Memory = Unit {0}
+
+-- the faults' numbers
+abbrev pub source_fault_number : SourceFault → ℕ
+source_fault_number BadCharacter = 2
+source_fault_number BadLine = 3
+source_fault_number UnknownName = 4
+source_fault_number BadForm = 5
+source_fault_number TwiceDefined = 6
+source_fault_number Undefined = 7
+source_fault_number OutOfRange = 8
+source_fault_number OutOfSegment = 9
+source_fault_number Overlap = 10
+source_fault_number NoSegment = 11
+source_fault_number NotLoadable = 12
+
+abbrev pub fault_number : AsmFault → ℕ
+fault_number SourceTooLong = 1
+fault_number (InLine fault line) = source_fault_number fault
+fault_number Memory = 13
+
+-- the faults' names
+abbrev pub source_fault_name : SourceFault → List ℕ
+source_fault_name BadCharacter = codes "BadCharacter"
+source_fault_name BadLine = codes "BadLine"
+source_fault_name UnknownName = codes "UnknownName"
+source_fault_name BadForm = codes "BadForm"
+source_fault_name TwiceDefined = codes "TwiceDefined"
+source_fault_name Undefined = codes "Undefined"
+source_fault_name OutOfRange = codes "OutOfRange"
+source_fault_name OutOfSegment = codes "OutOfSegment"
+source_fault_name Overlap = codes "Overlap"
+source_fault_name NoSegment = codes "NoSegment"
+source_fault_name NotLoadable = codes "NotLoadable"
+
+abbrev pub fault_name : AsmFault → List ℕ
+fault_name SourceTooLong = codes "SourceTooLong"
+fault_name (InLine fault line) = source_fault_name fault
+fault_name Memory = codes "Memory"
+
+-- the faults' lines
+abbrev pub fault_line : AsmFault → Option ℕ
+fault_line SourceTooLong = None
+fault_line (InLine fault line) = Some line
+fault_line Memory = None

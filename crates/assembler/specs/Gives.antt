@@ -1,0 +1,39 @@
+-- The image that a source gives.
+use Rattle.std.specs.Prelude.{ℕ, ◌≡◌, ◌≤◌, ◌↔◌, ◌==◌, false, List, [], length, Some, Contains, is_some}
+use Rattle.std.specs.List.{AllByRecursion, IsDistinct}
+use Rattle.std.specs.Map.{keys_of}
+use Rattle.board_types.specs.Image.{IsImage, image_byte}
+use Rattle.assembler_text.specs.Lexemes.{source_lines}
+use Rattle.assembler_statement.specs.declared.symbol.Location.{Location}
+use Rattle.assembler_statement.specs.Values.{Names}
+use Rattle.assembler.specs.Placement.{content_of, lacks_name, has_wrong_number, is_past_end, placed_by_all}
+use Rattle.assembler.specs.Rows.{Row, AreRows, names_of}
+
+-- a source has at most 1,048,576 bytes
+abbrev pub source_limit : ℕ
+source_limit = 1048576
+
+-- the names of a line are defined, its numbers fit, and no byte or label of it lies past the segment's end
+pub record FitsAt (names : Names) (row : Row) (spot : Location) : Type 0 where
+  pub known : lacks_name names spot (content_of row.line.statement row.form) ≡ false
+  pub fits : has_wrong_number names spot row.size (content_of row.line.statement row.form) ≡ false
+  pub within : is_past_end spot row.size (is_some row.line.label) ≡ false
+
+abbrev pub Fits : Names → Row → Type 0
+Fits names row = (spot : Location) → row.spot ≡ Some spot → FitsAt names row spot
+
+-- The rows place these bytes, in the light of the names that they define: each row fits, no address is placed twice,
+-- and the image has a byte at an address if and only if some row places it there.
+pub record ArePlaced (rows : List Row) (image : List (ℕ × ℕ)) : Type 0 where
+  pub fit : AllByRecursion (Fits (names_of rows)) rows
+  pub once : IsDistinct (λ a b. a == b) (keys_of (placed_by_all (names_of rows) rows))
+  pub is_image : IsImage image
+  pub bytes : (address byte : ℕ) → (image_byte image address ≡ Some byte) ↔ Contains (placed_by_all (names_of rows) rows) (address, byte)
+
+-- The source is within its length, its lines make rows that keep the rules of constants, names and segments, and the
+-- rows place the image's bytes.
+pub record Gives (source : List ℕ) (image : List (ℕ × ℕ)) : Type 0 where
+  pub within : length source ≤ source_limit
+  pub rows : List Row
+  pub are_rows : AreRows [] (source_lines source) rows
+  pub placed : ArePlaced rows image

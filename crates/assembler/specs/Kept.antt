@@ -1,0 +1,59 @@
+-- What the first pass keeps of the rows for the second, and what keeps the second from overflowing.
+use Rattle.std.specs.Prelude.{ℕ, ◌≡◌, ◌≤◌, ◌+◌, ◌^◌, true, List, [], ◌∷◌, length, take, drop, Option, None, Some, is_some}
+use Rattle.std.specs.Option.{option_map}
+use Rattle.std.specs.Box.{box_value}
+use Rattle.std.specs.List.{AllByRecursion}
+use Rattle.isa.specs.Encoding.{IsForm}
+use Rattle.assembler_text.specs.declared.statement.Statement.TheVariants as statements
+use Rattle.assembler_text.specs.Lexemes.{source_lines}
+use Rattle.assembler_text.specs.Weights.{are_terms_within}
+use Rattle.assembler.specs.declared.row.Content.{Content}
+use Rattle.assembler.specs.declared.row.Content.TheVariants.{Data, Code}
+use Rattle.assembler.specs.declared.row.KeptRow.{KeptRow}
+use Rattle.assembler_statement.specs.declared.symbol.Location.{Location}
+use Rattle.assembler_statement.specs.Values.{Names, AreSmall, term_limit}
+use Rattle.assembler.specs.Gives.{source_limit}
+use Rattle.assembler.specs.Placement.{content_of}
+use Rattle.assembler.specs.Rows.{Row, AreRows, names_of}
+
+-- what a kept row places
+abbrev pub content_in : KeptRow → Option Content
+content_in kept = option_map box_value kept.content
+
+-- of a line: where its text stands in the source, and what its row places
+pub record Keeps (source said : List ℕ) (kept : KeptRow) (row : Row) : Type 0 where
+  pub inside : kept.start + kept.length ≤ length source
+  pub text : take kept.length (drop kept.start source) ≡ said
+  pub label : kept.has_label ≡ is_some row.line.label
+  pub spot : kept.spot ≡ row.spot
+  pub size : kept.size ≡ row.size
+  pub content : content_in kept ≡ content_of row.line.statement row.form
+
+abbrev pub AreKept : List ℕ → List (List ℕ) → List KeptRow → List Row → Type 0
+AreKept source [] [] [] = Unit {0}
+AreKept source (text ∷ texts) (kept ∷ more) (row ∷ rows) = Keeps source text kept row × AreKept source texts more rows
+AreKept source texts kept rows = ⊥
+
+-- expressions are short, and forms are those of the table
+abbrev pub IsContent : Option Content → Type 0
+IsContent (Some (Data width items)) = are_terms_within term_limit (statements.Data width items) ≡ true
+IsContent (Some (Code f i)) = (are_terms_within term_limit (statements.Instruction i) ≡ true) × IsForm f
+IsContent None = Unit {0}
+
+abbrev pub EndsBy : ℕ → Option Location → ℕ → Type 0
+EndsBy limit (Some spot) size = spot.offset + size ≤ limit
+EndsBy limit None size = Unit {0}
+
+pub record IsSteady (kept : KeptRow) : Type 0 where
+  pub ends : EndsBy (2 ^ 40) kept.spot kept.size
+  pub content : IsContent (content_in kept)
+
+-- the source's lines make clean rows, of which these are kept, and these names
+pub record Reads (source : List ℕ) (names : Names) (kept : List KeptRow) : Type 0 where
+  pub within : length source ≤ source_limit
+  pub rows : List Row
+  pub are_rows : AreRows [] (source_lines source) rows
+  pub are_kept : AreKept source (source_lines source) kept rows
+  pub names_are : names ≡ names_of rows
+  pub small : AreSmall names
+  pub steady : AllByRecursion IsSteady kept

@@ -1,0 +1,9 @@
+pub mod Rows
+pub mod Placement
+pub mod Gives
+pub mod FirstFault
+pub mod Kept
+pub mod Listing
+pub mod FirstPass
+pub mod SecondPass
+pub mod Shown

@@ -1,0 +1,61 @@
+-- The listing: for each line where its bytes stand, the first eight of them, and the line; and the names of a source.
+use Rattle.std.specs.Prelude.{ℕ, ℤ, ◌-◌, ◌*◌, ◌/◌, ◌%◌, true, nat_lt, if◌then◌else◌, List, [], ◌∷◌, ◌++◌, length, take, replicate, Option, None, Some, zip}
+use Rattle.std.specs.Option.{option_map}
+use Rattle.std.specs.List.{flat_map, slice_get, take_while}
+use Rattle.std.specs.Fmt.{digit_glyph}
+use Rattle.assembler_text.specs.declared.name.Name.{Name}
+use Rattle.assembler_statement.specs.declared.symbol.Location.{Location}
+use Rattle.assembler_statement.specs.Values.{Names, symbol_value}
+use Rattle.assembler.specs.Placement.{bytes_by, content_of}
+use Rattle.assembler.specs.Rows.{Row}
+
+-- what an assembled source is seen to be
+pub record ListingState : Type 0 where
+  pub source : List ℕ
+  pub names : Names
+  pub image : List (ℕ × ℕ)
+
+-- two and four hexadecimal digits, in upper case
+abbrev pub hex_byte_text : ℕ → List ℕ
+hex_byte_text byte = digit_glyph true (byte / 16) ∷ digit_glyph true (byte % 16) ∷ []
+
+abbrev pub hex_word : ℕ → List ℕ
+hex_word word = hex_byte_text (word / 256) ++ hex_byte_text (word % 256)
+
+abbrev pub spaces : ℕ → List ℕ
+spaces n = replicate n 32
+
+-- the first eight bytes, filled up to sixteen digits, and a `+` where there are more
+abbrev pub first_bytes : List ℕ → List ℕ
+first_bytes bytes = flat_map hex_byte_text (take 8 bytes) ++ spaces (16 - 2 * length bytes)
+
+abbrev pub more_mark : List ℕ → ℕ
+more_mark bytes = if nat_lt 8 (length bytes) then 43 else 32
+
+unfoldable pub bytes_part : Location → List ℕ → List ℕ
+bytes_part spot bytes = hex_word spot.segment ++ (58 ∷ hex_word spot.offset ++ (32 ∷ first_bytes bytes ++ (more_mark bytes ∷ 32 ∷ [])))
+
+-- spaces stand for no bytes
+abbrev pub place_part : Option Location → List ℕ → List ℕ
+place_part (Some spot) (b ∷ bs) = bytes_part spot (b ∷ bs)
+place_part spot bytes = spaces 28
+
+abbrev pub row_bytes : Names → Row → Option Location → List ℕ
+row_bytes names row (Some spot) = bytes_by names spot row.size (content_of row.line.statement row.form)
+row_bytes names row None = []
+
+-- a line of the listing: the row's bytes and the line's text
+abbrev pub listed : Names → List ℕ → Row → List ℕ
+listed names text row = place_part row.spot (row_bytes names row row.spot) ++ text
+
+-- the line of this number, from 0 on
+abbrev pub line_at : Names → List (List ℕ) → List Row → ℕ → Option (List ℕ)
+line_at names texts rows i = option_map (λ line. listed names line.0 line.1) (slice_get (zip texts rows) i)
+
+-- a name's letters, without what fills it up
+abbrev pub letters_of : Name → List ℕ
+letters_of name = take_while (λ letter. nat_lt 0 letter) name.letters
+
+-- the name that is defined after i others, with its value
+abbrev pub symbol_at : Names → ℕ → Option (List ℕ × ℤ)
+symbol_at names i = option_map (λ entry. (letters_of entry.0, symbol_value entry.1)) (slice_get names i)

@@ -1,0 +1,159 @@
+-- Lines in the light of the lines before them: where they stand, what they define, and which faults they have there.
+use Rattle.std.specs.Prelude.{ℕ, ℤ, pos, negsuc, ◌≡◌, ◌+◌, Bool, true, false, ◌||◌, if◌then◌else◌, List, [], ◌∷◌, ◌++◌, Option, None, Some, Ok, is_some, fold, option_and_then}
+use Rattle.std.specs.Option.{option_map, option_map_or}
+use Rattle.std.specs.List.{list_any, flat_map}
+use Rattle.isa.specs.declared.form.Form.{Form}
+use Rattle.assembler_text.specs.declared.name.Name.{Name}
+use Rattle.assembler_text.specs.declared.statement.Line.{Line}
+use Rattle.assembler_text.specs.declared.statement.Statement.{Statement}
+use Rattle.assembler_text.specs.declared.statement.Statement.TheVariants.{Segment, Ends, Equ, Org, Data, Instruction}
+use Rattle.assembler_text.specs.Lines.{read_line}
+use Rattle.assembler.specs.declared.fault.SourceFault.{SourceFault}
+use Rattle.assembler.specs.declared.fault.SourceFault.TheVariants.{BadLine, UnknownName, BadForm, TwiceDefined, NoSegment}
+use Rattle.assembler_statement.specs.declared.symbol.Location.{Location}
+use Rattle.assembler_statement.specs.declared.symbol.Symbol.TheVariants.{Label, Constant}
+use Rattle.assembler_statement.specs.Values.{Names, same_name, constant_of}
+use Rattle.assembler_statement.specs.Instructions.{instruction_asked, instruction_size, IsFormFor}
+use Rattle.assembler_statement.specs.Data.{counts_of, data_size, natural}
+use Rattle.assembler_statement.specs.Data.{is_other}
+use Rattle.assembler_statement.specs.Data.{is_wrong_count}
+use Rattle.assembler_statement.specs.Data.{is_unknown}
+use Rattle.assembler_statement.specs.Values.{is_defined}
+
+-- a line of a source, with the form that its instruction has, how many bytes it places, where the first of them goes,
+-- where the next byte goes behind it, and the names that it defines, its label first
+pub record Row : Type 0 where
+  pub line : Line
+  pub form : Option Form
+  pub size : ℕ
+  pub spot : Option Location
+  pub next : Option Location
+  pub names : Names
+
+-- what these lines define, and where they leave off
+abbrev pub names_of : List Row → Names
+names_of rows = flat_map (λ row. row.names) rows
+
+abbrev pub spot_behind : List Row → Option Location
+spot_behind rows = fold (λ spot row. row.next) None rows
+
+abbrev pub IsFormOf : Names → Statement → Option Form → Type 0
+IsFormOf names (Instruction i) form = IsFormFor (instruction_asked names i) form
+IsFormOf names statement form = form ≡ None
+
+-- the bytes of a line are told by its form alone
+abbrev pub size_of : Names → Statement → Option Form → ℕ
+size_of names (Data width items) form = data_size names width items
+size_of names (Instruction i) (Some f) = instruction_size f i
+size_of names statement form = 0
+
+-- SEGMENT opens a segment at location 0, ENDS closes it, ORG sets the location, and all else moves on
+abbrev pub opened_at : ℤ → Location
+opened_at n = record { segment = natural n; offset = 0 }
+
+abbrev pub set_to : ℤ → Location → Location
+set_to n spot = record spot { offset = natural n }
+
+abbrev pub moved_on : ℕ → Location → Location
+moved_on size spot = record spot { offset = spot.offset + size }
+
+abbrev pub spot_after : Names → Option Location → Statement → ℕ → Option Location
+spot_after names spot (Segment name n) size = option_map opened_at (constant_of names n)
+spot_after names spot Ends size = None
+spot_after names spot (Org n) size = option_and_then (λ v. option_map (set_to v) spot) (constant_of names n)
+spot_after names spot statement size = option_map (moved_on size) spot
+
+-- a label stands for the place of the next byte, a name of SEGMENT or EQU for its constant
+abbrev pub label_definition : Option Location → Option Name → Names
+label_definition (Some spot) (Some name) = (name, Label spot) ∷ []
+label_definition spot label = []
+
+abbrev pub constant_definition : Name → Option ℤ → Names
+constant_definition name (Some n) = (name, Constant n) ∷ []
+constant_definition name None = []
+
+abbrev pub statement_definition : Names → Statement → Names
+statement_definition names (Segment name n) = constant_definition name (constant_of names n)
+statement_definition names (Equ name n) = constant_definition name (constant_of names n)
+statement_definition names statement = []
+
+-- in the light of these names and of where the lines before leave off, a text makes this row
+pub record IsRow (known : Names) (here : Option Location) (text : List ℕ) (row : Row) : Type 0 where
+  pub reads : read_line text ≡ Ok row.line
+  pub form : IsFormOf known row.line.statement row.form
+  pub size : row.size ≡ size_of known row.line.statement row.form
+  pub spot : row.spot ≡ here
+  pub next : row.next ≡ spot_after known here row.line.statement row.size
+  pub names : row.names ≡ label_definition here row.line.label ++ statement_definition known row.line.statement
+
+-- the constants of a statement: paragraphs and locations are words, counts before DUP words but 0, and EQU takes any
+-- number of a double word
+abbrev pub has_wrong_constant : Names → Statement → Bool
+has_wrong_constant names (Segment name n) = is_other (pos 0) (pos 65535) (constant_of names n)
+has_wrong_constant names (Org n) = is_other (pos 0) (pos 65535) (constant_of names n)
+has_wrong_constant names (Equ name n) = is_other (negsuc 2147483647) (pos 4294967295) (constant_of names n)
+has_wrong_constant names (Data width items) = list_any (is_wrong_count names) (counts_of items)
+has_wrong_constant names statement = false
+
+abbrev pub has_unknown_constant : Names → Statement → Bool
+has_unknown_constant names (Segment name n) = is_unknown names n
+has_unknown_constant names (Org n) = is_unknown names n
+has_unknown_constant names (Equ name n) = is_unknown names n
+has_unknown_constant names (Data width items) = list_any (is_unknown names) (counts_of items)
+has_unknown_constant names statement = false
+
+abbrev pub opens_within : Option Location → Statement → Bool
+opens_within (Some spot) (Segment name n) = true
+opens_within spot statement = false
+
+abbrev pub lacks_form : Statement → Option Form → Bool
+lacks_form (Instruction i) None = true
+lacks_form statement form = false
+
+-- the names that a line defines are new, and two
+abbrev pub statement_name : Statement → Option Name
+statement_name (Segment name n) = Some name
+statement_name (Equ name n) = Some name
+statement_name statement = None
+
+abbrev pub is_same : Option Name → Option Name → Bool
+is_same (Some a) (Some b) = same_name a b
+is_same a b = false
+
+abbrev pub defines_again : Names → Line → Bool
+defines_again names line =
+    option_map_or (is_defined names) line.label false
+    || (option_map_or (is_defined names) (statement_name line.statement) false || is_same line.label (statement_name line.statement))
+
+-- labels and these statements stand in a segment only
+abbrev pub wants_segment : Statement → Bool
+wants_segment Ends = true
+wants_segment (Org n) = true
+wants_segment (Data width items) = true
+wants_segment (Instruction i) = true
+wants_segment statement = false
+
+abbrev pub stands_outside : Option Location → Line → Bool
+stands_outside (Some spot) line = false
+stands_outside None line = is_some line.label || wants_segment line.statement
+
+-- the fault that a line has in the light of the lines before it: of its faults the one with the least number
+unfoldable pub early_fault : Names → Option Location → Line → Option Form → Option SourceFault
+early_fault names spot line form =
+    if opens_within spot line.statement || has_wrong_constant names line.statement then Some BadLine else (
+    if has_unknown_constant names line.statement then Some UnknownName else (
+    if lacks_form line.statement form then Some BadForm else (
+    if defines_again names line then Some TwiceDefined else (
+    if stands_outside spot line then Some NoSegment else None))))
+
+-- a text makes this row behind these, and has no fault there
+pub record IsCleanRow (before : List Row) (text : List ℕ) (row : Row) : Type 0 where
+  pub is_row : IsRow (names_of before) (spot_behind before) text row
+  pub clean : early_fault (names_of before) row.spot row.line row.form ≡ None
+
+-- the texts make these rows, each clean behind those before it
+abbrev pub AreRows : List Row → List (List ℕ) → List Row → Type 0
+AreRows before [] [] = Unit {0}
+AreRows before [] (row ∷ rows) = ⊥
+AreRows before (text ∷ texts) [] = ⊥
+AreRows before (text ∷ texts) (row ∷ rows) = IsCleanRow before text row × AreRows (before ++ row ∷ []) texts rows

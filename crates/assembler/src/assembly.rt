@@ -1,0 +1,35 @@
+//! The assembler: from a source to the image that it gives.
+ghost use Rattle.std.specs.Prelude.{◌≡◌, [], ℕ, List, IfOk, IfErr, MatchResult};
+ghost use Rattle.assembler_text.specs.Lexemes.{source_lines};
+ghost use Rattle.assembler.specs.declared.fault.AsmFault.TheVariants.{Memory};
+ghost use Rattle.assembler.specs.FirstFault.{IsFirst};
+ghost use Rattle.assembler.specs.Gives.{Gives};
+ghost use Rattle.assembler.specs.Rows.{AreRows, Row, names_of};
+
+use crate::fault::AsmFault;
+use crate::late::place_rows;
+use crate::listing::Listing;
+use crate::reading::read_source;
+use std::alloc::Global;
+
+/// How many bytes a source may have.
+const SOURCE_LIMIT: usize = 1_048_576;
+
+/// The listing of the source, or the source's first fault. Want of memory is answered only where a growth was really
+/// refused.
+pub fn assemble(alloc: Global, source: &[u8]) -> Result<Listing, AsmFault>
+    ensures source { IfOk result (λ listing. listing.source ≡ source.now) }
+    ensures gives { IfOk result (λ listing. Gives source.now listing.image) }
+    ensures names { IfOk result (λ listing. (rows : List Row) → AreRows [] (source_lines source.now) rows → listing.names ≡ names_of rows) }
+    ensures fault { IfErr result (IsFirst source.now) }
+
+    // Where the source gives an image, no other image comes, and no fault but the want of memory.
+    ensures refused { (image : List (ℕ × ℕ)) → Gives source.now image → MatchResult result (λ listing. listing.image ≡ image) (λ fault. fault ≡ Memory) }
+{
+    if source.len() > SOURCE_LIMIT {
+        return Err(AsmFault::SourceTooLong);
+    }
+    let reading = read_source(alloc, source)?;
+    let image = place_rows(alloc, &reading)?;
+    Ok(Listing { reading, image })
+}

@@ -1,0 +1,137 @@
+//! Why a source is refused.
+ghost use Rattle.std.specs.Prelude.{◌≡◌};
+ghost use Rattle.assembler.specs.FirstFault.{fault_line, fault_name, fault_number, fault_of_line, source_fault_name, source_fault_number};
+
+use assembler_text::fault::LineFault;
+use thiserror::Error;
+
+/// Why a line of a source is refused.
+#[derive(Clone, Copy, Debug, PartialEq, Eq, Drop, Error)]
+pub enum SourceFault {
+    #[error("a character that is neither printable ASCII nor a tabulator")]
+    BadCharacter,
+    #[error("the line isn't in the grammar, a constant is out of range, or a segment opens within another")]
+    BadLine,
+    #[error("no statement has this name, or no earlier line makes the name in a constant one")]
+    UnknownName,
+    #[error("no row of the encoding table takes these operands, or there are more than seven prefixes")]
+    BadForm,
+    #[error("the name is defined twice")]
+    TwiceDefined,
+    #[error("no line defines the name, or it is no label")]
+    Undefined,
+    #[error("the number doesn't fit its field")]
+    OutOfRange,
+    #[error("a byte or label lies past offset FFFFh")]
+    OutOfSegment,
+    #[error("an earlier line placed a byte at this address")]
+    Overlap,
+    #[error("no segment is open")]
+    NoSegment,
+    #[error("the board can't be loaded at this address")]
+    NotLoadable,
+}
+
+impl SourceFault {
+    /// The fault's number.
+    pub fn number(self) -> u8
+        ensures { result ≡ source_fault_number self }
+    {
+        match self {
+            SourceFault::BadCharacter => 2,
+            SourceFault::BadLine => 3,
+            SourceFault::UnknownName => 4,
+            SourceFault::BadForm => 5,
+            SourceFault::TwiceDefined => 6,
+            SourceFault::Undefined => 7,
+            SourceFault::OutOfRange => 8,
+            SourceFault::OutOfSegment => 9,
+            SourceFault::Overlap => 10,
+            SourceFault::NoSegment => 11,
+            SourceFault::NotLoadable => 12,
+        }
+    }
+
+    /// The fault's name.
+    pub fn name(self) -> &'static str
+        ensures { result.now ≡ source_fault_name self }
+    {
+        match self {
+            SourceFault::BadCharacter => "BadCharacter",
+            SourceFault::BadLine => "BadLine",
+            SourceFault::UnknownName => "UnknownName",
+            SourceFault::BadForm => "BadForm",
+            SourceFault::TwiceDefined => "TwiceDefined",
+            SourceFault::Undefined => "Undefined",
+            SourceFault::OutOfRange => "OutOfRange",
+            SourceFault::OutOfSegment => "OutOfSegment",
+            SourceFault::Overlap => "Overlap",
+            SourceFault::NoSegment => "NoSegment",
+            SourceFault::NotLoadable => "NotLoadable",
+        }
+    }
+
+    /// The fault that a line has whatever the other lines are.
+    pub(crate) fn of_line(fault: LineFault) -> SourceFault
+        ensures { result ≡ fault_of_line fault }
+    {
+        match fault {
+            LineFault::BadCharacter => SourceFault::BadCharacter,
+            LineFault::BadLine => SourceFault::BadLine,
+            LineFault::UnknownName => SourceFault::UnknownName,
+        }
+    }
+}
+
+/// Why a source is refused.
+#[derive(Clone, Copy, Debug, PartialEq, Eq, Drop, Error)]
+pub enum AsmFault {
+    #[error("the source has more than 1,048,576 bytes")]
+    SourceTooLong,
+    /// A fault and its line, counted from 1.
+    #[error("line {1}: {0}")]
+    InLine(SourceFault, u32),
+    #[error("out of memory")]
+    Memory,
+}
+
+impl AsmFault {
+    /// The fault's number.
+    pub fn number(self) -> u8
+        ensures { result ≡ fault_number self }
+    {
+        match self {
+            AsmFault::SourceTooLong => 1,
+            AsmFault::InLine(fault, _) => fault.number(),
+            AsmFault::Memory => 13,
+        }
+    }
+
+    /// The fault's name.
+    pub fn name(self) -> &'static str
+        ensures { result.now ≡ fault_name self }
+    {
+        match self {
+            AsmFault::SourceTooLong => "SourceTooLong",
+            AsmFault::InLine(fault, _) => fault.name(),
+            AsmFault::Memory => "Memory",
+        }
+    }
+
+    /// The fault's line, counted from 1, if it has one.
+    pub fn line(self) -> Option<u32>
+        ensures { result ≡ fault_line self }
+    {
+        match self {
+            AsmFault::InLine(_, line) => Some(line),
+            AsmFault::SourceTooLong | AsmFault::Memory => None,
+        }
+    }
+}
+
+/// Why a line isn't taken.
+#[derive(Clone, Copy, Drop)]
+pub(crate) enum LineStop {
+    Fault(SourceFault),
+    Memory,
+}

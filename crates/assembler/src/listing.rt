@@ -1,0 +1,208 @@
+//! What the assembler answers: the image, the listing and the names.
+ghost use Rattle.std.specs.Prelude.{◌≡◌, ◌≤◌, ◌<◌, ◌+◌, ◌++◌, [], List, length, nat_lt, Some, IfOk, IfErr, OnOk};
+ghost use Rattle.std.specs.List.{prefix_len};
+ghost use Rattle.std.specs.Option.{option_map};
+ghost use Rattle.std.specs.Str.{IsAscii};
+ghost use Rattle.std.specs.String.{string_bytes};
+ghost use Rattle.assembler_text.specs.Lexemes.{source_lines};
+ghost use Rattle.assembler.specs.declared.fault.AsmFault.TheVariants.{Memory};
+ghost use Rattle.assembler.specs.Kept.{EndsBy};
+ghost use Rattle.assembler.specs.Listing.{hex_byte_text, hex_word, letters_of, line_at, spaces, symbol_at};
+ghost use Rattle.assembler.specs.Rows.{AreRows, Row};
+ghost use Rattle.assembler.specs.Shown.{said_by, shown_digits, shown_line, shown_place, shown_spot};
+
+use crate::fault::AsmFault;
+use crate::late::address_at;
+use crate::reading::Reading;
+use crate::row::KeptRow;
+use assembler_statement::symbol::Location;
+use assembler_text::name::Name;
+use board_types::image::Image;
+use std::alloc::{AllocError, Global};
+use std::fmt;
+use std::marker::Model;
+
+/// How many of a line's bytes the listing shows.
+const SHOWN: u64 = 8;
+
+/// A source that was assembled.
+#[derive(Drop)]
+pub struct Listing {
+    pub(crate) reading: Reading,
+    pub(crate) image: Image,
+}
+
+impl Model for Listing {
+    ghost use Rattle.assembler.specs.Gives.{Gives};
+    ghost use Rattle.assembler.specs.Kept.{Reads};
+    ghost use Rattle.assembler.specs.Listing.{ListingState};
+
+    ghost Value = { ListingState };
+
+    ghost view = { λ l. record { source = l.reading.source.items; names = l.reading.symbols.entries; image = l.image } };
+
+    ghost invariant = { λ l. Reads l.reading.source.items l.reading.symbols.entries l.reading.rows.items × Gives l.reading.source.items l.image };
+}
+
+/// A word that is shown as four hexadecimal digits.
+#[derive(Clone, Copy)]
+struct HexWord(u16);
+
+impl fmt::Display for HexWord {
+    ghost output = { λ w. Some (hex_word w.0) };
+
+    #[tactic(auto, using(std::proofs::lemmas::Fmt::hex_byte))]
+    fn fmt<W: fmt::Write>(&self, f: &mut fmt::Formatter<W>) -> fmt::Result {
+        let high = (self.0 / 256) as u8;
+        let low = (self.0 % 256) as u8;
+        write!(f, "{high:02X}{low:02X}")
+    }
+}
+
+impl Listing {
+    /// The image that the source gives.
+    pub fn image(&self) -> &Image
+        ensures { result.now ≡ self.now.image }
+    {
+        &self.image
+    }
+
+    /// The listing's line `i`, from 0 on: where the line's bytes stand, the first eight of them, a `+` where there are
+    /// more, and the source's line. `None` past the last line.
+    pub fn line(&self, alloc: Global, i: usize) -> Result<Option<String>, AsmFault>
+        ensures line { (rows : List Row) → AreRows [] (source_lines self.now.source) rows → IfOk result (λ text. option_map string_bytes text ≡ line_at self.now.names (source_lines self.now.source) rows i) }
+        ensures fault { IfErr result (λ fault. fault ≡ Memory) }
+    {
+        let Some(row) = self.reading.rows.as_slice().get(i) else {
+            return Ok(None);
+        };
+        match line_text(alloc, self.reading.source.as_slice(), &self.image, row) {
+            Ok(text) => Ok(Some(text)),
+            Err(_) => Err(AsmFault::Memory),
+        }
+    }
+
+    /// The `i`-th name that the source defines, from 0 on, in upper case, with its value: of a label its offset. Names
+    /// stand by rising line, a line's label first. `None` past the last name.
+    pub fn symbol(&self, i: usize) -> Option<(&str, i64)>
+        ensures { option_map (λ found. (found.0.now, found.1)) result ≡ symbol_at self.now.names i }
+    {
+        let (name, symbol) = self.reading.symbols.get_index(i)?;
+        Some((name_text(name), symbol.value()))
+    }
+}
+
+/// The listing's line of a row.
+fn line_text(
+    alloc: Global,
+    source: &[u8],
+    image: &Image,
+    row: &KeptRow,
+) -> Result<String, AllocError>
+    requires inside { row.now.start + row.now.length ≤ length source.now }
+    requires ascii { IsAscii (said_by source.now row.now) }
+    requires ends { EndsBy 65536 (shown_spot row.now) row.now.size }
+    ensures { IfOk result (λ text. string_bytes text ≡ shown_line source.now image.now row.now) }
+{
+    let mut text = match row.spot {
+        Some(spot) if row.size > 0 => place_text(alloc, image, spot, row.size)?,
+        _ => no_place_text(alloc)?,
+    };
+    let behind = source.split_at(row.start as usize).1;
+    text.push_str(ascii_text(behind.split_at(row.length as usize).0))?;
+    Ok(text)
+}
+
+/// In place of bytes where a row has none.
+fn no_place_text(alloc: Global) -> Result<String, AllocError>
+    ensures { IfOk result (λ text. string_bytes text ≡ spaces 28) }
+{
+    let mut text = String::new(alloc);
+    push_spaces(&mut text, 28)?;
+    Ok(text)
+}
+
+/// Where the bytes stand, and the first eight of them.
+#[tactic(auto, unfolding(crate::specs::Shown::shown_place))]
+fn place_text(alloc: Global, image: &Image, spot: Location, size: u64) -> Result<String, AllocError>
+    requires some { 0 < size }
+    requires within { spot.offset + size ≤ 65536 }
+    ensures { IfOk result (λ text. string_bytes text ≡ shown_place image.now spot size) }
+{
+    let segment = HexWord(spot.segment);
+    let offset = HexWord(spot.offset as u16);
+    let mut text = format!(in alloc; "{segment}:{offset} ")?;
+    let count = if size > SHOWN { SHOWN } else { size };
+    push_bytes(alloc, &mut text, image, spot, count)?;
+    push_spaces(&mut text, 2 * (SHOWN - count))?;
+    text.push(if size > SHOWN { '+' } else { ' ' })?;
+    text.push(' ')?;
+    Ok(text)
+}
+
+/// So many of the bytes that stand there.
+#[tactic(auto, using(crate::proofs::ListingShown::digits_more))]
+fn push_bytes(
+    alloc: Global,
+    text: &mut String,
+    image: &Image,
+    spot: Location,
+    count: u64,
+) -> Result<(), AllocError>
+    requires within { spot.offset + count ≤ 65536 }
+    ensures { OnOk result (string_bytes text.new ≡ string_bytes text.old ++ shown_digits image.now spot count) }
+{
+    for n in 0..count {
+        let byte = image.get(address_at(spot, n)).unwrap_or(0);
+        let digits = byte_text(alloc, byte)?;
+        text.push_str(digits.as_str())?;
+    }
+    Ok(())
+}
+
+#[tactic(auto, using(std::proofs::lemmas::Fmt::hex_byte))]
+fn byte_text(alloc: Global, byte: u8) -> Result<String, AllocError>
+    ensures { IfOk result (λ text. string_bytes text ≡ hex_byte_text byte) }
+{
+    format!(in alloc; "{byte:02X}")
+}
+
+fn push_spaces(text: &mut String, count: u64) -> Result<(), AllocError>
+    ensures { OnOk result (string_bytes text.new ≡ string_bytes text.old ++ spaces count) }
+{
+    for _n in 0..count {
+        text.push(' ')?;
+    }
+    Ok(())
+}
+
+/// A name without what fills it up.
+fn name_text(name: &Name) -> &str
+    requires { IsAscii (letters_of name.now) }
+    ensures { result.now ≡ letters_of name.now }
+{
+    let letters = name.letters.as_slice();
+    ascii_text(letters.split_at(name_length(letters)).0)
+}
+
+/// How many letters stand before what fills the name up.
+fn name_length(letters: &[u8]) -> usize
+    ensures { result ≡ prefix_len (λ letter. nat_lt 0 letter) letters.now }
+{
+    let mut length = 0;
+    for letter in letters {
+        if *letter == 0 {
+            return length;
+        }
+        length += 1;
+    }
+    length
+}
+
+/// The text that ASCII characters are.
+fn ascii_text(characters: &[u8]) -> &str
+    requires { IsAscii characters.now }
+    ensures { result.now ≡ characters.now }
+{
+    std::str::from_utf8(characters).unwrap_or("")
+}

@@ -1,0 +1,224 @@
+//! The first pass: what each line says, where it stands, and what the names stand for.
+ghost use Rattle.std.specs.Prelude.{◌≡◌, ◌≤◌, ◌+◌, ◌^◌, ◌++◌, [], ◌∷◌, None, true, length, IfOk, IfErr, IfSome, OnOk};
+ghost use Rattle.std.specs.Option.{option_map};
+ghost use Rattle.std.specs.Box.{box_value};
+ghost use Rattle.isa.specs.Encoding.{IsForm};
+ghost use Rattle.assembler.specs.declared.fault.AsmFault.TheVariants.{Memory};
+ghost use Rattle.assembler.specs.FirstFault.{IsFirst};
+ghost use Rattle.assembler.specs.FirstPass.{AddsRow, AddsText, IsNewDefinition, KeepsText, StopsAt, StopsText, definition_names, offset_of, row_of, size_limit};
+ghost use Rattle.assembler.specs.Gives.{source_limit};
+ghost use Rattle.assembler.specs.Kept.{Reads};
+ghost use Rattle.assembler.specs.Placement.{content_of};
+ghost use Rattle.assembler.specs.Rows.{IsFormOf, early_fault, label_definition, statement_definition};
+ghost use Rattle.assembler_statement.specs.Values.{AreSmall, term_limit};
+ghost use Rattle.assembler_text.specs.Weights.{IsWithin, are_terms_within};
+
+use crate::fault::{AsmFault, LineStop, SourceFault};
+use crate::row::{Content, KeptRow};
+use crate::segment::{State, early_fault, size_of, spot_after, statement_form};
+use assembler_statement::constant::constant_of;
+use assembler_statement::symbol::{Location, Symbol, Symbols};
+use assembler_text::fault::LineError;
+use assembler_text::lexeme::next_line;
+use assembler_text::name::Name;
+use assembler_text::read::read_line;
+use assembler_text::statement::{Line, Statement};
+use indexmap::IndexMap;
+use isa::form::Form;
+use std::alloc::{AllocError, Global};
+use std::boxed::Box;
+
+/// What the first pass keeps of a source: a copy of it, its rows and its names.
+#[derive(Drop)]
+pub(crate) struct Reading {
+    pub(crate) source: Vec<u8>,
+    pub(crate) rows: Vec<KeptRow>,
+    pub(crate) symbols: Symbols,
+}
+
+/// Reads all lines of the source.
+pub(crate) fn read_source(alloc: Global, source: &[u8]) -> Result<Reading, AsmFault>
+    requires within { length source.now ≤ source_limit }
+    ensures source { IfOk result (λ reading. reading.source.items ≡ source.now) }
+    ensures reads { IfOk result (λ reading. Reads source.now reading.symbols.entries reading.rows.items) }
+    ensures fault { IfErr result (IsFirst source.now) }
+{
+    let Ok(copy) = Vec::from_slice(alloc, source) else {
+        return Err(AsmFault::Memory);
+    };
+    let mut rows = Vec::new(alloc);
+    let mut state = State {
+        spot: None,
+        symbols: IndexMap::new(alloc),
+    };
+    let mut number = 0;
+    let mut rest = source;
+    while let Some((text, after)) = next_line(rest) {
+        number += 1;
+        let start = source.len() - rest.len();
+        add_text(alloc, &mut state, &mut rows, start, text, number)?;
+        rest = after;
+    }
+    Ok(Reading {
+        source: copy,
+        rows,
+        symbols: state.symbols,
+    })
+}
+
+/// Reads the line with this number, whose text begins here in the source, and keeps its row.
+fn add_text(
+    alloc: Global,
+    state: &mut State,
+    rows: &mut Vec<KeptRow>,
+    start: usize,
+    text: &[u8],
+    number: u32,
+) -> Result<(), AsmFault>
+    requires place { start + length text.now ≤ source_limit }
+    requires small { AreSmall state.old.symbols.entries }
+    requires room { offset_of state.old.spot + size_limit (length text.now) ≤ 2 ^ 40 }
+    ensures ok { OnOk result (KeepsText state.old state.new start text.now rows.old.items rows.new.items) }
+    ensures err { IfErr result (StopsAt state.old text.now number) }
+{
+    match read_row(alloc, state, start, text) {
+        Ok(row) => push_row(rows, row),
+        Err(LineStop::Fault(fault)) => Err(AsmFault::InLine(fault, number)),
+        Err(LineStop::Memory) => Err(AsmFault::Memory),
+    }
+}
+
+fn push_row(rows: &mut Vec<KeptRow>, row: KeptRow) -> Result<(), AsmFault>
+    ensures ok { OnOk result (rows.new.items ≡ rows.old.items ++ row ∷ []) }
+    ensures err { IfErr result (λ fault. fault ≡ Memory) }
+{
+    match rows.push(row) {
+        Ok(()) => Ok(()),
+        Err(_) => Err(AsmFault::Memory),
+    }
+}
+
+/// What a line is, and what is left behind it.
+fn read_row(
+    alloc: Global,
+    state: &mut State,
+    start: usize,
+    text: &[u8],
+) -> Result<KeptRow, LineStop>
+    requires place { start + length text.now ≤ source_limit }
+    requires small { AreSmall state.old.symbols.entries }
+    requires room { offset_of state.old.spot + size_limit (length text.now) ≤ 2 ^ 40 }
+    ensures ok { IfOk result (AddsText state.old state.new start text.now) }
+    ensures err { IfErr result (StopsText state.old text.now) }
+{
+    let line = match read_line(alloc, text) {
+        Ok(line) => line,
+        Err(LineError::Fault(fault)) => return Err(LineStop::Fault(SourceFault::of_line(fault))),
+        Err(LineError::Memory) => return Err(LineStop::Memory),
+    };
+    let form = statement_form(&state.symbols, &line.statement);
+    if let Some(fault) = early_fault(state, &line, form) {
+        return Err(LineStop::Fault(fault));
+    }
+    match add_line(alloc, state, start, text.len(), line, form) {
+        Ok(row) => Ok(row),
+        Err(_) => Err(LineStop::Memory),
+    }
+}
+
+/// Adds the names of a line that has no fault, moves on behind it, and keeps what it places. Its text begins here in
+/// the source and has this length.
+fn add_line(
+    alloc: Global,
+    state: &mut State,
+    start: usize,
+    length: usize,
+    line: Line,
+    form: Option<Form>,
+) -> Result<KeptRow, AllocError>
+    requires place { start + length ≤ source_limit }
+    requires small { AreSmall state.old.symbols.entries }
+    requires room { offset_of state.old.spot + size_limit length ≤ 2 ^ 40 }
+    requires within { IsWithin length line.statement }
+    requires chosen { IsFormOf state.old.symbols.entries line.statement form }
+    requires form { IfSome form IsForm }
+    requires clean { early_fault state.old.symbols.entries state.old.spot line form ≡ None }
+    ensures { IfOk result (AddsRow state.old state.new start length (row_of state.old.symbols.entries state.old.spot line form)) }
+{
+    let spot = state.spot;
+    let size = size_of(&state.symbols, &line.statement, form);
+    let next = spot_after(state, &line.statement, size);
+    let has_label = line.label.is_some();
+    let label = label_definition(spot, line.label);
+    let constant = statement_definition(&state.symbols, &line.statement);
+    define(&mut state.symbols, label)?;
+    define(&mut state.symbols, constant)?;
+    state.spot = next;
+    let content = kept(alloc, line.statement, form)?;
+    Ok(KeptRow {
+        start: start as u32,
+        length: length as u32,
+        has_label,
+        spot,
+        size,
+        content,
+    })
+}
+
+/// The name that a label defines, at the place of the next byte.
+fn label_definition(spot: Option<Location>, label: Option<Name>) -> Option<(Name, Symbol)>
+    ensures { definition_names result ≡ label_definition spot label }
+{
+    match (spot, label) {
+        (Some(spot), Some(label)) => Some((label, Symbol::Label(spot))),
+        _ => None,
+    }
+}
+
+/// The name that a statement defines.
+fn statement_definition(symbols: &Symbols, statement: &Statement) -> Option<(Name, Symbol)>
+    requires small { AreSmall symbols.now.entries }
+    requires short { are_terms_within term_limit statement.now ≡ true }
+    ensures { definition_names result ≡ statement_definition symbols.now.entries statement.now }
+{
+    match statement {
+        Statement::Segment(name, n) | Statement::Equ(name, n) => {
+            let number = constant_of(symbols, n)?;
+            Some((*name, Symbol::Constant(number)))
+        }
+        _ => None,
+    }
+}
+
+/// Adds a name that isn't defined yet, if there is one.
+fn define(symbols: &mut Symbols, definition: Option<(Name, Symbol)>) -> Result<(), AllocError>
+    requires { IsNewDefinition symbols.old.entries definition }
+    ensures { OnOk result (symbols.new.entries ≡ symbols.old.entries ++ definition_names definition) }
+{
+    let Some((name, symbol)) = definition else {
+        return Ok(());
+    };
+    match symbols.insert(name, symbol) {
+        Ok(_) => Ok(()),
+        Err(_) => Err(AllocError),
+    }
+}
+
+/// What the second pass wants of a statement.
+fn kept(
+    alloc: Global,
+    statement: Statement,
+    form: Option<Form>,
+) -> Result<Option<Box<Content>>, AllocError>
+    ensures { IfOk result (λ content. option_map box_value content ≡ content_of statement form) }
+{
+    match (statement, form) {
+        (Statement::Data(width, items), _) => {
+            Ok(Some(Box::new(alloc, Content::Data(width, items))?))
+        }
+        (Statement::Instruction(instruction), Some(form)) => {
+            Ok(Some(Box::new(alloc, Content::Code(form, instruction))?))
+        }
+        _ => Ok(None),
+    }
+}
