@@ -1,8 +1,12 @@
 pub mod Clocks
+pub mod Entries
 pub mod Foreseen
 pub mod KeyOrder
+pub mod Lasts
+pub mod LeastNumbers
 pub mod Quiet
 pub mod Requests
 pub mod Runs
+pub mod Stopping
 pub mod Wires
 pub mod Writable

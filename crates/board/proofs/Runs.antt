@@ -6,29 +6,28 @@ use Rattle.board_types.proofs.Iterate.{iterate_zero, iterate_more, iterate_add, 
 use Rattle.board_types.specs.declared.line.Line.{Line}
 use Rattle.board_types.specs.declared.line.Line.TheVariants.{Low, High}
 use Rattle.board.specs.declared.board.SpeakerChange.{SpeakerChange}
-use Rattle.board.specs.Board.{BoardState, IsHeldBack, StoppedEarly}
+use Rattle.board.specs.Board.{BoardState, IsHeldBack, Ran, StoppedEarly}
+use Rattle.board.specs.Laws.{RunsJoin}
 use Rattle.board_types.specs.Lines.{from_bool, is_high}
 use Rattle.board.specs.Plain.{Plain, clock_of, after_clock, after_clocks, change_next, changes_in, speaker_level}
+use Rattle.board.specs.Trail.{last, trail_in, trail_next}
+use Rattle.board.proofs.Lasts.{last_again, nothing_added}
 
--- one clock of a board, with the change that it brings in the list
+-- one clock of a board, with the change and the entry that it brings in the lists
 pub record IsClockOn (old new : BoardState) : Type 0 where
   pub plain : new.plain ≡ after_clock old.plain
   pub clock : clock_of new.plain ≡ clock_of old.plain + 1
   pub changes : new.changes ≡ old.changes ++ change_next old.plain
+  pub trail : new.trail ≡ last 32 (old.trail ++ trail_next old.plain)
   pub room : old.room + length old.changes ≤ new.room + length new.changes
 
--- n clocks have gone by
-pub record Ran (n : ℕ) (old new : BoardState) : Type 0 where
-  pub plain : new.plain ≡ after_clocks old.plain n
-  pub clock : clock_of new.plain ≡ clock_of old.plain + n
-  pub changes : new.changes ≡ old.changes ++ changes_in old.plain n
-  pub room : old.room + length old.changes ≤ new.room + length new.changes
-
-pub ran_none : (s : BoardState) → Ran 0 s s
-ran_none s = record {
+pub ran_none : (s : BoardState) → length s.trail ≤ 32 → Ran 0 s s
+ran_none s few = record {
   plain = sym (iterate_zero after_clock s.plain);
   clock = omega arith;
   changes = sym (append-nil s.changes) ∙ ap (λ xs. s.changes ++ xs) (sym (gathered_zero after_clock change_next s.plain));
+  trail =
+      nothing_added 32 s.trail few ∙ ap (λ xs. last 32 (s.trail ++ xs)) (sym (gathered_zero after_clock trail_next s.plain));
   room = omega arith;
 }
 
@@ -42,7 +41,37 @@ ran_more n s t u so_far on = record {
       ∙ append_assoc s.changes (changes_in s.plain n) (change_next t.plain)
       ∙ ap (λ p. s.changes ++ (changes_in s.plain n ++ change_next p)) so_far.plain
       ∙ ap (λ xs. s.changes ++ xs) (sym (gathered_more after_clock change_next n s.plain));
+  trail =
+      on.trail
+      ∙ ap (λ xs. last 32 (xs ++ trail_next t.plain)) so_far.trail
+      ∙ last_again 32 (s.trail ++ trail_in s.plain n) (trail_next t.plain)
+      ∙ ap (last 32) (
+      append_assoc s.trail (trail_in s.plain n) (trail_next t.plain)
+      ∙ ap (λ p. s.trail ++ (trail_in s.plain n ++ trail_next p)) so_far.plain
+      ∙ ap (λ xs. s.trail ++ xs) (sym (gathered_more after_clock trail_next n s.plain)));
   room = let a = on.room in let b = so_far.room in omega arith;
+}
+
+-- two runs, one after the other, are one
+pub runs_join : RunsJoin
+runs_join a b s t u first second = record {
+  plain = second.plain ∙ ap (λ p. after_clocks p b) first.plain ∙ sym (iterate_add after_clock a b s.plain);
+  clock = let c = first.clock in let d = second.clock in omega arith;
+  changes =
+      second.changes
+      ∙ ap (λ xs. xs ++ changes_in t.plain b) first.changes
+      ∙ append_assoc s.changes (changes_in s.plain a) (changes_in t.plain b)
+      ∙ ap (λ p. s.changes ++ (changes_in s.plain a ++ changes_in p b)) first.plain
+      ∙ ap (λ xs. s.changes ++ xs) (sym (gathered_add after_clock change_next a b s.plain));
+  trail =
+      second.trail
+      ∙ ap (λ xs. last 32 (xs ++ trail_in t.plain b)) first.trail
+      ∙ last_again 32 (s.trail ++ trail_in s.plain a) (trail_in t.plain b)
+      ∙ ap (last 32) (
+      append_assoc s.trail (trail_in s.plain a) (trail_in t.plain b)
+      ∙ ap (λ p. s.trail ++ (trail_in s.plain a ++ trail_in p b)) first.plain
+      ∙ ap (λ xs. s.trail ++ xs) (sym (gathered_add after_clock trail_next a b s.plain)));
+  room = let c = first.room in let d = second.room in omega arith;
 }
 
 -- a run that is held back stands at the clock before a change
@@ -53,6 +82,7 @@ stopped n passed s t u within so_far held = record {
   plain = ap (λ (b : BoardState). b.plain) held.kept ∙ so_far.plain;
   clock = let c = so_far.clock in let same : clock_of u.plain ≡ clock_of t.plain = ap (λ (b : BoardState). clock_of b.plain) held.kept in omega arith;
   changes = ap (λ (b : BoardState). b.changes) held.kept ∙ so_far.changes;
+  trail = ap (λ (b : BoardState). b.trail) held.kept ∙ so_far.trail;
   changes_next = subst (λ (b : BoardState). speaker_level (after_clock b.plain) ≢ speaker_level b.plain) (sym held.kept) held.changes_next;
   full = ap (λ (b : BoardState). b.room) held.kept ∙ held.full;
 }

@@ -1,6 +1,6 @@
 -- Which addresses take bytes, at every clock of a board.
-use Rattle.std.proofs.Common.{◌≡◌, ℕ, ◌+◌, ◌*◌, ◌-◌, ◌<◌, ◌≤◌, ◌⊎◌, inl, inr, zero, suc, Bool, true, false, if◌then◌else◌, List, [], ◌∷◌, length, refl, sym, ap, ◌∙◌, arith, IsTrue}
-use Rattle.std.specs.Prelude.{nat_lt, nat_le, ◌&&◌}
+use Rattle.std.proofs.Common.{◌≡◌, ℕ, ◌+◌, ◌*◌, ◌-◌, ◌<◌, ◌≤◌, ◌⊎◌, inl, inr, zero, suc, true, false, if◌then◌else◌, List, [], ◌∷◌, length, refl, ap, ◌∙◌, arith}
+use Rattle.std.specs.Prelude.{nat_lt}
 use Rattle.std.proofs.lemmas.Grind.{common_steps}
 use Rattle.std.proofs.lemmas.Bool.Decides.{nat_tests}
 use Rattle.board_types.specs.Iterate.{iterate}
@@ -16,7 +16,7 @@ use Rattle.memory.specs.Kinds.{is_text_address, IsTextAddress}
 use Rattle.memory.specs.Map as map
 use Rattle.memory.specs.Map.{IsRamSize}
 use Rattle.memory.proofs.Writes.{ram_written, whole_at_power_on}
-use Rattle.wiring.specs.BusLaws.{SameBytes, same_writable, bytes_after_settling, chips_keep_bytes}
+use Rattle.wiring.specs.BusLaws.{SameBytes, same_writable, chips_keep_bytes}
 use Rattle.wiring.specs.Chips.{ChipsState}
 use Rattle.wiring.specs.Chips as chips
 use Rattle.wiring.specs.Ports.{chips_bus, is_writable}

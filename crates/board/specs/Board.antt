@@ -1,15 +1,27 @@
--- What a board shows: the plain board at its clock, the speaker's changes so far, and the room that is kept
--- for further ones.
+-- What a board shows: the plain board at its clock, the speaker's changes so far, the room that is kept for further ones,
+-- and the last entries of the trail.
 use Rattle.std.specs.Prelude.{ℕ, ◌+◌, ◌<◌, ◌≤◌, ◌≡◌, ◌≢◌, List, ◌++◌, codes, length}
 use Rattle.board.specs.declared.board.BoardFault.{BoardFault}
 use Rattle.board.specs.declared.board.BoardFault.TheVariants.{RamSize, Memory, ClockLimit}
 use Rattle.board.specs.declared.board.SpeakerChange.{SpeakerChange}
-use Rattle.board.specs.Plain.{Plain, clock_of, after_clocks, after_clock, change_next, changes_in, speaker_level}
+use Rattle.board.specs.declared.trail.TrailEntry.{TrailEntry}
+use Rattle.board.specs.Plain.{Plain, clock_of, after_clocks, after_clock, changes_in, speaker_level}
+use Rattle.board.specs.Trail.{last, trail_in}
 
 pub record BoardState : Type 0 where
   pub plain : Plain
   pub changes : List SpeakerChange
   pub room : ℕ
+  pub trail : List TrailEntry
+
+-- n clocks have gone by, with the changes that they bring and what they add to the trail; no more room has gone than
+-- changes have come
+pub record Ran (n : ℕ) (old new : BoardState) : Type 0 where
+  pub plain : new.plain ≡ after_clocks old.plain n
+  pub clock : clock_of new.plain ≡ clock_of old.plain + n
+  pub changes : new.changes ≡ old.changes ++ changes_in old.plain n
+  pub trail : new.trail ≡ last 32 (old.trail ++ trail_in old.plain n)
+  pub room : old.room + length old.changes ≤ new.room + length new.changes
 
 -- a run of n clocks that found no memory: it stands at the clock before a change that there was no room for
 pub record StoppedEarly (n : ℕ) (old new : BoardState) : Type 0 where
@@ -18,6 +30,7 @@ pub record StoppedEarly (n : ℕ) (old new : BoardState) : Type 0 where
   pub plain : new.plain ≡ after_clocks old.plain passed
   pub clock : clock_of new.plain ≡ clock_of old.plain + passed
   pub changes : new.changes ≡ old.changes ++ changes_in old.plain passed
+  pub trail : new.trail ≡ last 32 (old.trail ++ trail_in old.plain passed)
   pub changes_next : speaker_level (after_clock new.plain) ≢ speaker_level new.plain
   pub full : new.room ≡ 0
 

@@ -1,5 +1,5 @@
 -- What holds of every plain board.
-use Rattle.std.specs.Prelude.{ℕ, ◌≡◌, ◌≢◌, ◌+◌, ◌-◌, ◌*◌, ◌/◌, ◌<◌, ◌≤◌, true, false, ◌⊎◌, ◌↔◌, List, [], All}
+use Rattle.std.specs.Prelude.{ℕ, ◌≡◌, ◌≢◌, ◌+◌, ◌-◌, ◌*◌, ◌/◌, ◌<◌, ◌≤◌, true, false, ◌⊎◌, ◌↔◌, List, [], ◌∷◌, ◌++◌, length, All, Option, MatchOption}
 use Rattle.board_types.specs.declared.keys.StampedKey.{StampedKey}
 use Rattle.board_types.specs.declared.state.State.TheVariants.{Halted, Jammed}
 use Rattle.board_types.specs.Lines.{from_bool}
@@ -19,6 +19,10 @@ use Rattle.wiring.specs.Wires.{after_settling, is_requested}
 use Rattle.board.specs.declared.act.Act.{Act}
 use Rattle.board.specs.declared.act.Act.TheVariants.{Request, Instruction}
 use Rattle.board.specs.declared.board.Config.{Config}
+use Rattle.board.specs.declared.stop.Condition.{Condition}
+use Rattle.board.specs.declared.stop.Stop.{Stop}
+use Rattle.board.specs.Board.{BoardState, Ran}
+use Rattle.board.specs.Stops.{holding, holds, IsStopOf}
 use Rattle.board.specs.Plain.{Plain, after_clock, after_clocks, board_after, clock_of, next_act, speaker_level}
 
 -- the port writes of what the processor does: an instruction alone writes to ports
@@ -128,3 +132,33 @@ HaltIsQuiet = (s : Plain) (n : ℕ) → HaltLasts s n → ChipsAloneGoOn s n
 -- and after a jam, whatever is requested, while no key comes
 abbrev pub JamIsQuiet : Type 0
 JamIsQuiet = (s : Plain) (n : ℕ) → WiresHold s.chips → s.cpu.state ≡ Jammed → s.busy ≡ 0 → NoKeyComes s n → ChipsAloneGoOn s n
+
+-- a run of n clocks has one end: a stop, or none
+pub record HasOneEnd (stops : List Condition) (n : ℕ) (s : Plain) : Type 0 where
+  pub end : Option Stop
+  pub is_end : IsStopOf stops n s end
+  pub alone : (other : Option Stop) → IsStopOf stops n s other → other ≡ end
+
+-- so has every run
+abbrev pub RunsHaveOneEnd : Type 0
+RunsHaveOneEnd = (stops : List Condition) (n : ℕ) (s : Plain) → HasOneEnd stops n s
+
+-- a condition holds, and none before it in the list; its number counts from 1
+pub record IsFirstHolding (stops : List Condition) (s : Plain) (number : ℕ) : Type 0 where
+  pub before : List Condition
+  pub first : Condition
+  pub after : List Condition
+  pub parts : stops ≡ before ++ first ∷ after
+  pub place : number ≡ length before + 1
+  pub none_before : All (λ condition. holds condition s ≡ false) before
+  pub holds : holds first s ≡ true
+
+-- the number that is told is that of the first condition that holds, and none is told only where none holds
+abbrev pub LeastNumberIsTold : Type 0
+LeastNumberIsTold =
+    (stops : List Condition) (s : Plain)
+    → MatchOption (holding stops s) (All (λ condition. holds condition s ≡ false) stops) (IsFirstHolding stops s)
+
+-- a run and the next one are one run of both their clocks, with the lists of the whole
+abbrev pub RunsJoin : Type 0
+RunsJoin = (a b : ℕ) (s t u : BoardState) → Ran a s t → Ran b t u → Ran (a + b) s u

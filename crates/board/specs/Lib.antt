@@ -1,5 +1,7 @@
 pub mod Reset
 pub mod Plain
 pub mod Arrivals
-pub mod Laws
+pub mod Trail
 pub mod Board
+pub mod Stops
+pub mod Laws

@@ -1,13 +1,18 @@
 //! The board: run for a number of clocks, and read.
-ghost use Rattle.std.specs.Prelude.{◌≡◌, ◌+◌, ◌*◌, ◌<◌, ◌≤◌, ◌^◌, [], ◌∷◌, ◌++◌, length, OnErr, OnOk, IfOk, IsOk, ◌↔◌};
+ghost use Rattle.std.specs.Prelude.{IsTrue, All, ◌-◌, slice_get, ◌≡◌, ◌+◌, ◌*◌, ◌<◌, ◌≤◌, ◌^◌, [], ◌∷◌, ◌++◌, length, OnErr, OnOk, IfOk, IsOk, ◌↔◌};
 ghost use Rattle.std.specs.Result.{IfErr, IsErrOf};
 ghost use Rattle.std.specs.String.{string_bytes};
 ghost use Rattle.memory.specs.Map.{IsRamSize, FitsRam};
-ghost use Rattle.board.specs.Board.{IsHeldBack, StoppedEarly, board_fault_name, board_fault_number};
+ghost use Rattle.board.specs.Board.{IsHeldBack, Ran, StoppedEarly, board_fault_name, board_fault_number};
 ghost use Rattle.board.specs.Plain.{after_clock, after_clocks, byte_of, change_next, changes_in, clock_of, lost_codes, power_on, registers_of, screen_of, speaker_level, state_of};
+ghost use Rattle.board.specs.Stops.{FitsRoom, HasAddress, IsStopOf, NoStop, run_length};
+ghost use Rattle.board.specs.Trail.{last, trail_in, trail_next};
+ghost use Rattle.std.specs.Option.{option_copied};
 ghost use Rattle.board_types.specs.Lines.{from_bool};
 
+use crate::stop::{Stop, Stopped, Stops};
 use crate::system::System;
+use crate::trail::{Trail, TrailEntry};
 use board_types::clock::Clock;
 use board_types::image::Image;
 use board_types::keys::Keys;
@@ -15,7 +20,7 @@ use board_types::line::Line;
 use board_types::regs::Regs;
 use board_types::state::State;
 use memory::map::MemoryFault;
-use std::alloc::{Allocator, Global};
+use std::alloc::{AllocError, Allocator, Global};
 use std::marker::Model;
 use thiserror::Error;
 
@@ -72,12 +77,13 @@ pub struct SpeakerChange {
     pub level: Line,
 }
 
-/// A board at a clock, with the changes of its speaker's level since power-on. The list of changes grows in
-/// memory of its own allocator, `A`.
+/// A board at a clock, with the changes of its speaker's level since power-on and the last entries of its trail. The
+/// list of changes grows in memory of its own allocator, `A`.
 #[derive(Drop)]
 pub struct Board<A: Allocator = Global> {
     system: System,
     changes: Vec<SpeakerChange, A>,
+    trail: Trail,
 }
 
 impl<A: Allocator> Model for Board<A> {
@@ -88,9 +94,9 @@ impl<A: Allocator> Model for Board<A> {
 
     ghost Value = { BoardState };
 
-    ghost view = { λ b. record { plain = b.system; changes = b.changes.items; room = vec_capacity b.changes - length b.changes.items } };
+    ghost view = { λ b. record { plain = b.system; changes = b.changes.items; room = vec_capacity b.changes - length b.changes.items; trail = b.trail } };
 
-    ghost invariant = { λ b. clock_of b.system ≤ 2 ^ 40 };
+    ghost invariant = { λ b. (clock_of b.system ≤ 2 ^ 40) × (length b.trail ≤ 32) };
 }
 
 impl Board {
@@ -107,18 +113,49 @@ impl Board {
         ensures plain { IfOk result (λ board. board.plain ≡ power_on image.now config keys) }
         ensures clock { IfOk result (λ board. clock_of board.plain ≡ 0) }
         ensures changes { IfOk result (λ board. board.changes ≡ []) }
+        ensures trail { IfOk result (λ board. board.trail ≡ []) }
         ensures size { OnOk result (IsRamSize config.ram_kb × FitsRam image.now (1024 * config.ram_kb)) }
         ensures ram_size { IsErrOf result BoardFault.RamSize ↔ (¬ (IsRamSize config.ram_kb × FitsRam image.now (1024 * config.ram_kb))) }
         ensures no_limit { ¬ (IsErrOf result BoardFault.ClockLimit) }
     {
-        match System::new(alloc, image, config, keys) {
-            Ok(system) => Ok(Board {
+        let system = match System::new(alloc, image, config, keys) {
+            Ok(system) => system,
+            Err(MemoryFault::RamSize) => return Err(BoardFault::RamSize),
+            Err(MemoryFault::OutOfMemory) => return Err(BoardFault::Memory),
+        };
+        match Trail::new(alloc) {
+            Ok(trail) => Ok(Board {
                 system,
                 changes: Vec::new(alloc),
+                trail,
             }),
-            Err(MemoryFault::RamSize) => Err(BoardFault::RamSize),
-            Err(MemoryFault::OutOfMemory) => Err(BoardFault::Memory),
+            Err(_) => Err(BoardFault::Memory),
         }
+    }
+
+    /// The same board at the same clock, with its lists, in memory of its own. Refused as `Memory` where there is none.
+    pub fn copy(&self) -> Result<Board, BoardFault>
+        ensures plain { IfOk result (λ board. board.plain ≡ self.now.plain) }
+        ensures changes { IfOk result (λ board. board.changes ≡ self.now.changes) }
+        ensures trail { IfOk result (λ board. board.trail ≡ self.now.trail) }
+        ensures err { IfErr result (λ fault. fault ≡ BoardFault.Memory) }
+    {
+        match self.try_copy() {
+            Ok(board) => Ok(board),
+            Err(_) => Err(BoardFault::Memory),
+        }
+    }
+
+    fn try_copy(&self) -> Result<Board, AllocError>
+        ensures plain { IfOk result (λ board. board.plain ≡ self.now.plain) }
+        ensures changes { IfOk result (λ board. board.changes ≡ self.now.changes) }
+        ensures trail { IfOk result (λ board. board.trail ≡ self.now.trail) }
+    {
+        Ok(Board {
+            system: self.system.copy()?,
+            changes: self.changes.clone()?,
+            trail: self.trail.copy()?,
+        })
     }
 
     /// The same board, whose list of changes goes on in the memory of another allocator.
@@ -127,10 +164,12 @@ impl Board {
         requires { changes.items ≡ self.changes }
         ensures plain { result.plain ≡ self.plain }
         ensures changes { result.changes ≡ self.changes }
+        ensures trail { result.trail ≡ self.trail }
     {
         Board {
             system: self.system,
             changes,
+            trail: self.trail,
         }
     }
 }
@@ -144,6 +183,7 @@ impl<A: Allocator> Board<A> {
         ensures plain { OnOk result (self.new.plain ≡ after_clocks self.old.plain count) }
         ensures clock { OnOk result (clock_of self.new.plain ≡ clock_of self.old.plain + count) }
         ensures changes { OnOk result (self.new.changes ≡ self.old.changes ++ changes_in self.old.plain count) }
+        ensures trail { OnOk result (self.new.trail ≡ last 32 (self.old.trail ++ trail_in self.old.plain count)) }
         ensures limit { IsErrOf result BoardFault.ClockLimit ↔ (2 ^ 40 < clock_of self.old.plain + count) }
         ensures limit_kept { IsErrOf result BoardFault.ClockLimit → self.new ≡ self.old }
         ensures memory { IsErrOf result BoardFault.Memory → StoppedEarly count self.old self.new }
@@ -151,7 +191,7 @@ impl<A: Allocator> Board<A> {
         ensures succeeds { clock_of self.old.plain + count ≤ 2 ^ 40 → length (changes_in self.old.plain count) ≤ self.old.room → IsOk result }
         ensures room { self.old.room + length self.old.changes ≤ self.new.room + length self.new.changes }
     {
-        if Clock::LAST - self.system.clock().get() < count {
+        if self.is_past_limit(count) {
             return Err(BoardFault::ClockLimit);
         }
         for _passed in 0..count {
@@ -160,12 +200,42 @@ impl<A: Allocator> Board<A> {
         Ok(())
     }
 
+    /// Runs the board for `count` processor clocks, or up to the first clock after the start at which one of `stops`
+    /// holds, and answers that stop. Refused as `run` is; where it is refused as `Memory`, none held at any clock
+    /// after the start up to the one where the board stands.
+    pub fn run_until(&mut self, count: u64, stops: &Stops) -> Result<Stopped, BoardFault>
+        requires { All HasAddress stops.now.items }
+        ensures stop { IfOk result (λ stopped. IsStopOf stops.now.items count self.old.plain stopped) }
+        ensures ran { IfOk result (λ stopped. Ran (run_length count self.old.plain stopped) self.old self.new) }
+        ensures limit { IsErrOf result BoardFault.ClockLimit ↔ (2 ^ 40 < clock_of self.old.plain + count) }
+        ensures limit_kept { IsErrOf result BoardFault.ClockLimit → self.new ≡ self.old }
+        ensures memory { IsErrOf result BoardFault.Memory → StoppedEarly count self.old self.new }
+        ensures none_passed { IsErrOf result BoardFault.Memory → NoStop stops.now.items (clock_of self.new.plain - clock_of self.old.plain) self.old.plain }
+        ensures no_ram_size { ¬ (IsErrOf result BoardFault.RamSize) }
+        ensures succeeds { clock_of self.old.plain + count ≤ 2 ^ 40 → length (changes_in self.old.plain count) ≤ self.old.room → IsOk result }
+        ensures succeeds_to_stop { clock_of self.old.plain + count ≤ 2 ^ 40 → FitsRoom stops.now.items count self.old → IsOk result }
+        ensures room { self.old.room + length self.old.changes ≤ self.new.room + length self.new.changes }
+    {
+        if self.is_past_limit(count) {
+            return Err(BoardFault::ClockLimit);
+        }
+        for _gone in 0..count {
+            self.run_clock()?;
+            if let Some(number) = self.system.holding(stops.as_slice()) {
+                let clock = self.system.clock();
+                return Ok(Some(Stop { number, clock }));
+            }
+        }
+        Ok(None)
+    }
+
     /// Makes room for `n` more changes of the speaker's level. Refused as `Memory`, with nothing changed, where
     /// the list can't grow; never where it has the room.
     pub fn reserve_speaker(&mut self, n: usize) -> Result<(), BoardFault>
         ensures ok { OnOk result (n ≤ self.new.room) }
         ensures plain { self.new.plain ≡ self.old.plain }
         ensures changes { self.new.changes ≡ self.old.changes }
+        ensures trail { self.new.trail ≡ self.old.trail }
         ensures room { self.old.room ≤ self.new.room }
         ensures err { IfErr result (λ fault. fault ≡ BoardFault.Memory) }
         ensures err_kept { OnErr result (self.new ≡ self.old) }
@@ -177,12 +247,21 @@ impl<A: Allocator> Board<A> {
         }
     }
 
+    /// Whether a run of `count` clocks would go past the last clock.
+    fn is_past_limit(&self, count: u64) -> bool
+        ensures trail { length self.now.trail ≤ 32 }
+        ensures past { IsTrue result ↔ (2 ^ 40 < clock_of self.now.plain + count) }
+    {
+        Clock::LAST - self.system.clock().get() < count
+    }
+
     /// One processor clock. The list of changes grows before anything else changes.
     fn run_clock(&mut self) -> Result<(), BoardFault>
         requires { clock_of self.old.plain < 2 ^ 40 }
         ensures plain { OnOk result (self.new.plain ≡ after_clock self.old.plain) }
         ensures clock { OnOk result (clock_of self.new.plain ≡ clock_of self.old.plain + 1) }
         ensures changes { OnOk result (self.new.changes ≡ self.old.changes ++ change_next self.old.plain) }
+        ensures trail { OnOk result (self.new.trail ≡ last 32 (self.old.trail ++ trail_next self.old.plain)) }
         ensures room { OnOk result (self.old.room + length self.old.changes ≤ self.new.room + length self.new.changes) }
         ensures err { OnErr result (IsHeldBack self.old self.new) }
         ensures fault { IfErr result (λ fault. fault ≡ BoardFault.Memory) }
@@ -190,6 +269,8 @@ impl<A: Allocator> Board<A> {
         let next = self.system.next_act();
         let high = self.system.is_high_next(&next);
         self.list_change(high)?;
+        let entry = self.system.next_entry(&next);
+        self.trail.extend(entry);
         self.system.tick(&next);
         Ok(())
     }
@@ -199,6 +280,7 @@ impl<A: Allocator> Board<A> {
         requires within { clock_of self.old.plain < 2 ^ 40 }
         requires next { from_bool high ≡ speaker_level (after_clock self.old.plain) }
         ensures plain { self.new.plain ≡ self.old.plain }
+        ensures trail { self.new.trail ≡ self.old.trail }
         ensures changes { OnOk result (self.new.changes ≡ self.old.changes ++ change_next self.old.plain) }
         ensures room { OnOk result (self.old.room + length self.old.changes ≤ self.new.room + length self.new.changes) }
         ensures err { OnErr result (IsHeldBack self.old self.new) }
@@ -214,6 +296,7 @@ impl<A: Allocator> Board<A> {
     fn add_change(&mut self, high: bool) -> Result<(), BoardFault>
         requires { clock_of self.old.plain < 2 ^ 40 }
         ensures plain { self.new.plain ≡ self.old.plain }
+        ensures trail { self.new.trail ≡ self.old.trail }
         ensures ok { OnOk result (self.new.changes ≡ self.old.changes ++ (record { clock = clock_of self.old.plain + 1; level = from_bool high }) ∷ []) }
         ensures room { OnOk result (self.old.room + length self.old.changes ≤ self.new.room + length self.new.changes) }
         ensures err { OnErr result (self.new ≡ self.old) }
@@ -270,6 +353,15 @@ impl<A: Allocator> Board<A> {
         ensures { result.now ≡ self.now.changes }
     {
         self.changes.as_slice()
+    }
+
+    /// The entry at `i` of the last 32 of the trail, the oldest being at 0: an instruction that was begun or an
+    /// interrupt that was entered at a free boundary.
+    pub fn trail(&self, i: usize) -> Option<&TrailEntry>
+        ensures entry { option_copied result ≡ slice_get self.now.trail i }
+        ensures length { length self.now.trail ≤ 32 }
+    {
+        self.trail.get(i)
     }
 
     /// The screen's 25 rows of 80 characters, each ended by a line feed.

@@ -1,5 +1,5 @@
 //! What holds of every plain board, over the definitions alone.
-ghost use Rattle.board.specs.Laws.{HaltIsQuiet, JamIsQuiet, LevelIsForeseen, MemoryTakesBytes, NoRequestWithoutIf, RequestIsTaken, StayingRequestIsTaken, WiresAlwaysHold};
+ghost use Rattle.board.specs.Laws.{HaltIsQuiet, JamIsQuiet, LeastNumberIsTold, LevelIsForeseen, MemoryTakesBytes, NoRequestWithoutIf, RequestIsTaken, RunsHaveOneEnd, RunsJoin, StayingRequestIsTaken, WiresAlwaysHold};
 
 /// Where the wires hold, the speaker's level at the next clock is known from the port writes that the processor is
 /// about to make: no read, entry, iteration or key touches it.
@@ -40,4 +40,19 @@ pub fn halt_is_quiet()
 /// alone go on.
 pub fn jam_is_quiet()
     ensures { JamIsQuiet }
+{}
+
+/// Every run ends in one way: at the first clock after its start at which a condition holds, or without a stop.
+pub fn runs_have_one_end()
+    ensures { RunsHaveOneEnd }
+{}
+
+/// The number of a stop is the least of the conditions that hold at its clock.
+pub fn least_number_is_told()
+    ensures { LeastNumberIsTold }
+{}
+
+/// A run and the next one are one run of both their clocks: the changes and the trail are those of the whole.
+pub fn runs_join()
+    ensures { RunsJoin }
 {}

@@ -5,6 +5,8 @@ mod act;
 mod arrivals;
 pub mod board;
 pub mod laws;
+pub mod stop;
 mod system;
 #[cfg(test)]
 mod tests;
+pub mod trail;

@@ -1,6 +1,8 @@
 //! Steps on a whole board.
 use crate::bench::Bench;
 use crate::parts::Parts;
+use crate::stops::stops_so;
+use crate::trail::{has_entries, is_begun, is_entered};
 use crate::words::Words;
 use board::board::{Board, BoardFault, Config, SpeakerChange};
 use board_types::line::Line;
@@ -45,6 +47,10 @@ impl BoardBench {
 impl Bench for BoardBench {
     fn make(&mut self, verb: &str, words: Words) -> Option<bool> {
         match &mut self.board {
+            Some(board) if verb == "copy" => {
+                *board = board.copy().ok()?;
+                Some(true)
+            }
             Some(board) => act(board, verb, words),
             None if verb == "ram" => self.build(words),
             None => self.parts.set(verb, words),
@@ -56,12 +62,16 @@ fn act(board: &mut Board, verb: &str, mut words: Words) -> Option<bool> {
     match verb {
         "run" => Some(board.run(words.count()?).is_ok()),
         "refused" => is_fault(board.run(words.count()?).err()?, words),
+        "until" => stops_so(board, words),
         "clock" => Some(board.clock() == words.clock()?),
         "state" => Some(state_name(board.state()) == words.word()?),
         "regs" => hold(board.regs(), words),
         "byte" => Some(board.byte(words.address()?) == words.byte()?),
         "lost" => Some(board.lost() == words.count()?),
         "changes" => are_listed(board.speaker_changes(), words),
+        "trail" => Some(has_entries(board, words.index()?)),
+        "begun" => is_begun(board.trail(words.index()?)?, words),
+        "entered" => is_entered(board.trail(words.index()?)?, words),
         "blank" => Some(board.screen().ok()?.as_str().trim().is_empty()),
         "screen" => words.are_shown(board.screen().ok()?.as_str()),
         _ => None,

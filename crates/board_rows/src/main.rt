@@ -17,13 +17,18 @@
 //!
 //! `board`: `run CLOCKS`, `refused CLOCKS FAULT NAME`, `clock CLOCK`, `state STATE`, `regs NAME=WORD ..` (all that
 //! aren't 0, from AX to FL), `byte ADDRESS BYTE`, `lost COUNT`, `changes CLOCK-LEVEL ..` (all of the speaker's, as
-//! `72H 76L`), `screen LINE 'TEXT'`, `blank` (the whole screen).
+//! `72H 76L`), `screen LINE 'TEXT'`, `blank` (the whole screen), `copy` (goes on with a copy), `until CLOCKS CLOCK NUMBER
+//! CONDITION ..` (a run that stops at this clock, by the condition of this number, or that has no stop where it is 0;
+//! a condition is `free`, `at CS IP`, `byte ADDRESS BYTE`, `sound` or `halted`), `trail COUNT` (of entries), `begun INDEX
+//! CLOCK CS IP BYTE ..` (the trail's entry at this index, from 0: an instruction), `entered INDEX CLOCK CS IP TYPE`.
 #![tactic(auto)]
 
 mod bench;
 mod boards;
 mod chips;
 mod parts;
+mod stops;
+mod trail;
 mod words;
 
 use bench::follow;

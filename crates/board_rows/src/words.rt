@@ -43,6 +43,11 @@ impl<'a> Words<'a> {
         self.word()?.parse::<u64>().ok()
     }
 
+    /// A number of things in memory, in decimal.
+    pub fn index(&mut self) -> Option<usize> {
+        self.word()?.parse::<usize>().ok()
+    }
+
     /// A clock, in decimal.
     pub fn clock(&mut self) -> Option<Clock> {
         Clock::new(self.count()?)

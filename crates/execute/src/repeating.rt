@@ -12,8 +12,20 @@ pub struct Repeating {
     pub instr: Instr,
 }
 
+impl Repeating {
+    /// The same repeat once more; it takes no memory.
+    pub(crate) fn copied(&self) -> Repeating
+        ensures { result ≡ self.now }
+    {
+        Repeating {
+            text: self.text,
+            instr: copied(&self.instr),
+        }
+    }
+}
+
 /// The same instruction once more; it takes no memory.
-pub(crate) fn copied(instr: &Instr) -> Instr
+pub fn copied(instr: &Instr) -> Instr
     ensures { result ≡ instr.now }
 {
     let mut prefixes = ArrayVec::new();

@@ -1,4 +1,4 @@
-use Rattle.std.proofs.Common.{◌≡◌, ◌≢◌, ◌∙◌, refl, sym, ap, get_or}
+use Rattle.std.proofs.Common.{◌≢◌, ◌∙◌, refl, sym, ap, get_or}
 use Rattle.board_types.specs.declared.keys.StampedKey.{StampedKey}
 use Rattle.wiring.specs.Wires.{after_arrivals}
 use Rattle.board.proofs.KeyOrder.{arrived_none, codes_none, arrived_before}

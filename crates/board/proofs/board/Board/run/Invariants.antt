@@ -1,4 +1,4 @@
-use Rattle.board.proofs.Runs.{Ran}
+use Rattle.board.specs.Board.{Ran}
 use Rattle.board.proofs.board.Board.run.Given as goal
 
 abbrev pub invariant-loop-passed : goal.invariant-loop-passed

@@ -1,0 +1,51 @@
+//! Runs up to a stop.
+ghost use Rattle.std.specs.Prelude.{All, IfSome};
+ghost use Rattle.board.specs.Stops.{HasAddress};
+
+use crate::words::Words;
+use board::board::Board;
+use board::stop::{Condition, Stops};
+
+/// Whether a run up to a stop comes to the clock, at the stop of this number, or at none where it is 0. The conditions
+/// stand behind.
+pub fn stops_so(board: &mut Board, mut words: Words) -> Option<bool> {
+    let count = words.count()?;
+    let clock = words.clock()?;
+    let number = words.index()?;
+    let stopped = board.run_until(count, &read_stops(words)?).ok()?;
+    let told = match stopped {
+        Some(stop) => stop.number == number && stop.clock == clock,
+        None => number == 0,
+    };
+    Some(told && board.clock() == clock)
+}
+
+fn read_stops(mut words: Words) -> Option<Stops>
+    ensures { IfSome result (λ stops. All HasAddress stops.items) }
+{
+    let mut stops = Stops::new();
+    for _number in 0..16 {
+        let Some(word) = words.word() else {
+            return Some(stops);
+        };
+        let condition = read_condition(word, &mut words)?;
+        if stops.is_full() {
+            return None;
+        }
+        stops.push(condition);
+    }
+    Some(stops)
+}
+
+fn read_condition(word: &str, words: &mut Words) -> Option<Condition>
+    ensures { IfSome result HasAddress }
+{
+    match word {
+        "free" => Some(Condition::Free),
+        "at" => Some(Condition::At(words.port()?, words.port()?)),
+        "byte" => Some(Condition::Byte(words.address()?, words.byte()?)),
+        "sound" => Some(Condition::Sound),
+        "halted" => Some(Condition::Halted),
+        _ => None,
+    }
+}
