@@ -1,0 +1,5 @@
+mod Scanning
+mod Counting
+mod Lines
+mod Spelling
+mod Reading

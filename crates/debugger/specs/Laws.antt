@@ -1,0 +1,33 @@
+-- What holds of lines and commands.
+use Rattle.std.specs.Prelude.{ℕ, ◌≡◌, ◌+◌, ◌<◌, ◌≤◌, ◌^◌, List, ◌++◌, codes, Some}
+use Rattle.std.specs.Fmt.{decimal}
+use Rattle.board_report.specs.Text.{hex_byte_text, hex_word}
+use Rattle.debugger.specs.declared.command.Command.{Command}
+use Rattle.debugger.specs.declared.command.Command.TheVariants.{Break, Byte, Sound, Halted, Go, Step, Regs, Screen, Dump, Trail}
+use Rattle.debugger.specs.Commands.{command_of}
+use Rattle.debugger.specs.Dump.{address_text}
+
+-- a line for each command: `break F000:0013`, `byte B0000 41`, `go 100`, `dump B0000 4`, and so on
+abbrev pub line_of : Command → List ℕ
+line_of (Break segment offset) = codes "break " ++ (hex_word segment ++ (codes ":" ++ hex_word offset))
+line_of (Byte address byte) = codes "byte " ++ (address_text address ++ (codes " " ++ hex_byte_text byte))
+line_of Sound = codes "sound"
+line_of Halted = codes "halted"
+line_of (Go count) = codes "go " ++ decimal count
+line_of Step = codes "step"
+line_of Regs = codes "regs"
+line_of Screen = codes "screen"
+line_of (Dump first count) = codes "dump " ++ (address_text first ++ (codes " " ++ decimal count))
+line_of Trail = codes "trail"
+
+-- segments and offsets have 16 bits, bytes eight, counts 64, and addresses are below 100000h
+abbrev pub IsMeant : Command → Type 0
+IsMeant (Break segment offset) = (segment < 2 ^ 16) × (offset < 2 ^ 16)
+IsMeant (Byte address byte) = (address < 2 ^ 20) × (byte < 2 ^ 8)
+IsMeant (Go count) = count < 2 ^ 64
+IsMeant (Dump first count) = (first < 2 ^ 20) × ((1 ≤ count) × ((count ≤ 4096) × (first + count ≤ 2 ^ 20)))
+IsMeant _ = Unit {0}
+
+-- each command's line reads as it
+abbrev pub CommandsReadBack : Type 0
+CommandsReadBack = (command : Command) → IsMeant command → command_of (line_of command) ≡ Some command
