@@ -1,2 +1,3 @@
 pub mod Matches
 pub mod Rows
+pub mod Values

@@ -1,12 +1,13 @@
 -- The program's command line, as a command of `clap`.
-use Rattle.std.specs.Prelude.{◌≡◌, ◌≢◌, ◌⊎◌, List, [], codes, Bool, true, false, Option, None, Some, unwrap_or, Result, Ok, Err}
+use Rattle.std.specs.Prelude.{◌≡◌, ◌≢◌, ◌⊎◌, List, [], codes, Bool, true, false, is_some, Option, None, Some, Result, Ok, Err}
+use Rattle.std.specs.Option.{option_map_or}
 use Rattle.std.specs.Str.{bytes_eq}
 use Rattle.clap.specs.Words.{App, Rule, Row, Text, fault_of, first_of, new_app, new_rule, subcommand_of, takes, with_rule, with_subcommand}
 use Rattle.clap.specs.declared.builder.ArgAction.TheVariants.{Set, SetTrue}
 use Rattle.clap.specs.declared.builder.command.Command.{Command}
 use Rattle.clap.specs.declared.builder.command.Command.TheViews.{out-Command}
 use Rattle.pcboard_words.specs.declared.task.Task.{Task}
-use Rattle.pcboard_words.specs.declared.task.Task.TheVariants.{Stored, Asm, Run}
+use Rattle.pcboard_words.specs.declared.task.Task.TheVariants.{Stored, Asm, Run, Debug}
 use Rattle.pcboard_words.specs.declared.task.LineFault.{LineFault}
 use Rattle.pcboard_words.specs.declared.task.LineFault.TheVariants.{Usage, Memory}
 
@@ -22,13 +23,13 @@ required_word name = record (new_rule name) { action = Some Set; required = true
 abbrev pub flag : Text → Rule
 flag name = record (new_rule name) { long = Some name; action = Some SetTrue }
 
--- `asm FILE`
+-- `asm FILE [--list]`
 abbrev pub asm_command : App
-asm_command = with_rule (new_app (codes "asm")) (required_word (codes "FILE"))
+asm_command = with_rule (with_rule (new_app (codes "asm")) (required_word (codes "FILE"))) (flag (codes "list"))
 
--- `run FILE RUN [--hex]`
-abbrev pub run_command : App
-run_command = with_rule (with_rule (with_rule (new_app (codes "run")) (required_word (codes "FILE"))) (required_word (codes "RUN"))) (flag (codes "hex"))
+-- `NAME FILE RUN [--hex]`: a subcommand that has a program on a board
+abbrev pub board_command : Text → App
+board_command name = with_rule (with_rule (with_rule (new_app name) (required_word (codes "FILE"))) (required_word (codes "RUN"))) (flag (codes "hex"))
 
 -- the program's own name isn't among the words, and `help` is no subcommand
 abbrev pub with_words_alone : App → App
@@ -36,27 +37,44 @@ with_words_alone a = record a { top = record a.top { no_binary_name = true; disa
 
 -- no word at all, or one of the subcommands
 abbrev pub app : App
-app = with_subcommand (with_subcommand (with_words_alone (new_app (codes "pcboard"))) asm_command.top) run_command.top
+app = with_subcommand
+    (with_subcommand (with_subcommand (with_words_alone (new_app (codes "pcboard"))) asm_command.top) (board_command (codes "run")).top)
+    (board_command (codes "debug")).top
 
 abbrev pub NamesTask : Text → Type 0
-NamesTask name = (name ≡ codes "asm") ⊎ (name ≡ codes "run")
+NamesTask name = (name ≡ codes "asm") ⊎ ((name ≡ codes "run") ⊎ (name ≡ codes "debug"))
 
--- the text of an argument in the matches of a subcommand; empty where they hold none, which `clap` rules out
--- for a required argument
-abbrev pub text_in : Text → List Row → Text
-text_in name rows = unwrap_or (first_of name rows) []
+-- the matches of a subcommand hold this text for an argument
+abbrev pub HasText : Text → List Row → Text → Type 0
+HasText name rows text = first_of name rows ≡ Some text
 
 -- a flag is among the words: `clap` then holds the value `true` for it, and else `false`
 abbrev pub is_given : Text → List Row → Bool
-is_given name rows = bytes_eq (text_in name rows) (codes "true")
+is_given name rows = option_map_or (λ text. bytes_eq text (codes "true")) (first_of name rows) false
+
+-- the matches hold some text for an argument
+abbrev pub is_there : Text → List Row → Bool
+is_there name rows = is_some (first_of name rows)
+
+-- the matches of a subcommand are a task's: FILE is there, and RUN where the subcommand has one
+abbrev pub HoldsTask : Text × List Row → Type 0
+HoldsTask found =
+    NamesTask found.0 × (is_there (codes "FILE") found.1 ≡ true) × ((found.0 ≡ codes "asm") ⊎ (is_there (codes "RUN") found.1 ≡ true))
+
+-- the matches are of the subcommand `name`, with these two files, and with `--hex` or without
+abbrev pub HoldsBoardWords : Option (Text × List Row) → Text → Text → Text → Bool → Type 0
+HoldsBoardWords found name file run hex =
+    (rows : List Row) × (found ≡ Some (name, rows)) × HasText (codes "FILE") rows file
+    × HasText (codes "RUN") rows run × (hex ≡ is_given (codes "hex") rows)
 
 -- the task is the one that the matches hold: the subcommand's name with its arguments
 abbrev pub IsTaskOf : Option (Text × List Row) → Task → Type 0
 IsTaskOf found Stored = found ≡ None
-IsTaskOf found (Asm file) = (rows : List Row) × (found ≡ Some (codes "asm", rows)) × (file.now ≡ text_in (codes "FILE") rows)
-IsTaskOf found (Run file run hex) =
-    (rows : List Row) × (found ≡ Some (codes "run", rows)) × (file.now ≡ text_in (codes "FILE") rows)
-    × (run.now ≡ text_in (codes "RUN") rows) × (hex ≡ is_given (codes "hex") rows)
+IsTaskOf found (Asm file list) =
+    (rows : List Row) × (found ≡ Some (codes "asm", rows)) × HasText (codes "FILE") rows file.now
+    × (list ≡ is_given (codes "list") rows)
+IsTaskOf found (Run file run hex) = HoldsBoardWords found (codes "run") file.now run.now hex
+IsTaskOf found (Debug file run hex) = HoldsBoardWords found (codes "debug") file.now run.now hex
 
 -- A task is given only where `clap` finds no fault in the words, and is the one that its matches hold;
 -- a refusal as usage only where it finds one.

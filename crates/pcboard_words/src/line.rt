@@ -1,15 +1,16 @@
 //! Reading the words of the command line.
-ghost use Rattle.std.specs.Prelude.{◌≡◌, ◌≢◌, IfOk, IfSome, map, false};
+ghost use Rattle.std.specs.Prelude.{◌≡◌, ◌≢◌, IfOk, IfSome, map, true, false};
 ghost use Rattle.clap.specs.Words.{app_of, found_of, kind_of, rows_of, rule_of, subcommand_rows_of};
-ghost use Rattle.pcboard_words.specs.CommandLine.{Answers, IsTaskOf, NamesTask, OnUsage, app, asm_command, flag, has_globals, is_given, run_command, text_in, required_word};
+ghost use Rattle.pcboard_words.specs.CommandLine.{Answers, HasText, HoldsTask, IsTaskOf, OnUsage, app, asm_command, board_command, flag, has_globals, is_given, is_there, required_word};
 
 use crate::task::{LineFault, Task};
 use clap::error::ErrorKind;
 use clap::{Arg, ArgAction, ArgMatches, Command, Error};
 use std::alloc::{AllocError, Global};
 
-/// Reads the words after the program's name. Without a word the task is the stored run; the others are `asm FILE`
-/// and `run FILE RUN [--hex]`. Refused as `Usage` where `clap` refuses the words, with its text, and as `Memory` for want of memory.
+/// Reads the words after the program's name. Without a word the task is the stored run; the others are
+/// `asm FILE [--list]`, `run FILE RUN [--hex]` and `debug FILE RUN [--hex]`. Refused as `Usage` where `clap`
+/// refuses the words, with its text, and as `Memory` for want of memory.
 #[tactic(auto, unfolding(crate::specs::CommandLine::Answers))]
 pub fn read_words<'a>(alloc: Global, words: &'a [&'a str]) -> Result<Task<'a>, LineFault>
     ensures { Answers (map (λ word. word.now) words.entry.now) result }
@@ -36,7 +37,12 @@ fn command<'a>(alloc: Global) -> Result<Command<'a>, AllocError>
         .no_binary_name(true)
         .disable_help_subcommand(true)
         .subcommand(asm_command(alloc)?)?
-        .subcommand(run_command(alloc)?)
+        .subcommand(board_command(alloc, "run", "Runs a program and prints the report")?)?
+        .subcommand(board_command(
+            alloc,
+            "debug",
+            "Answers commands from standard input about a program's board",
+        )?)
 }
 
 fn asm_command<'a>(alloc: Global) -> Result<Command<'a>, AllocError>
@@ -44,19 +50,29 @@ fn asm_command<'a>(alloc: Global) -> Result<Command<'a>, AllocError>
     ensures local { IfOk result (λ command. has_globals command ≡ false) }
 {
     Command::new(alloc, "asm")
-        .about("Assembles a source and prints its bytes as Intel HEX")
-        .arg(required_word(alloc, "FILE", "The program's source"))
+        .about("Assembles a source and prints its bytes as Intel HEX, or with --list its listing")
+        .arg(required_word(alloc, "FILE", "The program's source"))?
+        .arg(flag(
+            alloc,
+            "list",
+            "Prints the listing in place of the Intel HEX text",
+        ))
 }
 
-fn run_command<'a>(alloc: Global) -> Result<Command<'a>, AllocError>
-    ensures shape { IfOk result (λ command. app_of command ≡ run_command) }
+// A subcommand that has a program on a board.
+fn board_command<'a>(
+    alloc: Global,
+    name: &'a str,
+    about: &'a str,
+) -> Result<Command<'a>, AllocError>
+    ensures shape { IfOk result (λ command. app_of command ≡ board_command name.entry.now) }
     ensures local { IfOk result (λ command. has_globals command ≡ false) }
 {
-    Command::new(alloc, "run")
-        .about("Runs a program and prints the report")
-        .arg(required_word(alloc, "FILE", "The program's source"))?
+    Command::new(alloc, name)
+        .about(about)
+        .arg(required_word(alloc, "FILE", "The program's source, or its Intel HEX text"))?
         .arg(required_word(alloc, "RUN", "The run file"))?
-        .arg(flag(alloc, "hex", "FILE is Intel HEX"))
+        .arg(flag(alloc, "hex", "FILE is an Intel HEX text, not a source"))
 }
 
 // An argument that must be there.
@@ -83,15 +99,21 @@ fn flag<'a>(alloc: Global, name: &'a str, help: &'a str) -> Arg<'a>
 
 // The task that the matches hold.
 fn task<'a>(matches: &ArgMatches<'a>) -> Task<'a>
-    requires { IfSome (subcommand_rows_of matches.now) (λ found. NamesTask found.0) }
+    requires { IfSome (subcommand_rows_of matches.now) HoldsTask }
     ensures { IsTaskOf (subcommand_rows_of matches.now) result }
 {
     match matches.subcommand() {
         None => Task::Stored,
         Some(("asm", found)) => Task::Asm {
             file: text_in(found, "FILE"),
+            list: is_given(found, "list"),
         },
-        Some((_, found)) => Task::Run {
+        Some(("run", found)) => Task::Run {
+            file: text_in(found, "FILE"),
+            run: text_in(found, "RUN"),
+            hex: is_given(found, "hex"),
+        },
+        Some((_, found)) => Task::Debug {
             file: text_in(found, "FILE"),
             run: text_in(found, "RUN"),
             hex: is_given(found, "hex"),
@@ -99,19 +121,21 @@ fn task<'a>(matches: &ArgMatches<'a>) -> Task<'a>
     }
 }
 
-// `clap` gives no matches without a required argument, so the empty text is never taken.
+// The text of an argument that is there, so the empty text is never taken.
 #[tactic(auto, using(crate::proofs::Matches::first_rows))]
 fn text_in<'a>(matches: &ArgMatches<'a>, name: &str) -> &'a str
-    ensures { result.now ≡ text_in name.now (rows_of (found_of matches.now)) }
+    requires { is_there name.now (rows_of (found_of matches.now)) ≡ true }
+    ensures { HasText name.now (rows_of (found_of matches.now)) result.now }
 {
     matches.get_str(name).unwrap_or("")
 }
 
 // Whether a flag is among the words; its value is then the text `true`.
+#[tactic(auto, using(crate::proofs::Matches::first_rows))]
 fn is_given(matches: &ArgMatches<'_>, name: &str) -> bool
     ensures { result ≡ is_given name.now (rows_of (found_of matches.now)) }
 {
-    text_in(matches, name) == "true"
+    matches.get_str(name) == Some("true")
 }
 
 fn line_fault(alloc: Global, error: &Error) -> LineFault

@@ -3,14 +3,22 @@
 /// A task of the program.
 #[derive(Clone, Copy, Debug, PartialEq, Eq)]
 pub enum Task<'a> {
-    /// Runs the program that follows its run file on standard input.
+    /// Runs the source that follows its run file on standard input, and prints the report.
     Stored,
-    /// Prints the HEX text of the image that the source `file` gives.
+    /// Prints the Intel HEX text of the image that the source `file` gives, or its listing if `list`.
     Asm {
         file: &'a str,
+        list: bool,
     },
-    /// Runs the program of `file`, a HEX text if `hex`, else a source, as the run file `run` says.
+    /// Runs the program of `file`, a HEX text if `hex`, else a source, as the run file `run` says, and prints the report.
     Run {
+        file: &'a str,
+        run: &'a str,
+        hex: bool,
+    },
+    /// Answers the commands on standard input about the board of `file`, a HEX text if `hex`, else a source,
+    /// that the run file `run` describes.
+    Debug {
         file: &'a str,
         run: &'a str,
         hex: bool,

@@ -1,4 +1,4 @@
-use Rattle.std.proofs.Common.{ap, subst, ◌≡◌, ◌∙◌, map, List}
+use Rattle.std.proofs.Common.{ap, subst, sym, ◌≡◌, ◌∙◌, map, List, []}
 use Rattle.clap.specs.Words.{App, Text, app_of, HasKind, fault_of, is_simple, is_simple_and_free, subcommand_of, subcommand_rows_of, takes}
 use Rattle.pcboard_words.specs.CommandLine.{app}
 use Rattle.pcboard_words.proofs.Matches.{refused, tasks_alone}
@@ -10,7 +10,9 @@ task-requires c =
     let command : app_of c.in-Ok.command ≡ app = c.in-Ok.ensures in
     let held : subcommand_rows_of c.in-Ok-try_get_matches_from.matches ≡ subcommand_of app words =
     (c.in-Ok-try_get_matches_from.ensures.matches (ap is_simple command)).1 ∙ ap (λ (a : App). subcommand_of a words) command in
-    rw held (tasks_alone words)
+    let passed : fault_of app words ≡ [] =
+    ap (λ (a : App). fault_of a words) (sym command) ∙ c.in-Ok-try_get_matches_from.ensures.kinds (ap is_simple_and_free command) in
+    rw held (tasks_alone words passed)
 
 pub returns-in-Err-try_get_matches_from : goal.returns-in-Err-try_get_matches_from
 returns-in-Err-try_get_matches_from c =
