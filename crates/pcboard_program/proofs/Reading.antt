@@ -2,10 +2,10 @@
 use Rattle.std.proofs.Common.{◌≡◌, ◌∙◌, ℕ, ◌<◌, List, length, take, refl, subst, arith, length-take, false, Option, option_map, None, Some, IfOk, IfSome, Result, Ok}
 use Rattle.std.specs.Io.KnownBytes.{Appends, Keeps}
 use Rattle.std.proofs.lemmas.List.{take_all}
-use Rattle.pcboard_assembler.specs.Gives.{Gives}
+use Rattle.assembler.specs.Gives.{Gives}
 use Rattle.loader.specs.HexText.{hex_text}
 use Rattle.loader.specs.RunFile.{Answers, run_of_text}
-use Rattle.pcboard_program.specs.Answer.{AppendsA, IsHexOf, IsReport}
+use Rattle.pcboard_program.specs.Answer.{AppendsA, IsHexOf, IsListingOf, IsReport}
 
 shorter : (limit : ℕ) (bytes : List ℕ) → length (take limit bytes) < limit → take limit bytes ≡ bytes
 shorter limit bytes within = take_all limit bytes (omega (arith, length-take limit bytes))
@@ -57,3 +57,13 @@ seen_hex (Some known) old mid new bytes image seen gives appends keeps = (
   record { image = image; gives = seen_whole known image (subst (λ bytes. Gives bytes image) seen gives); is_text = refl },
   stay_appended old mid new (hex_text image) appends keeps,
 )
+
+-- and so is the listing
+pub seen_listing : (source old new : Option (List ℕ)) (bytes text : List ℕ)
+    → IfSome source (λ known. bytes ≡ take 1048577 known) → IsListingOf bytes text → Appends old new text
+    → IfSome source (λ known. AppendsA (IsListingOf known) old new)
+seen_listing None old new bytes text seen listing appends = tt
+seen_listing (Some known) old new bytes text seen listing appends =
+    let cut : IsListingOf (take 1048577 known) text = subst (λ bytes. IsListingOf bytes text) seen listing in
+    let within : length (take 1048577 known) < 1048577 = omega (arith, cut.gives.within) in
+    (text, subst (λ bytes. IsListingOf bytes text) (shorter 1048577 known within) cut, appends)

@@ -1,8 +1,12 @@
 -- What the program prints.
-use Rattle.std.specs.Prelude.{ℕ, ◌≡◌, ◌+◌, ◌==◌, Bool, true, false, List, [], take, drop, Option, None, Some, IfSome, Ok, Err, position}
+use Rattle.std.specs.Prelude.{ℕ, ◌≡◌, ◌+◌, ◌==◌, Bool, true, false, List, [], ◌∷◌, ◌++◌, take, drop, Option, None, Some, IfSome, Ok, Err, position}
 use Rattle.std.specs.Io.KnownBytes.{Appends}
-use Rattle.pcboard_assembler.specs.Gives.{Gives}
-use Rattle.pcboard_assembler.specs.FirstFault.{IsFirst}
+use Rattle.assembler_text.specs.Lexemes.{source_lines}
+use Rattle.assembler_statement.specs.Values.{Names}
+use Rattle.assembler.specs.Rows.{Row, names_of}
+use Rattle.assembler.specs.Listing.{listed}
+use Rattle.assembler.specs.Gives.{Gives}
+use Rattle.assembler.specs.FirstFault.{IsFirst}
 use Rattle.pcboard_words.specs.CommandLine.{Answers as AnswersWords}
 use Rattle.pcboard_words.specs.declared.task.Task.{Task}
 use Rattle.pcboard_words.specs.declared.task.Task.TheVariants as tasks
@@ -52,6 +56,22 @@ pub record IsHexOf (source text : List ℕ) : Type 0 where
   pub gives : Gives source image
   pub is_text : text ≡ hex_text image
 
+-- the lines of a listing, each ended by a line feed
+abbrev pub listing_text : Names → List (List ℕ) → List Row → List ℕ
+listing_text names (text ∷ texts) (row ∷ rows) = listed names text row ++ (10 ∷ listing_text names texts rows)
+listing_text names texts rows = []
+
+-- the source gives an image, and this is its listing
+pub record IsListingOf (source text : List ℕ) : Type 0 where
+  pub image : List (ℕ × ℕ)
+  pub gives : Gives source image
+  pub is_text : text ≡ listing_text (names_of gives.rows) (source_lines source) gives.rows
+
+-- what an assembler prints of a source
+abbrev pub IsAssembled : Bool → List ℕ → List ℕ → Type 0
+IsAssembled false source text = IsHexOf source text
+IsAssembled true source text = IsListingOf source text
+
 -- the known bytes grow by such a text
 abbrev pub AppendsA : (List ℕ → Type 0) → Option (List ℕ) → Option (List ℕ) → Type 0
 AppendsA Is old new = (text : List ℕ) × Is text × Appends old new text
@@ -59,9 +79,11 @@ AppendsA Is old new = (text : List ℕ) × Is text × Appends old new text
 -- what a task's answer adds to the bytes that `out` holds, where the files and the input are known
 abbrev pub PrintsTask : Task → (List ℕ → Option (List ℕ)) → Option (List ℕ) → Option (List ℕ) → Option (List ℕ) → Type 0
 PrintsTask tasks.Stored files input old new = IfSome input (λ text. AppendsA (IsReport false (source_of text) (run_text_of text)) old new)
-PrintsTask (tasks.Asm file) files input old new = IfSome (files file.now) (λ source. AppendsA (IsHexOf source) old new)
+PrintsTask (tasks.Asm file list) files input old new = IfSome (files file.now) (λ source. AppendsA (IsAssembled list source) old new)
 PrintsTask (tasks.Run file run hex) files input old new =
     IfSome (files file.now) (λ bytes. IfSome (files run.now) (λ said. AppendsA (IsReport hex bytes said) old new))
+-- of the answers to commands nothing is said here: each is the session's
+PrintsTask (tasks.Debug file run hex) files input old new = Unit {0}
 
 -- the words name a task, and its answer is added
 abbrev pub Prints : List (List ℕ) → (List ℕ → Option (List ℕ)) → Option (List ℕ) → Option (List ℕ) → Option (List ℕ) → Type 0

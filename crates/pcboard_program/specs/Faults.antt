@@ -1,13 +1,13 @@
 -- Why a run is refused, and the line that says so.
 use Rattle.std.specs.Prelude.{ℕ, ◌≡◌, ◌*◌, List, [], ◌∷◌, ◌++◌, codes, Option, None, Some}
 use Rattle.std.specs.Fmt.{decimal}
-use Rattle.pcboard_assembler.specs.declared.fault.AsmFault.{AsmFault}
-use Rattle.pcboard_assembler.specs.Gives.{Gives}
-use Rattle.pcboard_assembler.specs.FirstFault.{IsFirst, fault_number, fault_name, fault_line}
+use Rattle.assembler.specs.declared.fault.AsmFault.{AsmFault}
+use Rattle.assembler.specs.Gives.{Gives}
+use Rattle.assembler.specs.FirstFault.{IsFirst, fault_number, fault_name, fault_line}
 use Rattle.loader.specs.declared.run_file.RunFile.{RunFile}
 use Rattle.loader.specs.HexFault.{hex_fault_line, hex_fault_name, hex_fault_number}
 use Rattle.loader.specs.RunFault.{run_fault_number, run_fault_name}
-use Rattle.pcboard_assembler.specs.declared.fault.AsmFault.TheVariants as asm
+use Rattle.assembler.specs.declared.fault.AsmFault.TheVariants as asm
 use Rattle.loader.specs.declared.hex_fault.HexFault.TheVariants as hexes
 use Rattle.loader.specs.declared.run_fault.RunFault.TheVariants as runs
 use Rattle.board.specs.declared.board.BoardFault.TheVariants as boards

@@ -1,4 +1,3 @@
-pub mod ReportText
 pub mod Report
 pub mod Faults
 pub mod Answer

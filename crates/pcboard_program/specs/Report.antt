@@ -6,10 +6,10 @@ use Rattle.memory.specs.Map.{IsRamSize, FitsRam}
 use Rattle.board_types.specs.declared.keys.StampedKey.{StampedKey}
 use Rattle.board.specs.declared.board.Config.{Config}
 use Rattle.board.specs.Plain.{Plain, board_after, byte_of, changes_in, clock_of, power_on, registers_of, screen_of, state_of}
-use Rattle.pcboard_assembler.specs.Gives.{Gives}
+use Rattle.assembler.specs.Gives.{Gives}
 use Rattle.loader.specs.declared.run_file.RunFile.{RunFile}
 use Rattle.pcboard_program.specs.declared.report.Report.{Report}
-use Rattle.pcboard_program.specs.ReportText.{report_text}
+use Rattle.board_report.specs.Text.{report_text}
 
 -- how a run file fits out the board
 abbrev pub config_of : RunFile → Config

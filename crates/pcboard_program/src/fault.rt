@@ -3,10 +3,10 @@ ghost use Rattle.std.specs.Prelude.{◌≡◌, IfOk};
 ghost use Rattle.std.specs.String.{string_bytes};
 ghost use Rattle.pcboard_program.specs.Faults.{fault_text, line_of, line_suffix, name_of, number_of};
 
+use assembler::fault::AsmFault;
 use board::board::BoardFault;
 use loader::hex_fault::HexFault;
 use loader::run_fault::RunFault;
-use pcboard_assembler::fault::AsmFault;
 use std::alloc::{AllocError, Global};
 
 /// A refusal, by the part that refuses.

@@ -2,9 +2,12 @@
 //! HEX texts.
 #![tactic(auto)]
 
+mod debugging;
 pub mod fault;
+mod input;
+mod listing;
 pub mod opener;
 pub mod program;
 pub mod report;
-pub mod report_text;
 pub mod run;
+mod stop;

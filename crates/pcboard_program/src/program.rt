@@ -2,42 +2,29 @@
 ghost use Rattle.std.specs.Prelude.{◌≡◌, ◌≤◌, ◌<◌, length, map, take, true, false, IfOk, IfSome, OnOk, string_bytes};
 ghost use Rattle.std.specs.Io.KnownBytes.{Appends, Keeps};
 ghost use Rattle.std.specs.Result.{IfErr};
-ghost use Rattle.pcboard_program.specs.Answer.{AppendsA, IsHexOf, IsReport, IsTrueRefusal, Prints, PrintsTask, first_line_end, run_text_of, source_of};
+ghost use Rattle.pcboard_program.specs.Answer.{AppendsA, IsHexOf, IsListingOf, IsReport, IsTrueRefusal, Prints, PrintsTask, first_line_end, run_text_of, source_of};
 
+use crate::debugging::{answer_commands, debug_board};
 use crate::fault::{Fault, fault_text};
+use crate::input::{read_file, read_source, read_whole};
+use crate::listing::listing_text;
 use crate::opener::Opener;
 use crate::report::Report;
 use crate::run::{run_image, run_source};
+use crate::stop::Stop;
+use assembler::assembly::assemble;
+use assembler::fault::AsmFault;
 use board::board::BoardFault;
 use loader::hex_fault::HexFault;
 use loader::hex_reader::read_hex;
 use loader::hex_writer::write_hex;
 use loader::run_fault::RunFault;
 use loader::run_reader::read_run_text;
-use pcboard_assembler::assembly::assemble;
-use pcboard_assembler::fault::AsmFault;
 use pcboard_words::line::read_words;
 use pcboard_words::task::{LineFault, Task};
 use std::alloc::Global;
 use std::io;
-use std::io::{ErrorKind, Read, Write};
-
-/// One byte more than a source may have, so that a longer one is seen to be too long.
-const SOURCE_READ_LIMIT: u64 = 1_048_577;
-
-/// Why the program ends without an answer to its task.
-#[derive(Clone, Copy)]
-enum Stop {
-    /// An opening, a read or a write failed.
-    Failed,
-    Refused(Fault),
-}
-
-impl From<Fault> for Stop {
-    fn from(fault: Fault) -> Self {
-        Stop::Refused(fault)
-    }
-}
+use std::io::{Read, Write};
 
 /// Does what `words`, those after the program's name, ask for, and answers the exit status: 0; 1 for a refusal,
 /// which `err` tells in a line; 2 for words that aren't the program's, with their usage on `err`; 3, with no
@@ -86,18 +73,23 @@ fn print_task<F: Opener, I: Read, O: Write>(
     ensures { OnOk result (PrintsTask task.entry (F.file_bytes files.now) (I.remaining input.old) (O.contents out.old) (O.contents out.new)) }
 {
     match task {
-        Task::Stored => print(out, stored_report(alloc, input)?),
-        Task::Asm { file } => print_hex(alloc, files, file, out),
+        Task::Stored => print_report(out, stored_report(alloc, input)?),
+        Task::Asm { file, list: false } => print_hex(alloc, files, file, out),
+        Task::Asm { file, list: true } => print_listing(alloc, files, file, out),
         Task::Run {
             file,
             run,
             hex: false,
-        } => print(out, source_report(alloc, files, file, run)?),
+        } => print_report(out, source_report(alloc, files, file, run)?),
         Task::Run {
             file,
             run,
             hex: true,
-        } => print(out, hex_report(alloc, files, file, run)?),
+        } => print_report(out, hex_report(alloc, files, file, run)?),
+        Task::Debug { file, run, hex } => {
+            let board = debug_board(alloc, files, file, run, hex)?;
+            answer_commands(alloc, board, input, out)
+        }
     }
 }
 
@@ -138,14 +130,28 @@ fn print_hex<F: Opener, O: Write>(
     ensures { OnOk result (IfSome (F.file_bytes files.now file.now) (λ source. AppendsA (IsHexOf source) (O.contents out.old) (O.contents out.new))) }
 {
     let source = read_source(alloc, files, file)?;
-    let image = match assemble(alloc, source.as_slice()) {
-        Ok(image) => image,
+    let listing = match assemble(alloc, source.as_slice()) {
+        Ok(listing) => listing,
         Err(fault) => return Err(Stop::Refused(Fault::Source(fault))),
     };
-    match write_hex(&image, out) {
+    match write_hex(listing.image(), out) {
         Ok(()) => finish(out),
         Err(_) => Err(Stop::Failed),
     }
+}
+
+/// Prints the listing of a source.
+fn print_listing<F: Opener, O: Write>(
+    alloc: Global,
+    files: &F,
+    file: &str,
+    out: &mut O,
+) -> Result<(), Stop>
+    ensures { OnOk result (IfSome (F.file_bytes files.now file.now) (λ source. AppendsA (IsListingOf source) (O.contents out.old) (O.contents out.new))) }
+{
+    let source = read_source(alloc, files, file)?;
+    let text = listing_text(alloc, source.as_slice())?;
+    print(out, text.as_str())
 }
 
 /// The report of a source under the text of a run file, or the first refusal: the source's fault, then the run
@@ -197,52 +203,18 @@ fn first_line_end(text: &[u8]) -> Option<usize>
     text.iter().position(|byte| *byte == b'\n')
 }
 
-/// The bytes of a source, as far as they have to be seen.
-fn read_source<F: Opener>(alloc: Global, files: &F, path: &str) -> Result<Vec<u8>, Stop>
-    ensures { IfSome (F.file_bytes files.now path.now) (λ known. IfOk result (λ bytes. bytes.items ≡ take SOURCE_READ_LIMIT known)) }
-{
-    let file = opened(files, path)?;
-    read_whole(
-        alloc,
-        &mut file.take(SOURCE_READ_LIMIT),
-        Fault::Source(AsmFault::Memory),
-    )
-}
-
-/// The bytes of a file.
-fn read_file<F: Opener>(alloc: Global, files: &F, path: &str, want: Fault) -> Result<Vec<u8>, Stop>
-    ensures { IfSome (F.file_bytes files.now path.now) (λ known. IfOk result (λ bytes. bytes.items ≡ known)) }
-{
-    let mut file = opened(files, path)?;
-    read_whole(alloc, &mut file, want)
-}
-
-fn opened<F: Opener>(files: &F, path: &str) -> Result<F::Input, Stop>
-    ensures { IfSome (F.file_bytes files.now path.now) (λ known. IfOk result (λ file. F.Input.remaining file ≡ Some known)) }
-{
-    match files.open(path) {
-        Ok(file) => Ok(file),
-        Err(_) => Err(Stop::Failed),
-    }
-}
-
-/// All that `input` still has to give.
-fn read_whole<R: Read>(alloc: Global, input: &mut R, want: Fault) -> Result<Vec<u8>, Stop>
-    ensures { IfSome (R.remaining input.old) (λ known. IfOk result (λ bytes. bytes.items ≡ known)) }
-{
-    let mut bytes = Vec::new(alloc);
-    match input.read_to_end(&mut bytes) {
-        Ok(_) => Ok(bytes),
-        Err(error) if error.kind() == ErrorKind::OutOfMemory => Err(Stop::Refused(want)),
-        Err(_) => Err(Stop::Failed),
-    }
-}
-
 /// Prints a report.
-fn print<W: Write>(to: &mut W, report: Report) -> Result<(), Stop>
+fn print_report<W: Write>(to: &mut W, report: Report) -> Result<(), Stop>
     ensures { OnOk result (Appends (W.contents to.old) (W.contents to.new) (string_bytes report.text)) }
 {
-    match to.write_all(report.text.as_bytes()) {
+    print(to, report.text.as_str())
+}
+
+/// Prints a text.
+fn print<W: Write>(to: &mut W, text: &str) -> Result<(), Stop>
+    ensures { OnOk result (Appends (W.contents to.old) (W.contents to.new) text.now) }
+{
+    match to.write_all(text.as_bytes()) {
         Ok(()) => finish(to),
         Err(_) => Err(Stop::Failed),
     }

@@ -2,17 +2,17 @@
 ghost use Rattle.std.specs.Prelude.{◌≡◌, ℕ, List, [], IfOk, MatchResult, ⊤};
 ghost use Rattle.std.specs.Result.{IfErr};
 ghost use Rattle.board.specs.Plain.{changes_in, clock_of, power_on};
-ghost use Rattle.pcboard_assembler.specs.Gives.{Gives};
+ghost use Rattle.assembler.specs.Gives.{Gives};
 ghost use Rattle.pcboard_program.specs.Report.{FitsBoard, ReportsImage, ReportsSource, config_of, plain_of};
 ghost use Rattle.pcboard_program.specs.Faults.{IsTrueOfBoard, IsTrueOfImage, IsTrueOfSource, IsWantOfMemory};
 
 use crate::fault::Fault;
 use crate::report::Report;
-use crate::report_text::report_text;
+use assembler::assembly::assemble;
 use board::board::{Board, BoardFault, Config};
+use board_report::text::report_text;
 use board_types::image::Image;
 use loader::run_file::RunFile;
-use pcboard_assembler::assembly::assemble;
 use std::alloc::Global;
 
 /// Assembles `source`, runs its image on the board that the run file describes, with the file's stamped key codes,
@@ -26,7 +26,7 @@ pub fn run_source(alloc: Global, source: &[u8], run: &RunFile) -> Result<Report,
     ensures accepted { (image : List (ℕ × ℕ)) → Gives source.now image → FitsBoard image run.now → IfErr result IsWantOfMemory }
 {
     match assemble(alloc, source) {
-        Ok(image) => run_image(alloc, &image, run),
+        Ok(listing) => run_image(alloc, listing.image(), run),
         Err(fault) => Err(Fault::Source(fault)),
     }
 }
@@ -58,11 +58,11 @@ fn report_image(alloc: Global, image: &Image, run: &RunFile) -> Result<Report, B
     }
 }
 
-/// The board of an image at the run file's budget.
-fn run_board(alloc: Global, image: &Image, run: &RunFile) -> Result<Board, BoardFault>
-    ensures clock { IfOk result (λ board. clock_of board.plain ≡ run.now.budget) }
-    ensures plain { IfOk result (λ board. board.plain ≡ plain_of image.now run.now) }
-    ensures changes { IfOk result (λ board. board.changes ≡ changes_in (power_on image.now (config_of run.now) run.now.keys) run.now.budget) }
+/// The board of an image at power-on, as the run file says.
+pub(crate) fn new_board(alloc: Global, image: &Image, run: &RunFile) -> Result<Board, BoardFault>
+    ensures plain { IfOk result (λ board. board.plain ≡ power_on image.now (config_of run.now) run.now.keys) }
+    ensures clock { IfOk result (λ board. clock_of board.plain ≡ 0) }
+    ensures changes { IfOk result (λ board. board.changes ≡ []) }
     ensures fault { IfErr result (λ fault. IsTrueOfBoard image.now run.now fault) }
 {
     let config = Config {
@@ -70,11 +70,20 @@ fn run_board(alloc: Global, image: &Image, run: &RunFile) -> Result<Board, Board
         sw1: run.sw1,
         sw2: run.sw2,
     };
-    let keys = match run.keys.copy() {
-        Ok(keys) => keys,
-        Err(_) => return Err(BoardFault::Memory),
-    };
-    let mut board = Board::new(alloc, image, config, keys)?;
+    match run.keys.copy() {
+        Ok(keys) => Board::new(alloc, image, config, keys),
+        Err(_) => Err(BoardFault::Memory),
+    }
+}
+
+/// The board of an image at the run file's budget.
+fn run_board(alloc: Global, image: &Image, run: &RunFile) -> Result<Board, BoardFault>
+    ensures clock { IfOk result (λ board. clock_of board.plain ≡ run.now.budget) }
+    ensures plain { IfOk result (λ board. board.plain ≡ plain_of image.now run.now) }
+    ensures changes { IfOk result (λ board. board.changes ≡ changes_in (power_on image.now (config_of run.now) run.now.keys) run.now.budget) }
+    ensures fault { IfErr result (λ fault. IsTrueOfBoard image.now run.now fault) }
+{
+    let mut board = new_board(alloc, image, run)?;
     board.run(run.budget.get())?;
     Ok(board)
 }

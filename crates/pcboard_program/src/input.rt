@@ -1,0 +1,62 @@
+//! What the program reads.
+ghost use Rattle.std.specs.Prelude.{◌≡◌, take, Some, IfOk, IfSome};
+
+use crate::fault::Fault;
+use crate::opener::Opener;
+use crate::stop::Stop;
+use assembler::fault::AsmFault;
+use std::alloc::Global;
+use std::io::{ErrorKind, Read};
+
+/// One byte more than a source may have, so that a longer one is seen to be too long.
+const SOURCE_READ_LIMIT: u64 = 1_048_577;
+
+/// The bytes of a source, as far as they have to be seen.
+pub(crate) fn read_source<F: Opener>(alloc: Global, files: &F, path: &str) -> Result<Vec<u8>, Stop>
+    ensures { IfSome (F.file_bytes files.now path.now) (λ known. IfOk result (λ bytes. bytes.items ≡ take SOURCE_READ_LIMIT known)) }
+{
+    let file = opened(files, path)?;
+    read_whole(
+        alloc,
+        &mut file.take(SOURCE_READ_LIMIT),
+        Fault::Source(AsmFault::Memory),
+    )
+}
+
+/// The bytes of a file.
+pub(crate) fn read_file<F: Opener>(
+    alloc: Global,
+    files: &F,
+    path: &str,
+    want: Fault,
+) -> Result<Vec<u8>, Stop>
+    ensures { IfSome (F.file_bytes files.now path.now) (λ known. IfOk result (λ bytes. bytes.items ≡ known)) }
+{
+    let mut file = opened(files, path)?;
+    read_whole(alloc, &mut file, want)
+}
+
+fn opened<F: Opener>(files: &F, path: &str) -> Result<F::Input, Stop>
+    ensures { IfSome (F.file_bytes files.now path.now) (λ known. IfOk result (λ file. F.Input.remaining file ≡ Some known)) }
+{
+    match files.open(path) {
+        Ok(file) => Ok(file),
+        Err(_) => Err(Stop::Failed),
+    }
+}
+
+/// All that `input` still has to give.
+pub(crate) fn read_whole<R: Read>(
+    alloc: Global,
+    input: &mut R,
+    want: Fault,
+) -> Result<Vec<u8>, Stop>
+    ensures { IfSome (R.remaining input.old) (λ known. IfOk result (λ bytes. bytes.items ≡ known)) }
+{
+    let mut bytes = Vec::new(alloc);
+    match input.read_to_end(&mut bytes) {
+        Ok(_) => Ok(bytes),
+        Err(error) if error.kind() == ErrorKind::OutOfMemory => Err(Stop::Refused(want)),
+        Err(_) => Err(Stop::Failed),
+    }
+}
