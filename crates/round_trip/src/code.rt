@@ -1,0 +1,67 @@
+//! Bytes at an address.
+
+use arrayvec::ArrayVec;
+use board_types::address::physical;
+use board_types::bytes::Bytes;
+use board_types::image::Image;
+use decode::decode::decode;
+use decode::decoded::Decoded;
+use isa::form::Instr;
+
+/// The segment in which an instruction stands.
+pub const SEGMENT: u16 = 0x1000;
+
+/// Its offset. No short target wraps there.
+pub const OFFSET: u16 = 0x4000;
+
+/// Some bytes at the offset; all others are 0.
+#[derive(Drop)]
+pub struct Code {
+    bytes: ArrayVec<u8, 16>,
+}
+
+impl Code {
+    /// An opcode, perhaps behind a prefix, with what follows it.
+    pub fn new(prefix: Option<u8>, opcode: u8, addressing: u8, tail: [u8; 4]) -> Code {
+        let mut bytes = ArrayVec::new();
+        if let Some(prefix) = prefix {
+            let _ = bytes.try_push(prefix);
+        }
+        let _ = bytes.try_push(opcode);
+        let _ = bytes.try_push(addressing);
+        let _ = bytes.try_extend_from_slice(&tail);
+        Code { bytes }
+    }
+
+    /// The first bytes that an image has there.
+    pub fn of_image(image: &Image) -> Code {
+        let mut bytes = ArrayVec::new();
+        for n in 0..16u16 {
+            let byte = image.get(physical(SEGMENT, OFFSET + n)).unwrap_or(0);
+            let _ = bytes.try_push(byte);
+        }
+        Code { bytes }
+    }
+
+    /// The instruction that stands there, if one does.
+    pub fn instruction(&self) -> Option<Instr> {
+        match decode(self, SEGMENT, OFFSET) {
+            Decoded::Found(instr, _) => Some(instr),
+            Decoded::NoRow => None,
+        }
+    }
+}
+
+impl Bytes for Code {
+    ghost use Rattle.std.specs.Prelude.{◌+◌, ◌%◌, slice_index_or};
+
+    ghost byte_at = { λ c address. slice_index_or c.bytes.items ((address + 0xEC000) % 0x100000) 0 };
+
+    fn byte(&self, addr: u32) -> u8 {
+        let index = (addr + 0xE_C000) % 0x10_0000;
+        match self.bytes.as_slice().get(index as usize) {
+            Some(byte) => *byte,
+            None => 0,
+        }
+    }
+}
