@@ -1,0 +1,10 @@
+pub mod CleanRows
+pub mod LoadedBytes
+pub mod DecodedBack
+pub mod SamenessLines
+pub mod SamenessNames
+pub mod SamenessInstructions
+pub mod SamenessData
+pub mod SamenessStatements
+pub mod SamenessRows
+pub mod SamenessPlaces

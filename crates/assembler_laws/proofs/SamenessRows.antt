@@ -1,0 +1,80 @@
+-- Lines that say the same but for their names make the same rows but for them.
+use Rattle.std.proofs.Common.{◌≡◌, ◌∙◌, ℕ, List, [], ◌∷◌, ◌++◌, map, Option, None, Result, Ok, refl, sym, ap, ap₂, subst}
+use Rattle.std.specs.Prelude.{fold}
+use Rattle.assembler_text.specs.declared.fault.LineFault.{LineFault}
+use Rattle.assembler_text.specs.declared.name.Name.{Name}
+use Rattle.assembler_text.specs.declared.statement.Line.{Line}
+use Rattle.assembler_statement.specs.declared.symbol.Location.{Location}
+use Rattle.assembler_statement.specs.Values.{Names}
+use Rattle.assembler.specs.Rows.{Row, IsRow, IsCleanRow, AreRows, names_of, spot_behind, label_definition, statement_definition, early_fault}
+use Rattle.assembler_laws.specs.Sameness.{IsOneToOne, renamed_line, StandPairwise, DifferInNames}
+use Rattle.assembler_laws.proofs.SamenessNames.{renamed_names, renamed_behind}
+use Rattle.assembler_laws.proofs.SamenessStatements.{same_form, same_size, same_next, label_renamed, statement_renamed, same_early}
+
+abbrev pub renamed_row : (Name → Name) → Row → Row
+renamed_row rename row = record row { line = renamed_line rename row.line; names = renamed_names rename row.names }
+
+abbrev read : Line → Result Line LineFault
+read line = Ok line
+
+read_same : (a b : Line) → read a ≡ read b → a ≡ b
+read_same a b is = cc
+
+rows_behind : (rename : Name → Name) (a b : List Row) → map (renamed_row rename) (a ++ b) ≡ map (renamed_row rename) a ++ map (renamed_row rename) b
+rows_behind rename [] b = refl
+rows_behind rename (r ∷ rs) b = λ i. renamed_row rename r ∷ rows_behind rename rs b i
+
+pub names_renamed : (rename : Name → Name) (rows : List Row) → names_of (map (renamed_row rename) rows) ≡ renamed_names rename (names_of rows)
+names_renamed rename [] = refl
+names_renamed rename (r ∷ rs) =
+    ap (λ (ns : Names). renamed_names rename r.names ++ ns) (names_renamed rename rs) ∙ sym (renamed_behind rename r.names (names_of rs))
+
+same_spot_from : (rename : Name → Name) (spot : Option Location) (rows : List Row)
+    → fold (λ (s : Option Location) (r : Row). r.next) spot (map (renamed_row rename) rows) ≡ fold (λ (s : Option Location) (r : Row). r.next) spot rows
+same_spot_from rename spot [] = refl
+same_spot_from rename spot (r ∷ rs) = same_spot_from rename r.next rs
+
+same_spot : (rename : Name → Name) (rows : List Row) → spot_behind (map (renamed_row rename) rows) ≡ spot_behind rows
+same_spot rename rows = same_spot_from rename None rows
+
+module _ (rename : Name → Name) (once : IsOneToOne rename) where
+  row_renamed : (known : Names) (here : Option Location) (line other : List ℕ) (row : Row) → DifferInNames rename line other
+      → IsRow known here line row → IsRow (renamed_names rename known) here other (renamed_row rename row)
+  row_renamed known here line other row differ is = record {
+    reads = differ.reads_renamed ∙ ap (λ (l : Line). read (renamed_line rename l)) (read_same differ.says row.line (sym differ.reads ∙ is.reads));
+    form = same_form rename once known row.line.statement row.form is.form;
+    size = is.size ∙ sym (same_size rename once known row.line.statement row.form);
+    spot = is.spot;
+    next = is.next ∙ sym (same_next rename once known here row.line.statement row.size);
+    names =
+        ap (renamed_names rename) is.names
+        ∙ (renamed_behind rename (label_definition here row.line.label) (statement_definition known row.line.statement)
+        ∙ sym (ap₂ (λ (a b : Names). a ++ b) (label_renamed rename once here row.line.label) (statement_renamed rename once known row.line.statement)));
+  }
+
+  clean_renamed : (before : List Row) (line other : List ℕ) (row : Row) → DifferInNames rename line other
+      → IsCleanRow before line row → IsCleanRow (map (renamed_row rename) before) other (renamed_row rename row)
+  clean_renamed before line other row differ is =
+      let known : renamed_names rename (names_of before) ≡ names_of (map (renamed_row rename) before) = sym (names_renamed rename before) in
+      let here : spot_behind before ≡ spot_behind (map (renamed_row rename) before) = sym (same_spot rename before) in
+      record {
+        is_row = subst (λ (ns : Names). IsRow ns (spot_behind (map (renamed_row rename) before)) other (renamed_row rename row)) known
+            (subst (λ (s : Option Location). IsRow (renamed_names rename (names_of before)) s other (renamed_row rename row)) here
+            (row_renamed (names_of before) (spot_behind before) line other row differ is.is_row));
+        clean =
+            ap (λ (ns : Names). early_fault ns row.spot (renamed_line rename row.line) row.form) (sym known)
+            ∙ (same_early rename once (names_of before) row.spot row.line row.form ∙ is.clean);
+      }
+
+  pub rows_renamed : (before : List Row) (lines others : List (List ℕ)) (rows : List Row) → StandPairwise (DifferInNames rename) lines others
+      → AreRows before lines rows → AreRows (map (renamed_row rename) before) others (map (renamed_row rename) rows)
+  rows_renamed before [] [] [] differ are = are
+  rows_renamed before [] [] (row ∷ rows) differ are = absurd are
+  rows_renamed before [] (other ∷ others) rows differ are = absurd differ
+  rows_renamed before (line ∷ lines) [] rows differ are = absurd differ
+  rows_renamed before (line ∷ lines) (other ∷ others) [] differ are = absurd are
+  rows_renamed before (line ∷ lines) (other ∷ others) (row ∷ rows) differ are = (
+    clean_renamed before line other row differ.0 are.0,
+    subst (λ (rs : List Row). AreRows rs others (map (renamed_row rename) rows)) (rows_behind rename before (row ∷ []))
+        (rows_renamed (before ++ row ∷ []) lines others rows differ.1 are.1),
+  )

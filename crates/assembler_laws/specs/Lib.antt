@@ -1,0 +1,2 @@
+pub mod DecodingBack
+pub mod Sameness
