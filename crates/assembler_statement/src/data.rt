@@ -73,6 +73,7 @@ pub fn item_count(symbols: &Symbols, item: &Item) -> u64
     }
 }
 
+/// What an item places once: its piece, or the pieces that DUP repeats.
 pub fn item_pieces(item: &Item) -> &[Piece]
     ensures { result.now ≡ pieces_of item.now }
 {

@@ -47,6 +47,7 @@ pub fn meaning(symbols: &Symbols, name: Name) -> Option<Symbol>
     symbols.get(&name).copied()
 }
 
+/// Whether some line before has defined the name.
 pub fn is_defined(symbols: &Symbols, name: Name) -> bool
     ensures { result ≡ is_defined symbols.now.entries name }
 {
