@@ -1,8 +1,8 @@
 -- A source that gives an image has no fault.
 use Rattle.std.proofs.Common.{◌≡◌, ℕ, List, [], ◌∷◌, ◌++◌, refl, subst, arith, Option, None, Some, Ok, Err, inl, inr}
-use Rattle.assembler_text.specs.declared.fault.LineFault.{LineFault}
+use Rattle.assembler_lexeme.specs.declared.fault.LineFault.{LineFault}
 use Rattle.assembler_text.specs.declared.statement.Line.{Line}
-use Rattle.assembler_text.specs.Lexemes.{source_lines}
+use Rattle.text_lines.specs.Lines.{text_lines}
 use Rattle.assembler_text.specs.Lines.{read_line}
 use Rattle.assembler.specs.declared.fault.SourceFault.{SourceFault}
 use Rattle.assembler.specs.declared.fault.AsmFault.{AsmFault}
@@ -29,7 +29,7 @@ no_text_fault before text row fault clean (inr found) =
     (subst (λ (r : Row). early_fault (names_of before) r.spot r.line r.form ≡ None) same clean.clean) found.2
 
 -- texts that make clean rows have no fault of reading
-no_early_fault : (source : List ℕ) (rows : List Row) (fault : SourceFault) (number : ℕ) → AreRows [] (source_lines source) rows → IsEarlyFault source fault number → ⊥
+no_early_fault : (source : List ℕ) (rows : List Row) (fault : SourceFault) (number : ℕ) → AreRows [] (text_lines source) rows → IsEarlyFault source fault number → ⊥
 no_early_fault source rows fault number are early =
     let own : RowsUpTo [] early.front early.text =
     rows_up_to [] early.front early.text early.back rows (subst (λ (texts : List (List ℕ)). AreRows [] texts rows) early.texts are) in
@@ -50,5 +50,5 @@ only_memory source image Memory gives first = refl
 only_memory source image SourceTooLong gives first = let within = gives.within in absurd (omega (arith, within, first))
 only_memory source image (InLine fault number) gives (within, inl early) = absurd (no_early_fault source gives.rows fault number gives.are_rows early)
 only_memory source image (InLine fault number) gives (within, inr late) =
-    let same : late.rows ≡ gives.rows = one_rows [] (source_lines source) late.rows gives.rows late.clean gives.are_rows in
-    absurd (no_late_fault (source_lines source) gives.rows image fault number gives.are_rows gives.placed (subst (λ (rs : List Row). HasLateFault rs fault number) same late.found))
+    let same : late.rows ≡ gives.rows = one_rows [] (text_lines source) late.rows gives.rows late.clean gives.are_rows in
+    absurd (no_late_fault (text_lines source) gives.rows image fault number gives.are_rows gives.placed (subst (λ (rs : List Row). HasLateFault rs fault number) same late.found))

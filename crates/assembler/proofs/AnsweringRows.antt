@@ -5,7 +5,7 @@ use Rattle.std.proofs.lemmas.Option.{get_or_from_slice_get, slice_get_within}
 use Rattle.isa.specs.declared.form.Form.{Form}
 use Rattle.isa.specs.declared.row.Row.{Row as TableRow}
 use Rattle.isa.specs.Table.{rows as table_rows}
-use Rattle.assembler_text.specs.declared.fault.LineFault.{LineFault}
+use Rattle.assembler_lexeme.specs.declared.fault.LineFault.{LineFault}
 use Rattle.assembler_text.specs.declared.statement.Line.{Line}
 use Rattle.assembler_text.specs.declared.statement.Statement.{Statement}
 use Rattle.assembler_text.specs.declared.statement.Statement.TheVariants.{Empty, Segment, Ends, Equ, Org, Data, Instruction}

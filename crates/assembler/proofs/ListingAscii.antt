@@ -14,9 +14,9 @@ use Rattle.dialect.specs.declared.register.Register.TheVariants as registers
 use Rattle.dialect.specs.declared.keyword.Keyword.{Keyword as KeywordType}
 use Rattle.dialect.specs.declared.keyword.Keyword.TheVariants as keywords
 use Rattle.dialect.specs.Words.{meaning_of}
-use Rattle.assembler_text.specs.declared.fault.LineFault.{LineFault}
-use Rattle.assembler_text.specs.declared.fault.LineFault.TheVariants.{BadCharacter, BadLine}
-use Rattle.assembler_text.specs.declared.name.Name.{Name}
+use Rattle.assembler_lexeme.specs.declared.fault.LineFault.{LineFault}
+use Rattle.assembler_lexeme.specs.declared.fault.LineFault.TheVariants.{BadCharacter, BadLine}
+use Rattle.assembler_lexeme.specs.declared.name.Name.{Name}
 use Rattle.assembler_text.specs.declared.expression.Term.{Term}
 use Rattle.assembler_text.specs.declared.operand.Operand.{Operand}
 use Rattle.assembler_text.specs.declared.statement.Width.{Width}
@@ -24,14 +24,15 @@ use Rattle.assembler_text.specs.declared.statement.Item.{Item}
 use Rattle.assembler_text.specs.declared.statement.Line.{Line}
 use Rattle.assembler_text.specs.declared.statement.Statement.{Statement}
 use Rattle.assembler_text.specs.declared.statement.Statement.TheVariants as statements
-use Rattle.assembler_text.specs.declared.token.Token.{Token}
-use Rattle.assembler_text.specs.declared.token.Token.TheVariants.{One, Number, Named, Word, Mark}
-use Rattle.assembler_text.specs.declared.token.Mark.{Mark as MarkType}
-use Rattle.assembler_text.specs.declared.token.Mark.TheVariants.{Colon}
-use Rattle.assembler_text.specs.Lexemes.{begins_with, is_blank, is_character, is_digit, is_letter, is_word_byte, lexemes, lexemes_from, onto_first, source_lines}
-use Rattle.assembler_text.specs.Numbers.{number_of, last_byte}
-use Rattle.assembler_text.specs.Faults.{◌>>=◌, wanted, all_of}
-use Rattle.assembler_text.specs.Tokens.{between_quotes, mark_of, mark_token, name_of, number_token, quoted_token, text_token, token_of, tokens_of, word_token}
+use Rattle.assembler_lexeme.specs.declared.token.Token.{Token}
+use Rattle.assembler_lexeme.specs.declared.token.Token.TheVariants.{One, Number, Named, Word, Mark}
+use Rattle.assembler_lexeme.specs.declared.token.Mark.{Mark as MarkType}
+use Rattle.assembler_lexeme.specs.declared.token.Mark.TheVariants.{Colon}
+use Rattle.assembler_lexeme.specs.Lexemes.{is_blank, is_character, is_digit, is_letter, is_word_byte, lexemes, lexemes_from}
+use Rattle.text_lines.specs.Lines.{begins_with, onto_first, text_lines}
+use Rattle.assembler_lexeme.specs.Numbers.{number_of, last_byte}
+use Rattle.assembler_lexeme.specs.Faults.{◌>>=◌, wanted, all_of}
+use Rattle.assembler_lexeme.specs.Tokens.{between_quotes, mark_of, mark_token, name_of, number_token, quoted_token, text_token, token_of, tokens_of, word_token}
 use Rattle.assembler_text.specs.Expressions.{constant_of}
 use Rattle.assembler_text.specs.Operands.{operands_of}
 use Rattle.assembler_text.specs.Items.{items_of}
@@ -398,4 +399,4 @@ own_symbol names i name symbol is = ap (λ (o : Option (Name × Symbol)). option
 pub own_letters : (source : List ℕ) (names : Names) (kepts : List KeptRow) (i : ℕ) (name : Name) (symbol : Symbol) → Reads source names kepts → Some (name, symbol) ≡ slice_get names i
     → IsAscii (letters_of name)
 own_letters source names kepts i name symbol reads is =
-    letters_ascii names i (name, symbol) (subst AsciiNames (sym reads.names_are) (names_ascii [] (source_lines source) reads.rows reads.are_rows)) (sym is)
+    letters_ascii names i (name, symbol) (subst AsciiNames (sym reads.names_are) (names_ascii [] (text_lines source) reads.rows reads.are_rows)) (sym is)

@@ -10,7 +10,7 @@ use Rattle.std.proofs.lemmas.Bool.Decides.{nat_tests}
 use Rattle.std.proofs.lemmas.Grind.{flat_map-append}
 use Rattle.std.proofs.lemmas.List.Elements.{Contains-append_left, Contains-append_right}
 use Rattle.board_types.specs.Image.{image_byte}
-use Rattle.assembler_text.specs.Lexemes.{source_lines}
+use Rattle.text_lines.specs.Lines.{text_lines}
 use Rattle.assembler.specs.declared.row.KeptRow.{KeptRow}
 use Rattle.assembler_statement.specs.declared.symbol.Location.{Location}
 use Rattle.assembler_statement.specs.Values.{Names}
@@ -244,28 +244,28 @@ line_ends source texts rows kept i image there placed =
 -- what a listing keeps
 module _ (source : List ℕ) (names : Names) (kepts : List KeptRow) (image : List (ℕ × ℕ)) (reads : Reads source names kepts) (gives : Gives source image) (i : ℕ) where
   own_placed : ArePlaced reads.rows image
-  own_placed = subst (λ (rs : List Row). ArePlaced rs image) (one_rows [] (source_lines source) gives.rows reads.rows gives.are_rows reads.are_rows) gives.placed
+  own_placed = subst (λ (rs : List Row). ArePlaced rs image) (one_rows [] (text_lines source) gives.rows reads.rows gives.are_rows reads.are_rows) gives.placed
 
-  pub own_there : (kept : KeptRow) → slice_get kepts i ≡ Some kept → LineThere source (source_lines source) [] reads.rows kept i
-  own_there kept is = line_there source [] (source_lines source) kepts reads.rows i kept reads.are_kept reads.are_rows is
+  pub own_there : (kept : KeptRow) → slice_get kepts i ≡ Some kept → LineThere source (text_lines source) [] reads.rows kept i
+  own_there kept is = line_there source [] (text_lines source) kepts reads.rows i kept reads.are_kept reads.are_rows is
 
   pub own_inside : (kept : KeptRow) → slice_get kepts i ≡ Some kept → kept.start + kept.length ≤ length source
   own_inside kept is = (own_there kept is).keeps.inside
 
   pub own_ascii : (kept : KeptRow) → slice_get kepts i ≡ Some kept → IsAscii (said_by source kept)
-  own_ascii kept is = line_ascii source (source_lines source) reads.rows kept i (own_there kept is)
+  own_ascii kept is = line_ascii source (text_lines source) reads.rows kept i (own_there kept is)
 
   pub own_ends : (kept : KeptRow) → slice_get kepts i ≡ Some kept → EndsBy 65536 (shown_spot kept) kept.size
-  own_ends kept is = line_ends source (source_lines source) reads.rows kept i image (own_there kept is) own_placed
+  own_ends kept is = line_ends source (text_lines source) reads.rows kept i image (own_there kept is) own_placed
 
-  one_line : (rows : List Row) → AreRows [] (source_lines source) rows → line_at (names_of reads.rows) (source_lines source) reads.rows i ≡ line_at names (source_lines source) rows i
+  one_line : (rows : List Row) → AreRows [] (text_lines source) rows → line_at (names_of reads.rows) (text_lines source) reads.rows i ≡ line_at names (text_lines source) rows i
   one_line rows are =
-      ap₂ (λ (ns : Names) (rs : List Row). line_at ns (source_lines source) rs i) (sym reads.names_are)
-      (one_rows [] (source_lines source) reads.rows rows reads.are_rows are)
+      ap₂ (λ (ns : Names) (rs : List Row). line_at ns (text_lines source) rs i) (sym reads.names_are)
+      (one_rows [] (text_lines source) reads.rows rows reads.are_rows are)
 
-  pub own_line : (kept : KeptRow) → slice_get kepts i ≡ Some kept → (rows : List Row) → AreRows [] (source_lines source) rows
-      → Some (shown_line source image kept) ≡ line_at names (source_lines source) rows i
-  own_line kept is rows are = line_is source (source_lines source) reads.rows kept i image (own_there kept is) own_placed ∙ one_line rows are
+  pub own_line : (kept : KeptRow) → slice_get kepts i ≡ Some kept → (rows : List Row) → AreRows [] (text_lines source) rows
+      → Some (shown_line source image kept) ≡ line_at names (text_lines source) rows i
+  own_line kept is rows are = line_is source (text_lines source) reads.rows kept i image (own_there kept is) own_placed ∙ one_line rows are
 
-  pub no_own_line : slice_get kepts i ≡ None → (rows : List Row) → AreRows [] (source_lines source) rows → None ≡ line_at names (source_lines source) rows i
-  no_own_line is rows are = sym (no_line source (names_of reads.rows) (source_lines source) kepts reads.rows i reads.are_kept is) ∙ one_line rows are
+  pub no_own_line : slice_get kepts i ≡ None → (rows : List Row) → AreRows [] (text_lines source) rows → None ≡ line_at names (text_lines source) rows i
+  no_own_line is rows are = sym (no_line source (names_of reads.rows) (text_lines source) kepts reads.rows i reads.are_kept is) ∙ one_line rows are

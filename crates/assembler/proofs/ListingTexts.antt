@@ -6,13 +6,13 @@ use Rattle.std.specs.Result.{result_unwrap_or}
 use Rattle.std.specs.Str.{IsAscii, IsUtf8}
 use Rattle.std.proofs.lemmas.Bool.Decides.{nat_tests}
 use Rattle.std.proofs.lemmas.Str.{IsUtf8-from_ascii}
-use Rattle.assembler_text.specs.declared.fault.LineFault.{LineFault}
-use Rattle.assembler_text.specs.declared.fault.LineFault.TheVariants.{BadCharacter}
+use Rattle.assembler_lexeme.specs.declared.fault.LineFault.{LineFault}
+use Rattle.assembler_lexeme.specs.declared.fault.LineFault.TheVariants.{BadCharacter}
 use Rattle.assembler_text.specs.declared.statement.Line.{Line}
-use Rattle.assembler_text.specs.Lexemes.{is_character, lexemes}
-use Rattle.assembler_text.specs.Tokens.{tokens_of}
+use Rattle.assembler_lexeme.specs.Lexemes.{is_character, lexemes}
+use Rattle.assembler_lexeme.specs.Tokens.{tokens_of}
 use Rattle.assembler_text.specs.Lines.{read_line, line_of}
-use Rattle.assembler_text.specs.Faults.{◌>>=◌}
+use Rattle.assembler_lexeme.specs.Faults.{◌>>=◌}
 
 -- bytes that are UTF-8 are a text
 pub text_of_utf8 : {E : Type 0} (r : Result (Bor (List ℕ)) E) (or_else text : Bor (List ℕ)) (bytes : List ℕ) (Q : E → Type 0) → IsAscii bytes → text ≡ result_unwrap_or r or_else

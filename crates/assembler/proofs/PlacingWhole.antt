@@ -1,5 +1,5 @@
 -- What the second pass answers is what the definitions of the image and of the first fault say.
-use Rattle.std.proofs.Common.{suc, zero, ◌≡◌, ◌∙◌, ℕ, ◌+◌, ◌<◌, ◌≤◌, ◌==◌, ◌&&◌, List, [], ◌∷◌, ◌++◌, length, take, drop, get_or, append_assoc, append-nil, length-take, refl, sym, ap, subst, arith, inr, Bool, true, false, Option, None, Some, is_some, if◌then◌else◌}
+use Rattle.std.proofs.Common.{suc, zero, ◌≡◌, ◌∙◌, ℕ, ◌+◌, ◌<◌, ◌≤◌, ◌==◌, List, [], ◌∷◌, ◌++◌, length, take, drop, get_or, append_assoc, append-nil, length-take, refl, sym, ap, subst, arith, inr, Bool, false, Option, None, Some, is_some}
 use Rattle.std.specs.List.{AllByRecursion, IsDistinct, list_any}
 use Rattle.std.specs.List.Sorted.{IsStrictlySortedBy}
 use Rattle.std.specs.Map.{keys_of}
@@ -11,7 +11,8 @@ use Rattle.std.proofs.lemmas.Grind.{flat_map-append}
 use Rattle.std.proofs.lemmas.List.Sums.{fold-append}
 use Rattle.std.specs.Prelude.{Contains, ◌↔◌}
 use Rattle.board_types.specs.Image.{IsImage, image_byte}
-use Rattle.assembler_text.specs.Lexemes.{begins_with, onto_first, source_lines}
+use Rattle.text_lines.specs.Lines.{text_lines}
+use Rattle.text_lines.proofs.Counting.{few_lines}
 use Rattle.assembler.specs.declared.fault.SourceFault.{SourceFault}
 use Rattle.assembler.specs.declared.fault.AsmFault.{AsmFault}
 use Rattle.assembler.specs.declared.fault.AsmFault.TheVariants.{SourceTooLong, InLine, Memory}
@@ -52,25 +53,10 @@ kept_count source (text ∷ texts) [] (row ∷ rows) are = absurd are
 kept_count source (text ∷ texts) (kept ∷ kepts) [] are = absurd are
 kept_count source (text ∷ texts) (kept ∷ kepts) (row ∷ rows) are = ap suc (kept_count source texts kepts rows are.1)
 
-onto_count : (b n : ℕ) (lines : List (List ℕ)) → length lines ≤ n → length (onto_first b lines) ≤ suc n
-onto_count b n [] few = omega arith
-onto_count b n (line ∷ lines) few = omega arith
-
-line_count : (ends returns : Bool) (b n : ℕ) (lines : List (List ℕ)) → length lines ≤ n
-    → length (if ends then [] ∷ lines else (if returns then lines else onto_first b lines)) ≤ suc n
-line_count true returns b n lines few = omega arith
-line_count false true b n lines few = omega arith
-line_count false false b n lines few = onto_count b n lines few
-
--- a source has no more lines than bytes
-lines_few : (source : List ℕ) → length (source_lines source) ≤ length source
-lines_few [] = omega arith
-lines_few (b ∷ bs) = line_count (b == 10) (b == 13 && begins_with (λ c. c == 10) bs) b (length bs) (source_lines bs) (lines_few bs)
-
 pub few_rows : (source : List ℕ) (names : Names) (kepts : List KeptRow) → Reads source names kepts → length kepts ≤ 1048576
 few_rows source names kepts reads =
-    let same : length kepts ≡ length (source_lines source) = kept_count source (source_lines source) kepts reads.rows reads.are_kept in
-    let few : length (source_lines source) ≤ length source = lines_few source in
+    let same : length kepts ≡ length (text_lines source) = kept_count source (text_lines source) kepts reads.rows reads.are_kept in
+    let few : length (text_lines source) ≤ length source = few_lines source in
     let limit : length source ≤ 1048576 = reads.within in
     omega arith
 
@@ -109,11 +95,11 @@ kepts_sized names (kept ∷ kepts) [] are sized = absurd are
 kepts_sized names (kept ∷ kepts) (row ∷ rows) are sized = (kept_sized names kept row are.0 sized.0, kepts_sized names kepts rows are.1 sized.1)
 
 reads_sized : (source : List ℕ) (names : Names) (kepts : List KeptRow) (reads : Reads source names kepts) → AllByRecursion (RowHasSize names) reads.rows
-reads_sized source names kepts reads = rows_sized names [] (source_lines source) reads.rows reads.are_rows reads.names_are
+reads_sized source names kepts reads = rows_sized names [] (text_lines source) reads.rows reads.are_rows reads.names_are
 
 pub all_sized : (source : List ℕ) (names : Names) (kepts : List KeptRow) → Reads source names kepts → AllByRecursion (KeepsSize names) kepts
 all_sized source names kepts reads =
-    kepts_sized names kepts reads.rows (are_kept_rows source (source_lines source) kepts reads.rows reads.are_kept) (reads_sized source names kepts reads)
+    kepts_sized names kepts reads.rows (are_kept_rows source (text_lines source) kepts reads.rows reads.are_kept) (reads_sized source names kepts reads)
 
 -- ---- what rows place, and their faults
 entries_is : (names : Names) (kept : KeptRow) (row : Row) → IsKept kept row → entries_by names kept ≡ placed_by names row
@@ -241,7 +227,7 @@ are_placed names rows free sized is is_image =
 pub gives : (source : List ℕ) (names : Names) (kepts : List KeptRow) (image : List (ℕ × ℕ)) → Reads source names kepts → image ≡ with_entries [] (entries_by_all names kepts)
     → AreFaultlessKept names [] kepts → IsImage image → Gives source image
 gives source names kepts image reads is free is_image =
-    let kept = are_kept_rows source (source_lines source) kepts reads.rows reads.are_kept in
+    let kept = are_kept_rows source (text_lines source) kepts reads.rows reads.are_kept in
     let same : image ≡ with_entries [] (placed_by_all names reads.rows) = is ∙ ap (with_entries []) (entries_are names kepts reads.rows kept) in
     record {
       within = reads.within;
@@ -296,7 +282,7 @@ first_fault : (source : List ℕ) (names : Names) (kepts : List KeptRow) (image 
     → Reads source names kepts → i < length kepts → get_or kepts i kept ≡ kept → image ≡ with_entries [] (entries_by_all names (take i kepts))
     → AreFaultlessKept names [] (take i kepts) → kept_fault names (has_byte image) kept ≡ Some fault → number ≡ i + 1 → IsFirst source (InLine fault number)
 first_fault source names kepts image i kept fault number reads within item is free found counted =
-    let are = are_kept_rows source (source_lines source) kepts reads.rows reads.are_kept in
+    let are = are_kept_rows source (text_lines source) kepts reads.rows reads.are_kept in
     let at : SplitsAt (take i kepts) kept reads.rows =
     splits_at (take i kepts) kept (drop (suc i) kepts) reads.rows (subst (λ (ks : List KeptRow). AreKeptRows ks reads.rows) (item_split kepts i kept within item) are) in
     let judged : kept_fault names (is_placed (entries_by_all names (take i kepts))) kept ≡ Some fault =

@@ -2,7 +2,7 @@
 use Rattle.std.proofs.Common.{◌≡◌, ℕ, ◌+◌, ◌^◌, ◌≤◌, refl, sym, ap, ◌∙◌, subst, arith, Bool, true, false, ◌||◌, if◌then◌else◌, List, ◌++◌, Option, None, Some, Ok, Err, IfSome, append_assoc, inl, inr, length}
 use Rattle.isa.specs.Encoding.{IsForm}
 use Rattle.isa.specs.declared.form.Form.{Form}
-use Rattle.assembler_text.specs.declared.fault.LineFault.{LineFault}
+use Rattle.assembler_lexeme.specs.declared.fault.LineFault.{LineFault}
 use Rattle.assembler_text.specs.declared.statement.Line.{Line}
 use Rattle.assembler_text.specs.declared.statement.Statement.{Statement}
 use Rattle.assembler_text.specs.declared.statement.Statement.TheVariants.{Empty, Segment, Ends, Equ, Org, Data, Instruction}
@@ -18,7 +18,7 @@ use Rattle.assembler.specs.Rows.{IsFormOf, IsRow, defines_again, early_fault, ha
 use Rattle.assembler.specs.Placement.{content_of}
 use Rattle.assembler.specs.FirstFault.{IsTextFault, fault_of_line}
 use Rattle.assembler_statement.specs.declared.symbol.Symbol.{Symbol}
-use Rattle.assembler_text.specs.declared.name.Name.{Name}
+use Rattle.assembler_lexeme.specs.declared.name.Name.{Name}
 use Rattle.assembler.specs.Gives.{source_limit}
 use Rattle.assembler.proofs.ReadingWeights.{within_more}
 use Rattle.assembler.specs.FirstPass.{AddsRow, KeepsRow, definition_names, offset_of, row_of, size_limit}

@@ -1,7 +1,7 @@
 -- From one line of a source to the next.
 use Rattle.std.proofs.Common.{◌≡◌, ℕ, ◌+◌, ◌-◌, ◌*◌, ◌^◌, ◌<◌, ◌≤◌, inl, refl, sym, ap, ◌∙◌, subst, arith, List, [], ◌∷◌, ◌++◌, length, take, drop, Option, None, length-append, append_assoc}
 use Rattle.std.proofs.Math.Seq.{drop-append_seam, take-append_seam}
-use Rattle.assembler_text.specs.Lexemes.{source_lines}
+use Rattle.text_lines.specs.Lines.{text_lines}
 use Rattle.assembler.specs.declared.fault.AsmFault.{AsmFault}
 use Rattle.assembler.specs.declared.fault.AsmFault.TheVariants.{SourceTooLong, InLine, Memory}
 use Rattle.assembler.specs.declared.fault.SourceFault.{SourceFault}
@@ -20,7 +20,7 @@ use Rattle.assembler.proofs.ReadingRows.{all_push, kept_push, names_push, no_mor
 
 -- a line of the rest, and what follows it
 pub record IsLine (rest text after : List ℕ) : Type 0 where
-  pub lines : source_lines rest ≡ text ∷ source_lines after
+  pub lines : text_lines rest ≡ text ∷ text_lines after
   pub parts : (ending : List ℕ) × (rest ≡ text ++ (ending ++ after))
   pub shorter : length after < length rest
 
@@ -87,7 +87,7 @@ reads_more source rest text after number start old new kept more read line start
       front = read.front ++ text ∷ [];
       rows = read.rows ++ row ∷ [];
       passed = read.passed ++ took;
-      texts = read.texts ∙ ap (λ (ls : List (List ℕ)). read.front ++ ls) line.lines ∙ sym (append_assoc read.front (text ∷ []) (source_lines after));
+      texts = read.texts ∙ ap (λ (ls : List (List ℕ)). read.front ++ ls) line.lines ∙ sym (append_assoc read.front (text ∷ []) (text_lines after));
       bytes = read.bytes ∙ ap (λ (r : List ℕ). read.passed ++ r) (taken_is rest text after line) ∙ sym (append_assoc read.passed took after);
       are_rows = rows_push [] read.front read.rows text row read.are_rows (clean_in old read.rows text row read.names read.spot keeps.adds.is_row keeps.adds.clean);
       are_kept = subst (λ (ks : List KeptRow). AreKept source (read.front ++ text ∷ []) ks (read.rows ++ row ∷ [])) (sym keeps.kept_last)
@@ -103,10 +103,10 @@ reads_more source rest text after number start old new kept more read line start
     }
 
 -- where no line is left the source is read
-pub reads_all : (source rest : List ℕ) (number : ℕ) (state : State) (kept : List KeptRow) → HasRead source rest number state kept → source_lines rest ≡ [] → length source ≤ source_limit
+pub reads_all : (source rest : List ℕ) (number : ℕ) (state : State) (kept : List KeptRow) → HasRead source rest number state kept → text_lines rest ≡ [] → length source ≤ source_limit
     → Reads source state.symbols.entries kept
 reads_all source rest number state kept read none within =
-    let all : source_lines source ≡ read.front = read.texts ∙ ap (λ (ls : List (List ℕ)). read.front ++ ls) none ∙ no_more read.front in
+    let all : text_lines source ≡ read.front = read.texts ∙ ap (λ (ls : List (List ℕ)). read.front ++ ls) none ∙ no_more read.front in
     record {
       within = within;
       rows = read.rows;
@@ -132,7 +132,7 @@ stops_first source rest text after number state kept (InLine fault at) read line
   inl (record {
     front = read.front;
     text = text;
-    back = source_lines after;
+    back = text_lines after;
     texts = read.texts ∙ ap (λ (ls : List (List ℕ)). read.front ++ ls) line.lines;
     counted = omega (arith, read.counted, stops.0);
     rows = read.rows;

@@ -5,7 +5,7 @@ use Rattle.std.specs.Str.{bytes_eq}
 use Rattle.std.proofs.lemmas.Slice.Eq.{bytes_eq-Decides}
 use Rattle.std.proofs.lemmas.Bool.Decides.{nat_tests, same_from_decides, Decides-like}
 use Rattle.std.proofs.lemmas.Int.{ints}
-use Rattle.assembler_text.specs.declared.name.Name.{Name}
+use Rattle.assembler_lexeme.specs.declared.name.Name.{Name}
 use Rattle.assembler_text.specs.declared.statement.Line.{Line}
 use Rattle.assembler_text.specs.declared.statement.Statement.{Statement}
 use Rattle.assembler_text.specs.declared.statement.Statement.TheVariants.{Empty, Segment, Ends, Equ, Org, Data, Instruction}

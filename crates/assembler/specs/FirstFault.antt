@@ -1,8 +1,9 @@
 -- The first fault of a source.
+-- To be believed: public contracts say what they say by these definitions.
 use Rattle.std.specs.Prelude.{ℕ, ◌≡◌, ◌≤◌, ◌<◌, ◌+◌, ◌⊎◌, codes, List, [], ◌∷◌, ◌++◌, length, Option, None, Some, Err}
-use Rattle.assembler_text.specs.declared.fault.LineFault.{LineFault}
-use Rattle.assembler_text.specs.declared.fault.LineFault.TheVariants as line_faults
-use Rattle.assembler_text.specs.Lexemes.{source_lines}
+use Rattle.assembler_lexeme.specs.declared.fault.LineFault.{LineFault}
+use Rattle.assembler_lexeme.specs.declared.fault.LineFault.TheVariants as line_faults
+use Rattle.text_lines.specs.Lines.{text_lines}
 use Rattle.assembler_text.specs.Lines.{read_line}
 use Rattle.assembler.specs.declared.fault.SourceFault.{SourceFault}
 use Rattle.assembler.specs.declared.fault.SourceFault.TheVariants.{BadCharacter, BadLine, UnknownName, BadForm, TwiceDefined, Undefined, OutOfRange, OutOfSegment, Overlap, NoSegment, NotLoadable}
@@ -34,7 +35,7 @@ pub record IsEarlyFault (source : List ℕ) (fault : SourceFault) (number : ℕ)
   pub front : List (List ℕ)
   pub text : List ℕ
   pub back : List (List ℕ)
-  pub texts : source_lines source ≡ front ++ text ∷ back
+  pub texts : text_lines source ≡ front ++ text ∷ back
   pub counted : length front + 1 ≡ number
   pub rows : List Row
   pub clean : AreRows [] front rows
@@ -58,7 +59,7 @@ pub record HasLateFault (rows : List Row) (fault : SourceFault) (number : ℕ) :
 -- all lines are clean, and the first of their rows that can't be placed has the fault
 pub record IsLateFault (source : List ℕ) (fault : SourceFault) (number : ℕ) : Type 0 where
   pub rows : List Row
-  pub clean : AreRows [] (source_lines source) rows
+  pub clean : AreRows [] (text_lines source) rows
   pub found : HasLateFault rows fault number
 
 -- A source that is too long has that fault; else the fault of reading in the least line comes first, and else the

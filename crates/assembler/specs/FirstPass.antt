@@ -1,10 +1,11 @@
 -- What the first pass does with a line, and what it has read up to one.
+-- For proofs alone: no public contract rests on it.
 use Rattle.std.specs.Prelude.{ℕ, ◌≡◌, ◌≤◌, ◌+◌, ◌*◌, ◌^◌, false, List, [], ◌∷◌, ◌++◌, length, Option, None, Some, is_some}
 use Rattle.std.specs.List.{AllByRecursion}
 use Rattle.isa.specs.declared.form.Form.{Form}
-use Rattle.assembler_text.specs.declared.name.Name.{Name}
+use Rattle.assembler_lexeme.specs.declared.name.Name.{Name}
 use Rattle.assembler_text.specs.declared.statement.Line.{Line}
-use Rattle.assembler_text.specs.Lexemes.{source_lines}
+use Rattle.text_lines.specs.Lines.{text_lines}
 use Rattle.assembler.specs.declared.fault.AsmFault.{AsmFault}
 use Rattle.assembler.specs.declared.fault.AsmFault.TheVariants.{SourceTooLong, InLine, Memory}
 use Rattle.assembler.specs.declared.fault.LineStop.{LineStop}
@@ -95,7 +96,7 @@ pub record HasRead (source rest : List ℕ) (number : ℕ) (state : State) (kept
   pub front : List (List ℕ)
   pub rows : List Row
   pub passed : List ℕ
-  pub texts : source_lines source ≡ front ++ source_lines rest
+  pub texts : text_lines source ≡ front ++ text_lines rest
   pub bytes : source ≡ passed ++ rest
   pub are_rows : AreRows [] front rows
   pub are_kept : AreKept source front kept rows

@@ -1,9 +1,10 @@
 -- The image that a source gives.
+-- To be believed: public contracts say what they say by these definitions.
 use Rattle.std.specs.Prelude.{ℕ, ◌≡◌, ◌≤◌, ◌↔◌, ◌==◌, false, List, [], length, Some, Contains, is_some}
 use Rattle.std.specs.List.{AllByRecursion, IsDistinct}
 use Rattle.std.specs.Map.{keys_of}
 use Rattle.board_types.specs.Image.{IsImage, image_byte}
-use Rattle.assembler_text.specs.Lexemes.{source_lines}
+use Rattle.text_lines.specs.Lines.{text_lines}
 use Rattle.assembler_statement.specs.declared.symbol.Location.{Location}
 use Rattle.assembler_statement.specs.Values.{Names}
 use Rattle.assembler.specs.Placement.{content_of, lacks_name, has_wrong_number, is_past_end, placed_by_all}
@@ -35,5 +36,5 @@ pub record ArePlaced (rows : List Row) (image : List (ℕ × ℕ)) : Type 0 wher
 pub record Gives (source : List ℕ) (image : List (ℕ × ℕ)) : Type 0 where
   pub within : length source ≤ source_limit
   pub rows : List Row
-  pub are_rows : AreRows [] (source_lines source) rows
+  pub are_rows : AreRows [] (text_lines source) rows
   pub placed : ArePlaced rows image

@@ -1,11 +1,12 @@
 -- What the first pass keeps of the rows for the second, and what keeps the second from overflowing.
+-- For proofs alone: no public contract rests on it.
 use Rattle.std.specs.Prelude.{ℕ, ◌≡◌, ◌≤◌, ◌+◌, ◌^◌, true, List, [], ◌∷◌, length, take, drop, Option, None, Some, is_some}
 use Rattle.std.specs.Option.{option_map}
 use Rattle.std.specs.Box.{box_value}
 use Rattle.std.specs.List.{AllByRecursion}
 use Rattle.isa.specs.Encoding.{IsForm}
 use Rattle.assembler_text.specs.declared.statement.Statement.TheVariants as statements
-use Rattle.assembler_text.specs.Lexemes.{source_lines}
+use Rattle.text_lines.specs.Lines.{text_lines}
 use Rattle.assembler_text.specs.Weights.{are_terms_within}
 use Rattle.assembler.specs.declared.row.Content.{Content}
 use Rattle.assembler.specs.declared.row.Content.TheVariants.{Data, Code}
@@ -52,8 +53,8 @@ pub record IsSteady (kept : KeptRow) : Type 0 where
 pub record Reads (source : List ℕ) (names : Names) (kept : List KeptRow) : Type 0 where
   pub within : length source ≤ source_limit
   pub rows : List Row
-  pub are_rows : AreRows [] (source_lines source) rows
-  pub are_kept : AreKept source (source_lines source) kept rows
+  pub are_rows : AreRows [] (text_lines source) rows
+  pub are_kept : AreKept source (text_lines source) kept rows
   pub names_are : names ≡ names_of rows
   pub small : AreSmall names
   pub steady : AllByRecursion IsSteady kept

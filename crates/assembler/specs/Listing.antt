@@ -1,9 +1,10 @@
 -- The listing: for each line where its bytes stand, the first eight of them, and the line; and the names of a source.
+-- To be believed: public contracts say what they say by these definitions.
 use Rattle.std.specs.Prelude.{ℕ, ℤ, ◌-◌, ◌*◌, ◌/◌, ◌%◌, true, nat_lt, if◌then◌else◌, List, [], ◌∷◌, ◌++◌, length, take, replicate, Option, None, Some, zip}
 use Rattle.std.specs.Option.{option_map}
 use Rattle.std.specs.List.{flat_map, slice_get, take_while}
 use Rattle.std.specs.Fmt.{digit_glyph}
-use Rattle.assembler_text.specs.declared.name.Name.{Name}
+use Rattle.assembler_lexeme.specs.declared.name.Name.{Name}
 use Rattle.assembler_statement.specs.declared.symbol.Location.{Location}
 use Rattle.assembler_statement.specs.Values.{Names, symbol_value}
 use Rattle.assembler.specs.Placement.{bytes_by, content_of}

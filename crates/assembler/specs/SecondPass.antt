@@ -1,4 +1,5 @@
 -- The second pass, told of the rows that the first pass keeps.
+-- For proofs alone: no public contract rests on it.
 use Rattle.std.specs.Prelude.{ℕ, ◌≡◌, Bool, not, true, false, List, [], ◌∷◌, ◌++◌, length, fold, Option, None, Some, is_some, if◌then◌else◌}
 use Rattle.std.specs.List.{flat_map, list_all, list_any}
 use Rattle.std.specs.Ordering.{nat_cmp}

@@ -1,6 +1,6 @@
 //! The assembler: from a source to the image that it gives.
 ghost use Rattle.std.specs.Prelude.{◌≡◌, [], ℕ, List, IfOk, IfErr, MatchResult};
-ghost use Rattle.assembler_text.specs.Lexemes.{source_lines};
+ghost use Rattle.text_lines.specs.Lines.{text_lines};
 ghost use Rattle.assembler.specs.declared.fault.AsmFault.TheVariants.{Memory};
 ghost use Rattle.assembler.specs.FirstFault.{IsFirst};
 ghost use Rattle.assembler.specs.Gives.{Gives};
@@ -20,7 +20,7 @@ const SOURCE_LIMIT: usize = 1_048_576;
 pub fn assemble(alloc: Global, source: &[u8]) -> Result<Listing, AsmFault>
     ensures source { IfOk result (λ listing. listing.source ≡ source.now) }
     ensures gives { IfOk result (λ listing. Gives source.now listing.image) }
-    ensures names { IfOk result (λ listing. (rows : List Row) → AreRows [] (source_lines source.now) rows → listing.names ≡ names_of rows) }
+    ensures names { IfOk result (λ listing. (rows : List Row) → AreRows [] (text_lines source.now) rows → listing.names ≡ names_of rows) }
     ensures fault { IfErr result (IsFirst source.now) }
 
     // Where the source gives an image, no other image comes, and no fault but the want of memory.

@@ -2,7 +2,7 @@
 ghost use Rattle.std.specs.Prelude.{◌≡◌};
 ghost use Rattle.assembler.specs.FirstFault.{fault_line, fault_name, fault_number, fault_of_line, source_fault_name, source_fault_number};
 
-use assembler_text::fault::LineFault;
+use assembler_lexeme::fault::LineFault;
 use thiserror::Error;
 
 /// Why a line of a source is refused.

@@ -4,7 +4,7 @@ ghost use Rattle.std.specs.List.{prefix_len};
 ghost use Rattle.std.specs.Option.{option_map};
 ghost use Rattle.std.specs.Str.{IsAscii};
 ghost use Rattle.std.specs.String.{string_bytes};
-ghost use Rattle.assembler_text.specs.Lexemes.{source_lines};
+ghost use Rattle.text_lines.specs.Lines.{text_lines};
 ghost use Rattle.assembler.specs.declared.fault.AsmFault.TheVariants.{Memory};
 ghost use Rattle.assembler.specs.Kept.{EndsBy};
 ghost use Rattle.assembler.specs.Listing.{hex_byte_text, hex_word, letters_of, line_at, spaces, symbol_at};
@@ -15,8 +15,8 @@ use crate::fault::AsmFault;
 use crate::late::address_at;
 use crate::reading::Reading;
 use crate::row::KeptRow;
+use assembler_lexeme::name::Name;
 use assembler_statement::symbol::Location;
-use assembler_text::name::Name;
 use board_types::image::Image;
 use std::alloc::{AllocError, Global};
 use std::fmt;
@@ -70,7 +70,7 @@ impl Listing {
     /// The listing's line `i`, from 0 on: where the line's bytes stand, the first eight of them, a `+` where there are
     /// more, and the source's line. `None` past the last line.
     pub fn line(&self, alloc: Global, i: usize) -> Result<Option<String>, AsmFault>
-        ensures line { (rows : List Row) → AreRows [] (source_lines self.now.source) rows → IfOk result (λ text. option_map string_bytes text ≡ line_at self.now.names (source_lines self.now.source) rows i) }
+        ensures line { (rows : List Row) → AreRows [] (text_lines self.now.source) rows → IfOk result (λ text. option_map string_bytes text ≡ line_at self.now.names (text_lines self.now.source) rows i) }
         ensures fault { IfErr result (λ fault. fault ≡ Memory) }
     {
         let Some(row) = self.reading.rows.as_slice().get(i) else {

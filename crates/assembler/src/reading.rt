@@ -16,17 +16,17 @@ ghost use Rattle.assembler_text.specs.Weights.{IsWithin, are_terms_within};
 use crate::fault::{AsmFault, LineStop, SourceFault};
 use crate::row::{Content, KeptRow};
 use crate::segment::{State, early_fault, size_of, spot_after, statement_form};
+use assembler_lexeme::fault::LineError;
+use assembler_lexeme::name::Name;
 use assembler_statement::constant::constant_of;
 use assembler_statement::symbol::{Location, Symbol, Symbols};
-use assembler_text::fault::LineError;
-use assembler_text::lexeme::next_line;
-use assembler_text::name::Name;
 use assembler_text::read::read_line;
 use assembler_text::statement::{Line, Statement};
 use indexmap::IndexMap;
 use isa::form::Form;
 use std::alloc::{AllocError, Global};
 use std::boxed::Box;
+use text_lines::next_line;
 
 /// What the first pass keeps of a source: a copy of it, its rows and its names.
 #[derive(Drop)]

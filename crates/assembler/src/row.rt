@@ -1,7 +1,7 @@
 //! The lines of a source as the first pass leaves them.
 
+use assembler_lexeme::sequence::Sequence;
 use assembler_statement::symbol::Location;
-use assembler_text::sequence::Sequence;
 use assembler_text::statement::{Instruction, Item, Width};
 use isa::form::Form;
 use std::boxed::Box;

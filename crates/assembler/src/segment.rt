@@ -11,12 +11,12 @@ ghost use Rattle.assembler_statement.specs.Values.{AreSmall, IsShort, constant_o
 ghost use Rattle.assembler_text.specs.Weights.{are_terms_within, statement_weight};
 
 use crate::fault::SourceFault;
+use assembler_lexeme::name::Name;
 use assembler_statement::constant::{constant_of, is_out_of_bounds};
 use assembler_statement::data::{data_size, has_unknown_count, has_wrong_count};
 use assembler_statement::instruction::{form_of, instruction_size};
 use assembler_statement::symbol::{Location, Symbols, is_defined};
 use assembler_text::expression::Expression;
-use assembler_text::name::Name;
 use assembler_text::statement::{Line, Statement};
 use isa::form::Form;
 

@@ -14,7 +14,7 @@ use Rattle.assembler_statement.specs.declared.symbol.Location.{Location}
 use Rattle.assembler_statement.specs.Instructions.{code_bytes, instruction_size, numbers_of}
 use Rattle.assembler_statement.specs.Values.{Names}
 use Rattle.assembler_statement.proofs.LeavesLength.{code_length}
-use Rattle.assembler_text.specs.Lexemes.{source_lines}
+use Rattle.text_lines.specs.Lines.{text_lines}
 use Rattle.assembler.specs.declared.row.Content.TheVariants.{Code}
 use Rattle.assembler.specs.Placement.{bytes_by, bytes_from, content_of, fields_of, has_wrong_number, placed_by}
 use Rattle.assembler.specs.Rows.{Row, names_of}
@@ -81,6 +81,6 @@ row_decodes byte names row i is has fits bytes each =
 pub bytes_decode_back : BytesDecodeBack
 bytes_decode_back source image gives byte loaded row i within is =
     let names : Names = names_of gives.rows in
-    row_decodes byte names row i is (has_place row i is (clean_there (source_lines source) gives.rows row gives.are_rows within))
+    row_decodes byte names row i is (has_place row i is (clean_there (text_lines source) gives.rows row gives.are_rows within))
     (all_there (Fits names) gives.rows row gives.placed.fit within) loaded.bytes
     (λ address b there. loaded.holds address b ((gives.placed.bytes address b).1 (placed_there (placed_by names) gives.rows row (address, b) within there)))

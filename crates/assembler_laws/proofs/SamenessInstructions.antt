@@ -4,7 +4,7 @@ use Rattle.std.specs.Option.{option_map}
 use Rattle.isa.specs.declared.form.Form.{Form}
 use Rattle.isa.specs.declared.form.Values.{Values}
 use Rattle.isa.specs.Encoding.{encoding, form_length, prefix_byte}
-use Rattle.assembler_text.specs.declared.name.Name.{Name}
+use Rattle.assembler_lexeme.specs.declared.name.Name.{Name}
 use Rattle.assembler_text.specs.declared.expression.Term.{Term}
 use Rattle.assembler_text.specs.declared.operand.Operand.{Operand as Written}
 use Rattle.assembler_text.specs.declared.operand.Operand.TheVariants.{Register, One, Value, Memory, Short, FarLabel, FarPointer}

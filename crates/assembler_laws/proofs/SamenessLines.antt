@@ -1,6 +1,6 @@
 -- Lines that are read alike make the same rows.
 use Rattle.std.proofs.Common.{ℕ, List, [], ◌∷◌, ◌++◌, sym, ◌∙◌}
-use Rattle.assembler_text.specs.Lexemes.{source_lines}
+use Rattle.text_lines.specs.Lines.{text_lines}
 use Rattle.assembler_text.specs.Laws.{CaseDoesNotCount as CaseDoesNotCountInLines}
 use Rattle.assembler.specs.Rows.{Row, IsCleanRow, AreRows}
 use Rattle.assembler_laws.specs.Sameness.{StandPairwise, DifferInCase, CaseDoesNotCount}
@@ -31,6 +31,6 @@ pub case_is_nothing : CaseDoesNotCountInLines → CaseDoesNotCount
 case_is_nothing law s t image alike within gives = record {
   within = within;
   rows = gives.rows;
-  are_rows = rows_alike law [] (source_lines s) (source_lines t) gives.rows alike gives.are_rows;
+  are_rows = rows_alike law [] (text_lines s) (text_lines t) gives.rows alike gives.are_rows;
   placed = gives.placed;
 }

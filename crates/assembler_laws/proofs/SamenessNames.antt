@@ -3,7 +3,7 @@ use Rattle.std.proofs.Common.{◌≡◌, ℕ, Bool, ◌&&◌, ◌||◌, if◌the
 use Rattle.std.specs.Prelude.{pos, cond, is_some}
 use Rattle.std.specs.Option.{option_map}
 use Rattle.std.specs.List.{list_all, list_any, flat_map}
-use Rattle.assembler_text.specs.declared.name.Name.{Name}
+use Rattle.assembler_lexeme.specs.declared.name.Name.{Name}
 use Rattle.assembler_text.specs.declared.expression.Atom.{Atom}
 use Rattle.assembler_text.specs.declared.expression.Atom.TheVariants.{Number, Named, Here, SegmentOf}
 use Rattle.assembler_text.specs.declared.expression.Term.{Term}

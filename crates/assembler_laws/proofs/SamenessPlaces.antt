@@ -7,11 +7,11 @@ use Rattle.std.specs.Map.{keys_of}
 use Rattle.isa.specs.declared.form.Form.{Form}
 use Rattle.isa.specs.declared.form.Values.{Values}
 use Rattle.board_types.specs.Image.{image_byte}
-use Rattle.assembler_text.specs.declared.name.Name.{Name}
+use Rattle.assembler_lexeme.specs.declared.name.Name.{Name}
 use Rattle.assembler_text.specs.declared.statement.Statement.{Statement}
 use Rattle.assembler_text.specs.declared.statement.Statement.TheVariants as statements
 use Rattle.assembler_text.specs.declared.statement.Instruction.{Instruction}
-use Rattle.assembler_text.specs.Lexemes.{source_lines}
+use Rattle.text_lines.specs.Lines.{text_lines}
 use Rattle.assembler_statement.specs.declared.symbol.Location.{Location}
 use Rattle.assembler_statement.specs.Values.{Names}
 use Rattle.assembler.specs.declared.row.Content.{Content}
@@ -114,6 +114,6 @@ pub renaming_is_nothing : RenamingDoesNotCount
 renaming_is_nothing rename once s t image differ within gives = record {
   within = within;
   rows = map (renamed_row rename) gives.rows;
-  are_rows = rows_renamed rename once [] (source_lines s) (source_lines t) gives.rows differ gives.are_rows;
+  are_rows = rows_renamed rename once [] (text_lines s) (text_lines t) gives.rows differ gives.are_rows;
   placed = placed_renamed rename once gives.rows image gives.placed;
 }

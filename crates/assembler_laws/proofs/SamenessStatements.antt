@@ -3,7 +3,7 @@ use Rattle.std.proofs.Common.{◌≡◌, ◌∙◌, ℕ, false, ◌||◌, if◌t
 use Rattle.std.specs.Prelude.{ℤ, pos, negsuc, is_some, is_none}
 use Rattle.std.specs.Option.{option_map, option_map_or}
 use Rattle.isa.specs.declared.form.Form.{Form}
-use Rattle.assembler_text.specs.declared.name.Name.{Name}
+use Rattle.assembler_lexeme.specs.declared.name.Name.{Name}
 use Rattle.assembler_text.specs.declared.expression.Term.{Term}
 use Rattle.assembler_text.specs.declared.statement.Line.{Line}
 use Rattle.assembler_text.specs.declared.statement.Statement.{Statement}

@@ -1,4 +1,5 @@
 -- The instructions of an accepted source, decoded from a memory that holds its image.
+-- Laws: claims above the definitions, each proved as the contract of a function.
 use Rattle.std.specs.Prelude.{ℕ, ◌≡◌, ◌<◌, List, Some, Contains}
 use Rattle.board_types.specs.Image.{image_byte}
 use Rattle.isa.specs.declared.form.Form.{Form}

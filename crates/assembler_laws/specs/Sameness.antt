@@ -1,8 +1,9 @@
 -- Sources that say the same give the same image.
+-- Laws: claims above the definitions, each proved as the contract of a function.
 use Rattle.std.specs.Prelude.{ℕ, ◌≡◌, ◌≤◌, List, [], ◌∷◌, length, map, Ok}
 use Rattle.std.specs.List.{list_all}
 use Rattle.std.specs.Option.{option_map}
-use Rattle.assembler_text.specs.declared.name.Name.{Name}
+use Rattle.assembler_lexeme.specs.declared.name.Name.{Name}
 use Rattle.assembler_text.specs.declared.expression.Atom.{Atom}
 use Rattle.assembler_text.specs.declared.expression.Atom.TheVariants.{Number, Named, Here, SegmentOf}
 use Rattle.assembler_text.specs.declared.expression.Term.{Term}
@@ -19,8 +20,8 @@ use Rattle.assembler_text.specs.declared.statement.Statement.TheVariants.{Empty,
 use Rattle.assembler_text.specs.declared.statement.Line.{Line}
 use Rattle.assembler_text.specs.Lines.{read_line}
 use Rattle.assembler_statement.specs.Values.{same_name}
-use Rattle.assembler_text.specs.Lexemes.{is_character, lexemes, source_lines}
-use Rattle.assembler_text.specs.Laws.{folded}
+use Rattle.assembler_lexeme.specs.Lexemes.{is_character, lexemes, folded}
+use Rattle.text_lines.specs.Lines.{text_lines}
 use Rattle.assembler.specs.Gives.{source_limit, Gives}
 
 -- there are as many lines as there are others, and each stands so to the other in its place
@@ -40,7 +41,7 @@ pub record DifferInCase (line other : List ℕ) : Type 0 where
 -- longer than a source may be, so its length is asked.
 abbrev pub CaseDoesNotCount : Type 0
 CaseDoesNotCount =
-    (s t : List ℕ) (image : List (ℕ × ℕ)) → StandPairwise DifferInCase (source_lines s) (source_lines t) → length t ≤ source_limit
+    (s t : List ℕ) (image : List (ℕ × ℕ)) → StandPairwise DifferInCase (text_lines s) (text_lines t) → length t ≤ source_limit
     → Gives s image → Gives t image
 
 -- a renaming takes no two names to one
@@ -112,4 +113,4 @@ pub record DifferInNames (rename : Name → Name) (line other : List ℕ) : Type
 abbrev pub RenamingDoesNotCount : Type 0
 RenamingDoesNotCount =
     (rename : Name → Name) → IsOneToOne rename → (s t : List ℕ) (image : List (ℕ × ℕ))
-    → StandPairwise (DifferInNames rename) (source_lines s) (source_lines t) → length t ≤ source_limit → Gives s image → Gives t image
+    → StandPairwise (DifferInNames rename) (text_lines s) (text_lines t) → length t ≤ source_limit → Gives s image → Gives t image

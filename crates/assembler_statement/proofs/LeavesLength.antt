@@ -14,7 +14,7 @@ use Rattle.isa.specs.declared.layout.Second.TheVariants as seconds
 use Rattle.isa.specs.declared.form.Place.{Place}
 use Rattle.isa.specs.Encoding.{displacement_field, encoding, field_bytes, form_length, prefix_byte, second_bytes}
 use Rattle.isa.specs.Layout.{field_part, field_size, second_part, second_size}
-use Rattle.assembler_text.specs.declared.name.Name.{Name}
+use Rattle.assembler_lexeme.specs.declared.name.Name.{Name}
 use Rattle.assembler_text.specs.declared.expression.Atom.{Atom}
 use Rattle.assembler_text.specs.declared.expression.Atom.TheVariants.{Number, Named, Here, SegmentOf}
 use Rattle.assembler_text.specs.declared.expression.Term.{Term}

@@ -3,7 +3,7 @@ ghost use Rattle.std.specs.Prelude.{◌≡◌};
 ghost use Rattle.assembler_statement.specs.Values.{is_defined};
 ghost use Rattle.assembler_statement.specs.Values.{IsSmall, is_constant_symbol, label_of, meaning, symbol_value};
 
-use assembler_text::name::Name;
+use assembler_lexeme::name::Name;
 use indexmap::IndexMap;
 
 /// A place in a segment. The offset is a whole number: it may lie past the segment's end until the source is refused

@@ -1,5 +1,3 @@
-mod Scanning
-mod Wording
 mod Parting
 mod Gathering
 mod Folding
@@ -9,4 +7,3 @@ mod SpelledOperands
 mod SpelledLists
 mod SpelledLines
 mod Rows
-mod Ending

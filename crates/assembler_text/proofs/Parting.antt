@@ -1,8 +1,8 @@
 -- The first part of a list of tokens.
 use Rattle.std.proofs.Common.{◌≡◌, ℕ, ◌+◌, suc, Bool, true, false, if◌then◌else◌, List, [], ◌∷◌, take, drop, refl, ap, ◌∙◌, arith, Option, Some, None}
-use Rattle.assembler_text.specs.declared.token.Token.{Token}
-use Rattle.assembler_text.specs.declared.token.Token.TheVariants as kinds
-use Rattle.assembler_text.specs.declared.token.Mark.TheVariants as marks
+use Rattle.assembler_lexeme.specs.declared.token.Token.{Token}
+use Rattle.assembler_lexeme.specs.declared.token.Token.TheVariants as kinds
+use Rattle.assembler_lexeme.specs.declared.token.Mark.TheVariants as marks
 use Rattle.assembler_text.specs.Parts.{signed_part, parts, parts_from, parts_left, parts_here, is_open_after, onto_part, part_size, tail_of, signed_from, signed_left, signed_size, onto_signed, is_minus, signed_parts, begins_with_minus}
 
 one_more : (n : ℕ) → 1 + n ≡ suc n

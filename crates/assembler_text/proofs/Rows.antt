@@ -13,8 +13,8 @@ use Rattle.dialect.specs.declared.mnemonic.Mnemonic.{Mnemonic}
 use Rattle.dialect.specs.declared.mnemonic.Mnemonic.TheVariants as mnemonics
 use Rattle.dialect.specs.declared.register.Register.TheVariants as registers
 use Rattle.dialect.specs.Words.{words, spells, meaning_of}
-use Rattle.assembler_text.specs.declared.fault.LineFault.{LineFault}
-use Rattle.assembler_text.specs.declared.fault.LineFault.TheVariants.{BadCharacter, BadLine, UnknownName}
+use Rattle.assembler_lexeme.specs.declared.fault.LineFault.{LineFault}
+use Rattle.assembler_lexeme.specs.declared.fault.LineFault.TheVariants.{BadCharacter, BadLine, UnknownName}
 use Rattle.assembler_text.specs.declared.expression.Atom.{Atom}
 use Rattle.assembler_text.specs.declared.expression.Atom.TheVariants as atoms
 use Rattle.assembler_text.specs.declared.expression.Term.{Term}
@@ -27,9 +27,9 @@ use Rattle.assembler_text.specs.declared.statement.Item.TheVariants as items
 use Rattle.assembler_text.specs.declared.statement.Statement.{Statement}
 use Rattle.assembler_text.specs.declared.statement.Statement.TheVariants as statements
 use Rattle.assembler_text.specs.declared.statement.Line.{Line}
-use Rattle.assembler_text.specs.Lexemes.{lexemes}
-use Rattle.assembler_text.specs.Numbers.{number_to, number_of}
-use Rattle.assembler_text.specs.Tokens.{name_of, word_token, number_token, quoted_token, token_of, tokens_of}
+use Rattle.assembler_lexeme.specs.Lexemes.{lexemes}
+use Rattle.assembler_lexeme.specs.Numbers.{number_to, number_of}
+use Rattle.assembler_lexeme.specs.Tokens.{name_of, word_token, number_token, quoted_token, token_of, tokens_of}
 use Rattle.assembler_text.specs.Parts.{parts}
 use Rattle.assembler_text.specs.Expressions.{atom_of, expression_of, constant_of}
 use Rattle.assembler_text.specs.Operands.{with_part, memory_of, value_of, brackets_of, far_of, operand_of, operands_of}

@@ -10,8 +10,8 @@ use Rattle.dialect.specs.declared.meaning.Meaning.TheVariants as meanings
 use Rattle.dialect.specs.declared.mnemonic.Mnemonic.{Mnemonic}
 use Rattle.dialect.specs.declared.keyword.Keyword.{Keyword}
 use Rattle.dialect.specs.declared.keyword.Keyword.TheVariants as keywords
-use Rattle.assembler_text.specs.declared.fault.LineFault.{LineFault}
-use Rattle.assembler_text.specs.declared.name.Name.{Name}
+use Rattle.assembler_lexeme.specs.declared.fault.LineFault.{LineFault}
+use Rattle.assembler_lexeme.specs.declared.name.Name.{Name}
 use Rattle.assembler_text.specs.declared.expression.Term.{Term}
 use Rattle.assembler_text.specs.declared.operand.Operand.{Operand}
 use Rattle.assembler_text.specs.declared.statement.Width.{Width}
@@ -19,10 +19,10 @@ use Rattle.assembler_text.specs.declared.statement.Width.TheVariants as widths
 use Rattle.assembler_text.specs.declared.statement.Item.{Item}
 use Rattle.assembler_text.specs.declared.statement.Statement.{Statement}
 use Rattle.assembler_text.specs.declared.statement.Statement.TheVariants as statements
-use Rattle.assembler_text.specs.declared.token.Token.{Token}
-use Rattle.assembler_text.specs.declared.token.Token.TheVariants.{Named, Word, Mark}
-use Rattle.assembler_text.specs.declared.token.Mark.TheVariants.{Colon}
-use Rattle.assembler_text.specs.Faults.{◌>>=◌}
+use Rattle.assembler_lexeme.specs.declared.token.Token.{Token}
+use Rattle.assembler_lexeme.specs.declared.token.Token.TheVariants.{Named, Word, Mark}
+use Rattle.assembler_lexeme.specs.declared.token.Mark.TheVariants.{Colon}
+use Rattle.assembler_lexeme.specs.Faults.{◌>>=◌}
 use Rattle.assembler_text.specs.Statements.{segment_of, ends_of, org_of, data_of, equ_of, directive_of, instruction_of, onto_prefixes, prefixes_of, statement_behind, prefixed_statement, is_equ, statement_of}
 use Rattle.assembler_text.specs.Lines.{with_label, line_of}
 use Rattle.assembler_text.specs.Spelling.{expression_tokens, keyword, operand_tokens, with_commas, item_tokens, prefix_tokens, width_keyword, statement_tokens, line_tokens, IsConstant, IsOperand, IsItem, SomeAre, IsStatement}

@@ -9,7 +9,7 @@ use Rattle.isa.specs.declared.form.Base.TheVariants as bases
 use Rattle.isa.specs.declared.register.SegmentRegister.{SegmentRegister}
 use Rattle.dialect.specs.declared.meaning.Meaning.TheVariants as meanings
 use Rattle.dialect.specs.declared.keyword.Keyword.TheVariants as keywords
-use Rattle.assembler_text.specs.declared.fault.LineFault.{LineFault}
+use Rattle.assembler_lexeme.specs.declared.fault.LineFault.{LineFault}
 use Rattle.assembler_text.specs.declared.expression.Atom.{Atom}
 use Rattle.assembler_text.specs.declared.expression.Atom.TheVariants as atoms
 use Rattle.assembler_text.specs.declared.expression.Term.{Term}
@@ -24,10 +24,10 @@ use Rattle.assembler_text.specs.declared.statement.Piece.{Piece}
 use Rattle.assembler_text.specs.declared.statement.Piece.TheVariants as pieces
 use Rattle.assembler_text.specs.declared.statement.Item.{Item}
 use Rattle.assembler_text.specs.declared.statement.Item.TheVariants as items
-use Rattle.assembler_text.specs.declared.token.Token.{Token}
-use Rattle.assembler_text.specs.declared.token.Token.TheVariants.{Quoted, Word, Mark}
-use Rattle.assembler_text.specs.declared.token.Mark.TheVariants.{Comma, Colon, CloseBracket, OpenParenthesis, CloseParenthesis}
-use Rattle.assembler_text.specs.Faults.{◌>>=◌, all_of}
+use Rattle.assembler_lexeme.specs.declared.token.Token.{Token}
+use Rattle.assembler_lexeme.specs.declared.token.Token.TheVariants.{Quoted, Word, Mark}
+use Rattle.assembler_lexeme.specs.declared.token.Mark.TheVariants.{Comma, Colon, CloseBracket, OpenParenthesis, CloseParenthesis}
+use Rattle.assembler_lexeme.specs.Faults.{◌>>=◌, all_of}
 use Rattle.assembler_text.specs.Parts.{parts, parts_from, onto_part, closed, is_dup, is_close_parenthesis}
 use Rattle.assembler_text.specs.Operands.{operand_of, operands_of}
 use Rattle.assembler_text.specs.Items.{value_piece, piece_of, pieces_of, repeated, in_parentheses, item_by, item_of, items_of}

@@ -8,7 +8,7 @@ use Rattle.isa.specs.declared.register.SegmentRegister.{SegmentRegister}
 use Rattle.isa.specs.declared.register.WordRegister.TheVariants.{Bx, Bp, Si, Di}
 use Rattle.dialect.specs.declared.keyword.Keyword.TheVariants as keywords
 use Rattle.dialect.specs.declared.register.Register.TheVariants as registers
-use Rattle.assembler_text.specs.declared.fault.LineFault.{LineFault}
+use Rattle.assembler_lexeme.specs.declared.fault.LineFault.{LineFault}
 use Rattle.assembler_text.specs.declared.expression.Atom.{Atom}
 use Rattle.assembler_text.specs.declared.expression.Atom.TheVariants as atoms
 use Rattle.assembler_text.specs.declared.expression.Term.{Term}
@@ -17,10 +17,10 @@ use Rattle.assembler_text.specs.declared.operand.Size.TheVariants as sizes
 use Rattle.assembler_text.specs.declared.operand.Address.{Address}
 use Rattle.assembler_text.specs.declared.operand.Operand.{Operand}
 use Rattle.assembler_text.specs.declared.operand.Operand.TheVariants as operands
-use Rattle.assembler_text.specs.declared.token.Token.{Token}
-use Rattle.assembler_text.specs.declared.token.Token.TheVariants.{Mark}
-use Rattle.assembler_text.specs.declared.token.Mark.TheVariants.{Colon, OpenBracket, CloseBracket}
-use Rattle.assembler_text.specs.Faults.{◌>>=◌}
+use Rattle.assembler_lexeme.specs.declared.token.Token.{Token}
+use Rattle.assembler_lexeme.specs.declared.token.Token.TheVariants.{Mark}
+use Rattle.assembler_lexeme.specs.declared.token.Mark.TheVariants.{Colon, OpenBracket, CloseBracket}
+use Rattle.assembler_lexeme.specs.Faults.{◌>>=◌}
 use Rattle.assembler_text.specs.Parts.{Signed, signed_part, signed_parts, around, closed, is_colon, is_close_bracket}
 use Rattle.assembler_text.specs.Expressions.{term_of, expression_of}
 use Rattle.assembler_text.specs.Operands.{with_term, with_part, with_parts, empty_address, memory_of, value_of, brackets_of, far_of, far_target, operand_of}

@@ -6,15 +6,15 @@ use Rattle.std.proofs.lemmas.List.{take_at}
 use Rattle.std.proofs.lemmas.Bool.Decides.{nat_tests}
 use Rattle.dialect.specs.declared.meaning.Meaning.TheVariants as meanings
 use Rattle.dialect.specs.declared.keyword.Keyword.TheVariants as keywords
-use Rattle.assembler_text.specs.declared.fault.LineFault.{LineFault}
-use Rattle.assembler_text.specs.declared.fault.LineFault.TheVariants.{BadLine}
+use Rattle.assembler_lexeme.specs.declared.fault.LineFault.{LineFault}
+use Rattle.assembler_lexeme.specs.declared.fault.LineFault.TheVariants.{BadLine}
 use Rattle.assembler_text.specs.declared.expression.Atom.{Atom}
 use Rattle.assembler_text.specs.declared.expression.Atom.TheVariants as atoms
 use Rattle.assembler_text.specs.declared.expression.Term.{Term}
-use Rattle.assembler_text.specs.declared.token.Token.{Token}
-use Rattle.assembler_text.specs.declared.token.Token.TheVariants.{Number, Named, Word, Mark}
-use Rattle.assembler_text.specs.declared.token.Mark.TheVariants.{Comma, Colon, OpenBracket, CloseBracket, OpenParenthesis, CloseParenthesis, Dollar}
-use Rattle.assembler_text.specs.Faults.{◌>>=◌, all_of}
+use Rattle.assembler_lexeme.specs.declared.token.Token.{Token}
+use Rattle.assembler_lexeme.specs.declared.token.Token.TheVariants.{Number, Named, Word, Mark}
+use Rattle.assembler_lexeme.specs.declared.token.Mark.TheVariants.{Comma, Colon, OpenBracket, CloseBracket, OpenParenthesis, CloseParenthesis, Dollar}
+use Rattle.assembler_lexeme.specs.Faults.{◌>>=◌, all_of}
 use Rattle.assembler_text.specs.Parts.{Signed, signed_part, signed_from, signed_parts, onto_signed, around}
 use Rattle.assembler_text.specs.Expressions.{atom_of, term_of, expression_of, constant_of, is_constant}
 use Rattle.assembler_text.specs.Spelling.{atom_tokens, sign_token, signed_tokens, first_tokens, expression_tokens, IsExpression, IsConstant}

@@ -1,16 +1,17 @@
 -- Items of data lines.
+-- To be believed: public contracts say what they say by these definitions.
 use Rattle.std.specs.Prelude.{List, [], ◌∷◌, if◌then◌else◌, Option, None, Some, Result, Ok, Err}
-use Rattle.assembler_text.specs.declared.fault.LineFault.{LineFault}
-use Rattle.assembler_text.specs.declared.fault.LineFault.TheVariants.{BadLine}
+use Rattle.assembler_lexeme.specs.declared.fault.LineFault.{LineFault}
+use Rattle.assembler_lexeme.specs.declared.fault.LineFault.TheVariants.{BadLine}
 use Rattle.assembler_text.specs.declared.statement.Width.{Width}
 use Rattle.assembler_text.specs.declared.statement.Width.TheVariants as widths
 use Rattle.assembler_text.specs.declared.statement.Piece.{Piece}
 use Rattle.assembler_text.specs.declared.statement.Piece.TheVariants as pieces
 use Rattle.assembler_text.specs.declared.statement.Item.{Item}
 use Rattle.assembler_text.specs.declared.statement.Item.TheVariants as items
-use Rattle.assembler_text.specs.declared.token.Token.{Token}
-use Rattle.assembler_text.specs.declared.token.Token.TheVariants.{Quoted}
-use Rattle.assembler_text.specs.Faults.{◌>>=◌, all_of}
+use Rattle.assembler_lexeme.specs.declared.token.Token.{Token}
+use Rattle.assembler_lexeme.specs.declared.token.Token.TheVariants.{Quoted}
+use Rattle.assembler_lexeme.specs.Faults.{◌>>=◌, all_of}
 use Rattle.assembler_text.specs.Parts.{parts, around, closed, is_dup, is_open_parenthesis, is_close_parenthesis}
 use Rattle.assembler_text.specs.Expressions.{expression_of, constant_of}
 

@@ -1,15 +1,11 @@
 -- The laws of lines.
-use Rattle.std.specs.Prelude.{ℕ, ◌≡◌, ◌==◌, if◌then◌else◌, List, map, Ok}
+-- Laws: claims above the definitions, each proved as the contract of a function.
+use Rattle.std.specs.Prelude.{ℕ, ◌≡◌, List, map, Ok}
 use Rattle.std.specs.List.{list_all}
-use Rattle.std.specs.Char.{to_ascii_lowercase}
-use Rattle.assembler_text.specs.Lexemes.{begins_with, is_character, lexemes}
+use Rattle.assembler_lexeme.specs.Lexemes.{folded, is_character, lexemes}
 use Rattle.assembler_text.specs.declared.statement.Line.{Line}
 use Rattle.assembler_text.specs.Lines.{line_of, read_line}
 use Rattle.assembler_text.specs.Spelling.{line_tokens, IsStatement}
-
--- a lexeme, its case apart; within quotes case counts
-abbrev pub folded : List ℕ → List ℕ
-folded lexeme = if begins_with (λ b. b == 39) lexeme then lexeme else map to_ascii_lowercase lexeme
 
 -- two lines whose lexemes differ in case outside quotes alone say the same
 abbrev pub CaseDoesNotCount : Type 0

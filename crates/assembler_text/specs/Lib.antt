@@ -1,7 +1,3 @@
-pub mod Lexemes
-pub mod Numbers
-pub mod Faults
-pub mod Tokens
 pub mod Parts
 pub mod Expressions
 pub mod Operands

@@ -1,16 +1,17 @@
 -- A line: an optional label and a statement.
+-- To be believed: public contracts say what they say by these definitions.
 use Rattle.std.specs.Prelude.{ℕ, if◌then◌else◌, List, ◌∷◌, Option, None, Some, Result, Ok, Err}
 use Rattle.std.specs.List.{list_all}
-use Rattle.assembler_text.specs.declared.fault.LineFault.{LineFault}
-use Rattle.assembler_text.specs.declared.fault.LineFault.TheVariants.{BadCharacter}
-use Rattle.assembler_text.specs.declared.name.Name.{Name}
+use Rattle.assembler_lexeme.specs.declared.fault.LineFault.{LineFault}
+use Rattle.assembler_lexeme.specs.declared.fault.LineFault.TheVariants.{BadCharacter}
+use Rattle.assembler_lexeme.specs.declared.name.Name.{Name}
 use Rattle.assembler_text.specs.declared.statement.Line.{Line}
-use Rattle.assembler_text.specs.declared.token.Token.{Token}
-use Rattle.assembler_text.specs.declared.token.Token.TheVariants.{Named, Mark}
-use Rattle.assembler_text.specs.declared.token.Mark.TheVariants.{Colon}
-use Rattle.assembler_text.specs.Lexemes.{is_character, lexemes}
-use Rattle.assembler_text.specs.Faults.{◌>>=◌}
-use Rattle.assembler_text.specs.Tokens.{tokens_of}
+use Rattle.assembler_lexeme.specs.declared.token.Token.{Token}
+use Rattle.assembler_lexeme.specs.declared.token.Token.TheVariants.{Named, Mark}
+use Rattle.assembler_lexeme.specs.declared.token.Mark.TheVariants.{Colon}
+use Rattle.assembler_lexeme.specs.Lexemes.{is_character, lexemes}
+use Rattle.assembler_lexeme.specs.Faults.{◌>>=◌}
+use Rattle.assembler_lexeme.specs.Tokens.{tokens_of}
 use Rattle.assembler_text.specs.Statements.{statement_of}
 
 abbrev pub with_label : Option Name → List Token → Result Line LineFault

@@ -1,4 +1,5 @@
 -- Operands of instructions.
+-- To be believed: public contracts say what they say by these definitions.
 use Rattle.std.specs.Prelude.{◌&&◌, List, [], ◌∷◌, ◌++◌, if◌then◌else◌, Option, None, Some, Result, Ok, Err}
 use Rattle.std.specs.Borrow.{Bor}
 use Rattle.isa.specs.declared.form.Base.{Base}
@@ -10,18 +11,18 @@ use Rattle.dialect.specs.declared.meaning.Meaning.TheVariants.{Keyword, Register
 use Rattle.dialect.specs.declared.register.Register.{Register as RegisterType}
 use Rattle.dialect.specs.declared.register.Register.TheVariants as registers
 use Rattle.dialect.specs.declared.keyword.Keyword.TheVariants as keywords
-use Rattle.assembler_text.specs.declared.fault.LineFault.{LineFault}
-use Rattle.assembler_text.specs.declared.fault.LineFault.TheVariants.{BadLine}
+use Rattle.assembler_lexeme.specs.declared.fault.LineFault.{LineFault}
+use Rattle.assembler_lexeme.specs.declared.fault.LineFault.TheVariants.{BadLine}
 use Rattle.assembler_text.specs.declared.expression.Term.{Term}
 use Rattle.assembler_text.specs.declared.operand.Size.{Size}
 use Rattle.assembler_text.specs.declared.operand.Size.TheVariants as sizes
 use Rattle.assembler_text.specs.declared.operand.Address.{Address}
 use Rattle.assembler_text.specs.declared.operand.Operand.{Operand}
 use Rattle.assembler_text.specs.declared.operand.Operand.TheVariants as operands
-use Rattle.assembler_text.specs.declared.token.Token.{Token}
-use Rattle.assembler_text.specs.declared.token.Token.TheVariants.{One, Named, Word, Mark}
-use Rattle.assembler_text.specs.declared.token.Mark.TheVariants.{OpenBracket}
-use Rattle.assembler_text.specs.Faults.{◌>>=◌, wanted, all_of}
+use Rattle.assembler_lexeme.specs.declared.token.Token.{Token}
+use Rattle.assembler_lexeme.specs.declared.token.Token.TheVariants.{One, Named, Word, Mark}
+use Rattle.assembler_lexeme.specs.declared.token.Mark.TheVariants.{OpenBracket}
+use Rattle.assembler_lexeme.specs.Faults.{◌>>=◌, wanted, all_of}
 use Rattle.assembler_text.specs.Parts.{Signed, parts, signed_parts, around, closed, is_colon, is_open_bracket, is_close_bracket}
 use Rattle.assembler_text.specs.Expressions.{expression_of, term_of}
 

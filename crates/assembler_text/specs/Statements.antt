@@ -1,4 +1,5 @@
 -- Statements.
+-- To be believed: public contracts say what they say by these definitions.
 use Rattle.std.specs.Prelude.{Bool, true, false, List, [], ◌∷◌, if◌then◌else◌, Result, Ok, Err}
 use Rattle.isa.specs.declared.register.SegmentRegister.{SegmentRegister}
 use Rattle.isa.specs.declared.form.Prefix.{Prefix as PrefixType}
@@ -9,16 +10,16 @@ use Rattle.dialect.specs.declared.meaning.Meaning.TheVariants.{Mnemonic, Registe
 use Rattle.dialect.specs.declared.register.Register.TheVariants as registers
 use Rattle.dialect.specs.declared.keyword.Keyword.{Keyword as KeywordType}
 use Rattle.dialect.specs.declared.keyword.Keyword.TheVariants as keywords
-use Rattle.assembler_text.specs.declared.fault.LineFault.{LineFault}
-use Rattle.assembler_text.specs.declared.fault.LineFault.TheVariants.{BadLine, UnknownName}
-use Rattle.assembler_text.specs.declared.name.Name.{Name}
+use Rattle.assembler_lexeme.specs.declared.fault.LineFault.{LineFault}
+use Rattle.assembler_lexeme.specs.declared.fault.LineFault.TheVariants.{BadLine, UnknownName}
+use Rattle.assembler_lexeme.specs.declared.name.Name.{Name}
 use Rattle.assembler_text.specs.declared.statement.Width.{Width}
 use Rattle.assembler_text.specs.declared.statement.Width.TheVariants as widths
 use Rattle.assembler_text.specs.declared.statement.Statement.{Statement}
 use Rattle.assembler_text.specs.declared.statement.Statement.TheVariants as statements
-use Rattle.assembler_text.specs.declared.token.Token.{Token}
-use Rattle.assembler_text.specs.declared.token.Token.TheVariants.{Named, Word}
-use Rattle.assembler_text.specs.Faults.{◌>>=◌}
+use Rattle.assembler_lexeme.specs.declared.token.Token.{Token}
+use Rattle.assembler_lexeme.specs.declared.token.Token.TheVariants.{Named, Word}
+use Rattle.assembler_lexeme.specs.Faults.{◌>>=◌}
 use Rattle.assembler_text.specs.Parts.{is_colon}
 use Rattle.assembler_text.specs.Expressions.{constant_of}
 use Rattle.assembler_text.specs.Operands.{operands_of}

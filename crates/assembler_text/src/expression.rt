@@ -1,7 +1,7 @@
 //! Expressions: signed terms.
 ghost use Rattle.std.specs.Prelude.{◌≡◌, ◌++◌, [], ◌∷◌, OnOk};
 
-use crate::name::Name;
+use assembler_lexeme::name::Name;
 use std::alloc::{AllocError, Global};
 use std::marker::Model;
 

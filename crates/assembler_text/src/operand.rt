@@ -1,7 +1,7 @@
 //! Operands of instructions.
 
 use crate::expression::Expression;
-use crate::name::Name;
+use assembler_lexeme::name::Name;
 use dialect::register::Register;
 use isa::form::Base;
 use isa::register::SegmentRegister;

@@ -1,78 +1,76 @@
 //! The parts of a list of tokens: between commas, between signs, and around a token.
 ghost use Rattle.std.specs.Prelude.{Bool, false, ◌≡◌, ◌≢◌, ◌<◌, ◌≤◌, [], ◌∷◌, position, length, IfSome, IfNone};
 ghost use Rattle.std.specs.Option.{option_map};
-ghost use Rattle.assembler_text.specs.Faults.{wanted};
+ghost use Rattle.assembler_lexeme.specs.Faults.{wanted};
 ghost use Rattle.assembler_text.specs.Parts.{around_view, at_place, begins_with_minus, closed, is_close_bracket, is_close_parenthesis, is_colon, is_comma, is_dup, is_minus, is_open_after, is_open_bracket, is_open_parenthesis, is_sign, part_size, parts, parts_left, signed_from, signed_left, signed_part, signed_parts, signed_size, tail_of, tail_view};
 
-use crate::token::{Mark, Token};
+use assembler_lexeme::token::{Mark, Token};
 use dialect::keyword::Keyword;
 use dialect::meaning::Meaning;
 use std::marker::Model;
 
-impl<'a> Token<'a> {
-    pub(crate) fn is_comma(&self) -> bool
-        ensures { result ≡ is_comma self.now }
-    {
-        matches!(self, Token::Mark(Mark::Comma))
-    }
+pub(crate) fn is_comma(token: &Token) -> bool
+    ensures { result ≡ is_comma token.now }
+{
+    matches!(token, Token::Mark(Mark::Comma))
+}
 
-    pub(crate) fn is_colon(&self) -> bool
-        ensures { result ≡ is_colon self.now }
-    {
-        matches!(self, Token::Mark(Mark::Colon))
-    }
+pub(crate) fn is_colon(token: &Token) -> bool
+    ensures { result ≡ is_colon token.now }
+{
+    matches!(token, Token::Mark(Mark::Colon))
+}
 
-    pub(crate) fn is_open_bracket(&self) -> bool
-        ensures { result ≡ is_open_bracket self.now }
-    {
-        matches!(self, Token::Mark(Mark::OpenBracket))
-    }
+pub(crate) fn is_open_bracket(token: &Token) -> bool
+    ensures { result ≡ is_open_bracket token.now }
+{
+    matches!(token, Token::Mark(Mark::OpenBracket))
+}
 
-    fn is_close_bracket(&self) -> bool
-        ensures { result ≡ is_close_bracket self.now }
-    {
-        matches!(self, Token::Mark(Mark::CloseBracket))
-    }
+fn is_close_bracket(token: &Token) -> bool
+    ensures { result ≡ is_close_bracket token.now }
+{
+    matches!(token, Token::Mark(Mark::CloseBracket))
+}
 
-    pub(crate) fn is_open_parenthesis(&self) -> bool
-        ensures { result ≡ is_open_parenthesis self.now }
-    {
-        matches!(self, Token::Mark(Mark::OpenParenthesis))
-    }
+pub(crate) fn is_open_parenthesis(token: &Token) -> bool
+    ensures { result ≡ is_open_parenthesis token.now }
+{
+    matches!(token, Token::Mark(Mark::OpenParenthesis))
+}
 
-    fn is_close_parenthesis(&self) -> bool
-        ensures { result ≡ is_close_parenthesis self.now }
-    {
-        matches!(self, Token::Mark(Mark::CloseParenthesis))
-    }
+fn is_close_parenthesis(token: &Token) -> bool
+    ensures { result ≡ is_close_parenthesis token.now }
+{
+    matches!(token, Token::Mark(Mark::CloseParenthesis))
+}
 
-    fn is_dup(&self) -> bool
-        ensures { result ≡ is_dup self.now }
-    {
-        matches!(self, Token::Word(Meaning::Keyword(Keyword::Dup)))
-    }
+fn is_dup(token: &Token) -> bool
+    ensures { result ≡ is_dup token.now }
+{
+    matches!(token, Token::Word(Meaning::Keyword(Keyword::Dup)))
+}
 
-    fn is_minus(&self) -> bool
-        ensures { result ≡ is_minus self.now }
-    {
-        matches!(self, Token::Mark(Mark::Minus))
-    }
+fn is_minus(token: &Token) -> bool
+    ensures { result ≡ is_minus token.now }
+{
+    matches!(token, Token::Mark(Mark::Minus))
+}
 
-    fn is_sign(&self) -> bool
-        ensures { result ≡ is_sign self.now }
-    {
-        matches!(self, Token::Mark(Mark::Plus | Mark::Minus))
-    }
+fn is_sign(token: &Token) -> bool
+    ensures { result ≡ is_sign token.now }
+{
+    matches!(token, Token::Mark(Mark::Plus | Mark::Minus))
+}
 
-    /// Whether parentheses are open behind the token.
-    fn is_open_after(&self, is_open: bool) -> bool
-        ensures { result ≡ is_open_after is_open self.now }
-    {
-        match self {
-            Token::Mark(Mark::OpenParenthesis) => true,
-            Token::Mark(Mark::CloseParenthesis) => false,
-            _ => is_open,
-        }
+/// Whether parentheses are open behind the token.
+fn is_open_after(is_open: bool, token: &Token) -> bool
+    ensures { result ≡ is_open_after is_open token.now }
+{
+    match token {
+        Token::Mark(Mark::OpenParenthesis) => true,
+        Token::Mark(Mark::CloseParenthesis) => false,
+        _ => is_open,
     }
 }
 
@@ -88,28 +86,28 @@ pub(crate) fn split<'a, 'b>(tokens: &'a [Token<'b>]) -> Option<(&'a Token<'b>, &
 pub(crate) fn colon_place(tokens: &[Token]) -> Option<usize>
     ensures { result ≡ position is_colon tokens.now }
 {
-    tokens.iter().position(|token| token.is_colon())
+    tokens.iter().position(|token| is_colon(token))
 }
 
 /// Where the first DUP stands.
 pub(crate) fn dup_place(tokens: &[Token]) -> Option<usize>
     ensures { result ≡ position is_dup tokens.now }
 {
-    tokens.iter().position(|token| token.is_dup())
+    tokens.iter().position(|token| is_dup(token))
 }
 
 /// Where the first bracket closes.
 pub(crate) fn close_bracket_place(tokens: &[Token]) -> Option<usize>
     ensures { result ≡ position is_close_bracket tokens.now }
 {
-    tokens.iter().position(|token| token.is_close_bracket())
+    tokens.iter().position(|token| is_close_bracket(token))
 }
 
 /// Where the first parenthesis closes.
 pub(crate) fn close_parenthesis_place(tokens: &[Token]) -> Option<usize>
     ensures { result ≡ position is_close_parenthesis tokens.now }
 {
-    tokens.iter().position(|token| token.is_close_parenthesis())
+    tokens.iter().position(|token| is_close_parenthesis(token))
 }
 
 /// What stands before and behind the token at this place. None where there is no place among the tokens.
@@ -156,7 +154,7 @@ pub(crate) struct Parts<'a, 'b> {
 
 impl<'a, 'b> Model for Parts<'a, 'b> {
     ghost use Rattle.std.specs.Prelude.{List};
-    ghost use Rattle.assembler_text.specs.declared.token.Token.{Token};
+    ghost use Rattle.assembler_lexeme.specs.declared.token.Token.{Token};
     ghost use Rattle.assembler_text.specs.Parts.{parts_left, tail_view};
 
     ghost Value = { List (List Token) };
@@ -199,11 +197,11 @@ fn part_size(tokens: &[Token]) -> usize
     let mut is_open = false;
     let mut rest = tokens;
     while let [first, after @ ..] = rest {
-        if !is_open && first.is_comma() {
+        if !is_open && is_comma(first) {
             break;
         }
         size += 1;
-        is_open = first.is_open_after(is_open);
+        is_open = is_open_after(is_open, first);
         rest = after;
     }
     size
@@ -233,7 +231,7 @@ impl<'a, 'b> SignedParts<'a, 'b> {
         ensures some { result ≢ [] }
     {
         match tokens {
-            [first, rest @ ..] if first.is_minus() => SignedParts {
+            [first, rest @ ..] if is_minus(first) => SignedParts {
                 is_negative: true,
                 rest: Some(rest),
             },
@@ -261,7 +259,7 @@ fn begins_with_minus(tokens: &[Token]) -> bool
 {
     match tokens {
         [] => false,
-        [first, ..] => first.is_minus(),
+        [first, ..] => is_minus(first),
     }
 }
 
@@ -281,7 +279,7 @@ fn signed_size(tokens: &[Token]) -> usize
     let mut size = 0;
     let mut rest = tokens;
     while let [first, after @ ..] = rest {
-        if first.is_sign() {
+        if is_sign(first) {
             break;
         }
         size += 1;

@@ -1,8 +1,8 @@
 //! Reading a line.
 ghost use Rattle.std.specs.Prelude.{◌≡◌, ◌∷◌, length, IfOk};
 ghost use Rattle.std.specs.List.{list_all};
-ghost use Rattle.assembler_text.specs.Lexemes.{is_character};
-ghost use Rattle.assembler_text.specs.Faults.{Gives};
+ghost use Rattle.assembler_lexeme.specs.Lexemes.{is_character};
+ghost use Rattle.assembler_lexeme.specs.Faults.{Gives};
 ghost use Rattle.assembler_text.specs.Lines.{labelled, line_of, read_line, with_label};
 ghost use Rattle.assembler_text.specs.Weights.{IsWithin};
 
@@ -11,11 +11,11 @@ mod item;
 mod operand;
 mod statement;
 
-use crate::fault::{LineError, LineFault};
-use crate::lexeme::is_character;
-use crate::name::Name;
 use crate::statement::Line;
-use crate::token::{Mark, Token, read_tokens};
+use assembler_lexeme::fault::{LineError, LineFault};
+use assembler_lexeme::lexeme::is_character;
+use assembler_lexeme::name::Name;
+use assembler_lexeme::token::{Mark, Token, read_tokens};
 use statement::read_statement;
 use std::alloc::Global;
 

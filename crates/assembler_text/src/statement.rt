@@ -1,9 +1,9 @@
 //! Lines, and what they say.
 
 use crate::expression::Expression;
-use crate::name::Name;
 use crate::operand::Operand;
-use crate::sequence::Sequence;
+use assembler_lexeme::name::Name;
+use assembler_lexeme::sequence::Sequence;
 use dialect::mnemonic::Mnemonic;
 use isa::form::Prefix;
 

@@ -1,3 +1,4 @@
 pub mod Iterate
 pub mod KeyOrder
 pub mod Images
+pub mod ImageBytes

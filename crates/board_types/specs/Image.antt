@@ -1,4 +1,5 @@
 -- The bytes of an image: a finite map from addresses, kept in their order.
+-- To be believed: public contracts say what they say by these definitions.
 use Rattle.std.specs.Prelude.{ℕ, ◌≤◌, ◌<◌, ◌⊎◌, List, All, Option}
 use Rattle.std.specs.List.Sorted.{IsStrictlySortedBy}
 use Rattle.std.specs.Map.{keys_of, values_of}

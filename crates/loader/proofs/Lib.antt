@@ -9,5 +9,4 @@ pub mod Places
 pub mod ReadBack
 pub mod Rows
 pub mod Runs
-pub mod SameBytes
-pub mod Scanning
+pub mod LineEnds

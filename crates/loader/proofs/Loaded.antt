@@ -3,6 +3,7 @@ use Rattle.std.proofs.Common.{◌≡◌, ◌∙◌, ℕ, ◌+◌, ◌&&◌, List
 use Rattle.std.specs.List.{AllByRecursion}
 use Rattle.std.specs.List.Sorted.{IsStrictlySortedBy}
 use Rattle.board_types.specs.Image.{image_byte}
+use Rattle.board_types.proofs.ImageBytes.{same_bytes}
 use Rattle.loader.specs.declared.hex_fault.LineFault.{LineFault}
 use Rattle.loader.specs.declared.hex_fault.HexFault.{HexFault}
 use Rattle.loader.specs.declared.hex_fault.HexFault.TheVariants.{InLine}
@@ -10,11 +11,11 @@ use Rattle.loader.specs.declared.hex_fault.LineFault.TheVariants.{AfterEnd, NotL
 use Rattle.loader.specs.declared.hex_record.Extension.{Extension}
 use Rattle.loader.specs.declared.hex_record.Extension.TheVariants.{Segment}
 use Rattle.loader.specs.Laws.{bytes_of, filled_lines, is_end, last_byte, later_or, LoadsRecords}
-use Rattle.loader.specs.Lines.{text_lines, without_spaces}
+use Rattle.loader.specs.Lines.{without_spaces}
+use Rattle.text_lines.specs.Lines.{text_lines}
 use Rattle.loader.specs.Reading.{after_end, after_line, after_record, at_extension, image_after, image_of, in_line, is_blank, load_state}
 use Rattle.loader.specs.Records.{◌>>=◌, HexRecord, bytes_at, end_of_file, extension_at, start_at, are_loadable, is_loadable, placed_bytes, record_of, with_bytes}
-use Rattle.loader.proofs.LaterBytes.{later_bytes_win}
-use Rattle.loader.proofs.SameBytes.{same_bytes, sorted_with}
+use Rattle.loader.proofs.LaterBytes.{later_bytes_win, sorted_with}
 
 abbrev pub given_ok : List (ℕ × ℕ) → Result (List (ℕ × ℕ)) HexFault
 given_ok image = Ok image

@@ -1,5 +1,5 @@
 -- Two neighbouring lines of data records that share no address may change places.
-use Rattle.std.proofs.Common.{◌≡◌, ◌∙◌, ℕ, ◌==◌, ◌&&◌, Bool, true, false, not, List, [], ◌∷◌, ◌++◌, map, filter, length, refl, sym, ap, ap₂, subst, append_assoc, arith, Result, Ok, Err, if◌then◌else◌}
+use Rattle.std.proofs.Common.{◌≡◌, ◌∙◌, ℕ, ◌==◌, ◌&&◌, Bool, true, false, not, List, [], ◌∷◌, ◌++◌, map, filter, length, refl, sym, ap, ap₂, subst, append_assoc, arith, Result, Ok, if◌then◌else◌}
 use Rattle.std.specs.List.{AllByRecursion}
 use Rattle.std.proofs.lemmas.List.{map-append}
 use Rattle.std.proofs.lemmas.List.Elements.{filter-append}
@@ -7,10 +7,10 @@ use Rattle.board_types.specs.Image.{image_byte}
 use Rattle.loader.specs.declared.hex_fault.LineFault.{LineFault}
 use Rattle.loader.specs.declared.hex_record.Extension.{Extension}
 use Rattle.loader.specs.declared.hex_record.Extension.TheVariants.{Segment}
-use Rattle.loader.specs.Laws.{AreApart, bytes_of, extension_behind, filled_lines, is_end, last_byte, IsMadeOf, LinesChangePlaces, Loads}
-use Rattle.loader.specs.Lines.{text_lines, without_spaces}
+use Rattle.loader.specs.Laws.{AreApart, bytes_of, extension_behind, filled_lines, is_end, last_byte, LinesChangePlaces}
+use Rattle.loader.specs.Lines.{without_spaces}
 use Rattle.loader.specs.Reading.{is_blank}
-use Rattle.loader.specs.Records.{HexRecord, bytes_at, end_of_file, extension_at, start_at, are_loadable, placed_bytes, record_of, with_bytes}
+use Rattle.loader.specs.Records.{HexRecord, bytes_at, end_of_file, extension_at, start_at, are_loadable, placed_bytes, record_of}
 use Rattle.loader.proofs.Loaded.{all_append, head_same, put_byte, tail_same}
 use Rattle.loader.proofs.Places.{records_change_places}
 use Rattle.loader.proofs.Runs.{eq_not}

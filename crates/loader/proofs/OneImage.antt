@@ -1,7 +1,5 @@
 -- The text of an image loads that image alone.
-use Rattle.std.proofs.Common.{◌≡◌, ◌<◌, ◌∙◌, ap, sym, ℕ, List, [], ◌∷◌, All}
-use Rattle.std.specs.Map.{values_of}
-use Rattle.std.specs.List.{AllByRecursion}
+use Rattle.std.proofs.Common.{◌∙◌, ap, sym, ℕ, List}
 use Rattle.board_types.specs.Image.{IsImage}
 use Rattle.loader.specs.Laws.{LoadsAlone}
 use Rattle.loader.specs.HexText.{hex_text}

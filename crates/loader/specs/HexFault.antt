@@ -1,4 +1,5 @@
 -- The numbers, names and lines of the faults of a HEX text.
+-- To be believed: public contracts say what they say by these definitions.
 use Rattle.std.specs.Prelude.{ℕ, List, codes, Option, None, Some}
 use Rattle.loader.specs.declared.hex_fault.LineFault.{LineFault}
 use Rattle.loader.specs.declared.hex_fault.LineFault.TheVariants.{BadRecord, BadSum, BadType, AfterEnd, NotLoadable}

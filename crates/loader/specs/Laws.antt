@@ -1,5 +1,6 @@
 -- What holds of HEX texts and images whatever they are.
-use Rattle.std.specs.Prelude.{◌≢◌, ℕ, ◌<◌, ◌≡◌, ◌↔◌, ◌++◌, Bool, true, false, not, filter, map, List, [], ◌∷◌, Ok, Option, None, Some, ◌==◌, if◌then◌else◌}
+-- Laws: claims above the definitions, each proved as the contract of a function.
+use Rattle.std.specs.Prelude.{◌≢◌, ℕ, ◌≡◌, ◌↔◌, ◌++◌, Bool, true, false, not, filter, map, List, [], ◌∷◌, Ok, Option, None, Some, ◌==◌, if◌then◌else◌}
 use Rattle.std.specs.List.{AllByRecursion}
 use Rattle.std.specs.List.Sorted.{IsStrictlySortedBy}
 use Rattle.std.specs.Map.{keys_of}
@@ -8,7 +9,8 @@ use Rattle.board_types.specs.Image.{image_byte}
 use Rattle.loader.specs.HexText.{hex_text}
 use Rattle.loader.specs.declared.hex_record.Extension.{Extension}
 use Rattle.loader.specs.declared.hex_record.Extension.TheVariants.{Segment}
-use Rattle.loader.specs.Lines.{text_lines, without_spaces}
+use Rattle.loader.specs.Lines.{without_spaces}
+use Rattle.text_lines.specs.Lines.{text_lines}
 use Rattle.loader.specs.Reading.{image_of, is_blank}
 use Rattle.loader.specs.Records.{HexRecord, bytes_at, end_of_file, extension_at, start_at, are_loadable, placed_bytes, record_of, with_bytes}
 

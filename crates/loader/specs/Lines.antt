@@ -1,29 +1,6 @@
--- The lines of a text, and what they hold.
-use Rattle.std.specs.Prelude.{ℕ, ◌+◌, Bool, false, ◌==◌, ◌&&◌, if◌then◌else◌, List, [], ◌∷◌}
-
--- the first byte passes the test
-abbrev pub begins_with : (ℕ → Bool) → List ℕ → Bool
-begins_with passes [] = false
-begins_with passes (b ∷ bs) = passes b
-
--- b, put before the first of the parts; where there is none it is a part by itself
-abbrev pub onto_first : ℕ → List (List ℕ) → List (List ℕ)
-onto_first b [] = (b ∷ []) ∷ []
-onto_first b (part ∷ parts) = (b ∷ part) ∷ parts
-
--- A line feed, with a carriage return just before it, ends a line and isn't part of it; what follows the last
--- line feed is a line only where it isn't empty.
-abbrev pub text_lines : List ℕ → List (List ℕ)
-text_lines [] = []
-text_lines (b ∷ bs) =
-    if b == 10 then [] ∷ text_lines bs else (
-    if b == 13 && begins_with (λ c. c == 10) bs then text_lines bs else
-    onto_first b (text_lines bs))
-
--- how many bytes stand before the first line feed
-abbrev pub line_size : List ℕ → ℕ
-line_size [] = 0
-line_size (b ∷ bs) = if b == 10 then 0 else 1 + line_size bs
+-- What a line of a text holds.
+-- To be believed: public contracts say what they say by these definitions.
+use Rattle.std.specs.Prelude.{ℕ, ◌==◌, if◌then◌else◌, List, [], ◌∷◌}
 
 abbrev pub unless_last : ℕ → List ℕ → List ℕ
 unless_last b [] = if b == 32 then [] else b ∷ []

@@ -1,4 +1,5 @@
 -- What a HEX text says, line by line.
+-- To be believed: public contracts say what they say by these definitions.
 use Rattle.std.specs.Prelude.{ℕ, ◌+◌, ◌==◌, Bool, if◌then◌else◌, length, List, [], ◌∷◌, ◌≡◌, Option, None, Some, Result, Ok, Err}
 use Rattle.loader.specs.declared.hex_fault.LineFault.{LineFault}
 use Rattle.loader.specs.declared.hex_fault.LineFault.TheVariants.{AfterEnd, NotLoadable}
@@ -6,7 +7,8 @@ use Rattle.loader.specs.declared.hex_fault.HexFault.{HexFault}
 use Rattle.loader.specs.declared.hex_fault.HexFault.TheVariants.{InLine, NoEnd, Memory}
 use Rattle.loader.specs.declared.hex_record.Extension.{Extension}
 use Rattle.loader.specs.declared.hex_record.Extension.TheVariants.{Segment}
-use Rattle.loader.specs.Lines.{text_lines, without_spaces}
+use Rattle.loader.specs.Lines.{without_spaces}
+use Rattle.text_lines.specs.Lines.{text_lines}
 use Rattle.loader.specs.Records.{HexRecord, bytes_at, end_of_file, extension_at, start_at, ◌>>=◌, are_loadable, placed_bytes, record_of, with_bytes}
 
 -- where reading stands behind a line: what extends the offsets, or nothing past the end record; and the bytes so far

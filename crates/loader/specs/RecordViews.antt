@@ -1,4 +1,5 @@
 -- How the definitions see the records and errors of the code.
+-- For proofs alone: no public contract rests on it.
 use Rattle.std.specs.Prelude.{◌≡◌, ◌<◌, Bool, false, length, Result, Ok, Err}
 use Rattle.loader.specs.declared.hex_fault.LineFault.TheVariants.{NotLoadable}
 use Rattle.loader.specs.declared.hex_fault.LineFault.{LineFault}

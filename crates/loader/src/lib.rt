@@ -10,4 +10,4 @@ pub mod laws;
 pub mod run_fault;
 pub mod run_file;
 pub mod run_reader;
-mod text_lines;
+mod spaces;

@@ -1,26 +1,10 @@
 -- The lines of a listing, one behind the other.
-use Rattle.std.proofs.Common.{◌≡◌, ◌∙◌, ℕ, zero, suc, ◌+◌, ◌≤◌, ◌==◌, ◌&&◌, Bool, true, false, if◌then◌else◌, List, [], ◌∷◌, ◌++◌, length, drop, refl, sym, ap, arith, Option, None, Some, append_assoc}
+use Rattle.std.proofs.Common.{◌≡◌, ◌∙◌, ℕ, zero, suc, ◌+◌, ◌≤◌, List, [], ◌∷◌, ◌++◌, length, drop, refl, sym, ap, arith, Option, None, Some, append_assoc}
 use Rattle.std.proofs.lemmas.List.{append-nil}
-use Rattle.assembler_text.specs.Lexemes.{source_lines, onto_first, begins_with}
 use Rattle.assembler_statement.specs.Values.{Names}
 use Rattle.assembler.specs.Rows.{Row}
 use Rattle.assembler.specs.Listing.{line_at, listed}
 use Rattle.pcboard_program.specs.Answer.{listing_text}
-
--- a source has no more lines than bytes
-onto_few : (b n : ℕ) (parts : List (List ℕ)) → length parts ≤ n → length (onto_first b parts) ≤ n + 1
-onto_few b n [] few = omega (arith)
-onto_few b n (part ∷ parts) few = omega (arith, few)
-
-lines_by : (ends returns : Bool) (b n : ℕ) (parts : List (List ℕ)) → length parts ≤ n
-    → length (if ends then [] ∷ parts else (if returns then parts else onto_first b parts)) ≤ n + 1
-lines_by true returns b n parts few = omega (arith, few)
-lines_by false true b n parts few = omega (arith, few)
-lines_by false false b n parts few = onto_few b n parts few
-
-pub few_lines : (source : List ℕ) → length (source_lines source) ≤ length source
-few_lines [] = omega (arith)
-few_lines (b ∷ bs) = omega (arith, lines_by (b == 10) ((b == 13) && begins_with (λ c. c == 10) bs) b (length bs) (source_lines bs) (few_lines bs))
 
 -- the lines from the i-th on begin with it
 pub line_first : (names : Names) (texts : List (List ℕ)) (rows : List Row) (i : ℕ) (line : List ℕ) → line_at names texts rows i ≡ Some line

@@ -1,7 +1,8 @@
 -- What the program prints.
+-- To be believed: public contracts say what they say by these definitions.
 use Rattle.std.specs.Prelude.{ℕ, ◌≡◌, ◌+◌, ◌==◌, Bool, true, false, List, [], ◌∷◌, ◌++◌, take, drop, Option, None, Some, IfSome, Ok, Err, position}
 use Rattle.std.specs.Io.KnownBytes.{Appends}
-use Rattle.assembler_text.specs.Lexemes.{source_lines}
+use Rattle.text_lines.specs.Lines.{text_lines}
 use Rattle.assembler_statement.specs.Values.{Names}
 use Rattle.assembler.specs.Rows.{Row, names_of}
 use Rattle.assembler.specs.Listing.{listed}
@@ -65,7 +66,7 @@ listing_text names texts rows = []
 pub record IsListingOf (source text : List ℕ) : Type 0 where
   pub image : List (ℕ × ℕ)
   pub gives : Gives source image
-  pub is_text : text ≡ listing_text (names_of gives.rows) (source_lines source) gives.rows
+  pub is_text : text ≡ listing_text (names_of gives.rows) (text_lines source) gives.rows
 
 -- what an assembler prints of a source
 abbrev pub IsAssembled : Bool → List ℕ → List ℕ → Type 0

@@ -1,6 +1,6 @@
 //! The listing of a source as one text.
 ghost use Rattle.std.specs.Prelude.{◌≡◌, ◌++◌, [], ◌∷◌, List, length, IfOk, OnOk, string_bytes};
-ghost use Rattle.assembler_text.specs.Lexemes.{source_lines};
+ghost use Rattle.text_lines.specs.Lines.{text_lines};
 ghost use Rattle.assembler.specs.Gives.{Gives};
 ghost use Rattle.assembler.specs.Rows.{AreRows, Row, names_of};
 ghost use Rattle.pcboard_program.specs.Answer.{IsListingOf};
@@ -29,7 +29,7 @@ pub(crate) fn listing_text(alloc: Global, source: &[u8]) -> Result<String, Fault
 fn lines_text(alloc: Global, listing: &Listing, size: usize) -> Result<String, AsmFault>
     requires size { size ≡ length listing.now.source }
     requires gives { Gives listing.now.source listing.now.image }
-    requires names { (rows : List Row) → AreRows [] (source_lines listing.now.source) rows → listing.now.names ≡ names_of rows }
+    requires names { (rows : List Row) → AreRows [] (text_lines listing.now.source) rows → listing.now.names ≡ names_of rows }
     ensures { IfOk result (λ text. IsListingOf listing.now.source (string_bytes text)) }
 {
     let mut text = String::new(alloc);

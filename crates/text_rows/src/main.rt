@@ -7,7 +7,7 @@
 #![tactic(auto)]
 
 use anyhow::{Context, Result, bail};
-use assembler_text::fault::{LineError, LineFault};
+use assembler_lexeme::fault::{LineError, LineFault};
 use assembler_text::read::read_line;
 use std::alloc::Global;
 

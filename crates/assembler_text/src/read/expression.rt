@@ -1,14 +1,14 @@
 //! Expressions.
 ghost use Rattle.std.specs.Prelude.{◌≡◌, [], ◌∷◌};
 ghost use Rattle.std.specs.List.{list_all};
-ghost use Rattle.assembler_text.specs.Faults.{all_of, with_front, Gives};
+ghost use Rattle.assembler_lexeme.specs.Faults.{all_of, with_front, Gives};
 ghost use Rattle.assembler_text.specs.Parts.{signed_part};
 ghost use Rattle.assembler_text.specs.Expressions.{atom_of, constant_of, expression_of, is_constant, is_constant_atom, segment_atom, single_atom, term_of};
 
 use crate::expression::{Atom, Expression, Term};
-use crate::fault::{LineError, LineFault};
 use crate::part::SignedParts;
-use crate::token::{Mark, Token};
+use assembler_lexeme::fault::{LineError, LineFault};
+use assembler_lexeme::token::{Mark, Token};
 use dialect::keyword::Keyword;
 use dialect::meaning::Meaning;
 use std::alloc::Global;

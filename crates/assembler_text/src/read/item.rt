@@ -1,15 +1,17 @@
 //! Items of data lines.
 ghost use Rattle.std.specs.Prelude.{◌≡◌, [], ◌∷◌};
-ghost use Rattle.assembler_text.specs.Faults.{wanted, Gives};
+ghost use Rattle.assembler_lexeme.specs.Faults.{wanted, Gives};
 ghost use Rattle.std.specs.Option.{option_map};
 ghost use Rattle.assembler_text.specs.Items.{in_parentheses, item_of, items_of, once, piece_of, pieces_of, repeated, single_piece, value_piece};
 
-use crate::fault::{LineError, LineFault};
-use crate::part::{Parts, around, before_last, close_parenthesis_place, dup_place};
+use crate::part::{
+    Parts, around, before_last, close_parenthesis_place, dup_place, is_open_parenthesis,
+};
 use crate::read::expression::{read_constant, read_expression};
-use crate::sequence::Sequence;
 use crate::statement::{Item, Piece, Width};
-use crate::token::Token;
+use assembler_lexeme::fault::{LineError, LineFault};
+use assembler_lexeme::sequence::Sequence;
+use assembler_lexeme::token::Token;
 use std::alloc::Global;
 
 /// The items of a data line: one or more, with commas between them.
@@ -63,7 +65,7 @@ fn in_parentheses<'a, 'b>(tokens: &'a [Token<'b>]) -> Option<&'a [Token<'b>]>
     ensures { wanted (option_map (λ p. p.now) result) ≡ in_parentheses tokens.now }
 {
     match tokens {
-        [first, rest @ ..] if first.is_open_parenthesis() => before_last(
+        [first, rest @ ..] if is_open_parenthesis(first) => before_last(
             rest,
             close_parenthesis_place(rest),
         ),

@@ -1,17 +1,20 @@
 //! Operands of instructions.
 ghost use Rattle.std.specs.Prelude.{◌≡◌, [], ◌∷◌};
 ghost use Rattle.std.specs.Option.{option_map};
-ghost use Rattle.assembler_text.specs.Faults.{all_of, Gives};
+ghost use Rattle.assembler_lexeme.specs.Faults.{all_of, Gives};
 ghost use Rattle.assembler_text.specs.Parts.{parts, signed_part, signed_parts};
 ghost use Rattle.assembler_text.specs.Operands.{base_with, behind_segment, brackets_by, brackets_of, brackets_view, empty_address, far_label, far_of, far_pointer, far_target, led_operand, memory_in, memory_of, operand_of, operands_of, place_or_value, register_of, short_of, single_label, single_operand, single_register, terms_with, value_of, with_part, with_parts, with_register, with_term};
 
 use crate::expression::{Expression, Term};
-use crate::fault::{LineError, LineFault};
 use crate::operand::{Address, Operand, Size};
-use crate::part::{Parts, SignedParts, around, before_last, close_bracket_place, colon_place};
+use crate::part::{
+    Parts, SignedParts, around, before_last, close_bracket_place, colon_place, is_colon,
+    is_open_bracket,
+};
 use crate::read::expression::{read_expression, read_term};
-use crate::sequence::Sequence;
-use crate::token::{Mark, Token};
+use assembler_lexeme::fault::{LineError, LineFault};
+use assembler_lexeme::sequence::Sequence;
+use assembler_lexeme::token::{Mark, Token};
 use dialect::keyword::Keyword;
 use dialect::meaning::Meaning;
 use dialect::register::Register;
@@ -180,7 +183,7 @@ fn behind_segment<'a, 'b>(register: Register, rest: &'a [Token<'b>]) -> Option<B
 {
     match (register, rest) {
         (Register::Segment(segment), [colon, bracket, inner @ ..])
-            if colon.is_colon() && bracket.is_open_bracket() => { Some((Some(segment), inner)) }
+            if is_colon(colon) && is_open_bracket(bracket) => { Some((Some(segment), inner)) }
         _ => None,
     }
 }

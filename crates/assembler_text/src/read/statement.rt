@@ -1,17 +1,17 @@
 //! Statements.
 ghost use Rattle.std.specs.Prelude.{◌≡◌, ◌+◌, ◌<◌, ◌≤◌, [], ◌∷◌, drop, length, IfSome, IfNone};
-ghost use Rattle.assembler_text.specs.Faults.{Gives};
+ghost use Rattle.assembler_lexeme.specs.Faults.{Gives};
 ghost use Rattle.assembler_text.specs.Statements.{data_of, directive_of, ends_of, equ_of, instruction_of, is_at, is_directive, is_equ, keyword_statement, led_statement, onto_prefixes, org_of, prefixed_statement, prefixes_of, segment_at, segment_by, segment_of, segment_token, statement_behind, statement_of, word_statement};
 
-use crate::fault::{LineError, LineFault};
-use crate::name::Name;
-use crate::part::split;
+use crate::part::{is_colon, split};
 use crate::read::expression::read_constant;
 use crate::read::item::read_items;
 use crate::read::operand::read_operands;
-use crate::sequence::Sequence;
 use crate::statement::{Instruction, Statement, Width};
-use crate::token::Token;
+use assembler_lexeme::fault::{LineError, LineFault};
+use assembler_lexeme::name::Name;
+use assembler_lexeme::sequence::Sequence;
+use assembler_lexeme::token::Token;
 use dialect::keyword::Keyword;
 use dialect::meaning::Meaning;
 use dialect::mnemonic::Mnemonic;
@@ -27,23 +27,21 @@ pub(crate) fn read_statement(alloc: Global, tokens: &[Token]) -> Result<Statemen
 {
     match tokens {
         [] => Ok(Statement::Empty),
-        [first, second, rest @ ..] if second.is_equ() => read_equ(alloc, first, rest),
+        [first, second, rest @ ..] if is_equ(second) => read_equ(alloc, first, rest),
         _ => prefixed_statement(alloc, tokens),
     }
 }
 
-impl<'a> Token<'a> {
-    fn is_at(&self) -> bool
-        ensures { result ≡ is_at self.now }
-    {
-        matches!(self, Token::Word(Meaning::Keyword(Keyword::At)))
-    }
+fn is_at(token: &Token) -> bool
+    ensures { result ≡ is_at token.now }
+{
+    matches!(token, Token::Word(Meaning::Keyword(Keyword::At)))
+}
 
-    fn is_equ(&self) -> bool
-        ensures { result ≡ is_equ self.now }
-    {
-        matches!(self, Token::Word(Meaning::Keyword(Keyword::Equ)))
-    }
+fn is_equ(token: &Token) -> bool
+    ensures { result ≡ is_equ token.now }
+{
+    matches!(token, Token::Word(Meaning::Keyword(Keyword::Equ)))
 }
 
 #[tactic(auto, unfolding(crate::specs::Statements::equ_of))]
@@ -104,7 +102,7 @@ fn override_by(segment: SegmentRegister, rest: &[Token]) -> Option<(Prefix, usiz
     ensures none { IfNone result (prefixes_of (segment_token segment ∷ rest.now) ≡ ([], segment_token segment ∷ rest.now)) }
 {
     match rest {
-        [colon, ..] if colon.is_colon() => Some((Prefix::Segment(segment), 2)),
+        [colon, ..] if is_colon(colon) => Some((Prefix::Segment(segment), 2)),
         _ => None,
     }
 }
@@ -190,7 +188,7 @@ fn read_segment(alloc: Global, tokens: &[Token]) -> Result<Statement, LineError>
     ensures { Gives result (segment_of tokens.now) }
 {
     match tokens {
-        [name, at, paragraph @ ..] if at.is_at() => segment_by(alloc, name, paragraph),
+        [name, at, paragraph @ ..] if is_at(at) => segment_by(alloc, name, paragraph),
         _ => Err(LineError::Fault(LineFault::BadLine)),
     }
 }

@@ -1,6 +1,6 @@
 use Rattle.std.proofs.Common.{ℕ, List, [], ap, subst, ◌∙◌}
 use Rattle.std.proofs.lemmas.Result.{err_from_is_err_and}
-use Rattle.assembler_text.specs.Lexemes.{source_lines}
+use Rattle.text_lines.specs.Lines.{text_lines}
 use Rattle.assembler.specs.FirstFault.{IsFirst}
 use Rattle.assembler.specs.Gives.{Gives}
 use Rattle.assembler.specs.Kept.{Reads}
@@ -24,7 +24,7 @@ returns-in_err-image-clause-refused c =
 pub returns-clause-names : goal.returns-clause-names
 returns-clause-names c = λ rows are.
     let reads : Reads c.args.source.now c.in_ok-reading.reading.symbols.entries c.in_ok-reading.reading.rows.items = c.in_ok-reading.ensures.reads in
-    reads.names_are ∙ ap names_of (one_rows [] (source_lines c.args.source.now) reads.rows rows reads.are_rows are)
+    reads.names_are ∙ ap names_of (one_rows [] (text_lines c.args.source.now) reads.rows rows reads.are_rows are)
 
 pub returns-clause-refused : goal.returns-clause-refused
 returns-clause-refused c = λ image gives. one_image c.args.source.now image c.in_ok-image.image gives

@@ -1,26 +1,27 @@
-use Rattle.std.proofs.Common.{ℕ, ◌≡◌, ◌∙◌, ◌++◌, ◌≤◌, [], ◌∷◌, List, length, string_bytes, refl, sym, ap, arith, Some, None, option_map, drop}
-use Rattle.assembler_text.specs.Lexemes.{source_lines}
+use Rattle.std.proofs.Common.{ℕ, ◌≡◌, ◌∙◌, ◌++◌, [], ◌∷◌, List, string_bytes, sym, ap, arith, Some, option_map, drop}
+use Rattle.text_lines.specs.Lines.{text_lines}
 use Rattle.assembler.specs.Listing.{line_at}
-use Rattle.assembler.specs.Rows.{AreRows, Row, names_of}
-use Rattle.pcboard_program.specs.Answer.{IsListingOf, listing_text}
-use Rattle.pcboard_program.proofs.Listed.{all_shown, few_lines, holds_none, line_none, shows_all, shows_more}
+use Rattle.assembler.specs.Rows.{Row, names_of}
+use Rattle.pcboard_program.specs.Answer.{listing_text}
+use Rattle.text_lines.proofs.Counting.{few_lines}
+use Rattle.pcboard_program.proofs.Listed.{all_shown, holds_none, line_none, shows_all, shows_more}
 use Rattle.pcboard_program.proofs.listing.lines_text.Goals as goal
 use Rattle.pcboard_program.proofs.listing.lines_text.Goals.{else-loop-i-test, then-loop-i-test+in_ok-line+in_default}
 
 pub loop-i-init : goal.loop-i-init
-loop-i-init c = λ rows are. ap (λ (l : List _). l ++ listing_text c.args.listing.now.names (source_lines c.args.listing.now.source) rows) c.new-text.ensures.bytes
+loop-i-init c = λ rows are. ap (λ (l : List _). l ++ listing_text c.args.listing.now.names (text_lines c.args.listing.now.source) rows) c.new-text.ensures.bytes
 
 pub loop-i-preserved : goal.loop-i-preserved
 loop-i-preserved c = λ rows are.
-    let is : line_at c.args.listing.now.names (source_lines c.args.listing.now.source) rows c.loop-i.i ≡ Some (string_bytes c.in-Some.line) =
+    let is : line_at c.args.listing.now.names (text_lines c.args.listing.now.source) rows c.loop-i.i ≡ Some (string_bytes c.in-Some.line) =
     sym (c.in_ok-line.ensures.line rows are) ∙ ap (option_map string_bytes) c.in-Some.is in
-    shows_more c.args.listing.now.names (source_lines c.args.listing.now.source) rows c.loop-i.i (string_bytes c.loop-i.text) (string_bytes c.in-Some.line)
-    (string_bytes c.push_line.new.text) (listing_text c.args.listing.now.names (source_lines c.args.listing.now.source) rows) is
+    shows_more c.args.listing.now.names (text_lines c.args.listing.now.source) rows c.loop-i.i (string_bytes c.loop-i.text) (string_bytes c.in-Some.line)
+    (string_bytes c.push_line.new.text) (listing_text c.args.listing.now.names (text_lines c.args.listing.now.source) rows) is
     (c.in_ok-push_line.ensures ∙ ap (λ (l : List ℕ). string_bytes c.loop-i.text ++ (l ++ 10 ∷ [])) c.deref.ensures) (c.loop-i.invariant rows are)
 
 pub returns : goal.returns
 returns c =
-    let texts : List (List _) = source_lines c.args.listing.now.source in
+    let texts : List (List _) = text_lines c.args.listing.now.source in
     let rows : List Row = c.requires.gives.rows in
     let shown = shows_all c.args.listing.now.names (names_of rows) texts rows c.loop-i.i (string_bytes c.loop-i.text)
     (c.loop-i.invariant rows c.requires.gives.are_rows) in

@@ -3,7 +3,7 @@ use Rattle.std.specs.Prelude.{slice_get}
 use Rattle.std.specs.Str.{IsAscii}
 use Rattle.std.specs.String.{string_bytes}
 use Rattle.std.proofs.lemmas.Option.{slice_get-get_or, slice_get_past}
-use Rattle.assembler_text.specs.Lexemes.{source_lines}
+use Rattle.text_lines.specs.Lines.{text_lines}
 use Rattle.assembler.specs.declared.row.KeptRow.{KeptRow}
 use Rattle.assembler.specs.Listing.{ListingState, line_at}
 use Rattle.assembler.specs.Rows.{AreRows, Row}
@@ -24,7 +24,7 @@ pub returns-in_default-clause-line : goal.returns-in_default-clause-line
 returns-in_default-clause-line c =
     let past : slice_get c.self.inside.reading.rows.items c.args.i ≡ None =
     ap (λ (zs : List KeptRow). slice_get zs c.args.i) (sym c.as_slice.ensures.value) ∙ slice_get_past c.as_slice.result.now c.args.i c.in_default.ensures.lookup.3 in
-    subst (λ (l : ListingState). (rows : List Row) → AreRows [] (source_lines l.source) rows → None ≡ line_at l.names (source_lines l.source) rows c.args.i) c.self.view_is
+    subst (λ (l : ListingState). (rows : List Row) → AreRows [] (text_lines l.source) rows → None ≡ line_at l.names (text_lines l.source) rows c.args.i) c.self.view_is
     (no_own_line c.self.inside.reading.source.items c.self.inside.reading.symbols.entries c.self.inside.reading.rows.items c.self.inside.image
     c.self.invariant.0 c.self.invariant.1 c.args.i past)
 
@@ -51,6 +51,6 @@ returns-in-Ok-clause-line c =
     found_is c.self.inside.reading.rows.items c.as_slice.result.now c.args.i c.in-Some.row.now c.as_slice.ensures.value
     c.in-Some.ensures.lookup.3.0 c.in-Some.ensures.lookup.1 in
     let shown = c.in-Ok.ensures ∙ ap (λ (s : List ℕ). shown_line s c.self.inside.image c.in-Some.row.now) c.as_slice-2.ensures.value in
-    subst (λ (l : ListingState). (rows : List Row) → AreRows [] (source_lines l.source) rows → Some (string_bytes c.in-Ok.text) ≡ line_at l.names (source_lines l.source) rows c.args.i) c.self.view_is
+    subst (λ (l : ListingState). (rows : List Row) → AreRows [] (text_lines l.source) rows → Some (string_bytes c.in-Ok.text) ≡ line_at l.names (text_lines l.source) rows c.args.i) c.self.view_is
     (λ rows are. ap (λ (s : List ℕ). Some s) shown ∙ own_line c.self.inside.reading.source.items c.self.inside.reading.symbols.entries c.self.inside.reading.rows.items c.self.inside.image
     c.self.invariant.0 c.self.invariant.1 c.args.i c.in-Some.row.now kept rows are)

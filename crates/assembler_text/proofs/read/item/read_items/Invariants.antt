@@ -1,5 +1,5 @@
 use Rattle.std.proofs.Common.{◌≡◌, length}
-use Rattle.assembler_text.specs.Faults.{all_of, with_front}
+use Rattle.assembler_lexeme.specs.Faults.{all_of, with_front}
 use Rattle.assembler_text.specs.Parts.{parts}
 use Rattle.assembler_text.specs.Items.{item_of}
 use Rattle.assembler_text.proofs.read.item.read_items.Given as goal

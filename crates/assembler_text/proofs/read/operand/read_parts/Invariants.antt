@@ -1,5 +1,5 @@
 use Rattle.std.proofs.Common.{◌≡◌, length}
-use Rattle.assembler_text.specs.Faults.{all_of, with_front}
+use Rattle.assembler_lexeme.specs.Faults.{all_of, with_front}
 use Rattle.assembler_text.specs.Operands.{operand_of}
 use Rattle.assembler_text.proofs.read.operand.read_parts.Given as goal
 

@@ -1,0 +1,5 @@
+mod Scanning
+mod Wording
+pub mod Gathering
+pub mod Folding
+pub mod Weights

@@ -1,0 +1,9 @@
+use Rattle.std.proofs.Common.{◌≡◌, ◌+◌, length}
+use Rattle.assembler_lexeme.specs.Lexemes.{word_size}
+use Rattle.assembler_lexeme.proofs.lexeme.word_length.Given as goal
+
+abbrev pub invariant-loop-rest : goal.invariant-loop-rest
+invariant-loop-rest l = record { rest : l.length + word_size l.rest ≡ word_size l.fn.text; all : l.length + length l.rest ≡ length l.fn.text }
+
+abbrev pub decreases-loop-rest : goal.decreases-loop-rest
+decreases-loop-rest l = length l.rest

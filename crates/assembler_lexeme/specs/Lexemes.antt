@@ -1,0 +1,55 @@
+-- The characters of a source, and the lexemes of a line.
+-- To be believed: public contracts say what they say by these definitions.
+use Rattle.std.specs.Prelude.{ℕ, ◌+◌, Bool, true, false, ◌==◌, ◌&&◌, ◌||◌, nat_le, if◌then◌else◌, List, [], ◌∷◌, map}
+use Rattle.std.specs.Char.{to_ascii_lowercase}
+use Rattle.text_lines.specs.Lines.{begins_with, onto_first}
+
+-- the characters of a line: printable ASCII and the tabulator
+abbrev pub is_character : ℕ → Bool
+is_character b = (nat_le 0x20 b && nat_le b 0x7E) || b == 9
+
+abbrev pub is_blank : ℕ → Bool
+is_blank b = b == 32 || b == 9
+
+abbrev pub is_digit : ℕ → Bool
+is_digit b = nat_le 48 b && nat_le b 57
+
+-- a letter or the underscore
+abbrev pub is_letter : ℕ → Bool
+is_letter b = (nat_le 65 b && nat_le b 90) || ((nat_le 97 b && nat_le b 122) || b == 95)
+
+-- a byte of a word or of a number
+abbrev pub is_word_byte : ℕ → Bool
+is_word_byte b = is_letter b || is_digit b
+
+-- The lexemes of a line, within a quoted text or outside. A quoted text goes from one quote to the next, quotes
+-- and all, or to the line's end; outside, blanks part lexemes, a semicolon begins a comment, a byte of a word
+-- belongs to the word that goes on behind it, and any other byte is a lexeme by itself.
+abbrev pub lexemes_from : Bool → List ℕ → List (List ℕ)
+lexemes_from true [] = [] ∷ []
+lexemes_from true (b ∷ bs) = if b == 39 then (39 ∷ []) ∷ lexemes_from false bs else onto_first b (lexemes_from true bs)
+lexemes_from false [] = []
+lexemes_from false (b ∷ bs) =
+    if b == 59 then [] else (
+    if is_blank b then lexemes_from false bs else (
+    if b == 39 then onto_first 39 (lexemes_from true bs) else (
+    if is_word_byte b && begins_with is_word_byte bs then onto_first b (lexemes_from false bs) else
+    (b ∷ []) ∷ lexemes_from false bs)))
+
+-- the lexemes of a line
+unfoldable pub lexemes : List ℕ → List (List ℕ)
+lexemes text = lexemes_from false text
+
+-- a lexeme, its case apart; within quotes case counts
+abbrev pub folded : List ℕ → List ℕ
+folded lexeme = if begins_with (λ b. b == 39) lexeme then lexeme else map to_ascii_lowercase lexeme
+
+-- how many bytes of a word stand at the front
+abbrev pub word_size : List ℕ → ℕ
+word_size [] = 0
+word_size (b ∷ bs) = if is_word_byte b then 1 + word_size bs else 0
+
+-- how many bytes a quoted text takes behind its first quote
+abbrev pub text_size : List ℕ → ℕ
+text_size [] = 0
+text_size (b ∷ bs) = if b == 39 then 1 else 1 + text_size bs

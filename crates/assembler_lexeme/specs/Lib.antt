@@ -1,0 +1,4 @@
+pub mod Lexemes
+pub mod Numbers
+pub mod Faults
+pub mod Tokens

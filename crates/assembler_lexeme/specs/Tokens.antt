@@ -1,0 +1,71 @@
+-- The tokens of a line: numbers, names, quoted texts, words of the dialect and marks.
+-- To be believed: public contracts say what they say by these definitions.
+use Rattle.std.specs.Prelude.{ℕ, ◌-◌, ◌==◌, ◌&&◌, nat_le, nat_lt, if◌then◌else◌, List, [], ◌∷◌, ◌++◌, length, map, take, drop, replicate, codes, Option, None, Some, Result}
+use Rattle.std.specs.Option.{option_map, option_map_or}
+use Rattle.std.specs.Char.{to_ascii_uppercase}
+use Rattle.std.specs.Str.{bytes_eq}
+use Rattle.dialect.specs.Words.{meaning_of}
+use Rattle.assembler_lexeme.specs.declared.fault.LineFault.{LineFault}
+use Rattle.assembler_lexeme.specs.declared.name.Name.{Name}
+use Rattle.assembler_lexeme.specs.declared.token.Token.{Token}
+use Rattle.assembler_lexeme.specs.declared.token.Token.TheVariants.{One, Number, Named, Quoted, Word}
+use Rattle.assembler_lexeme.specs.declared.token.Token.TheVariants as kinds
+use Rattle.assembler_lexeme.specs.declared.token.Mark.{Mark}
+use Rattle.assembler_lexeme.specs.declared.token.Mark.TheVariants.{Comma, Colon, Plus, Minus, OpenBracket, CloseBracket, OpenParenthesis, CloseParenthesis, Dollar}
+use Rattle.assembler_lexeme.specs.Lexemes.{is_letter, is_digit}
+use Rattle.text_lines.specs.Lines.{begins_with}
+use Rattle.assembler_lexeme.specs.Numbers.{number_of, last_byte}
+use Rattle.assembler_lexeme.specs.Faults.{wanted, all_of}
+
+-- the name that a word is: in upper case, filled up with zeros to 31 characters
+abbrev pub name_of : List ℕ → Name
+name_of word = record { letters = map to_ascii_uppercase word ++ replicate (31 - length word) 0 }
+
+-- a word has at most 31 characters; it is one of the dialect's, or a name
+unfoldable pub word_token : List ℕ → Option Token
+word_token word = if nat_lt 31 (length word) then None else Some (option_map_or Word (meaning_of word) (Named (name_of word)))
+
+-- a number that is written `1` is told apart from all others
+unfoldable pub number_token : List ℕ → Option Token
+number_token word = if bytes_eq word (codes "1") then Some One else option_map Number (number_of word)
+
+-- a single character is its code
+abbrev pub text_token : List ℕ → Token
+text_token (c ∷ []) = Number c
+text_token text = Quoted text
+
+-- between two quotes one or more characters
+abbrev pub between_quotes : List ℕ → List ℕ
+between_quotes lexeme = take (length lexeme - 2) (drop 1 lexeme)
+
+unfoldable pub quoted_token : List ℕ → Option Token
+quoted_token lexeme =
+    if nat_le 3 (length lexeme) && last_byte lexeme == 39 then Some (text_token (between_quotes lexeme)) else None
+
+abbrev pub mark_of : ℕ → Option Mark
+mark_of b =
+    if b == 44 then Some Comma else (
+    if b == 58 then Some Colon else (
+    if b == 43 then Some Plus else (
+    if b == 45 then Some Minus else (
+    if b == 91 then Some OpenBracket else (
+    if b == 93 then Some CloseBracket else (
+    if b == 40 then Some OpenParenthesis else (
+    if b == 41 then Some CloseParenthesis else (
+    if b == 36 then Some Dollar else None))))))))
+
+abbrev pub mark_token : List ℕ → Option Token
+mark_token (b ∷ []) = option_map kinds.Mark (mark_of b)
+mark_token lexeme = None
+
+-- the token that a lexeme is; none is a word that is too long, a number that is none, a quoted text without
+-- characters or without its end, or another character
+unfoldable pub token_of : List ℕ → Option Token
+token_of lexeme =
+    if begins_with is_letter lexeme then word_token lexeme else (
+    if begins_with is_digit lexeme then number_token lexeme else (
+    if begins_with (λ b. b == 39) lexeme then quoted_token lexeme else
+    mark_token lexeme))
+
+unfoldable pub tokens_of : List (List ℕ) → Result (List Token) LineFault
+tokens_of lexemes = all_of (λ lexeme. wanted (token_of lexeme)) lexemes

@@ -1,0 +1,32 @@
+//! Why a line is refused, whatever the other lines are.
+ghost use Rattle.std.specs.Prelude.{◌≡◌};
+ghost use Rattle.assembler_lexeme.specs.declared.fault.LineError.TheVariants.{Memory};
+
+use std::alloc::AllocError;
+
+/// Why a line isn't one of the dialect's, whatever the other lines are.
+#[derive(Clone, Copy, Drop)]
+pub enum LineFault {
+    /// A character that is neither printable ASCII nor a tabulator.
+    BadCharacter,
+    /// The line isn't in the grammar.
+    BadLine,
+    /// No statement has this name.
+    UnknownName,
+}
+
+/// Why a line isn't read.
+#[derive(Clone, Copy, Drop)]
+pub enum LineError {
+    Fault(LineFault),
+    /// There is no memory for what the line says.
+    Memory,
+}
+
+impl From<AllocError> for LineError {
+    ghost from_gives = { λ _ e. e ≡ Memory };
+
+    fn from(_error: AllocError) -> LineError {
+        LineError::Memory
+    }
+}

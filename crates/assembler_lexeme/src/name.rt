@@ -1,0 +1,20 @@
+//! Names.
+ghost use Rattle.std.specs.Prelude.{◌≡◌, ◌≤◌, length};
+ghost use Rattle.assembler_lexeme.specs.Tokens.{name_of};
+
+/// A name in upper case, filled up with zeros to 31 characters.
+#[derive(Clone, Copy, PartialEq, Eq, Hash)]
+pub struct Name {
+    pub letters: [u8; 31],
+}
+
+/// The name that the word is.
+pub(crate) fn name_of(word: &[u8]) -> Name
+    requires { length word.now ≤ 31 }
+    ensures { result ≡ name_of word.now }
+{
+    let mut letters = [0; 31];
+    letters[..word.len()].copy_from_slice(word);
+    letters[..word.len()].make_ascii_uppercase();
+    Name { letters }
+}

@@ -1,0 +1,48 @@
+//! Numbers.
+ghost use Rattle.std.specs.Prelude.{◌≡◌, ◌≤◌, ◌<◌};
+ghost use Rattle.assembler_lexeme.specs.Numbers.{digit_of, number_of, number_to};
+
+fn digit_of(byte: u8) -> u8
+    ensures { result ≡ digit_of byte }
+{
+    match byte {
+        b'0'..=b'9' => byte - b'0',
+        b'A'..=b'F' => byte - b'A' + 10,
+        b'a'..=b'f' => byte - b'a' + 10,
+        _ => 255,
+    }
+}
+
+/// The number that these digits to a base of 2 to 16 spell, if it has at most 32 bits.
+#[tactic(auto, unfolding(crate::specs::Numbers::number_to))]
+fn number_to(base: u8, digits: &[u8]) -> Option<u32>
+    requires low { 0 < base }
+    requires high { base ≤ 16 }
+    ensures { result ≡ number_to base digits.now }
+{
+    let mut number = 0u32;
+    for byte in digits {
+        let digit = digit_of(*byte);
+        if digit >= base {
+            return None;
+        }
+        let longer = number as u64 * base as u64 + digit as u64;
+        if longer > u32::MAX as u64 {
+            return None;
+        }
+        number = longer as u32;
+    }
+    Some(number)
+}
+
+/// The number that the word spells: hexadecimal with an H at its end, binary with a B, else decimal.
+#[tactic(auto, unfolding(crate::specs::Numbers::number_of))]
+pub(crate) fn number_of(word: &[u8]) -> Option<u32>
+    ensures { result ≡ number_of word.now }
+{
+    match word {
+        [digits @ .., b'H' | b'h'] => number_to(16, digits),
+        [digits @ .., b'B' | b'b'] => number_to(2, digits),
+        _ => number_to(10, word),
+    }
+}

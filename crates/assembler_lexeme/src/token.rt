@@ -1,0 +1,177 @@
+//! The tokens of a line.
+ghost use Rattle.std.specs.Prelude.{◌≡◌, ◌==◌};
+ghost use Rattle.assembler_lexeme.specs.Lexemes.{lexemes};
+ghost use Rattle.text_lines.specs.Lines.{begins_with};
+ghost use Rattle.assembler_lexeme.specs.Faults.{Gives};
+ghost use Rattle.assembler_lexeme.specs.Tokens.{mark_of, mark_token, number_token, quoted_token, text_token, token_of, tokens_of, word_token};
+
+use crate::fault::{LineError, LineFault};
+use crate::lexeme::{begins_with_digit, begins_with_letter, next_lexeme};
+use crate::name::{Name, name_of};
+use crate::number::number_of;
+use crate::sequence::Sequence;
+use dialect::meaning::{Meaning, meaning_of};
+use std::alloc::Global;
+use std::marker::Model;
+
+/// A mark.
+#[derive(Clone, Copy)]
+pub enum Mark {
+    Comma,
+    Colon,
+    Plus,
+    Minus,
+    OpenBracket,
+    CloseBracket,
+    OpenParenthesis,
+    CloseParenthesis,
+    Dollar,
+}
+
+/// The characters of a quoted text. Contracts see them as a list.
+#[derive(Drop)]
+pub struct Characters<'a> {
+    text: &'a [u8],
+}
+
+impl<'a> Model for Characters<'a> {
+    ghost use Rattle.std.specs.Prelude.{ℕ, List};
+
+    ghost Value = { List ℕ };
+
+    ghost view = { λ c. c.text.now };
+}
+
+impl<'a> Characters<'a> {
+    /// The characters.
+    pub fn as_slice(&self) -> &'a [u8]
+        ensures { result.now ≡ self.now }
+    {
+        self.text
+    }
+}
+
+/// A token of a line.
+#[derive(Drop)]
+pub enum Token<'a> {
+    /// The number 1, written `1`.
+    One,
+    /// Any other number, or the code of a quoted character.
+    Number(u32),
+    Named(Name),
+    /// A quoted text of two or more characters.
+    Quoted(Characters<'a>),
+    /// A word of the dialect.
+    Word(Meaning),
+    Mark(Mark),
+}
+
+/// The tokens of a line, or BadLine where a lexeme is none.
+#[tactic(auto, unfolding(crate::specs::Tokens::tokens_of))]
+pub fn read_tokens<'a>(alloc: Global, text: &'a [u8]) -> Result<Sequence<Token<'a>>, LineError>
+    ensures { Gives result (tokens_of (lexemes text.now)) }
+{
+    let mut tokens = Sequence::new(alloc);
+    let mut rest = text;
+    while let Some((lexeme, after)) = next_lexeme(rest) {
+        let Some(token) = token_of(lexeme) else {
+            return Err(LineError::Fault(LineFault::BadLine));
+        };
+        tokens.push(token)?;
+        rest = after;
+    }
+    Ok(tokens)
+}
+
+#[tactic(auto, unfolding(crate::specs::Tokens::token_of))]
+fn token_of(lexeme: &[u8]) -> Option<Token<'_>>
+    ensures { result ≡ token_of lexeme.now }
+{
+    if begins_with_letter(lexeme) {
+        word_token(lexeme)
+    } else if begins_with_digit(lexeme) {
+        number_token(lexeme)
+    } else if begins_with_quote(lexeme) {
+        quoted_token(lexeme)
+    } else {
+        mark_token(lexeme)
+    }
+}
+
+#[tactic(auto, unfolding(crate::specs::Tokens::word_token))]
+fn word_token(word: &[u8]) -> Option<Token<'_>>
+    ensures { result ≡ word_token word.now }
+{
+    if word.len() > 31 {
+        return None;
+    }
+    match meaning_of(word) {
+        Some(meaning) => Some(Token::Word(meaning)),
+        None => Some(Token::Named(name_of(word))),
+    }
+}
+
+#[tactic(auto, unfolding(crate::specs::Tokens::number_token))]
+fn number_token(word: &[u8]) -> Option<Token<'_>>
+    ensures { result ≡ number_token word.now }
+{
+    if word == b"1".as_slice() {
+        Some(Token::One)
+    } else {
+        Some(Token::Number(number_of(word)?))
+    }
+}
+
+fn begins_with_quote(lexeme: &[u8]) -> bool
+    ensures { result ≡ begins_with (λ b. b == 39) lexeme.now }
+{
+    match lexeme {
+        [] => false,
+        [first, ..] => *first == b'\'',
+    }
+}
+
+#[tactic(auto, unfolding(crate::specs::Tokens::quoted_token))]
+fn quoted_token(lexeme: &[u8]) -> Option<Token<'_>>
+    ensures { result ≡ quoted_token lexeme.now }
+{
+    match lexeme {
+        [_, text @ .., b'\''] if !text.is_empty() => Some(text_token(text)),
+        _ => None,
+    }
+}
+
+fn text_token(text: &[u8]) -> Token<'_>
+    ensures { result ≡ text_token text.now }
+{
+    match text {
+        [character] => Token::Number(u32::from(*character)),
+        _ => Token::Quoted(Characters { text }),
+    }
+}
+
+fn mark_token(lexeme: &[u8]) -> Option<Token<'_>>
+    ensures { result ≡ mark_token lexeme.now }
+{
+    match lexeme {
+        [byte] => Some(Token::Mark(mark_of(*byte)?)),
+        _ => None,
+    }
+}
+
+fn mark_of(byte: u8) -> Option<Mark>
+    ensures { result ≡ mark_of byte }
+{
+    match byte {
+        b',' => Some(Mark::Comma),
+        b':' => Some(Mark::Colon),
+        b'+' => Some(Mark::Plus),
+        b'-' => Some(Mark::Minus),
+        b'[' => Some(Mark::OpenBracket),
+        b']' => Some(Mark::CloseBracket),
+        b'(' => Some(Mark::OpenParenthesis),
+        b')' => Some(Mark::CloseParenthesis),
+        b'$' => Some(Mark::Dollar),
+        _ => None,
+    }
+}

@@ -1,0 +1,17 @@
+//! Spaces at a line's end.
+ghost use Rattle.std.specs.Prelude.{◌≡◌};
+ghost use Rattle.loader.specs.Lines.{without_spaces};
+
+/// The line without the spaces at its end.
+pub(crate) fn without_spaces(line: &[u8]) -> &[u8]
+    ensures { result.now ≡ without_spaces line.now }
+{
+    let mut rest = line;
+    while let Some((last, front)) = rest.split_last() {
+        if *last != b' ' {
+            break;
+        }
+        rest = front;
+    }
+    rest
+}

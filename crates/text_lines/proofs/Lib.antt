@@ -1,0 +1,3 @@
+mod Scanning
+mod Ending
+pub mod Counting
