@@ -1,4 +1,5 @@
 -- The laws of choosing a row.
+-- Laws: claims above the definitions, each proved as the contract of a function.
 use Rattle.std.specs.Prelude.{◌≡◌}
 use Rattle.isa.specs.declared.form.Form.{Form}
 use Rattle.assembler_form.specs.declared.asked.Asked.{Asked}

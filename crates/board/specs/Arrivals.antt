@@ -1,4 +1,5 @@
 -- Keys in the order of their clocks, and how many of them have arrived.
+-- For proofs alone: no public contract rests on it.
 use Rattle.std.specs.Prelude.{ℕ, ◌<◌, ◌≤◌, List, All, length, take, drop}
 use Rattle.board_types.specs.declared.keys.StampedKey.{StampedKey}
 

@@ -1,5 +1,6 @@
 -- What the processor reaches over the bus: bytes of memory and ports. An instruction is given a meaning over any
 -- such thing, which keeps a state of its own.
+-- To be believed: public contracts say what they say by these definitions.
 use Rattle.std.specs.Prelude.{ℕ, ◌/◌, ◌%◌, ◌≡◌, ◌≢◌, Bool, true, false}
 use Rattle.board_types.specs.Address.{physical, offset_after}
 

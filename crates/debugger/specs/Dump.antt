@@ -1,4 +1,5 @@
 -- Bytes of memory as text.
+-- To be believed: public contracts say what they say by these definitions.
 use Rattle.std.specs.Prelude.{ℕ, ◌+◌, ◌-◌, ◌*◌, ◌/◌, ◌%◌, min, List, ◌∷◌, ◌++◌, codes, map}
 use Rattle.std.specs.Prelude.{true}
 use Rattle.std.specs.List.{flat_map, range_with_len}

@@ -1,4 +1,5 @@
 -- What holds of lines and commands.
+-- Laws: claims above the definitions, each proved as the contract of a function.
 use Rattle.std.specs.Prelude.{ℕ, ◌≡◌, ◌+◌, ◌<◌, ◌≤◌, ◌^◌, List, ◌++◌, codes, Some}
 use Rattle.std.specs.Fmt.{decimal}
 use Rattle.board_report.specs.Text.{hex_byte_text, hex_word}

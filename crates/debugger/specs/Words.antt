@@ -1,4 +1,5 @@
 -- The words of a line, and the numbers that words spell.
+-- To be believed: public contracts say what they say by these definitions.
 use Rattle.std.specs.Prelude.{ℕ, ◌+◌, ◌*◌, ◌-◌, ◌^◌, min, Bool, false, ◌==◌, ◌&&◌, nat_le, nat_lt, not, if◌then◌else◌, List, [], ◌∷◌, length, Option, None, Some}
 
 abbrev pub is_space : ℕ → Bool

@@ -1,4 +1,5 @@
 -- The laws of the words.
+-- Laws: claims above the definitions, each proved as the contract of a function.
 use Rattle.std.specs.Prelude.{ℕ, ◌≡◌, true, List, slice_get, Some}
 use Rattle.isa.specs.declared.operation.Operation.{Operation}
 use Rattle.isa.specs.declared.form.Prefix.{Prefix}

@@ -1,4 +1,5 @@
 -- The names under which operations, registers, prefixes and keywords are written: of several the first.
+-- To be believed: public contracts say what they say by these definitions.
 use Rattle.std.specs.Prelude.{ℕ, List, codes}
 use Rattle.isa.specs.declared.operation.Operation.{Operation}
 use Rattle.isa.specs.declared.operation.Operation.TheVariants.{Arithmetic, Shift, Product, Unary, Jump, Looping, Text, Adjust, Transfer, Control, Processor}

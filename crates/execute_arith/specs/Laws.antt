@@ -1,5 +1,6 @@
 -- The laws of comparisons, of decimal digits and of signs (8086 Family User's Manual, "Conditional Transfers",
 -- "Arithmetic Instructions").
+-- Laws: claims above the definitions, each proved as the contract of a function.
 use Rattle.std.specs.Prelude.{◌≡◌, ℕ, Bool, ◌+◌, ◌*◌, ◌/◌, ◌%◌, ◌-◌, ◌^◌, ◌<◌, not, if◌then◌else◌, nat_lt, nat_le, ℤ, pos, ◌-ℤ◌, ◌<ℤ◌, IsTrue, ◌↔◌}
 use Rattle.std.specs.Int.{from_bool}
 use Rattle.board_types.specs.Bits.{has_bit}

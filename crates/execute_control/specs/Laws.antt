@@ -1,4 +1,5 @@
 -- The laws of conditions, loops, calls and interrupts.
+-- Laws: claims above the definitions, each proved as the contract of a function.
 use Rattle.std.specs.Prelude.{ℕ, ◌≡◌, ◌+◌, ◌-◌, ◌<◌, ◌==◌, true, not, nat_lt, if◌then◌else◌}
 use Rattle.board_types.specs.Address.{physical, offset_after}
 use Rattle.board_types.specs.Iterate.{iterate}

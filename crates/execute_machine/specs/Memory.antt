@@ -1,4 +1,5 @@
 -- What the laws of the families ask of memory and of the registers.
+-- Laws: claims above the definitions, each proved as the contract of a function.
 use Rattle.std.specs.Prelude.{ℕ, ◌≡◌, ◌<◌, true}
 use Rattle.board_types.specs.Address.{physical, offset_after}
 use Rattle.isa.specs.declared.register.WordRegister.{WordRegister}

@@ -1,4 +1,5 @@
 -- The laws of data transfer, and of the registers that it fills.
+-- Laws: claims above the definitions, each proved as the contract of a function.
 use Rattle.std.specs.Prelude.{ℕ, ◌≡◌, ◌<◌, ◌+◌, ◌*◌, ◌/◌, ◌%◌, nat_lt, true, if◌then◌else◌}
 use Rattle.board_types.specs.Address.{physical, offset_after}
 use Rattle.isa.specs.declared.operation.Transfer.TheVariants.{Xchg, Push, Pop}

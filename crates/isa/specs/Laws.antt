@@ -1,4 +1,5 @@
 -- The laws of the encoding table.
+-- Laws: claims above the definitions, each proved as the contract of a function.
 use Rattle.std.specs.Prelude.{ℕ, ◌≡◌, ◌<◌, true, false, length, Contains}
 use Rattle.isa.specs.declared.row.Row.{Row}
 use Rattle.isa.specs.declared.form.Form.{Form}

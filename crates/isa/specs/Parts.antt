@@ -1,4 +1,5 @@
 -- Whether the opcode and the byte after it are a row's.
+-- To be believed: public contracts say what they say by these definitions.
 use Rattle.std.specs.Prelude.{ℕ, ◌+◌, ◌-◌, ◌/◌, ◌%◌, ◌<◌, ◌==◌, Bool, true, not, ◌&&◌, nat_le, nat_lt, Option, find, length, take}
 use Rattle.std.specs.List.{list_all}
 use Rattle.isa.specs.declared.layout.CodePart.{CodePart}

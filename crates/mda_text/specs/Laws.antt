@@ -1,4 +1,5 @@
 -- What holds of every text adapter, in the words of its user.
+-- Laws: claims above the definitions, each proved as the contract of a function.
 use Rattle.std.specs.Prelude.{◌≡◌, ◌≢◌, ◌↔◌, ℕ, ◌+◌, ◌-◌, ◌*◌, ◌/◌, ◌%◌, ◌^◌, ◌<◌, ◌≤◌, ◌⊎◌, if◌then◌else◌, nat_lt, List, [], ◌∷◌, length}
 use Rattle.std.specs.List.{AllPairs, Contains}
 use Rattle.board_types.specs.Iterate.{iterate}

@@ -1,5 +1,6 @@
 -- What answers at each address (IBM PC Technical Reference, "System Memory Map";
 -- that nothing answers elsewhere is this board's choice).
+-- To be believed: public contracts say what they say by these definitions.
 use Rattle.std.specs.Prelude.{ℕ, Bool, ◌&&◌, if◌then◌else◌, nat_le, nat_lt, IsTrue}
 use Rattle.memory.specs.declared.kind.Kind.{Kind}
 use Rattle.memory.specs.declared.kind.Kind.TheVariants.{Ram, Text, Rom, Nothing}

@@ -1,4 +1,5 @@
 -- Edges, over whole runs (Intel 8259A data sheet, "Edge and Level Triggered Modes").
+-- Laws: claims above the definitions, each proved as the contract of a function.
 use Rattle.std.specs.Prelude.{◌≡◌, ℕ, ◌<◌, ◌==◌, length, Bool, true, false, not, ◌&&◌, List, [], ◌∷◌}
 use Rattle.board_types.specs.Bits.{has_bit}
 use Rattle.board_types.specs.declared.line.Line.TheVariants.{Low, High}

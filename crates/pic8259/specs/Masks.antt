@@ -1,5 +1,6 @@
 -- How the code holds the list and the sets: the number of the lowest level, and a byte for each set. Both give back
 -- what they stand for.
+-- For proofs alone: no public contract rests on it.
 use Rattle.std.specs.Prelude.{◌≡◌, ℕ, ◌+◌, ◌*◌, ◌/◌, ◌%◌, ◌<◌, ◌==◌, ◌&&◌, if◌then◌else◌, map, slice_index}
 use Rattle.std.proofs.Common.{arith, ap, ◌∙◌, inl, inr}
 use Rattle.std.proofs.lemmas.Bool.Decides.{eqb_tells}

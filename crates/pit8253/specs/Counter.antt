@@ -1,5 +1,6 @@
 -- One counter of the timer: its state, what a tick makes of it, and what the processor and the gate do to it
 -- (Intel 8253 data sheet, "Mode Definition" and "Programming the 8253").
+-- To be believed: public contracts say what they say by these definitions.
 use Rattle.std.specs.Prelude.{ℕ, ◌+◌, ◌*◌, ◌/◌, ◌%◌, ◌==◌, Bool, true, false, not, ◌&&◌, ◌||◌, if◌then◌else◌, Option, None, Some, unwrap_or, is_none}
 use Rattle.board_types.specs.Iterate.{iterate}
 use Rattle.board_types.specs.declared.line.Line.{Line}

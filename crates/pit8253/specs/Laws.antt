@@ -1,5 +1,6 @@
 -- What the definition of a counter means over time, in the data sheet's terms: the count and the level of OUT any
 -- number of ticks later ("Mode Definition" and its timing diagrams), and what a latch shows.
+-- Laws: claims above the definitions, each proved as the contract of a function.
 use Rattle.std.specs.Prelude.{◌≡◌, ◌≢◌, ℕ, ◌+◌, ◌-◌, ◌*◌, ◌/◌, ◌%◌, ◌<◌, ◌==◌, false, nat_lt, if◌then◌else◌, ◌⊎◌, ◌||◌, ◌&&◌, Bool, None, Some}
 use Rattle.board_types.specs.Lines.{is_high, opposite}
 use Rattle.board_types.specs.declared.line.Line.TheVariants.{Low, High}

@@ -1,4 +1,5 @@
 -- The timer: three counters behind four ports (Intel 8253 data sheet, "Block Diagram" and "Programming the 8253").
+-- To be believed: public contracts say what they say by these definitions.
 use Rattle.std.specs.Prelude.{ℕ, ◌/◌, ◌==◌, if◌then◌else◌}
 use Rattle.board_types.specs.Iterate.{iterate}
 use Rattle.board_types.specs.declared.line.Line.{Line}

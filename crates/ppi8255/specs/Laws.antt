@@ -1,4 +1,5 @@
 -- What holds of every parallel port and every access, in the words of the data sheet.
+-- Laws: claims above the definitions, each proved as the contract of a function.
 use Rattle.std.specs.Prelude.{◌≡◌, ℕ, ◌/◌, ◌%◌, ◌<◌, ◌==◌, true, false, if◌then◌else◌, List, [], ◌∷◌}
 use Rattle.board_types.specs.Bits.{has_bit}
 use Rattle.board_types.specs.Lines.{is_high}

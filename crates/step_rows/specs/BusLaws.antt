@@ -1,4 +1,5 @@
 -- What the bus keeps.
+-- For proofs alone: no public contract rests on it.
 use Rattle.std.proofs.Common.{refl, arith}
 use Rattle.std.proofs.lemmas.Grind.{common_steps}
 use Rattle.bus.specs.Bus.{IsBus}

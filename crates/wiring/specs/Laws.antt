@@ -1,4 +1,5 @@
 -- What holds of the wires whatever the chips' states are.
+-- Laws: claims above the definitions, each proved as the contract of a function.
 use Rattle.std.specs.Prelude.{◌≡◌, ℕ, ◌+◌, ◌-◌, ◌/◌, ◌<◌, ◌≤◌, ◌&&◌, ◌||◌, not, true, false, if◌then◌else◌, List, length, None, is_some}
 use Rattle.board_types.specs.Bits.{has_bit}
 use Rattle.board_types.specs.Lines.{is_high}

@@ -1,4 +1,5 @@
 -- The timer and the parallel port alone: what the wires between them, a clock and a port write make of them.
+-- For proofs alone: no public contract rests on it.
 use Rattle.std.specs.Prelude.{ℕ, ◌<◌, ◌&&◌, Bool}
 use Rattle.board_types.specs.Bits.{has_bit}
 use Rattle.board_types.specs.Lines.{is_high}
