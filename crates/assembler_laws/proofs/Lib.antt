@@ -8,3 +8,14 @@ pub mod SamenessData
 pub mod SamenessStatements
 pub mod SamenessRows
 pub mod SamenessPlaces
+pub mod Prefixes
+pub mod Standing
+pub mod Labels
+pub mod DataNumbers
+pub mod DataPieces
+pub mod DataPlaces
+pub mod Uniqueness
+pub mod FaultOrder
+pub mod LinesBefore
+pub mod Operations
+pub mod Outcome

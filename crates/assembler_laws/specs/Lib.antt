@@ -1,2 +1,5 @@
 pub mod DecodingBack
 pub mod Sameness
+pub mod Places
+pub mod DataBytes
+pub mod FirstFaults

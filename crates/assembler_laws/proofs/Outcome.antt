@@ -1,0 +1,277 @@
+-- Each source has an outcome: rows without a fault, or a first fault.
+use Rattle.std.proofs.Common.{◌≡◌, ◌∙◌, ℕ, zero, suc, ◌+◌, ◌<◌, ◌≤◌, List, [], ◌∷◌, ◌++◌, length, get_or, refl, sym, ap, subst, arith, inl, inr, Bool, true, false, Option, None, Some, Result, Ok, Err, append_assoc, append-nil}
+use Rattle.std.specs.Prelude.{◌⊎◌, ◌≢◌, slice_get, IsTrue}
+use Rattle.std.proofs.lemmas.Bool.{cases_lt}
+use Rattle.isa.specs.declared.form.Form.{Form}
+use Rattle.isa.specs.declared.row.Row.{Row as TableRow}
+use Rattle.isa.specs.Row.{first_of, operation_of, second_of}
+use Rattle.isa.specs.Table.{rows as table}
+use Rattle.assembler_form.specs.declared.asked.Asked.{Asked}
+use Rattle.assembler_form.specs.Choice.{IsFirst as IsFirstRow, NoneTakes}
+use Rattle.assembler_form.specs.Parts.{form_with}
+use Rattle.assembler_form.specs.Takes.{is_of, Takes}
+use Rattle.assembler_lexeme.specs.declared.fault.LineFault.{LineFault}
+use Rattle.assembler_text.specs.declared.statement.Line.{Line}
+use Rattle.assembler_text.specs.declared.statement.Statement.{Statement}
+use Rattle.assembler_text.specs.declared.statement.Statement.TheVariants.{Empty, Segment, Ends, Equ, Org, Data, Instruction}
+use Rattle.text_lines.specs.Lines.{text_lines}
+use Rattle.assembler_text.specs.Lines.{read_line}
+use Rattle.assembler_statement.specs.Instructions.{instruction_asked, IsChosenFor, IsFormFor}
+use Rattle.assembler_statement.specs.Values.{Names}
+use Rattle.assembler.specs.declared.fault.AsmFault.{AsmFault}
+use Rattle.assembler.specs.declared.fault.AsmFault.TheVariants.{SourceTooLong, InLine, Memory}
+use Rattle.assembler.specs.declared.fault.SourceFault.{SourceFault}
+use Rattle.assembler.specs.FirstFault.{AreFaultless, IsFirst, IsTextFault, fault_of_line}
+use Rattle.assembler.specs.FirstPass.{row_of}
+use Rattle.assembler.specs.Gives.{source_limit}
+use Rattle.assembler.specs.Placement.{row_fault}
+use Rattle.assembler.specs.Rows.{Row, AreRows, IsCleanRow, IsFormOf, IsRow, early_fault, names_of, spot_behind}
+use Rattle.assembler.proofs.ReadingFaults.{is_row}
+use Rattle.assembler_laws.specs.FirstFaults.{EachSourceHasAnOutcome}
+use Rattle.assembler_laws.proofs.Operations.{one_or_other}
+
+-- ---- a form of the table, or none
+test_or : (b : Bool) → IsTrue b ⊎ (IsTrue b → ⊥)
+test_or true = inl refl
+test_or false = inr (λ is. let never : false ≡ true = is in cc)
+
+takes_by : (r : TableRow) (a : Asked) → (operation_of r ≡ a.operation) ⊎ (operation_of r ≡ a.operation → ⊥)
+    → IsTrue (is_of a.operation (first_of r) a.first) ⊎ (IsTrue (is_of a.operation (first_of r) a.first) → ⊥)
+    → IsTrue (is_of a.operation (second_of r) a.second) ⊎ (IsTrue (is_of a.operation (second_of r) a.second) → ⊥) → Takes r a ⊎ (Takes r a → ⊥)
+takes_by r a (inr not) one two = inr (λ takes. not takes.operation)
+takes_by r a (inl is) (inr not) two = inr (λ takes. not takes.first)
+takes_by r a (inl is) (inl one) (inr not) = inr (λ takes. not takes.second)
+takes_by r a (inl is) (inl one) (inl two) = inl (record { operation = is; first = one; second = two })
+
+takes_or : (r : TableRow) (a : Asked) → Takes r a ⊎ (Takes r a → ⊥)
+takes_or r a =
+    takes_by r a (one_or_other (operation_of r) a.operation) (test_or (is_of a.operation (first_of r) a.first)) (test_or (is_of a.operation (second_of r) a.second))
+
+earlier_not : (r : TableRow) (rs : List TableRow) (a : Asked) (place : ℕ) → (Takes r a → ⊥)
+    → ((i : ℕ) (s : TableRow) → i < place → slice_get rs i ≡ Some s → Takes s a → ⊥)
+    → (i : ℕ) (s : TableRow) → i < suc place → slice_get (r ∷ rs) i ≡ Some s → Takes s a → ⊥
+earlier_not r rs a place not before zero s small is takes = let same : r ≡ s = cc in not (subst (λ (t : TableRow). Takes t a) (sym same) takes)
+earlier_not r rs a place not before (suc i) s small is takes = before i s (omega (arith, small)) is takes
+
+none_more : (r : TableRow) (rs : List TableRow) (a : Asked) → (Takes r a → ⊥) → NoneTakes rs a → (s : TableRow) (k : ℕ) → k < length (r ∷ rs) → get_or (r ∷ rs) k s ≡ s
+    → Takes s a → ⊥
+none_more r rs a not none s zero within is takes = not (subst (λ (t : TableRow). Takes t a) (sym is) takes)
+none_more r rs a not none s (suc k) within is takes = none s (k, omega (arith, within), is) takes
+
+first_more : (r : TableRow) (rs : List TableRow) (a : Asked) → Takes r a ⊎ (Takes r a → ⊥) → ((s : TableRow) × IsFirstRow rs a s) ⊎ NoneTakes rs a
+    → ((s : TableRow) × IsFirstRow (r ∷ rs) a s) ⊎ NoneTakes (r ∷ rs) a
+first_more r rs a (inl takes) rest = inl (r, record { place = 0; stands = refl; takes = takes; earlier = λ i s small. absurd (omega (arith, small)) })
+first_more r rs a (inr not) (inl found) = inl (
+  found.0,
+  record {
+    place = suc found.1.place;
+    stands = found.1.stands;
+    takes = found.1.takes;
+    earlier = earlier_not r rs a found.1.place not found.1.earlier;
+  },
+)
+first_more r rs a (inr not) (inr none) = inr (λ s there. none_more r rs a not none s there.0 there.1 there.2)
+
+first_or_none : (rs : List TableRow) (a : Asked) → ((s : TableRow) × IsFirstRow rs a s) ⊎ NoneTakes rs a
+first_or_none [] a = inr (λ r there. let within = there.1 in absurd (omega (arith, within)))
+first_or_none (r ∷ rs) a = first_more r rs a (takes_or r a) (first_or_none rs a)
+
+row_with : (r : TableRow) (a : Asked) → (form_with r a).row ≡ r
+unfolding form_with
+row_with r a = refl
+
+form_by : (a : Asked) → ((s : TableRow) × IsFirstRow table a s) ⊎ NoneTakes table a → (form : Option Form) × IsChosenFor a form
+form_by a (inl found) =
+    let same : (form_with found.0 a).row ≡ found.0 = row_with found.0 a in (
+      Some (form_with found.0 a),
+      record {
+        first = subst (IsFirstRow table a) (sym same) found.1;
+        parts = ap (λ (r : TableRow). form_with r a) (sym same);
+      },
+    )
+form_by a (inr none) = (None, none)
+
+form_for : (o : Option Asked) → (form : Option Form) × IsFormFor o form
+form_for None = (None, refl)
+form_for (Some a) = form_by a (first_or_none table a)
+
+form_of : (names : Names) (statement : Statement) → (form : Option Form) × IsFormOf names statement form
+form_of names Empty = (None, refl)
+form_of names (Segment name n) = (None, refl)
+form_of names Ends = (None, refl)
+form_of names (Equ name n) = (None, refl)
+form_of names (Org n) = (None, refl)
+form_of names (Data width items) = (None, refl)
+form_of names (Instruction i) = form_for (instruction_asked names i)
+
+-- ---- a text makes a clean row, or has a fault
+abbrev HasOutcome : List Row → List ℕ → Type 0
+HasOutcome before text = ((row : Row) × IsCleanRow before text row) ⊎ ((fault : SourceFault) × IsTextFault (names_of before) (spot_behind before) text fault)
+
+row_outcome : (before : List Row) (text : List ℕ) (row : Row) → IsRow (names_of before) (spot_behind before) text row → (o : Option SourceFault)
+    → early_fault (names_of before) row.spot row.line row.form ≡ o → HasOutcome before text
+row_outcome before text row is None at = inl (row, record { is_row = is; clean = at })
+row_outcome before text row is (Some fault) at = inr (fault, inr (row, is, at))
+
+read_outcome : (before : List Row) (text : List ℕ) (r : Result Line LineFault) → read_line text ≡ r → HasOutcome before text
+read_outcome before text (Ok line) reads =
+    let form = form_of (names_of before) line.statement in
+    let row : Row = row_of (names_of before) (spot_behind before) line form.0 in
+    row_outcome before text row (is_row (names_of before) (spot_behind before) text line form.0 reads form.1)
+    (early_fault (names_of before) row.spot row.line row.form) refl
+read_outcome before text (Err found) reads = inr (fault_of_line found, inl (found, reads, refl))
+
+text_outcome : (before : List Row) (text : List ℕ) → HasOutcome before text
+text_outcome before text = read_outcome before text (read_line text) refl
+
+-- ---- all texts make clean rows, or one has the first fault
+record HasEarly (before : List Row) (texts : List (List ℕ)) : Type 0 where
+  pub front : List (List ℕ)
+  pub text : List ℕ
+  pub back : List (List ℕ)
+  pub texts_are : texts ≡ front ++ text ∷ back
+  pub rows : List Row
+  pub clean : AreRows before front rows
+  pub fault : SourceFault
+  pub found : IsTextFault (names_of (before ++ rows)) (spot_behind (before ++ rows)) text fault
+
+abbrev HaveOutcome : List Row → List (List ℕ) → Type 0
+HaveOutcome before texts = ((rows : List Row) × AreRows before texts rows) ⊎ HasEarly before texts
+
+texts_behind : (before : List Row) (text : List ℕ) (texts : List (List ℕ)) (row : Row) → IsCleanRow before text row → HaveOutcome (before ++ row ∷ []) texts
+    → HaveOutcome before (text ∷ texts)
+texts_behind before text texts row is (inl clean) = inl (row ∷ clean.0, (is, clean.1))
+texts_behind before text texts row is (inr early) = inr (record {
+  front = text ∷ early.front;
+  text = early.text;
+  back = early.back;
+  texts_are = ap (λ (ts : List (List ℕ)). text ∷ ts) early.texts_are;
+  rows = row ∷ early.rows;
+  clean = (is, early.clean);
+  fault = early.fault;
+  found = subst (λ (rs : List Row). IsTextFault (names_of rs) (spot_behind rs) early.text early.fault) (append_assoc before (row ∷ []) early.rows) early.found;
+})
+
+fault_first : (before : List Row) (text : List ℕ) (texts : List (List ℕ)) (fault : SourceFault) → IsTextFault (names_of before) (spot_behind before) text fault
+    → HaveOutcome before (text ∷ texts)
+fault_first before text texts fault found = inr (record {
+  front = [];
+  text = text;
+  back = texts;
+  texts_are = refl;
+  rows = [];
+  clean = tt;
+  fault = fault;
+  found = subst (λ (rs : List Row). IsTextFault (names_of rs) (spot_behind rs) text fault) (sym (append-nil before)) found;
+})
+
+texts_outcome : (before : List Row) (texts : List (List ℕ)) → HaveOutcome before texts
+texts_outcome before [] = inl ([], tt)
+texts_outcome before (text ∷ texts) = elim (text_outcome before text) [
+  | inl made ↦ texts_behind before text texts made.0 made.1 (texts_outcome (before ++ made.0 ∷ []) texts)
+  | inr has ↦ fault_first before text texts has.0 has.1
+]
+
+-- ---- rows can all be placed, or one has the first fault
+record HasLate (names : Names) (before rows : List Row) : Type 0 where
+  pub front : List Row
+  pub row : Row
+  pub back : List Row
+  pub rows_are : rows ≡ front ++ row ∷ back
+  pub placed : AreFaultless names before front
+  pub fault : SourceFault
+  pub found : row_fault names (before ++ front) row ≡ Some fault
+
+abbrev CanBePlaced : Names → List Row → List Row → Type 0
+CanBePlaced names before rows = AreFaultless names before rows ⊎ HasLate names before rows
+
+rows_behind : (names : Names) (before : List Row) (row : Row) (rows : List Row) → row_fault names before row ≡ None → CanBePlaced names (before ++ row ∷ []) rows
+    → CanBePlaced names before (row ∷ rows)
+rows_behind names before row rows none (inl free) = inl (none, free)
+rows_behind names before row rows none (inr late) = inr (record {
+  front = row ∷ late.front;
+  row = late.row;
+  back = late.back;
+  rows_are = ap (λ (rs : List Row). row ∷ rs) late.rows_are;
+  placed = (none, late.placed);
+  fault = late.fault;
+  found = ap (λ (rs : List Row). row_fault names rs late.row) (sym (append_assoc before (row ∷ []) late.front)) ∙ late.found;
+})
+
+rows_by : (names : Names) (before : List Row) (row : Row) (rows : List Row) (o : Option SourceFault) → row_fault names before row ≡ o
+    → CanBePlaced names (before ++ row ∷ []) rows → CanBePlaced names before (row ∷ rows)
+rows_by names before row rows None at rest = rows_behind names before row rows at rest
+rows_by names before row rows (Some fault) at rest = inr (record {
+  front = [];
+  row = row;
+  back = rows;
+  rows_are = refl;
+  placed = tt;
+  fault = fault;
+  found = ap (λ (rs : List Row). row_fault names rs row) (append-nil before) ∙ at;
+})
+
+rows_outcome : (names : Names) (before rows : List Row) → CanBePlaced names before rows
+rows_outcome names before [] = inl tt
+rows_outcome names before (row ∷ rows) = rows_by names before row rows (row_fault names before row) refl (rows_outcome names (before ++ row ∷ []) rows)
+
+-- ---- the law
+abbrev Outcome : List ℕ → Type 0
+Outcome source =
+    ((fault : AsmFault) × (fault ≢ Memory) × IsFirst source fault)
+    ⊎ ((rows : List Row) × AreRows [] (text_lines source) rows × AreFaultless (names_of rows) [] rows)
+
+in_line : (fault : SourceFault) (number : ℕ) → InLine fault number ≢ Memory
+in_line fault number is = cc
+
+too_long : SourceTooLong ≢ Memory
+too_long is = cc
+
+late_outcome : (source : List ℕ) (rows : List Row) → length source ≤ source_limit → AreRows [] (text_lines source) rows → CanBePlaced (names_of rows) [] rows → Outcome source
+late_outcome source rows within are (inl free) = inr (rows, are, free)
+late_outcome source rows within are (inr late) = inl (
+  InLine late.fault (length late.front + 1),
+  in_line late.fault (length late.front + 1),
+  (
+    within,
+    inr (record {
+      rows = rows;
+      clean = are;
+      found = record {
+        front = late.front;
+        row = late.row;
+        back = late.back;
+        split = late.rows_are;
+        counted = refl;
+        placed = late.placed;
+        found = late.found;
+      };
+    }),
+  ),
+)
+
+early_outcome : (source : List ℕ) → length source ≤ source_limit → HaveOutcome [] (text_lines source) → Outcome source
+early_outcome source within (inl clean) = late_outcome source clean.0 within clean.1 (rows_outcome (names_of clean.0) [] clean.0)
+early_outcome source within (inr early) = inl (
+  InLine early.fault (length early.front + 1),
+  in_line early.fault (length early.front + 1),
+  (
+    within,
+    inl (record {
+      front = early.front;
+      text = early.text;
+      back = early.back;
+      texts = early.texts_are;
+      counted = refl;
+      rows = early.rows;
+      clean = early.clean;
+      found = early.found;
+    }),
+  ),
+)
+
+pub each_source_has_an_outcome : EachSourceHasAnOutcome
+each_source_has_an_outcome source = elim (cases_lt source_limit (length source)) [
+  | inl long ↦ inl (SourceTooLong, too_long, long)
+  | inr within ↦ early_outcome source within (texts_outcome [] (text_lines source))
+]

@@ -1,0 +1,98 @@
+-- The order of faults.
+-- Laws: claims above the definitions, each proved as the contract of a function.
+use Rattle.std.specs.Prelude.{ℕ, ◌≡◌, ◌≢◌, ◌⊎◌, ◌<◌, ◌≤◌, ◌+◌, ◌↔◌, Bool, true, false, ◌||◌, List, [], ◌∷◌, ◌++◌, length, take, Option, Some}
+use Rattle.std.specs.List.{list_all, list_any}
+use Rattle.isa.specs.declared.form.Form.{Form}
+use Rattle.assembler_text.specs.declared.statement.Line.{Line}
+use Rattle.text_lines.specs.Lines.{text_lines}
+use Rattle.assembler_statement.specs.declared.symbol.Location.{Location}
+use Rattle.assembler_statement.specs.Values.{Names}
+use Rattle.assembler.specs.declared.fault.AsmFault.{AsmFault}
+use Rattle.assembler.specs.declared.fault.AsmFault.TheVariants.{InLine, Memory}
+use Rattle.assembler.specs.declared.fault.SourceFault.{SourceFault}
+use Rattle.assembler.specs.declared.fault.SourceFault.TheVariants.{BadLine, UnknownName, BadForm, TwiceDefined, Undefined, OutOfRange, OutOfSegment, Overlap, NoSegment, NotLoadable}
+use Rattle.assembler.specs.declared.row.Content.{Content}
+use Rattle.assembler.specs.FirstFault.{AreFaultless, IsEarlyFault, IsFirst, IsLateFault, source_fault_number}
+use Rattle.assembler.specs.Gives.{source_limit, Gives}
+use Rattle.assembler.specs.Placement.{addresses_from, fault_at, has_wrong_number, is_loadable, is_past_end, lacks_name}
+use Rattle.assembler.specs.Rows.{AreRows, Row, defines_again, early_fault, has_unknown_constant, has_wrong_constant, lacks_form, names_of, opens_within, stands_outside}
+
+-- but for want of memory one fault alone is first
+abbrev pub OneFaultIsFirst : Type 0
+OneFaultIsFirst = (source : List ℕ) (a b : AsmFault) → a ≢ Memory → b ≢ Memory → IsFirst source a → IsFirst source b → a ≡ b
+
+-- one there is, or all lines are clean and each can be placed behind those before it
+abbrev pub EachSourceHasAnOutcome : Type 0
+EachSourceHasAnOutcome =
+    (source : List ℕ) → ((fault : AsmFault) × (fault ≢ Memory) × IsFirst source fault)
+    ⊎ ((rows : List Row) × AreRows [] (text_lines source) rows × AreFaultless (names_of rows) [] rows)
+
+-- a source that gives an image has none
+abbrev pub NoFaultBesideImage : Type 0
+NoFaultBesideImage = (source : List ℕ) (image : List (ℕ × ℕ)) (fault : AsmFault) → Gives source image → IsFirst source fault → fault ≡ Memory
+
+-- the faults of the first pass, which lines have by themselves or in the light of the lines before; the others are those
+-- of the second, in the light of all lines
+abbrev pub is_early : SourceFault → Bool
+is_early Undefined = false
+is_early OutOfRange = false
+is_early OutOfSegment = false
+is_early Overlap = false
+is_early NotLoadable = false
+is_early fault = true
+
+-- Each fault is of one pass, and one of the first pass on any line comes before one of the second on any other.
+pub record ComeInPasses (source : List ℕ) : Type 0 where
+  pub early : (fault : SourceFault) (number : ℕ) → IsEarlyFault source fault number → is_early fault ≡ true
+  pub late : (fault : SourceFault) (number : ℕ) → IsLateFault source fault number → is_early fault ≡ false
+  pub never_both : (a b : SourceFault) (m n : ℕ) → IsEarlyFault source a m → IsLateFault source b n → ⊥
+
+abbrev pub FaultsComeInPasses : Type 0
+FaultsComeInPasses = (source : List ℕ) → ComeInPasses source
+
+-- The line of the first fault is one of the source, each line before it makes a row that is clean, and if the fault is of
+-- the second pass all lines do.
+pub record IsFirstLine (source : List ℕ) (fault : SourceFault) (number : ℕ) : Type 0 where
+  pub counted : (0 < number) × (number ≤ length (text_lines source))
+  pub before : (front : List (List ℕ)) (text : List ℕ) (back : List (List ℕ)) → text_lines source ≡ front ++ text ∷ back → length front + 1 < number
+      → (rows : List Row) × AreRows [] (front ++ text ∷ []) rows
+  pub all : is_early fault ≡ false → (rows : List Row) × AreRows [] (text_lines source) rows
+
+abbrev pub LinesBeforeAreClean : Type 0
+LinesBeforeAreClean = (source : List ℕ) (fault : SourceFault) (number : ℕ) → IsFirst source (InLine fault number) → IsFirstLine source fault number
+
+-- Whatever lines follow that of a fault of the first pass, it stays the first fault.
+abbrev pub LaterLinesDoNotCount : Type 0
+LaterLinesDoNotCount =
+    (s t : List ℕ) (fault : SourceFault) (number : ℕ) → IsEarlyFault s fault number → take number (text_lines t) ≡ take number (text_lines s)
+    → length t ≤ source_limit → IsFirst t (InLine fault number)
+
+-- which faults a line that is read has in the light of the lines before
+abbrev pub HasEarly : Names → Option Location → Line → Option Form → SourceFault → Type 0
+HasEarly known spot line form BadLine = (opens_within spot line.statement || has_wrong_constant known line.statement) ≡ true
+HasEarly known spot line form UnknownName = has_unknown_constant known line.statement ≡ true
+HasEarly known spot line form BadForm = lacks_form line.statement form ≡ true
+HasEarly known spot line form TwiceDefined = defines_again known line ≡ true
+HasEarly known spot line form NoSegment = stands_outside spot line ≡ true
+HasEarly known spot line form fault = ⊥
+
+-- which faults what stands at a place has, in the light of all names and of the addresses that are taken
+abbrev pub HasLate : Names → (ℕ → Bool) → Bool → Location → ℕ → Option Content → SourceFault → Type 0
+HasLate names is_taken has_label spot size content Undefined = lacks_name names spot content ≡ true
+HasLate names is_taken has_label spot size content OutOfRange = has_wrong_number names spot size content ≡ true
+HasLate names is_taken has_label spot size content OutOfSegment = is_past_end spot size has_label ≡ true
+HasLate names is_taken has_label spot size content Overlap = list_any is_taken (addresses_from spot 0 size) ≡ true
+HasLate names is_taken has_label spot size content NotLoadable = list_all is_loadable (addresses_from spot 0 size) ≡ false
+HasLate names is_taken has_label spot size content fault = ⊥
+
+-- of the faults that there are this one has the least number
+pub record IsLeast (Has : SourceFault → Type 0) (fault : SourceFault) : Type 0 where
+  pub has : Has fault
+  pub least : (other : SourceFault) → Has other → source_fault_number fault ≤ source_fault_number other
+
+-- of the faults of a line that is read the one with the least number is its fault, in each pass
+pub record LeastNumbersComeFirst : Type 0 where
+  pub early : (known : Names) (spot : Option Location) (line : Line) (form : Option Form) (fault : SourceFault)
+      → (early_fault known spot line form ≡ Some fault) ↔ IsLeast (HasEarly known spot line form) fault
+  pub late : (names : Names) (is_taken : ℕ → Bool) (has_label : Bool) (spot : Location) (size : ℕ) (content : Option Content) (fault : SourceFault)
+      → (fault_at names is_taken has_label spot size content ≡ Some fault) ↔ IsLeast (HasLate names is_taken has_label spot size content) fault

@@ -1,0 +1,81 @@
+-- Where the lines of an accepted source stand, told by counting and not by walking the lines.
+-- Laws: claims above the definitions, each proved as the contract of a function.
+use Rattle.std.specs.Prelude.{ℕ, ℤ, pos, ◌≡◌, ◌+◌, ◌↔◌, Bool, true, false, List, ◌∷◌, ◌++◌, length, sum_by, Option, None, Some}
+use Rattle.std.specs.List.{AllByRecursion}
+use Rattle.assembler_lexeme.specs.declared.name.Name.{Name}
+use Rattle.assembler_text.specs.declared.expression.Term.{Term}
+use Rattle.assembler_text.specs.declared.statement.Statement.{Statement}
+use Rattle.assembler_text.specs.declared.statement.Statement.TheVariants.{Segment, Ends, Equ, Org}
+use Rattle.assembler_statement.specs.declared.symbol.Location.{Location}
+use Rattle.assembler_statement.specs.declared.symbol.Symbol.TheVariants.{Label, Constant}
+use Rattle.assembler_statement.specs.Values.{Names, constant_of, meaning}
+use Rattle.assembler.specs.Placement.{placed_by}
+use Rattle.assembler.specs.Rows.{Row, names_of}
+use Rattle.assembler.specs.Gives.{Gives}
+
+-- the statements behind which no segment is open, or another one
+abbrev pub changes_segment : Statement → Bool
+changes_segment (Segment name n) = true
+changes_segment Ends = true
+changes_segment statement = false
+
+-- and those behind which the location isn't that of the line before with its bytes
+abbrev pub sets_location : Statement → Bool
+sets_location (Segment name n) = true
+sets_location Ends = true
+sets_location (Org n) = true
+sets_location statement = false
+
+-- SEGMENT says the paragraph: its constant
+abbrev pub SaysParagraph : Names → Statement → ℕ → Type 0
+SaysParagraph known (Segment name n) paragraph = constant_of known n ≡ Some (pos paragraph)
+SaysParagraph known statement paragraph = ⊥
+
+-- SEGMENT begins at offset 0, ORG at its constant
+abbrev pub SaysOffset : Names → Statement → ℕ → Type 0
+SaysOffset known (Segment name n) offset = offset ≡ 0
+SaysOffset known (Org n) offset = constant_of known n ≡ Some (pos offset)
+SaysOffset known statement offset = ⊥
+
+-- Behind these lines a segment is open at this paragraph: the last SEGMENT says it, and no ENDS stands behind that.
+pub record IsOpenAt (lines : List Row) (paragraph : ℕ) : Type 0 where
+  pub before : List Row
+  pub opening : Row
+  pub since : List Row
+  pub split : lines ≡ before ++ opening ∷ since
+  pub says : SaysParagraph (names_of before) opening.line.statement paragraph
+  pub stays : AllByRecursion (λ row. changes_segment row.line.statement ≡ false) since
+
+-- Behind these lines the next byte goes to this offset: what the last SEGMENT or ORG says, and the sizes of the lines
+-- since then; no ENDS stands there.
+pub record IsCountedTo (lines : List Row) (offset : ℕ) : Type 0 where
+  pub before : List Row
+  pub setting : Row
+  pub since : List Row
+  pub split : lines ≡ before ++ setting ∷ since
+  pub base : ℕ
+  pub says : SaysOffset (names_of before) setting.line.statement base
+  pub stays : AllByRecursion (λ row. sets_location row.line.statement ≡ false) since
+  pub counted : offset ≡ base + sum_by (λ row. row.size) since
+
+-- the name that SEGMENT or EQU defines, and its constant
+abbrev pub said_constant : Statement → Option (Name × List Term)
+said_constant (Segment name n) = Some (name, n)
+said_constant (Equ name n) = Some (name, n)
+said_constant statement = None
+
+-- A line behind these stands at a place if and only if they open its segment and count to its offset; a label on it is
+-- that place in the names of the source, and such a line has a place; what SEGMENT or EQU names is there its constant, told
+-- by the lines before; and a line places as many bytes as its size says.
+pub record StandsWhereCounted (names : Names) (front : List Row) (row : Row) : Type 0 where
+  pub place : (spot : Location) → (row.spot ≡ Some spot) ↔ (IsOpenAt front spot.segment × IsCountedTo front spot.offset)
+  pub label : (name : Name) → row.line.label ≡ Some name → (spot : Location) × (row.spot ≡ Some spot) × (meaning names name ≡ Some (Label spot))
+  pub constant : (name : Name) (terms : List Term) → said_constant row.line.statement ≡ Some (name, terms)
+      → (n : ℤ) × (constant_of (names_of front) terms ≡ Some n) × (meaning names name ≡ Some (Constant n))
+  pub bytes : length (placed_by names row) ≡ row.size
+
+-- each line of a source that gives an image stands so
+abbrev pub LinesStandWhereCounted : Type 0
+LinesStandWhereCounted =
+    (source : List ℕ) (image : List (ℕ × ℕ)) (gives : Gives source image) (front : List Row) (row : Row) (back : List Row)
+    → gives.rows ≡ front ++ row ∷ back → StandsWhereCounted (names_of gives.rows) front row
