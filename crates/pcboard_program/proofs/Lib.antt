@@ -1,3 +1,5 @@
 pub mod Reading
 pub mod Refusals
 pub mod Listed
+pub mod Sessions
+mod Rows

@@ -5,7 +5,8 @@ use Rattle.std.proofs.lemmas.List.{take_all}
 use Rattle.assembler.specs.Gives.{Gives}
 use Rattle.loader.specs.HexText.{hex_text}
 use Rattle.loader.specs.RunFile.{Answers, run_of_text}
-use Rattle.pcboard_program.specs.Answer.{AppendsA, IsHexOf, IsListingOf, IsReport}
+use Rattle.board.specs.Board.{BoardState}
+use Rattle.pcboard_program.specs.Answer.{AppendsA, IsBoardOf, IsHexOf, IsListingOf, IsReport}
 
 shorter : (limit : ℕ) (bytes : List ℕ) → length (take limit bytes) < limit → take limit bytes ≡ bytes
 shorter limit bytes within = take_all limit bytes (omega (arith, length-take limit bytes))
@@ -45,6 +46,22 @@ seen_report (Some known) (Some known_run) bytes run text seen same report = reco
   run_file = report.run_file;
   says = subst (λ run. Answers (Ok report.run_file) (run_of_text run)) same report.says;
   is_text = report.is_text;
+}
+
+-- so is the board
+pub seen_board : (source said : Option (List ℕ)) (bytes run : List ℕ) (board : BoardState)
+    → IfSome source (λ known. bytes ≡ take 1048577 known) → IfSome said (λ known. run ≡ known) → IsBoardOf false bytes run board
+    → IfSome source (λ known. IfSome said (λ known_run. IsBoardOf false known known_run board))
+seen_board None said bytes run board seen same is_board = tt
+seen_board (Some known) None bytes run board seen same is_board = tt
+seen_board (Some known) (Some known_run) bytes run board seen same is_board = record {
+  image = is_board.image;
+  gives = seen_whole known is_board.image (subst (λ bytes. Gives bytes is_board.image) seen is_board.gives);
+  run_file = is_board.run_file;
+  says = subst (λ run. Answers (Ok is_board.run_file) (run_of_text run)) same is_board.says;
+  plain = is_board.plain;
+  changes = is_board.changes;
+  trail = is_board.trail;
 }
 
 -- so is the HEX text

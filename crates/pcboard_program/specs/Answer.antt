@@ -8,6 +8,9 @@ use Rattle.assembler.specs.Rows.{Row, names_of}
 use Rattle.assembler.specs.Listing.{listed}
 use Rattle.assembler.specs.Gives.{Gives}
 use Rattle.assembler.specs.FirstFault.{IsFirst}
+use Rattle.board.specs.Board.{BoardState}
+use Rattle.board.specs.Plain.{power_on}
+use Rattle.debugger.specs.Session.{SessionState}
 use Rattle.pcboard_words.specs.CommandLine.{Answers as AnswersWords}
 use Rattle.pcboard_words.specs.declared.task.Task.{Task}
 use Rattle.pcboard_words.specs.declared.task.Task.TheVariants as tasks
@@ -17,7 +20,8 @@ use Rattle.loader.specs.declared.run_file.RunFile.{RunFile}
 use Rattle.loader.specs.RunFile.{Answers, run_of_text}
 use Rattle.pcboard_program.specs.declared.fault.Fault.{Fault}
 use Rattle.pcboard_program.specs.declared.fault.Fault.TheVariants.{Source, Hex, Run, Board}
-use Rattle.pcboard_program.specs.Report.{report_of}
+use Rattle.pcboard_program.specs.Report.{config_of, report_of}
+use Rattle.pcboard_program.specs.Transcript.{Transcript, input_lines}
 use Rattle.pcboard_program.specs.Faults.{IsTrueOfBoard}
 
 -- the first line of a stored run, and what follows it
@@ -51,6 +55,27 @@ pub record IsReport (hex : Bool) (bytes run text : List ℕ) : Type 0 where
   pub says : Answers (Ok run_file) (run_of_text run)
   pub is_text : text ≡ report_of image run_file
 
+-- the bytes give an image, the run file's text says what board it stands on, and this is that board at power-on: no
+-- change of the speaker is past, and the trail is empty
+pub record IsBoardOf (hex : Bool) (bytes run : List ℕ) (board : BoardState) : Type 0 where
+  pub image : List (ℕ × ℕ)
+  pub gives : GivesImage hex bytes image
+  pub run_file : RunFile
+  pub says : Answers (Ok run_file) (run_of_text run)
+  pub plain : board.plain ≡ power_on image (config_of run_file) run_file.keys
+  pub changes : board.changes ≡ []
+  pub trail : board.trail ≡ []
+
+-- a session with a board, and without stops
+abbrev pub session_about : BoardState → SessionState
+session_about board = record { board = board; stops = [] }
+
+-- the bytes and the run file's text give a board, and this is what a session about it prints on the typed bytes
+pub record IsSession (hex : Bool) (bytes run typed text : List ℕ) : Type 0 where
+  pub board : BoardState
+  pub is_board : IsBoardOf hex bytes run board
+  pub prints : Transcript (session_about board) (input_lines typed) text
+
 -- the source gives an image, and this is its HEX text
 pub record IsHexOf (source text : List ℕ) : Type 0 where
   pub image : List (ℕ × ℕ)
@@ -77,14 +102,14 @@ IsAssembled true source text = IsListingOf source text
 abbrev pub AppendsA : (List ℕ → Type 0) → Option (List ℕ) → Option (List ℕ) → Type 0
 AppendsA Is old new = (text : List ℕ) × Is text × Appends old new text
 
--- what a task's answer adds to the bytes that `out` holds, where the files and the input are known
+-- what a task's answer adds to the bytes that `out` holds, where the files and the input that it reads are known
 abbrev pub PrintsTask : Task → (List ℕ → Option (List ℕ)) → Option (List ℕ) → Option (List ℕ) → Option (List ℕ) → Type 0
 PrintsTask tasks.Stored files input old new = IfSome input (λ text. AppendsA (IsReport false (source_of text) (run_text_of text)) old new)
 PrintsTask (tasks.Asm file list) files input old new = IfSome (files file.now) (λ source. AppendsA (IsAssembled list source) old new)
 PrintsTask (tasks.Run file run hex) files input old new =
     IfSome (files file.now) (λ bytes. IfSome (files run.now) (λ said. AppendsA (IsReport hex bytes said) old new))
--- of the answers to commands nothing is said here: each is the session's
-PrintsTask (tasks.Debug file run hex) files input old new = Unit {0}
+PrintsTask (tasks.Debug file run hex) files input old new =
+    IfSome (files file.now) (λ bytes. IfSome (files run.now) (λ said. IfSome input (λ typed. AppendsA (IsSession hex bytes said typed) old new)))
 
 -- the words name a task, and its answer is added
 abbrev pub Prints : List (List ℕ) → (List ℕ → Option (List ℕ)) → Option (List ℕ) → Option (List ℕ) → Option (List ℕ) → Type 0

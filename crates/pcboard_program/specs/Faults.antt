@@ -1,8 +1,7 @@
 -- Why a run is refused, and the line that says so.
 -- To be believed: public contracts say what they say by these definitions.
-use Rattle.std.specs.Prelude.{ℕ, ◌≡◌, ◌*◌, List, [], ◌∷◌, ◌++◌, codes, Option, None, Some}
+use Rattle.std.specs.Prelude.{ℕ, List, ◌++◌, codes, Option, None, Some}
 use Rattle.std.specs.Fmt.{decimal}
-use Rattle.assembler.specs.declared.fault.AsmFault.{AsmFault}
 use Rattle.assembler.specs.Gives.{Gives}
 use Rattle.assembler.specs.FirstFault.{IsFirst, fault_number, fault_name, fault_line}
 use Rattle.loader.specs.declared.run_file.RunFile.{RunFile}

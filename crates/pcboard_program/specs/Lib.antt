@@ -1,3 +1,4 @@
 pub mod Report
 pub mod Faults
+pub mod Transcript
 pub mod Answer

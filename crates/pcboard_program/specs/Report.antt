@@ -4,7 +4,6 @@
 use Rattle.std.specs.Prelude.{ℕ, ◌≡◌, ◌*◌, ◌<◌, ◌^◌, List}
 use Rattle.std.specs.String.{string_bytes}
 use Rattle.memory.specs.Map.{IsRamSize, FitsRam}
-use Rattle.board_types.specs.declared.keys.StampedKey.{StampedKey}
 use Rattle.board.specs.declared.board.Config.{Config}
 use Rattle.board.specs.Plain.{Plain, board_after, byte_of, changes_in, clock_of, power_on, registers_of, screen_of, state_of}
 use Rattle.assembler.specs.Gives.{Gives}

@@ -1,5 +1,6 @@
 //! What the program reads.
 ghost use Rattle.std.specs.Prelude.{◌≡◌, take, Some, IfOk, IfSome};
+ghost use Rattle.pcboard_program.specs.Transcript.{TakesByte};
 
 use crate::fault::Fault;
 use crate::opener::Opener;
@@ -59,4 +60,20 @@ pub(crate) fn read_whole<R: Read>(
         Err(error) if error.kind() == ErrorKind::OutOfMemory => Err(Stop::Refused(want)),
         Err(_) => Err(Stop::Failed),
     }
+}
+
+/// The next byte of the input, or `None` at its end. A read that was interrupted is made again.
+pub(crate) fn next_byte<R: Read>(input: &mut R) -> Result<Option<u8>, Stop>
+    ensures { IfOk result (TakesByte (R.remaining input.old) (R.remaining input.new)) }
+{
+    let mut byte = [0];
+    'tries: for _ in 0..u64::MAX {
+        match input.read(&mut byte) {
+            Ok(0) => return Ok(None),
+            Ok(_) => return Ok(Some(byte[0])),
+            Err(error) if error.kind() == ErrorKind::Interrupted => {}
+            Err(_) => return Err(Stop::Failed),
+        }
+    }
+    Err(Stop::Failed)
 }

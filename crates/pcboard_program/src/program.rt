@@ -4,7 +4,7 @@ ghost use Rattle.std.specs.Io.KnownBytes.{Appends, Keeps};
 ghost use Rattle.std.specs.Result.{IfErr};
 ghost use Rattle.pcboard_program.specs.Answer.{AppendsA, IsHexOf, IsListingOf, IsReport, IsTrueRefusal, Prints, PrintsTask, first_line_end, run_text_of, source_of};
 
-use crate::debugging::{answer_commands, debug_board};
+use crate::debugging::print_session;
 use crate::fault::{Fault, fault_text};
 use crate::input::{read_file, read_source, read_whole};
 use crate::listing::listing_text;
@@ -86,10 +86,7 @@ fn print_task<F: Opener, I: Read, O: Write>(
             run,
             hex: true,
         } => print_report(out, hex_report(alloc, files, file, run)?),
-        Task::Debug { file, run, hex } => {
-            let board = debug_board(alloc, files, file, run, hex)?;
-            answer_commands(alloc, board, input, out)
-        }
+        Task::Debug { file, run, hex } => print_session(alloc, files, file, run, hex, input, out),
     }
 }
 

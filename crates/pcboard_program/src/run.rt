@@ -63,6 +63,7 @@ pub(crate) fn new_board(alloc: Global, image: &Image, run: &RunFile) -> Result<B
     ensures plain { IfOk result (λ board. board.plain ≡ power_on image.now (config_of run.now) run.now.keys) }
     ensures clock { IfOk result (λ board. clock_of board.plain ≡ 0) }
     ensures changes { IfOk result (λ board. board.changes ≡ []) }
+    ensures trail { IfOk result (λ board. board.trail ≡ []) }
     ensures fault { IfErr result (λ fault. IsTrueOfBoard image.now run.now fault) }
 {
     let config = Config {

@@ -1,6 +1,5 @@
 use Rattle.std.proofs.Common.{string_bytes, subst, sym}
 use Rattle.std.proofs.lemmas.Result.{IfOk-weaker}
-use Rattle.std.specs.Io.KnownBytes.{Appends}
 use Rattle.pcboard_program.specs.Answer.{IsListingOf}
 use Rattle.pcboard_program.proofs.Reading.{seen_listing}
 use Rattle.pcboard_program.proofs.program.print_listing.Goals as goal

@@ -1,0 +1,224 @@
+-- The lines of an input as they are read, and what is printed on them.
+use Rattle.std.proofs.Common.{ℕ, zero, suc, ◌≡◌, ◌∙◌, ◌<◌, ◌==◌, Bool, true, false, List, [], ◌∷◌, ◌++◌, length, take, get_or, refl, sym, ap, subst, arith, append_assoc, Option, None, Some, IfSome, MatchBool, Result}
+use Rattle.std.proofs.lemmas.List.{append-nil}
+use Rattle.std.proofs.lemmas.Bool.Decides.{nat_tests}
+use Rattle.std.proofs.lemmas.Str.{IsUtf8-from_is_utf8, is_utf8-from_IsUtf8}
+use Rattle.std.specs.Str.{IsUtf8, is_utf8}
+use Rattle.std.specs.Io.KnownBytes.{Appends, Consumes, IsAtEnd, Keeps}
+use Rattle.text_lines.specs.Lines.{onto_first}
+use Rattle.debugger.specs.declared.answer.Answer.{Answer}
+use Rattle.debugger.specs.declared.fault.DebugFault.{DebugFault}
+use Rattle.debugger.specs.Commands.{command_of, is_quit}
+use Rattle.debugger.specs.Session.{AnswersLine, SessionState}
+use Rattle.pcboard_program.specs.Answer.{AppendsA}
+use Rattle.pcboard_program.specs.Transcript.{Replies, TakesByte, TakesLine, Transcript, ends_session, input_lines, reply_text, typed_command}
+
+-- what one read takes
+pub keeps_first : (known : Option (List ℕ)) → Keeps known known
+keeps_first None = tt
+keeps_first (Some bytes) = refl
+
+pub keeps_on : (first now next : Option (List ℕ)) → Keeps first now → Keeps now next → Keeps first next
+keeps_on None now next kept keeps = tt
+keeps_on (Some bytes) None next kept keeps = absurd kept
+keeps_on (Some bytes) (Some more) None kept keeps = absurd keeps
+keeps_on (Some bytes) (Some more) (Some most) kept keeps = keeps ∙ kept
+
+pub takes_none : (first now next : Option (List ℕ)) → Keeps first now → Consumes now next [] → IsAtEnd next → TakesByte first next None
+takes_none None now next kept takes ends = tt
+takes_none (Some bytes) None next kept takes ends = absurd kept
+takes_none (Some bytes) (Some more) None kept takes ends = absurd takes
+takes_none (Some bytes) (Some more) (Some most) kept takes ends = (sym kept ∙ (takes ∙ ends), ap Some ends)
+
+first_alone : (buf : List ℕ) (n : ℕ) → 0 < n → length buf ≡ 1 → take n buf ≡ get_or buf 0 0 ∷ []
+first_alone [] n some one = absurd (omega arith)
+first_alone (b ∷ []) zero some one = absurd (omega arith)
+first_alone (b ∷ []) (suc zero) some one = refl
+first_alone (b ∷ []) (suc (suc n)) some one = refl
+first_alone (b ∷ c ∷ bs) n some one = absurd (omega arith)
+
+pub takes_first : (first now next : Option (List ℕ)) (buf : List ℕ) (n : ℕ) → Keeps first now → Consumes now next (take n buf) → 0 < n → length buf ≡ 1
+    → TakesByte first next (Some (get_or buf 0 0))
+takes_first None now next buf n kept takes some one = tt
+takes_first (Some bytes) None next buf n kept takes some one = absurd kept
+takes_first (Some bytes) (Some more) None buf n kept takes some one = absurd takes
+takes_first (Some bytes) (Some more) (Some most) buf n kept takes some one =
+    (most, sym kept ∙ (takes ∙ ap (λ (l : List ℕ). l ++ most) (first_alone buf n some one)), refl)
+
+pub differs : (b c : ℕ) → (b ≡ c → ⊥) → (b == c) ≡ false
+differs b c other = grind (arith, nat_tests)
+
+-- a line as far as it is read: no line feed stands in it
+abbrev pub NoFeed : List ℕ → Type 0
+NoFeed [] = Unit {0}
+NoFeed (b ∷ bs) = ((b == 10) ≡ false) × NoFeed bs
+
+abbrev pub LineSoFar : Option (List ℕ) → Option (List ℕ) → List ℕ → Type 0
+LineSoFar first now line = IfSome first (λ bytes. (rest : List ℕ) × (bytes ≡ line ++ rest) × NoFeed line × (now ≡ Some rest))
+
+no_feed_more : (line : List ℕ) (b : ℕ) → NoFeed line → (b == 10) ≡ false → NoFeed (line ++ b ∷ [])
+no_feed_more [] b none other = (other, tt)
+no_feed_more (c ∷ cs) b none other = (none.0, no_feed_more cs b none.1 other)
+
+line_fed : (line rest : List ℕ) → NoFeed line → input_lines (line ++ 10 ∷ rest) ≡ line ∷ input_lines rest
+line_fed [] rest none = refl
+line_fed (b ∷ bs) rest none = rw none.0 (ap (onto_first b) (line_fed bs rest none.1))
+
+line_alone : (b : ℕ) (bs : List ℕ) → NoFeed (b ∷ bs) → input_lines (b ∷ bs) ≡ (b ∷ bs) ∷ []
+line_alone b [] none = rw none.0 refl
+line_alone b (c ∷ cs) none = rw none.0 (ap (onto_first b) (line_alone c cs none.1))
+
+pub line_begins : (known : Option (List ℕ)) (line : List ℕ) → line ≡ [] → LineSoFar known known line
+line_begins None line empty = tt
+line_begins (Some bytes) line empty = rw empty (bytes, refl, tt, refl)
+
+pub line_grows : (first now next : Option (List ℕ)) (line new : List ℕ) (b : ℕ) → LineSoFar first now line → TakesByte now next (Some b) → (b == 10) ≡ false
+    → new ≡ line ++ b ∷ [] → LineSoFar first next new
+line_grows None now next line new b so_far takes other is = tt
+line_grows (Some bytes) None next line new b so_far takes other is = let never : None ≡ Some so_far.0 = so_far.3 in cc
+line_grows (Some bytes) (Some left) next line new b so_far takes other is =
+    let same : left ≡ so_far.0 = cc in
+    let whole : bytes ≡ (line ++ b ∷ []) ++ takes.0 =
+    so_far.1 ∙ (ap (λ (l : List ℕ). line ++ l) (sym same ∙ takes.1) ∙ sym (append_assoc line (b ∷ []) takes.0)) in
+    rw is (takes.0, whole, no_feed_more line b so_far.2 other, takes.2)
+
+pub line_ends : (first now next : Option (List ℕ)) (line : List ℕ) (b : ℕ) → LineSoFar first now line → TakesByte now next (Some b) → b ≡ 10
+    → TakesLine first next (Some line)
+line_ends None now next line b so_far takes is = tt
+line_ends (Some bytes) None next line b so_far takes is = let never : None ≡ Some so_far.0 = so_far.3 in cc
+line_ends (Some bytes) (Some left) next line b so_far takes is =
+    let same : left ≡ so_far.0 = cc in
+    let whole : bytes ≡ line ++ 10 ∷ takes.0 =
+    so_far.1 ∙ ap (λ (l : List ℕ). line ++ l) (sym same ∙ (takes.1 ∙ ap (λ (c : ℕ). c ∷ takes.0) is)) in
+    (takes.0, ap input_lines whole ∙ line_fed line takes.0 so_far.2, takes.2)
+
+-- nothing is left behind a line
+rest_none : (first now next : Option (List ℕ)) (bytes line : List ℕ) → first ≡ Some bytes → LineSoFar first now line → TakesByte now next None
+    → (bytes ≡ line) × NoFeed line × (next ≡ Some [])
+rest_none None now next bytes line known so_far takes = cc
+rest_none (Some all) None next bytes line known so_far takes = let never : None ≡ Some so_far.0 = so_far.3 in cc
+rest_none (Some all) (Some left) next bytes line known so_far takes =
+    let same : left ≡ so_far.0 = cc in
+    let named : bytes ≡ all = cc in
+    (named ∙ (so_far.1 ∙ (ap (λ (l : List ℕ). line ++ l) (sym same ∙ takes.0) ∙ append-nil line)), so_far.2, takes.1)
+
+pub line_last : (first now next : Option (List ℕ)) (line : List ℕ) → LineSoFar first now line → TakesByte now next None → 0 < length line
+    → TakesLine first next (Some line)
+line_last None now next line so_far takes some = tt
+line_last (Some bytes) now next [] so_far takes some = let never : ⊥ = omega (arith, some) in absurd never
+line_last (Some bytes) now next (b ∷ bs) so_far takes some =
+    let none = rest_none (Some bytes) now next bytes (b ∷ bs) refl so_far takes in
+    ([], ap input_lines none.0 ∙ line_alone b bs none.1, none.2)
+
+pub line_none : (first now next : Option (List ℕ)) (line : List ℕ) → LineSoFar first now line → TakesByte now next None → length line ≡ 0
+    → TakesLine first next None
+line_none None now next line so_far takes empty = tt
+line_none (Some bytes) now next [] so_far takes empty = ap input_lines (rest_none (Some bytes) now next bytes [] refl so_far takes).0
+line_none (Some bytes) now next (b ∷ bs) so_far takes empty = let never : ⊥ = omega (arith, empty) in absurd never
+
+-- What a session has printed: a text behind which a transcript of what is left stands, is one of all that was typed.
+pub record Printed (first now : SessionState) (typed left : List ℕ) (old new : Option (List ℕ)) : Type 0 where
+  pub said : List ℕ
+  pub grown : Appends old new said
+  pub goes_on : (text : List ℕ) → Transcript now (input_lines left) text → Transcript first (input_lines typed) (said ++ text)
+
+abbrev pub PrintedSoFar : SessionState → SessionState → Option (List ℕ) → Option (List ℕ) → Option (List ℕ) → Option (List ℕ) → Type 0
+PrintedSoFar first now typed left old new = IfSome typed (λ bytes. (rest : List ℕ) × (left ≡ Some rest) × Printed first now bytes rest old new)
+
+appends_none : (known : Option (List ℕ)) → Appends known known []
+appends_none None = tt
+appends_none (Some bytes) = sym (append-nil bytes)
+
+appends_both : (old mid new : Option (List ℕ)) (text more : List ℕ) → Appends old mid text → Appends mid new more → Appends old new (text ++ more)
+appends_both None mid new text more first second = tt
+appends_both (Some xs) None new text more first second = absurd first
+appends_both (Some xs) (Some ys) None text more first second = absurd second
+appends_both (Some xs) (Some ys) (Some zs) text more first second = second ∙ (ap (λ (l : List ℕ). l ++ more) first ∙ append_assoc xs text more)
+
+pub printed_none : (session : SessionState) (typed old : Option (List ℕ)) → PrintedSoFar session session typed typed old old
+printed_none session None old = tt
+printed_none session (Some bytes) old = (bytes, refl, record { said = []; grown = appends_none old; goes_on = λ text is. is })
+
+-- the transcript of a line and of those behind it
+transcript_on : (ends : Bool) (line : List ℕ) (now next : SessionState) (lines : List (List ℕ)) (reply : Result Answer DebugFault) (text : List ℕ)
+    → ends ≡ false → AnswersLine (typed_command line) now reply next → Transcript next lines text
+    → MatchBool ends (reply_text reply ++ text ≡ []) (Replies line now (λ after rest. Transcript after lines rest) (reply_text reply ++ text))
+transcript_on true line now next lines reply text goes answers is = cc
+transcript_on false line now next lines reply text goes answers is = record {
+  reply = reply;
+  new = next;
+  rest = text;
+  answers = answers;
+  follows = is;
+  is_text = refl;
+}
+
+transcript_quit : (ends : Bool) (text : List ℕ) (P : Type 0) → ends ≡ true → text ≡ [] → MatchBool ends (text ≡ []) P
+transcript_quit true text P quits empty = empty
+transcript_quit false text P quits empty = cc
+
+pub printed_more : (first now next : SessionState) (typed left after old mid new : Option (List ℕ)) (line : List ℕ) (reply : Result Answer DebugFault)
+    → PrintedSoFar first now typed left old mid → TakesLine left after (Some line) → ends_session line ≡ false → AnswersLine (typed_command line) now reply next
+    → Appends mid new (reply_text reply) → PrintedSoFar first next typed after old new
+printed_more first now next None left after old mid new line reply so_far takes goes answers prints = tt
+printed_more first now next (Some bytes) None after old mid new line reply so_far takes goes answers prints = let never : None ≡ Some so_far.0 = so_far.1 in cc
+printed_more first now next (Some bytes) (Some more) after old mid new line reply so_far takes goes answers prints =
+    let same : so_far.0 ≡ more = cc in
+    let lines : line ∷ input_lines takes.0 ≡ input_lines so_far.0 = sym takes.1 ∙ ap input_lines (sym same) in (
+      takes.0,
+      takes.2,
+      record {
+        said = so_far.2.said ++ reply_text reply;
+        grown = appends_both old mid new so_far.2.said (reply_text reply) so_far.2.grown prints;
+        goes_on = λ text is. subst (λ (l : List ℕ). Transcript first (input_lines bytes) l) (sym (append_assoc so_far.2.said (reply_text reply) text))
+            (so_far.2.goes_on (reply_text reply ++ text) (subst (λ (ls : List (List ℕ)). Transcript now ls (reply_text reply ++ text)) lines
+            (transcript_on (ends_session line) line now next (input_lines takes.0) reply text goes answers is)));
+      },
+    )
+
+-- nothing more is printed
+printed_end : (first now : SessionState) (typed left old new : Option (List ℕ)) → PrintedSoFar first now typed left old new
+    → ((rest : List ℕ) → left ≡ Some rest → Transcript now (input_lines rest) []) → IfSome typed (λ bytes. AppendsA (Transcript first (input_lines bytes)) old new)
+printed_end first now None left old new so_far ends = tt
+printed_end first now (Some bytes) left old new so_far ends = (
+  so_far.2.said,
+  subst (λ (l : List ℕ). Transcript first (input_lines bytes) l) (append-nil so_far.2.said) (so_far.2.goes_on [] (ends so_far.0 so_far.1)),
+  so_far.2.grown,
+)
+
+pub printed_all : (first now : SessionState) (typed left after old new : Option (List ℕ)) → PrintedSoFar first now typed left old new → TakesLine left after None
+    → IfSome typed (λ bytes. AppendsA (Transcript first (input_lines bytes)) old new)
+printed_all first now typed None after old new so_far takes = printed_end first now typed None old new so_far (λ rest is. cc)
+printed_all first now typed (Some more) after old new so_far takes = printed_end first now typed (Some more) old new so_far
+    (λ rest is. let same : more ≡ rest = cc in subst (λ (ls : List (List ℕ)). Transcript now ls []) (sym (ap input_lines (sym same) ∙ takes)) refl)
+
+pub printed_quit : (first now : SessionState) (typed left after old new : Option (List ℕ)) (line : List ℕ) → PrintedSoFar first now typed left old new
+    → TakesLine left after (Some line) → ends_session line ≡ true → IfSome typed (λ bytes. AppendsA (Transcript first (input_lines bytes)) old new)
+printed_quit first now typed None after old new line so_far takes quits = printed_end first now typed None old new so_far (λ rest is. cc)
+printed_quit first now typed (Some more) after old new line so_far takes quits = printed_end first now typed (Some more) old new so_far
+    (λ rest is. let same : more ≡ rest = cc in subst (λ (ls : List (List ℕ)). Transcript now ls []) (sym (ap input_lines (sym same) ∙ takes.1))
+    (transcript_quit (ends_session line) [] _ quits refl))
+
+-- a line that is UTF-8 is the command that its text is, and one that isn't is none
+pub typed_text : (line : List ℕ) → IsUtf8 line → typed_command line ≡ command_of line
+typed_text line good = rw (is_utf8-from_IsUtf8 line good) refl
+
+not_text : (line : List ℕ) (good : Bool) → is_utf8 line ≡ good → ¬ (IsUtf8 line) → good ≡ false
+not_text line true is bad = absurd (bad (IsUtf8-from_is_utf8 line is))
+not_text line false is bad = refl
+
+pub typed_bytes : (line : List ℕ) → ¬ (IsUtf8 line) → typed_command line ≡ None
+typed_bytes line bad = rw (not_text line (is_utf8 line) refl bad) refl
+
+pub ends_text : (line : List ℕ) → IsUtf8 line → ends_session line ≡ is_quit line
+ends_text line good = rw (is_utf8-from_IsUtf8 line good) refl
+
+pub ends_bytes : (line : List ℕ) → ¬ (IsUtf8 line) → ends_session line ≡ false
+ends_bytes line bad = rw (not_text line (is_utf8 line) refl bad) refl
+
+-- a length that is tested
+pub is_empty_line : (size n : ℕ) → size ≡ n → (size == 0) ≡ true → n ≡ 0
+is_empty_line size n same is = grind (arith, nat_tests)
+
+pub isnt_empty_line : (size n : ℕ) → size ≡ n → (size == 0) ≡ false → 0 < n
+isnt_empty_line size n same is = grind (arith, nat_tests)

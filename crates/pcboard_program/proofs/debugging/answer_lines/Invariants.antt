@@ -1,0 +1,7 @@
+use Rattle.pcboard_program.proofs.Sessions.{PrintedSoFar}
+use Rattle.pcboard_program.proofs.debugging.answer_lines.Given as goal
+
+abbrev pub invariant-lines : goal.invariant-lines
+invariant-lines g l =
+    PrintedSoFar l.initial.session l.session (g.I.Read.remaining l.initial.input) (g.I.Read.remaining l.input)
+    (g.O.Write.contents l.initial.out) (g.O.Write.contents l.out)

@@ -1,0 +1,65 @@
+-- What a session prints on an input: the replies to its lines.
+-- To be believed: public contracts say what they say by these definitions.
+use Rattle.std.specs.Prelude.{ℕ, ◌≡◌, ◌==◌, ◌&&◌, Bool, if◌then◌else◌, List, [], ◌∷◌, ◌++◌, codes, Option, None, Some, Result, Ok, Err, MatchBool, MatchOption, IfSome}
+use Rattle.std.specs.Fmt.{decimal}
+use Rattle.std.specs.Str.{is_utf8}
+use Rattle.text_lines.specs.Lines.{onto_first}
+use Rattle.debugger.specs.declared.answer.Answer.{Answer}
+use Rattle.debugger.specs.declared.command.Command.{Command}
+use Rattle.debugger.specs.declared.fault.DebugFault.{DebugFault}
+use Rattle.debugger.specs.Answers.{answer_text, fault_clock, fault_name, fault_number}
+use Rattle.debugger.specs.Commands.{command_of, is_quit}
+use Rattle.debugger.specs.Session.{AnswersLine, SessionState}
+
+-- The lines of an input. A line feed ends a line and isn't part of it; what follows the last line feed is a line only
+-- where it isn't empty.
+abbrev pub input_lines : List ℕ → List (List ℕ)
+input_lines [] = []
+input_lines (b ∷ bs) = if b == 10 then [] ∷ input_lines bs else onto_first b (input_lines bs)
+
+-- the command that a line is; one that isn't UTF-8 is none
+abbrev pub typed_command : List ℕ → Option Command
+typed_command line = if is_utf8 line then command_of line else None
+
+-- the line is the word `quit`
+abbrev pub ends_session : List ℕ → Bool
+ends_session line = is_utf8 line && is_quit line
+
+-- the end of a refusal's line: ` clock 96` where it tells a clock
+abbrev pub clock_suffix : Option ℕ → List ℕ
+clock_suffix None = codes "\n"
+clock_suffix (Some clock) = codes " clock " ++ (decimal clock ++ codes "\n")
+
+-- `fault 51 BadCommand`
+abbrev pub refusal_text : DebugFault → List ℕ
+refusal_text fault = codes "fault " ++ (decimal (fault_number fault) ++ (codes " " ++ (fault_name fault ++ clock_suffix (fault_clock fault))))
+
+-- what is printed of an answer or a refusal
+abbrev pub reply_text : Result Answer DebugFault → List ℕ
+reply_text (Ok answer) = answer_text answer
+reply_text (Err fault) = refusal_text fault
+
+-- A session replies to a line. Behind the reply stands what follows from its state after the line.
+pub record Replies (line : List ℕ) (old : SessionState) (Follows : SessionState → List ℕ → Type 0) (text : List ℕ) : Type 0 where
+  pub reply : Result Answer DebugFault
+  pub new : SessionState
+  pub rest : List ℕ
+  pub answers : AnswersLine (typed_command line) old reply new
+  pub follows : Follows new rest
+  pub is_text : text ≡ reply_text reply ++ rest
+
+-- what a session prints on these lines: the replies, up to that to the last line or to the one before the first `quit`
+abbrev pub Transcript : SessionState → List (List ℕ) → List ℕ → Type 0
+Transcript session [] text = text ≡ []
+Transcript session (line ∷ lines) text =
+    MatchBool (ends_session line) (text ≡ []) (Replies line session (λ next rest. Transcript next lines rest) text)
+
+-- the known bytes of an input lose their first, which is this one; or there is none
+abbrev pub TakesByte : Option (List ℕ) → Option (List ℕ) → Option ℕ → Type 0
+TakesByte old new byte = IfSome old (λ bytes. MatchOption byte ((bytes ≡ []) × (new ≡ Some []))
+    (λ b. (rest : List ℕ) × (bytes ≡ b ∷ rest) × (new ≡ Some rest)))
+
+-- the known bytes of an input lose their first line, which is this one; or there is none
+abbrev pub TakesLine : Option (List ℕ) → Option (List ℕ) → Option (List ℕ) → Type 0
+TakesLine old new line = IfSome old (λ bytes. MatchOption line (input_lines bytes ≡ [])
+    (λ text. (rest : List ℕ) × (input_lines bytes ≡ text ∷ input_lines rest) × (new ≡ Some rest)))
