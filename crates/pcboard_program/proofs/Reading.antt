@@ -8,7 +8,7 @@ use Rattle.loader.specs.RunFile.{Answers, run_of_text}
 use Rattle.board.specs.Board.{BoardState}
 use Rattle.pcboard_program.specs.Answer.{AppendsA, IsBoardOf, IsHexOf, IsListingOf, IsReport}
 
-shorter : (limit : ℕ) (bytes : List ℕ) → length (take limit bytes) < limit → take limit bytes ≡ bytes
+pub shorter : (limit : ℕ) (bytes : List ℕ) → length (take limit bytes) < limit → take limit bytes ≡ bytes
 shorter limit bytes within = take_all limit bytes (omega (arith, length-take limit bytes))
 
 -- a source that gives an image was seen whole

@@ -1,9 +1,10 @@
 //! The debugger's commands, answered line by line as they come.
-ghost use Rattle.std.specs.Prelude.{◌≡◌, ◌++◌, ◌∷◌, [], Bool, List, ℕ, false, true, option_map, IfOk, IfSome, OnOk, vec_items};
+ghost use Rattle.std.specs.Prelude.{◌≡◌, ◌++◌, ◌∷◌, [], Bool, List, ℕ, false, true, option_map, IfErr, IfOk, IfSome, OnOk, vec_items};
 ghost use Rattle.std.specs.Io.KnownBytes.{Appends};
-ghost use Rattle.std.specs.Result.{IfErr};
 ghost use Rattle.debugger.specs.Session.{AnswersLine};
 ghost use Rattle.pcboard_program.specs.Answer.{AppendsA, GivesImage, IsBoardOf, IsSession, IsTrueRefusal, session_about};
+ghost use Rattle.pcboard_program.specs.Refusal.{IsTrueOfFiles};
+ghost use Rattle.pcboard_program.specs.Stops.{IsUnjudged, Stops};
 ghost use Rattle.pcboard_program.specs.Transcript.{TakesLine, Transcript, clock_suffix, ends_session, input_lines, refusal_text, reply_text, typed_command};
 
 use crate::fault::Fault;
@@ -37,7 +38,8 @@ pub(crate) fn print_session<F: Opener, I: Read, O: Write>(
     input: &mut I,
     out: &mut O,
 ) -> Result<(), Stop>
-    ensures { OnOk result (IfSome (F.file_bytes files.now file.now) (λ bytes. IfSome (F.file_bytes files.now run.now) (λ said. IfSome (I.remaining input.old) (λ typed. AppendsA (IsSession hex bytes said typed) (O.contents out.old) (O.contents out.new))))) }
+    ensures transcript { OnOk result (IfSome (F.file_bytes files.now file.now) (λ bytes. IfSome (F.file_bytes files.now run.now) (λ said. IfSome (I.remaining input.old) (λ typed. AppendsA (IsSession hex bytes said typed) (O.contents out.old) (O.contents out.new))))) }
+    ensures stop { IfErr result (Stops (IsTrueOfFiles hex (F.file_bytes files.now file.now) (F.file_bytes files.now run.now))) }
 {
     let board = debug_board(alloc, files, file, run, hex)?;
     answer_commands(alloc, board, input, out)
@@ -52,7 +54,8 @@ fn debug_board<F: Opener>(
     run: &str,
     hex: bool,
 ) -> Result<Board, Stop>
-    ensures { IfSome (F.file_bytes files.now file.now) (λ bytes. IfSome (F.file_bytes files.now run.now) (λ said. IfOk result (λ board. IsBoardOf hex bytes said board))) }
+    ensures board { IfSome (F.file_bytes files.now file.now) (λ bytes. IfSome (F.file_bytes files.now run.now) (λ said. IfOk result (λ board. IsBoardOf hex bytes said board))) }
+    ensures stop { IfErr result (Stops (IsTrueOfFiles hex (F.file_bytes files.now file.now) (F.file_bytes files.now run.now))) }
 {
     if hex {
         debug_hex(alloc, files, file, run)
@@ -63,7 +66,8 @@ fn debug_board<F: Opener>(
 
 /// The board of a source and a run file.
 fn debug_source<F: Opener>(alloc: Global, files: &F, file: &str, run: &str) -> Result<Board, Stop>
-    ensures { IfSome (F.file_bytes files.now file.now) (λ source. IfSome (F.file_bytes files.now run.now) (λ said. IfOk result (λ board. IsBoardOf false source said board))) }
+    ensures board { IfSome (F.file_bytes files.now file.now) (λ source. IfSome (F.file_bytes files.now run.now) (λ said. IfOk result (λ board. IsBoardOf false source said board))) }
+    ensures stop { IfErr result (Stops (IsTrueOfFiles false (F.file_bytes files.now file.now) (F.file_bytes files.now run.now))) }
 {
     let source = read_source(alloc, files, file)?;
     let run = read_file(alloc, files, run, Fault::Run(RunFault::Memory))?;
@@ -72,7 +76,8 @@ fn debug_source<F: Opener>(alloc: Global, files: &F, file: &str, run: &str) -> R
 
 /// The board of a HEX text and a run file.
 fn debug_hex<F: Opener>(alloc: Global, files: &F, file: &str, run: &str) -> Result<Board, Stop>
-    ensures { IfSome (F.file_bytes files.now file.now) (λ text. IfSome (F.file_bytes files.now run.now) (λ said. IfOk result (λ board. IsBoardOf true text said board))) }
+    ensures board { IfSome (F.file_bytes files.now file.now) (λ text. IfSome (F.file_bytes files.now run.now) (λ said. IfOk result (λ board. IsBoardOf true text said board))) }
+    ensures stop { IfErr result (Stops (IsTrueOfFiles true (F.file_bytes files.now file.now) (F.file_bytes files.now run.now))) }
 {
     let text = read_file(alloc, files, file, Fault::Hex(HexFault::Memory))?;
     let run = read_file(alloc, files, run, Fault::Run(RunFault::Memory))?;
@@ -123,7 +128,8 @@ fn answer_commands<I: Read, O: Write>(
     input: &mut I,
     out: &mut O,
 ) -> Result<(), Stop>
-    ensures { OnOk result (IfSome (I.remaining input.old) (λ typed. AppendsA (Transcript (session_about board) (input_lines typed)) (O.contents out.old) (O.contents out.new))) }
+    ensures transcript { OnOk result (IfSome (I.remaining input.old) (λ typed. AppendsA (Transcript (session_about board) (input_lines typed)) (O.contents out.old) (O.contents out.new))) }
+    ensures stop { IfErr result IsUnjudged }
 {
     match Session::new(board) {
         Ok(mut session) => answer_lines(alloc, &mut session, input, out),
@@ -138,7 +144,8 @@ fn answer_lines<I: Read, O: Write>(
     input: &mut I,
     out: &mut O,
 ) -> Result<(), Stop>
-    ensures { OnOk result (IfSome (I.remaining input.old) (λ typed. AppendsA (Transcript session.old (input_lines typed)) (O.contents out.old) (O.contents out.new))) }
+    ensures transcript { OnOk result (IfSome (I.remaining input.old) (λ typed. AppendsA (Transcript session.old (input_lines typed)) (O.contents out.old) (O.contents out.new))) }
+    ensures stop { IfErr result IsUnjudged }
 {
     'lines: for _ in 0..u64::MAX {
         let Some(line) = next_line(alloc, input)? else {
@@ -156,13 +163,16 @@ fn answer_lines<I: Read, O: Write>(
     Err(Stop::Failed)
 }
 
-fn want_of_memory() -> Stop {
+fn want_of_memory() -> Stop
+    ensures { IsUnjudged result }
+{
     Stop::Refused(Fault::Board(BoardFault::Memory))
 }
 
 /// The next line of the input, without its line feed, or `None` at the input's end.
 fn next_line<I: Read>(alloc: Global, input: &mut I) -> Result<Option<Vec<u8>>, Stop>
-    ensures { IfOk result (λ line. TakesLine (I.remaining input.old) (I.remaining input.new) (option_map vec_items line)) }
+    ensures line { IfOk result (λ line. TakesLine (I.remaining input.old) (I.remaining input.new) (option_map vec_items line)) }
+    ensures stop { IfErr result IsUnjudged }
 {
     let mut line = Vec::new(alloc);
     'bytes: for _ in 0..u64::MAX {
@@ -178,7 +188,8 @@ fn next_line<I: Read>(alloc: Global, input: &mut I) -> Result<Option<Vec<u8>>, S
 }
 
 fn push(line: &mut Vec<u8>, byte: u8) -> Result<(), Stop>
-    ensures { OnOk result (line.new.items ≡ line.old.items ++ byte ∷ []) }
+    ensures pushed { OnOk result (line.new.items ≡ line.old.items ++ byte ∷ []) }
+    ensures stop { IfErr result IsUnjudged }
 {
     match line.push(byte) {
         Ok(()) => Ok(()),

@@ -1,5 +1,7 @@
 //! What the program reads.
-ghost use Rattle.std.specs.Prelude.{◌≡◌, take, Some, IfOk, IfSome};
+ghost use Rattle.std.specs.Prelude.{◌≡◌, take, Some, IfErr, IfOk, IfSome};
+ghost use Rattle.pcboard_program.specs.Faults.{IsWantOfMemory};
+ghost use Rattle.pcboard_program.specs.Stops.{IsUnjudged};
 ghost use Rattle.pcboard_program.specs.Transcript.{TakesByte};
 
 use crate::fault::Fault;
@@ -14,7 +16,8 @@ const SOURCE_READ_LIMIT: u64 = 1_048_577;
 
 /// The bytes of a source, as far as they have to be seen.
 pub(crate) fn read_source<F: Opener>(alloc: Global, files: &F, path: &str) -> Result<Vec<u8>, Stop>
-    ensures { IfSome (F.file_bytes files.now path.now) (λ known. IfOk result (λ bytes. bytes.items ≡ take SOURCE_READ_LIMIT known)) }
+    ensures bytes { IfSome (F.file_bytes files.now path.now) (λ known. IfOk result (λ bytes. bytes.items ≡ take SOURCE_READ_LIMIT known)) }
+    ensures stop { IfErr result IsUnjudged }
 {
     let file = opened(files, path)?;
     read_whole(
@@ -31,14 +34,16 @@ pub(crate) fn read_file<F: Opener>(
     path: &str,
     want: Fault,
 ) -> Result<Vec<u8>, Stop>
-    ensures { IfSome (F.file_bytes files.now path.now) (λ known. IfOk result (λ bytes. bytes.items ≡ known)) }
+    ensures bytes { IfSome (F.file_bytes files.now path.now) (λ known. IfOk result (λ bytes. bytes.items ≡ known)) }
+    ensures stop { IsWantOfMemory want → IfErr result IsUnjudged }
 {
     let mut file = opened(files, path)?;
     read_whole(alloc, &mut file, want)
 }
 
 fn opened<F: Opener>(files: &F, path: &str) -> Result<F::Input, Stop>
-    ensures { IfSome (F.file_bytes files.now path.now) (λ known. IfOk result (λ file. F.Input.remaining file ≡ Some known)) }
+    ensures bytes { IfSome (F.file_bytes files.now path.now) (λ known. IfOk result (λ file. F.Input.remaining file ≡ Some known)) }
+    ensures stop { IfErr result IsUnjudged }
 {
     match files.open(path) {
         Ok(file) => Ok(file),
@@ -52,7 +57,8 @@ pub(crate) fn read_whole<R: Read>(
     input: &mut R,
     want: Fault,
 ) -> Result<Vec<u8>, Stop>
-    ensures { IfSome (R.remaining input.old) (λ known. IfOk result (λ bytes. bytes.items ≡ known)) }
+    ensures bytes { IfSome (R.remaining input.old) (λ known. IfOk result (λ bytes. bytes.items ≡ known)) }
+    ensures stop { IsWantOfMemory want → IfErr result IsUnjudged }
 {
     let mut bytes = Vec::new(alloc);
     match input.read_to_end(&mut bytes) {
@@ -64,7 +70,8 @@ pub(crate) fn read_whole<R: Read>(
 
 /// The next byte of the input, or `None` at its end. A read that was interrupted is made again.
 pub(crate) fn next_byte<R: Read>(input: &mut R) -> Result<Option<u8>, Stop>
-    ensures { IfOk result (TakesByte (R.remaining input.old) (R.remaining input.new)) }
+    ensures byte { IfOk result (TakesByte (R.remaining input.old) (R.remaining input.new)) }
+    ensures stop { IfErr result IsUnjudged }
 {
     let mut byte = [0];
     'tries: for _ in 0..u64::MAX {

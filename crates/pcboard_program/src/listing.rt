@@ -1,9 +1,10 @@
 //! The listing of a source as one text.
-ghost use Rattle.std.specs.Prelude.{◌≡◌, ◌++◌, [], ◌∷◌, List, length, IfOk, OnOk, string_bytes};
+ghost use Rattle.std.specs.Prelude.{◌≡◌, ◌++◌, [], ◌∷◌, List, length, IfErr, IfOk, OnOk, string_bytes};
 ghost use Rattle.text_lines.specs.Lines.{text_lines};
 ghost use Rattle.assembler.specs.Gives.{Gives};
 ghost use Rattle.assembler.specs.Rows.{AreRows, Row, names_of};
 ghost use Rattle.pcboard_program.specs.Answer.{IsListingOf};
+ghost use Rattle.pcboard_program.specs.Refusal.{IsTrueOfText};
 
 use crate::fault::Fault;
 use assembler::assembly::assemble;
@@ -13,7 +14,8 @@ use std::alloc::Global;
 
 /// All lines of a source's listing.
 pub(crate) fn listing_text(alloc: Global, source: &[u8]) -> Result<String, Fault>
-    ensures { IfOk result (λ text. IsListingOf source.now (string_bytes text)) }
+    ensures listing { IfOk result (λ text. IsListingOf source.now (string_bytes text)) }
+    ensures fault { IfErr result (IsTrueOfText source.now) }
 {
     let listing = match assemble(alloc, source) {
         Ok(listing) => listing,
@@ -30,7 +32,8 @@ fn lines_text(alloc: Global, listing: &Listing, size: usize) -> Result<String, A
     requires size { size ≡ length listing.now.source }
     requires gives { Gives listing.now.source listing.now.image }
     requires names { (rows : List Row) → AreRows [] (text_lines listing.now.source) rows → listing.now.names ≡ names_of rows }
-    ensures { IfOk result (λ text. IsListingOf listing.now.source (string_bytes text)) }
+    ensures listing { IfOk result (λ text. IsListingOf listing.now.source (string_bytes text)) }
+    ensures fault { IfErr result (λ fault. fault ≡ AsmFault.Memory) }
 {
     let mut text = String::new(alloc);
     for i in 0..size {
@@ -43,7 +46,8 @@ fn lines_text(alloc: Global, listing: &Listing, size: usize) -> Result<String, A
 }
 
 fn push_line(text: &mut String, line: &str) -> Result<(), AsmFault>
-    ensures { OnOk result (string_bytes text.new ≡ string_bytes text.old ++ (line.now ++ 10 ∷ [])) }
+    ensures line { OnOk result (string_bytes text.new ≡ string_bytes text.old ++ (line.now ++ 10 ∷ [])) }
+    ensures fault { IfErr result (λ fault. fault ≡ AsmFault.Memory) }
 {
     match text.push_str(line) {
         Ok(()) => {}

@@ -1,8 +1,10 @@
 //! The program, over any files, standard input and writers.
-ghost use Rattle.std.specs.Prelude.{◌≡◌, ◌≤◌, ◌<◌, length, map, take, true, false, IfOk, IfSome, OnOk, string_bytes};
+ghost use Rattle.std.specs.Prelude.{◌≡◌, ◌≢◌, ◌≤◌, ◌<◌, length, map, take, true, false, ◌⊎◌, IfErr, IfOk, IfSome, OnOk, string_bytes};
 ghost use Rattle.std.specs.Io.KnownBytes.{Appends, Keeps};
-ghost use Rattle.std.specs.Result.{IfErr};
 ghost use Rattle.pcboard_program.specs.Answer.{AppendsA, IsHexOf, IsListingOf, IsReport, IsTrueRefusal, Prints, PrintsTask, first_line_end, run_text_of, source_of};
+ghost use Rattle.pcboard_program.specs.Faults.{IsWantOfMemory, fault_text};
+ghost use Rattle.pcboard_program.specs.Refusal.{IsTrueOfFiles, IsTrueOfTask, IsTrueOfText, IsTrueOfWords, RefusesWords, TellsA};
+ghost use Rattle.pcboard_program.specs.Stops.{IsUnjudged, Stops};
 
 use crate::debugging::print_session;
 use crate::fault::{Fault, fault_text};
@@ -41,6 +43,16 @@ pub fn program<F: Opener, I: Read, O: Write, E: Write>(
 
     // At status 0 what `out` holds has grown by the stated text of the answer to the task that the words name.
     ensures printed { result ≡ 0 → Prints (map (λ word. word.now) words.entry.now) (F.file_bytes files.now) (I.remaining input.old) (O.contents out.old) (O.contents out.new) }
+
+    // At status 0 nothing is told.
+    ensures untold { result ≡ 0 → E.contents err.new ≡ E.contents err.old }
+
+    // At status 1 what `err` holds has grown by the line of a refusal that is true of the task that the words name, or
+    // is as it was where that line finds no memory.
+    ensures told { result ≡ 1 → TellsA (IsTrueOfWords (map (λ word. word.now) words.entry.now) (F.file_bytes files.now) (I.remaining input.old)) (E.contents err.old) (E.contents err.new) }
+
+    // At status 2 the words name no task, and what `err` holds has grown by the text that says so.
+    ensures usage { result ≡ 2 → RefusesWords (map (λ word. word.now) words.entry.now) (E.contents err.old) (E.contents err.new) }
 {
     let task = match read_words(alloc, words) {
         Ok(task) => task,
@@ -58,6 +70,8 @@ pub fn program<F: Opener, I: Read, O: Write, E: Write>(
 pub fn without_words<E: Write>(alloc: Global, err: &mut E) -> u8
     ensures above { 0 < result }
     ensures within { result ≤ 3 }
+    ensures status { result ≢ 2 }
+    ensures told { result ≡ 1 → TellsA IsWantOfMemory (E.contents err.old) (E.contents err.new) }
 {
     refused(alloc, err, Fault::Board(BoardFault::Memory))
 }
@@ -70,7 +84,8 @@ fn print_task<F: Opener, I: Read, O: Write>(
     input: &mut I,
     out: &mut O,
 ) -> Result<(), Stop>
-    ensures { OnOk result (PrintsTask task.entry (F.file_bytes files.now) (I.remaining input.old) (O.contents out.old) (O.contents out.new)) }
+    ensures printed { OnOk result (PrintsTask task.entry (F.file_bytes files.now) (I.remaining input.old) (O.contents out.old) (O.contents out.new)) }
+    ensures stop { IfErr result (Stops (IsTrueOfTask task.entry (F.file_bytes files.now) (I.remaining input.old))) }
 {
     match task {
         Task::Stored => print_report(out, stored_report(alloc, input)?),
@@ -92,7 +107,8 @@ fn print_task<F: Opener, I: Read, O: Write>(
 
 /// The report of a stored run: the first line is the run file, and the rest the source.
 fn stored_report<I: Read>(alloc: Global, input: &mut I) -> Result<Report, Stop>
-    ensures { IfSome (I.remaining input.old) (λ text. IfOk result (λ report. IsReport false (source_of text) (run_text_of text) (string_bytes report.text))) }
+    ensures report { IfSome (I.remaining input.old) (λ text. IfOk result (λ report. IsReport false (source_of text) (run_text_of text) (string_bytes report.text))) }
+    ensures stop { IfErr result (Stops (λ fault. IfSome (I.remaining input.old) (λ text. IsTrueRefusal false (source_of text) (run_text_of text) fault))) }
 {
     let text = read_whole(alloc, input, Fault::Source(AsmFault::Memory))?;
     let (run, source) = parted(text.as_slice());
@@ -101,7 +117,8 @@ fn stored_report<I: Read>(alloc: Global, input: &mut I) -> Result<Report, Stop>
 
 /// The report of a source and a run file. Both are read before either is judged.
 fn source_report<F: Opener>(alloc: Global, files: &F, file: &str, run: &str) -> Result<Report, Stop>
-    ensures { IfSome (F.file_bytes files.now file.now) (λ source. IfSome (F.file_bytes files.now run.now) (λ said. IfOk result (λ report. IsReport false source said (string_bytes report.text)))) }
+    ensures report { IfSome (F.file_bytes files.now file.now) (λ source. IfSome (F.file_bytes files.now run.now) (λ said. IfOk result (λ report. IsReport false source said (string_bytes report.text)))) }
+    ensures stop { IfErr result (Stops (IsTrueOfFiles false (F.file_bytes files.now file.now) (F.file_bytes files.now run.now))) }
 {
     let source = read_source(alloc, files, file)?;
     let run = read_file(alloc, files, run, Fault::Run(RunFault::Memory))?;
@@ -110,7 +127,8 @@ fn source_report<F: Opener>(alloc: Global, files: &F, file: &str, run: &str) -> 
 
 /// The report of a HEX text and a run file. Both are read before either is judged.
 fn hex_report<F: Opener>(alloc: Global, files: &F, file: &str, run: &str) -> Result<Report, Stop>
-    ensures { IfSome (F.file_bytes files.now file.now) (λ text. IfSome (F.file_bytes files.now run.now) (λ said. IfOk result (λ report. IsReport true text said (string_bytes report.text)))) }
+    ensures report { IfSome (F.file_bytes files.now file.now) (λ text. IfSome (F.file_bytes files.now run.now) (λ said. IfOk result (λ report. IsReport true text said (string_bytes report.text)))) }
+    ensures stop { IfErr result (Stops (IsTrueOfFiles true (F.file_bytes files.now file.now) (F.file_bytes files.now run.now))) }
 {
     let text = read_file(alloc, files, file, Fault::Hex(HexFault::Memory))?;
     let run = read_file(alloc, files, run, Fault::Run(RunFault::Memory))?;
@@ -124,7 +142,8 @@ fn print_hex<F: Opener, O: Write>(
     file: &str,
     out: &mut O,
 ) -> Result<(), Stop>
-    ensures { OnOk result (IfSome (F.file_bytes files.now file.now) (λ source. AppendsA (IsHexOf source) (O.contents out.old) (O.contents out.new))) }
+    ensures printed { OnOk result (IfSome (F.file_bytes files.now file.now) (λ source. AppendsA (IsHexOf source) (O.contents out.old) (O.contents out.new))) }
+    ensures stop { IfErr result (Stops (λ fault. IfSome (F.file_bytes files.now file.now) (λ source. IsTrueOfText source fault))) }
 {
     let source = read_source(alloc, files, file)?;
     let listing = match assemble(alloc, source.as_slice()) {
@@ -144,7 +163,8 @@ fn print_listing<F: Opener, O: Write>(
     file: &str,
     out: &mut O,
 ) -> Result<(), Stop>
-    ensures { OnOk result (IfSome (F.file_bytes files.now file.now) (λ source. AppendsA (IsListingOf source) (O.contents out.old) (O.contents out.new))) }
+    ensures printed { OnOk result (IfSome (F.file_bytes files.now file.now) (λ source. AppendsA (IsListingOf source) (O.contents out.old) (O.contents out.new))) }
+    ensures stop { IfErr result (Stops (λ fault. IfSome (F.file_bytes files.now file.now) (λ source. IsTrueOfText source fault))) }
 {
     let source = read_source(alloc, files, file)?;
     let text = listing_text(alloc, source.as_slice())?;
@@ -202,14 +222,16 @@ fn first_line_end(text: &[u8]) -> Option<usize>
 
 /// Prints a report.
 fn print_report<W: Write>(to: &mut W, report: Report) -> Result<(), Stop>
-    ensures { OnOk result (Appends (W.contents to.old) (W.contents to.new) (string_bytes report.text)) }
+    ensures printed { OnOk result (Appends (W.contents to.old) (W.contents to.new) (string_bytes report.text)) }
+    ensures stop { IfErr result IsUnjudged }
 {
     print(to, report.text.as_str())
 }
 
 /// Prints a text.
 fn print<W: Write>(to: &mut W, text: &str) -> Result<(), Stop>
-    ensures { OnOk result (Appends (W.contents to.old) (W.contents to.new) text.now) }
+    ensures printed { OnOk result (Appends (W.contents to.old) (W.contents to.new) text.now) }
+    ensures stop { IfErr result IsUnjudged }
 {
     match to.write_all(text.as_bytes()) {
         Ok(()) => finish(to),
@@ -219,7 +241,8 @@ fn print<W: Write>(to: &mut W, text: &str) -> Result<(), Stop>
 
 /// Sees to it that what was written reaches its end.
 fn finish<W: Write>(to: &mut W) -> Result<(), Stop>
-    ensures { OnOk result (Keeps (W.contents to.old) (W.contents to.new)) }
+    ensures kept { OnOk result (Keeps (W.contents to.old) (W.contents to.new)) }
+    ensures stop { IfErr result IsUnjudged }
 {
     match to.flush() {
         Ok(()) => Ok(()),
@@ -233,6 +256,8 @@ fn told<W: Write>(err: &mut W, text: &str, status: u8) -> u8
     requires within { status ≤ 3 }
     ensures above { 0 < result }
     ensures within { result ≤ 3 }
+    ensures status { result < 3 → result ≡ status }
+    ensures told { result < 3 → Appends (W.contents err.old) (W.contents err.new) text.now }
 {
     match tell(err, text) {
         Ok(()) => status,
@@ -240,7 +265,9 @@ fn told<W: Write>(err: &mut W, text: &str, status: u8) -> u8
     }
 }
 
-fn tell<W: Write>(err: &mut W, text: &str) -> io::Result<()> {
+fn tell<W: Write>(err: &mut W, text: &str) -> io::Result<()>
+    ensures { OnOk result (Appends (W.contents err.old) (W.contents err.new) text.now) }
+{
     err.write_all(text.as_bytes())?;
     err.flush()
 }
@@ -249,6 +276,8 @@ fn tell<W: Write>(err: &mut W, text: &str) -> io::Result<()> {
 fn refused<W: Write>(alloc: Global, err: &mut W, fault: Fault) -> u8
     ensures above { 0 < result }
     ensures within { result ≤ 3 }
+    ensures status { result ≢ 2 }
+    ensures told { result ≡ 1 → Appends (W.contents err.old) (W.contents err.new) (fault_text fault) ⊎ Keeps (W.contents err.old) (W.contents err.new) }
 {
     match fault_text(alloc, fault) {
         Ok(text) => told(err, text.as_str(), 1),

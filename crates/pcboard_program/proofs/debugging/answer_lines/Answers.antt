@@ -5,17 +5,17 @@ use Rattle.pcboard_program.proofs.Listed.{holds_none}
 use Rattle.pcboard_program.proofs.Sessions.{printed_all, printed_more, printed_quit}
 use Rattle.pcboard_program.proofs.debugging.answer_lines.Goals as goal
 
-pub returns-in_default : goal.returns-in_default
-returns-in_default g c =
+pub returns-in_default-clause-transcript : goal.returns-in_default-clause-transcript
+returns-in_default-clause-transcript g c =
     let takes = subst (λ line. TakesLine (g.I.Read.remaining c.lines.input) (g.I.Read.remaining c.next_line.new.input) (option_map vec_items line))
-    (holds_none c.in_ok-line.field-0 c.in_default.not-Some) c.in_ok-line.ensures in
+    (holds_none c.in_ok-line.field-0 c.in_default.not-Some) c.in_ok-line.ensures.line in
     printed_all c.args.session.now c.lines.session (g.I.Read.remaining c.args.input.now) (g.I.Read.remaining c.lines.input) (g.I.Read.remaining c.next_line.new.input)
     (g.O.Write.contents c.args.out.now) (g.O.Write.contents c.lines.out) c.lines.invariant takes
 
-pub returns-then-ends_session : goal.returns-then-ends_session
-returns-then-ends_session g c =
+pub returns-then-ends_session-clause-transcript : goal.returns-then-ends_session-clause-transcript
+returns-then-ends_session-clause-transcript g c =
     let takes = subst (λ line. TakesLine (g.I.Read.remaining c.lines.input) (g.I.Read.remaining c.next_line.new.input) (option_map vec_items line))
-    c.in-Some.is c.in_ok-line.ensures in
+    c.in-Some.is c.in_ok-line.ensures.line in
     let quits : ends_session c.in-Some.line.items ≡ true = sym (c.if-ends_session.ensures ∙ ap ends_session c.as_slice.ensures.value) in
     printed_quit c.args.session.now c.lines.session (g.I.Read.remaining c.args.input.now) (g.I.Read.remaining c.lines.input) (g.I.Read.remaining c.next_line.new.input)
     (g.O.Write.contents c.args.out.now) (g.O.Write.contents c.lines.out) c.in-Some.line.items c.lines.invariant takes quits
@@ -23,7 +23,7 @@ returns-then-ends_session g c =
 pub lines-preserved : goal.lines-preserved
 lines-preserved g c =
     let takes = subst (λ line. TakesLine (g.I.Read.remaining c.lines.input) (g.I.Read.remaining c.next_line.new.input) (option_map vec_items line))
-    c.in-Some.is c.in_ok-line.ensures in
+    c.in-Some.is c.in_ok-line.ensures.line in
     let goes : ends_session c.in-Some.line.items ≡ false = sym (c.if-ends_session.ensures ∙ ap ends_session c.as_slice.ensures.value) in
     let answers = subst (λ line. AnswersLine (typed_command line) c.lines.session c.reply_to-reply.result c.reply_to-reply.new.session)
     c.as_slice-in-lines.ensures.value c.reply_to-reply.ensures in

@@ -5,22 +5,22 @@ use Rattle.pcboard_program.proofs.Sessions.{differs, is_empty_line, isnt_empty_l
 use Rattle.pcboard_program.proofs.debugging.next_line.Goals as goal
 use Rattle.pcboard_program.proofs.debugging.next_line.Goals.{then-is_empty, else-is_empty}
 
-pub returns-then-byte-eq10 : goal.returns-then-byte-eq10
-returns-then-byte-eq10 g c =
-    let takes = subst (TakesByte (g.I.Read.remaining c.bytes.input) (g.I.Read.remaining c.next_byte.new.input)) c.in-Some.is c.in_ok-byte.ensures in
+pub returns-then-byte-eq10-clause-line : goal.returns-then-byte-eq10-clause-line
+returns-then-byte-eq10-clause-line g c =
+    let takes = subst (TakesByte (g.I.Read.remaining c.bytes.input) (g.I.Read.remaining c.next_byte.new.input)) c.in-Some.is c.in_ok-byte.ensures.byte in
     line_ends (g.I.Read.remaining c.args.input.now) (g.I.Read.remaining c.bytes.input) (g.I.Read.remaining c.next_byte.new.input)
     c.bytes.line.items c.in-Some.byte c.bytes.invariant takes c.if-byte-eq10.true
 
 pub bytes-preserved : goal.bytes-preserved
 bytes-preserved g c =
-    let takes = subst (TakesByte (g.I.Read.remaining c.bytes.input) (g.I.Read.remaining c.next_byte.new.input)) c.in-Some.is c.in_ok-byte.ensures in
+    let takes = subst (TakesByte (g.I.Read.remaining c.bytes.input) (g.I.Read.remaining c.next_byte.new.input)) c.in-Some.is c.in_ok-byte.ensures.byte in
     line_grows (g.I.Read.remaining c.args.input.now) (g.I.Read.remaining c.bytes.input) (g.I.Read.remaining c.next_byte.new.input)
-    c.bytes.line.items c.push.new.line.items c.in-Some.byte c.bytes.invariant takes (differs c.in-Some.byte 10 c.if-byte-eq10.false) c.in_ok-push.ensures
+    c.bytes.line.items c.push.new.line.items c.in-Some.byte c.bytes.invariant takes (differs c.in-Some.byte 10 c.if-byte-eq10.false) c.in_ok-push.ensures.pushed
 
-pub returns-in_default : goal.returns-in_default
-returns-in_default g c =
+pub returns-in_default-clause-line : goal.returns-in_default-clause-line
+returns-in_default-clause-line g c =
     let takes = subst (TakesByte (g.I.Read.remaining c.bytes.input) (g.I.Read.remaining c.next_byte.new.input))
-    (holds_none c.in_ok-byte.field-0 c.in_default.not-Some) c.in_ok-byte.ensures in
+    (holds_none c.in_ok-byte.field-0 c.in_default.not-Some) c.in_ok-byte.ensures.byte in
     elim c.if-is_empty.branch [
       | then-is_empty w ↦ rw w.result-is (line_none (g.I.Read.remaining c.args.input.now) (g.I.Read.remaining c.bytes.input) (g.I.Read.remaining c.next_byte.new.input)
           c.bytes.line.items c.bytes.invariant takes (is_empty_line c.bytes.line.len (length c.bytes.line.items) c.bytes.line.ok.0 (sym c.is_empty.ensures ∙ w.if-is_empty.true)))

@@ -17,10 +17,10 @@ loop-i-preserved c = λ rows are.
     sym (c.in_ok-line.ensures.line rows are) ∙ ap (option_map string_bytes) c.in-Some.is in
     shows_more c.args.listing.now.names (text_lines c.args.listing.now.source) rows c.loop-i.i (string_bytes c.loop-i.text) (string_bytes c.in-Some.line)
     (string_bytes c.push_line.new.text) (listing_text c.args.listing.now.names (text_lines c.args.listing.now.source) rows) is
-    (c.in_ok-push_line.ensures ∙ ap (λ (l : List ℕ). string_bytes c.loop-i.text ++ (l ++ 10 ∷ [])) c.deref.ensures) (c.loop-i.invariant rows are)
+    (c.in_ok-push_line.ensures.line ∙ ap (λ (l : List ℕ). string_bytes c.loop-i.text ++ (l ++ 10 ∷ [])) c.deref.ensures) (c.loop-i.invariant rows are)
 
-pub returns : goal.returns
-returns c =
+pub returns-clause-listing : goal.returns-clause-listing
+returns-clause-listing c =
     let texts : List (List _) = text_lines c.args.listing.now.source in
     let rows : List Row = c.requires.gives.rows in
     let shown = shows_all c.args.listing.now.names (names_of rows) texts rows c.loop-i.i (string_bytes c.loop-i.text)

@@ -1,0 +1,50 @@
+-- What the program tells where it gives no answer.
+-- To be believed: public contracts say what they say by these definitions.
+use Rattle.std.specs.Prelude.{ℕ, ◌⊎◌, Bool, false, List, Option, IfSome, Ok, Err, string_bytes}
+use Rattle.std.specs.Io.KnownBytes.{Appends, Keeps}
+use Rattle.assembler.specs.FirstFault.{IsFirst}
+use Rattle.pcboard_words.specs.CommandLine.{Answers as AnswersWords}
+use Rattle.pcboard_words.specs.declared.task.LineFault.{LineFault}
+use Rattle.pcboard_words.specs.declared.task.LineFault.TheVariants.{Usage, Memory}
+use Rattle.pcboard_words.specs.declared.task.Task.{Task}
+use Rattle.pcboard_words.specs.declared.task.Task.TheVariants as tasks
+use Rattle.pcboard_program.specs.declared.fault.Fault.{Fault}
+use Rattle.pcboard_program.specs.declared.fault.Fault.TheVariants.{Source, Hex, Run, Board}
+use Rattle.pcboard_program.specs.Faults.{IsWantOfMemory, fault_text}
+use Rattle.pcboard_program.specs.Answer.{IsTrueRefusal, run_text_of, source_of}
+
+-- a refusal is true of a source that is to be assembled: it is its first fault
+abbrev pub IsTrueOfText : List ℕ → Fault → Type 0
+IsTrueOfText source (Source fault) = IsFirst source fault
+IsTrueOfText source (Hex fault) = ⊥
+IsTrueOfText source (Run fault) = ⊥
+IsTrueOfText source (Board fault) = ⊥
+
+-- a refusal is true of the bytes of a program and of a run file, where these are known
+abbrev pub IsTrueOfFiles : Bool → Option (List ℕ) → Option (List ℕ) → Fault → Type 0
+IsTrueOfFiles hex file run fault = IfSome file (λ bytes. IfSome run (λ said. IsTrueRefusal hex bytes said fault))
+
+-- a refusal is true of a task, where the files and the input that it is judged by are known
+abbrev pub IsTrueOfTask : Task → (List ℕ → Option (List ℕ)) → Option (List ℕ) → Fault → Type 0
+IsTrueOfTask tasks.Stored files input fault = IfSome input (λ text. IsTrueRefusal false (source_of text) (run_text_of text) fault)
+IsTrueOfTask (tasks.Asm file list) files input fault = IfSome (files file.now) (λ source. IsTrueOfText source fault)
+IsTrueOfTask (tasks.Run file run hex) files input fault = IsTrueOfFiles hex (files file.now) (files run.now) fault
+IsTrueOfTask (tasks.Debug file run hex) files input fault = IsTrueOfFiles hex (files file.now) (files run.now) fault
+
+-- The refusal is a want of memory, which may come at any words; or the words name a task, and it is true of that.
+abbrev pub IsTrueOfWords : List (List ℕ) → (List ℕ → Option (List ℕ)) → Option (List ℕ) → Fault → Type 0
+IsTrueOfWords words files input fault =
+    IsWantOfMemory fault ⊎ ((task : Task) × AnswersWords words (Ok task) × IsTrueOfTask task files input fault)
+
+-- the known bytes grow by the line of such a refusal, or stay where the line itself finds no memory
+abbrev pub TellsA : (Fault → Type 0) → Option (List ℕ) → Option (List ℕ) → Type 0
+TellsA Is old new = (fault : Fault) × Is fault × (Appends old new (fault_text fault) ⊎ Keeps old new)
+
+-- the known bytes grow by the text of words that name no task
+abbrev pub TellsUsage : LineFault → Option (List ℕ) → Option (List ℕ) → Type 0
+TellsUsage (Usage text) old new = Appends old new (string_bytes text)
+TellsUsage Memory old new = ⊥
+
+-- the words name no task, and the known bytes grow by the text that says so
+abbrev pub RefusesWords : List (List ℕ) → Option (List ℕ) → Option (List ℕ) → Type 0
+RefusesWords words old new = (fault : LineFault) × AnswersWords words (Err fault) × TellsUsage fault old new
