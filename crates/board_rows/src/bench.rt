@@ -1,5 +1,6 @@
 //! The steps of a row, one after another.
 use crate::words::Words;
+use anyhow::{Result, ensure};
 
 /// What a row's steps are made on.
 pub trait Bench {
@@ -7,14 +8,12 @@ pub trait Bench {
     fn make(&mut self, verb: &str, words: Words) -> Option<bool>;
 }
 
-/// Makes `steps`, parted by semicolons, up to the first that doesn't come out, which is the error.
-pub fn follow<'a, B: Bench>(bench: &mut B, steps: &'a str) -> Result<(), &'a str> {
+/// Makes `steps`, parted by semicolons, up to the first that doesn't come out, which the error names.
+pub fn follow<B: Bench>(bench: &mut B, steps: &str) -> Result<()> {
     for step in steps.split(';') {
         let mut words = Words(step);
         let verb = words.word().unwrap_or("");
-        if bench.make(verb, words) != Some(true) {
-            return Err(step);
-        }
+        ensure!(bench.make(verb, words) == Some(true), "{step}");
     }
     Ok(())
 }

@@ -1,10 +1,8 @@
-//! Rows of outside values for the system board. Reads rows from standard input, prints the first rows that differ,
-//! each with its line's number and the step that didn't come out, and then how many rows there were and how many of
-//! them differ. A row that can't be read differs.
+//! Rows of outside values for the system board. Of a row that differs the step that didn't come out is printed.
 //!
-//! A row is one line: `chips` or `board`, a colon, and steps parted by semicolons, each a verb and its words. A blank
-//! line and a line that begins with `#` are no rows. Ports, addresses, bytes and registers are hexadecimal; clocks,
-//! counts, sizes in KB, fault numbers and the screen's lines, from 0, are decimal. Levels are `H` and `L`.
+//! A row is one line: `chips` or `board`, a colon, and steps parted by semicolons, each a verb and its words. Ports,
+//! addresses, bytes and registers are hexadecimal; clocks, counts, sizes in KB, fault numbers and the screen's lines,
+//! from 0, are decimal. Levels are `H` and `L`.
 //!
 //! Before the chips or the board are made: `put ADDRESS BYTE ..` into the image, from the address on,
 //! `keys STAMP CODE ..`, `switches SW1 SW2`, and `ram KB taken`, which makes them, or `ram KB FAULT`, which is
@@ -31,44 +29,24 @@ mod stops;
 mod trail;
 mod words;
 
+use anyhow::{Context, Result, bail};
 use bench::follow;
 use boards::BoardBench;
 use chips::ChipsBench;
+use rows::judge_rows;
 use std::alloc::Global;
 use std::io;
 
-/// How many rows that differ are printed.
-const SHOWN: u64 = 20;
-
 fn main(rt: HostRuntime) -> io::Result<()> {
-    let alloc = rt.alloc();
-    let mut rows = 0u64;
-    let mut differing = 0u64;
-    let mut number = 0u64;
-    for line in rt.lines(alloc) {
-        let line = line?;
-        number = number.saturating_add(1);
-        if line.is_empty() || line.starts_with('#') {
-            continue;
-        }
-        rows = rows.saturating_add(1);
-        if let Err(step) = judge(alloc, &line) {
-            differing = differing.saturating_add(1);
-            if differing <= SHOWN {
-                println!(rt; "line {number}: {step}")?;
-            }
-        }
-    }
-    println!(rt; "{rows} rows, {differing} differ")?;
-    Ok(())
+    judge_rows(&rt, judge)
 }
 
 /// Makes a row's steps. Fails with the first that doesn't come out.
-fn judge(alloc: Global, row: &str) -> Result<(), &str> {
-    let (name, steps) = row.split_once(':').ok_or(row)?;
+fn judge(alloc: Global, row: &str) -> Result<()> {
+    let (name, steps) = row.split_once(':').context("no colon")?;
     match name {
         "chips" => follow(&mut ChipsBench::new(alloc), steps),
         "board" => follow(&mut BoardBench::new(alloc), steps),
-        _ => Err(name),
+        _ => bail!("nothing has this name"),
     }
 }

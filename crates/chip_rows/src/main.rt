@@ -1,11 +1,9 @@
 //! Rows of outside values for the chips: each row makes steps on a chip of its own and says what it must answer.
-//! Reads rows from standard input, prints the first rows that differ, each with its line's number, and then how many
-//! rows there were and how many of them differ. A row that can't be read differs.
 //!
-//! A row is one line: the name of what it is made on, a colon, and steps parted by semicolons. A blank line and a
-//! line that begins with `#` are no rows. A step is a verb, the place where it has one, and values, one access for
-//! each: what is written, or what is wanted of the answer. Levels are `H` and `L`. Numbers are hexadecimal, but
-//! decimal where (decimal) stands below; the answer that came is printed in hexadecimal, `none` as 2^63.
+//! A row is one line: the name of what it is made on, a colon, and steps parted by semicolons. A step is a verb, the
+//! place where it has one, and values, one access for each: what is written, or what is wanted of the answer. Levels
+//! are `H` and `L`. Numbers are hexadecimal, but decimal where (decimal) stands below; the answer that came is printed
+//! in hexadecimal, `none` as 2^63.
 //!
 //! `pit`, an 8253 at power-on: `write PORT BYTE ..`, `read PORT BYTE ..`, `gate N LEVEL`, `tick TICKS` (decimal),
 //! `out N LEVEL`, `wave N LEVEL ..` (OUT after a tick for each level) and `each N BYTE-LEVEL ..`, as `each 0 03L 02H`
@@ -46,33 +44,13 @@ use chips::Port;
 use memories::{Keyboards, Memories};
 use pic8259::controller::Pic;
 use pit8253::pit::Pit;
+use rows::judge_rows;
 use std::alloc::Global;
+use std::io;
 use words::{KeyCodes, Words};
 
-/// How many rows that differ are printed.
-const SHOWN: u64 = 20;
-
-fn main(rt: HostRuntime) -> Result<()> {
-    let alloc = rt.alloc();
-    let mut rows = 0u64;
-    let mut differing = 0u64;
-    let mut number = 0u64;
-    for line in rt.lines(alloc) {
-        let line = line?;
-        number = number.saturating_add(1);
-        if line.is_empty() || line.starts_with('#') {
-            continue;
-        }
-        rows = rows.saturating_add(1);
-        if let Err(difference) = judge(alloc, &line) {
-            differing = differing.saturating_add(1);
-            if differing <= SHOWN {
-                println!(rt; "line {number}: {difference:#}")?;
-            }
-        }
-    }
-    println!(rt; "{rows} rows, {differing} differ")?;
-    Ok(())
+fn main(rt: HostRuntime) -> io::Result<()> {
+    judge_rows(&rt, judge)
 }
 
 /// Makes a row's steps. Fails with the first step that differs or can't be read.

@@ -1,6 +1,4 @@
-//! Rows of outside values for the instructions: reads lines from standard input, prints the first that differ, each
-//! with its number, and then how many lines there were and how many of them differ. A line that can't be read differs.
-//! A blank line and a line that begins with `#` don't count.
+//! Rows of outside values for the instructions. A row is one line:
 //!
 //! `IP BYTES LENGTH TEXT`, `IP BYTES LENGTH` or `IP BYTES none`: the instruction that stands at the offset IP, how many
 //! bytes it has, and its text, one blank behind the length. Its bytes, encoded again, must be those that stand there.
@@ -15,30 +13,10 @@
 mod code;
 mod judge;
 
-use anyhow::Result;
 use judge::judge;
-use std::io::{BufRead, BufReader};
+use rows::judge_rows;
+use std::io;
 
-/// How many lines that differ are printed.
-const SHOWN: u64 = 20;
-
-fn main(rt: HostRuntime) -> Result<()> {
-    let alloc = rt.alloc();
-    let mut lines = 0u64;
-    let mut differing = 0u64;
-    for (i, line) in BufReader::new(alloc, rt.reader())?.lines(alloc).enumerate() {
-        let line = line?;
-        if line.trim().is_empty() || line.starts_with('#') {
-            continue;
-        }
-        lines = lines.saturating_add(1);
-        if let Err(difference) = judge(alloc, &line) {
-            differing = differing.saturating_add(1);
-            if differing <= SHOWN {
-                println!(rt; "line {}: {difference:#}", i + 1)?;
-            }
-        }
-    }
-    println!(rt; "{lines} lines, {differing} differ")?;
-    Ok(())
+fn main(rt: HostRuntime) -> io::Result<()> {
+    judge_rows(&rt, judge)
 }

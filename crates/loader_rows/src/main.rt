@@ -1,9 +1,7 @@
-//! Texts with what the loader must make of them. Reads rows from standard input, prints the first rows that differ,
-//! each with its line's number, and then how many rows there were and how many of them differ. A row that can't be
-//! read differs.
+//! Rows of texts, each with what the loader must make of it.
 //!
 //! A row is one line, `KIND: TEXT => ANSWER`. In TEXT and ANSWER `|` stands for a line feed and `^` for a carriage
-//! return. A blank line and a line that begins with `#` are no rows.
+//! return.
 //!
 //! `hex`: a HEX text. The answer is the HEX text that is written of the image that it gives, or its fault's number,
 //! behind it a blank and the fault's line where it has one.
@@ -18,32 +16,12 @@ use loader::hex_reader::read_hex;
 use loader::hex_writer::write_hex;
 use loader::run_file::RunFile;
 use loader::run_reader::read_run_text;
+use rows::judge_rows;
 use std::alloc::{AllocError, Global};
+use std::io;
 
-/// How many rows that differ are printed.
-const SHOWN: u64 = 20;
-
-fn main(rt: HostRuntime) -> Result<()> {
-    let alloc = rt.alloc();
-    let mut rows = 0u64;
-    let mut differing = 0u64;
-    let mut number = 0u64;
-    for line in rt.lines(alloc) {
-        let line = line?;
-        number = number.saturating_add(1);
-        if line.is_empty() || line.starts_with('#') {
-            continue;
-        }
-        rows = rows.saturating_add(1);
-        if let Err(difference) = judge(alloc, &line) {
-            differing = differing.saturating_add(1);
-            if differing <= SHOWN {
-                println!(rt; "line {number}: {difference:#}")?;
-            }
-        }
-    }
-    println!(rt; "{rows} rows, {differing} differ")?;
-    Ok(())
+fn main(rt: HostRuntime) -> io::Result<()> {
+    judge_rows(&rt, judge)
 }
 
 /// Fails where a row's answer is another one, or the row can't be read.

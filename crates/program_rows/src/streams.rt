@@ -1,15 +1,11 @@
-//! Readers and writers of a row's texts, in which `|` stands for a line feed, and which can fail.
+//! Readers and writers of a row's texts, which can fail.
+use crate::plain::Plain;
 use std::alloc::Global;
 use std::io;
 use std::io::{Read, Write};
 
 /// How many bytes a read gives or a write takes at most, so that most calls are made in parts.
 const PIECE: usize = 7;
-
-/// The byte that a byte of a row's text stands for.
-fn plain(byte: u8) -> u8 {
-    if byte == b'|' { b'\n' } else { byte }
-}
 
 fn failure() -> io::Error {
     io::Error::from(io::ErrorKind::Other)
@@ -18,7 +14,7 @@ fn failure() -> io::Error {
 /// A text to be read, a few bytes at a time.
 #[derive(Drop)]
 pub struct Input<'a> {
-    rest: &'a [u8],
+    text: Plain<'a>,
     reads: u64,
 }
 
@@ -26,7 +22,7 @@ impl<'a> Input<'a> {
     /// The read after this many fails.
     pub fn new(text: &'a str, reads: Option<u64>) -> Self {
         Input {
-            rest: text.as_bytes(),
+            text: Plain::new(text),
             reads: reads.unwrap_or(u64::MAX),
         }
     }
@@ -38,11 +34,13 @@ impl Read for Input<'_> {
             return Err(failure());
         }
         self.reads -= 1;
-        let size = self.rest.len().min(buf.len()).min(PIECE);
+        let size = buf.len().min(PIECE);
         for at in 0..size {
-            buf[at] = plain(self.rest[at]);
+            let Some(byte) = self.text.next_byte() else {
+                return Ok(at);
+            };
+            buf[at] = byte;
         }
-        self.rest = &self.rest[size..];
         Ok(size)
     }
 }
@@ -65,24 +63,29 @@ impl Output {
 
     /// Whether what was written begins with this text.
     pub fn begins(&self, text: &str) -> bool {
-        let bytes = self.bytes.as_slice();
-        if bytes.len() < text.len() {
-            return false;
-        }
-        for (byte, wanted) in bytes.iter().zip(text.as_bytes()) {
-            if *byte != plain(*wanted) {
-                return false;
+        let mut wanted = Plain::new(text);
+        for byte in self.bytes.as_slice() {
+            match wanted.next_byte() {
+                Some(now) if now == *byte => {}
+                Some(_) => return false,
+                None => return true,
             }
         }
-        true
+        wanted.next_byte().is_none()
     }
 
     /// Whether this text was written, and no more.
     pub fn is(&self, text: &str) -> bool {
-        self.bytes.len() == text.len() && self.begins(text)
+        let mut wanted = Plain::new(text);
+        for byte in self.bytes.as_slice() {
+            if wanted.next_byte() != Some(*byte) {
+                return false;
+            }
+        }
+        wanted.next_byte().is_none()
     }
 
-    /// Whether this text, of one line, stands in what was written.
+    /// Whether this text, of one line and without a backslash, stands in what was written.
     pub fn has(&self, text: &str) -> bool {
         self.bytes
             .as_slice()

@@ -12,19 +12,11 @@ use execute::boundary::{Boundary, Cause};
 use execute::cpu::Cpu;
 use execute::port_writes::port_writes;
 use execute::step::{again, enter, step};
+use rows::Line;
 use std::alloc::{AllocError, Global};
 
 /// The type of the interrupt that a single step enters.
 const SINGLE_STEP: u8 = 1;
-
-/// What a line is for.
-#[derive(Clone, Copy)]
-pub enum Line {
-    /// It sets the processor or memory up.
-    Setting,
-    /// It tells what the processor does.
-    Doing,
-}
 
 /// What was done at a boundary: the clocks that it took, and the port writes that were told before it.
 #[derive(Drop)]
@@ -41,6 +33,7 @@ pub struct Bench {
 }
 
 impl Bench {
+    /// A bench whose registers and memory are all 0.
     pub fn new(alloc: Global) -> Result<Bench, AllocError> {
         Ok(Bench {
             cpu: Cpu::new(Regs::default()),
@@ -69,7 +62,7 @@ impl Bench {
         } else {
             self.make_step(alloc, name, &fields)?;
         }
-        Ok(Line::Doing)
+        Ok(Line::Row)
     }
 
     /// A new processor with these registers, over clear memory.

@@ -1,6 +1,4 @@
-//! The processor against outside values: reads lines from standard input, prints the first that differ, each with its
-//! number, and then how many lines there were that tell what the processor does and how many of them differ. A line
-//! that can't be read differs. A blank line and a line that begins with `#` don't count.
+//! Rows of outside values for the processor. The lines `case`, `begin` and `memory` are no rows: they only set it up.
 //!
 //! One step, over memory where every address takes a byte:
 //!
@@ -32,35 +30,11 @@ mod judge;
 mod ram;
 mod words;
 
-use anyhow::Result;
-use bench::{Bench, Line};
-use std::io::{BufRead, BufReader};
+use bench::Bench;
+use rows::judge_rows;
+use std::io;
 
-/// How many lines that differ are printed.
-const SHOWN: u64 = 20;
-
-fn main(rt: HostRuntime) -> Result<()> {
-    let alloc = rt.alloc();
-    let mut bench = Bench::new(alloc)?;
-    let mut lines = 0u64;
-    let mut differing = 0u64;
-    for (i, line) in BufReader::new(alloc, rt.reader())?.lines(alloc).enumerate() {
-        let line = line?;
-        if line.trim().is_empty() || line.starts_with('#') {
-            continue;
-        }
-        match bench.follow_line(alloc, &line) {
-            Ok(Line::Setting) => {}
-            Ok(Line::Doing) => lines = lines.saturating_add(1),
-            Err(difference) => {
-                lines = lines.saturating_add(1);
-                differing = differing.saturating_add(1);
-                if differing <= SHOWN {
-                    println!(rt; "line {}: {difference:#}", i + 1)?;
-                }
-            }
-        }
-    }
-    println!(rt; "{lines} lines, {differing} differ")?;
-    Ok(())
+fn main(rt: HostRuntime) -> io::Result<()> {
+    let mut bench = Bench::new(rt.alloc())?;
+    judge_rows(&rt, |alloc, line| bench.follow_line(alloc, line))
 }

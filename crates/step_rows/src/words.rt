@@ -23,6 +23,7 @@ pub const NAMES: [&str; 14] = [
     "the flags",
 ];
 
+/// Reads the 14 hexadecimal words of a row's registers; refused where there are more or fewer.
 pub fn read_words(text: &str) -> Result<[u16; 14]> {
     let mut words = [0u16; 14];
     let mut count = 0usize;
@@ -39,6 +40,7 @@ pub fn read_words(text: &str) -> Result<[u16; 14]> {
     Ok(words)
 }
 
+/// The registers in a row's order.
 pub fn words_of(regs: Regs) -> [u16; 14] {
     [
         regs.ax,
@@ -58,6 +60,7 @@ pub fn words_of(regs: Regs) -> [u16; 14] {
     ]
 }
 
+/// Reads the registers of a row.
 pub fn read_regs(text: &str) -> Result<Regs> {
     let [ax, cx, dx, bx, sp, bp, si, di, es, cs, ss, ds, ip, word] = read_words(text)?;
     Ok(Regs {

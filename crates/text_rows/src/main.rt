@@ -1,40 +1,18 @@
-//! Lines of the assembler's dialect with what they are by themselves. Reads rows from standard input, prints the first
-//! that differ, each with its line's number, and then how many rows there were and how many of them differ.
+//! Rows of lines of the assembler's dialect, each with what it is by itself.
 //!
 //! A row is one line, `ANSWER TEXT`: `2`, `3` or `4` where the text has that fault whatever the other lines are, `-`
-//! where it is a line of the dialect. In TEXT `^` stands for a carriage return. A blank line and a line that begins
-//! with `# ` are no rows.
+//! where it is a line of the dialect. In TEXT `^` stands for a carriage return.
 #![tactic(auto)]
 
 use anyhow::{Context, Result, bail};
 use assembler_lexeme::fault::{LineError, LineFault};
 use assembler_text::read::read_line;
+use rows::judge_rows;
 use std::alloc::Global;
+use std::io;
 
-/// How many rows that differ are printed.
-const SHOWN: u64 = 20;
-
-fn main(rt: HostRuntime) -> Result<()> {
-    let alloc = rt.alloc();
-    let mut rows = 0u64;
-    let mut differing = 0u64;
-    let mut number = 0u64;
-    for line in rt.lines(alloc) {
-        let line = line?;
-        number = number.saturating_add(1);
-        if line.is_empty() || line.starts_with("# ") {
-            continue;
-        }
-        rows = rows.saturating_add(1);
-        if let Err(difference) = judge(alloc, &line) {
-            differing = differing.saturating_add(1);
-            if differing <= SHOWN {
-                println!(rt; "line {number}: {difference:#}")?;
-            }
-        }
-    }
-    println!(rt; "{rows} rows, {differing} differ")?;
-    Ok(())
+fn main(rt: HostRuntime) -> io::Result<()> {
+    judge_rows(&rt, judge)
 }
 
 /// Fails where a row's answer is another one, or the row can't be read.
