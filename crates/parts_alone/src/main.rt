@@ -1,0 +1,99 @@
+//! Four parts of the board, each used alone: the interrupt controller, the timer, the assembler and the board itself.
+//! A module each, written to be copied; docs/PARTS.md goes with them.
+#![tactic(auto)]
+
+mod controller;
+mod machine;
+mod source;
+mod timer;
+
+use anyhow::Result;
+use assembler::assembly::assemble;
+use board::board::Board;
+use board_types::clock::Clock;
+use board_types::keys::{KeyFault, Keys};
+use board_types::regs::Regs;
+use std::alloc::Global;
+use std::str;
+
+fn main(rt: HostRuntime) -> Result<()> {
+    print_vectors(&rt)?;
+    print_changes(&rt)?;
+    print_hex(&rt)?;
+    print_fault(&rt)?;
+    print_machine(&rt)
+}
+
+/// Lines 4 and 1 rise, at a base of 8.
+fn print_vectors(rt: &HostRuntime) -> Result<()> {
+    let (first, second) = controller::vectors_of(8, 1, 4);
+    println!(rt; "vectors {first:02X} {second:02X}")?;
+    Ok(())
+}
+
+/// Twenty ticks of a square wave of 7.
+fn print_changes(rt: &HostRuntime) -> Result<()> {
+    print!(rt; "OUT2 changes at ticks")?;
+    for tick in timer::square_changes(rt.alloc(), 7, 20)?.as_slice() {
+        print!(rt; " {tick}")?;
+    }
+    println!(rt; "")?;
+    Ok(())
+}
+
+/// A source of four bytes.
+fn print_hex(rt: &HostRuntime) -> Result<()> {
+    let text = source::hex_of(rt.alloc(), source::GOOD)?;
+    print!(rt; "{}", str::from_utf8(text.as_slice())?)?;
+    Ok(())
+}
+
+/// The same source with a name mistyped.
+fn print_fault(rt: &HostRuntime) -> Result<()> {
+    if let Err(fault) = source::hex_of(rt.alloc(), source::MISTYPED) {
+        println!(rt; "fault {} {}: {fault}", fault.number(), fault.name())?;
+    }
+    Ok(())
+}
+
+/// The machine's program, with the key A.
+fn print_machine(rt: &HostRuntime) -> Result<()> {
+    let alloc = rt.alloc();
+    let listing = assemble(alloc, machine::program())?;
+    let (board, _) = machine::run_to_halt(alloc, listing.image(), key_a(alloc)?, 1000)?;
+    print_board(rt, &board)
+}
+
+/// The key A, which goes down at clock 200 and up at clock 260.
+fn key_a(alloc: Global) -> Result<Keys, KeyFault> {
+    let mut keys = Keys::new(alloc);
+    keys.push(Clock::new(200).unwrap(), 0x1E)?;
+    keys.push(Clock::new(260).unwrap(), 0x9E)?;
+    Ok(keys)
+}
+
+/// Where the board stands, its registers, and the screen's first line.
+fn print_board(rt: &HostRuntime, board: &Board) -> Result<()> {
+    println!(rt; "{:?} at clock {}", board.state(), board.clock().get())?;
+    print_registers(rt, &board.regs())?;
+    println!(rt;
+        "screen {}",
+        board.screen()?.lines().next().unwrap_or("").trim()
+    )?;
+    Ok(())
+}
+
+fn print_registers(rt: &HostRuntime, regs: &Regs) -> Result<()> {
+    println!(rt;
+        "AX={:04X} BX={:04X} DX={:04X} DI={:04X}",
+        regs.ax, regs.bx, regs.dx, regs.di
+    )?;
+    println!(rt;
+        "CS={:04X} ES={:04X} IP={:04X} FL={:04X}",
+        regs.cs,
+        regs.es,
+        regs.ip,
+        regs.flags.word()
+    )?;
+    Ok(())
+}
