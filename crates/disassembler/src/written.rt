@@ -1,6 +1,6 @@
 //! What is written for the operands of an instruction.
 ghost use Rattle.std.specs.Prelude.{◌≡◌};
-ghost use Rattle.disassembler.specs.Written.{byte_operand, escape_operand, extended, far_size, memory_operand, size_beside, target_operand, tells_size, word_operand, written_operand};
+ghost use Rattle.disassembler.specs.Written.{byte_operand, byte_register, escape_operand, extended, far_size, memory_operand, segment_register, size_beside, target_operand, tells_size, word_operand, word_register, written_operand};
 
 use dialect::keyword::Keyword;
 use dialect::register::Register;
@@ -55,17 +55,13 @@ pub(crate) fn written_operand(
         Kind::Cl => Written::Register(Register::Byte(ByteRegister::Cl)),
         Kind::Dx => Written::Register(Register::Word(WordRegister::Dx)),
         Kind::One => Written::One,
-        Kind::Code8 => Written::Register(Register::Byte(ByteRegister::numbered(form.code))),
-        Kind::Code16 => Written::Register(Register::Word(WordRegister::numbered(form.code))),
-        Kind::CodeSegment | Kind::CodeSegmentNotCs => {
-            Written::Register(Register::Segment(SegmentRegister::numbered(form.code)))
-        }
+        Kind::Code8 => byte_register(form.code),
+        Kind::Code16 => word_register(form.code),
+        Kind::CodeSegment | Kind::CodeSegmentNotCs => segment_register(form.code),
         Kind::EscNumber => escape_operand(form.code, form.reg),
-        Kind::Reg8 => Written::Register(Register::Byte(ByteRegister::numbered(form.reg))),
-        Kind::Reg16 => Written::Register(Register::Word(WordRegister::numbered(form.reg))),
-        Kind::Segment | Kind::SegmentNotCs => {
-            Written::Register(Register::Segment(SegmentRegister::numbered(form.reg)))
-        }
+        Kind::Reg8 => byte_register(form.reg),
+        Kind::Reg16 => word_register(form.reg),
+        Kind::Segment | Kind::SegmentNotCs => segment_register(form.reg),
         Kind::Rm8 => byte_operand(
             form.place,
             size_beside(Keyword::Byte, other),
@@ -96,6 +92,24 @@ pub(crate) fn written_operand(
         }),
         Kind::Far => Written::Far(values.segment, values.number),
     }
+}
+
+fn byte_register(number: u8) -> Written
+    ensures { result ≡ byte_register number }
+{
+    Written::Register(Register::Byte(ByteRegister::numbered(number)))
+}
+
+fn word_register(number: u8) -> Written
+    ensures { result ≡ word_register number }
+{
+    Written::Register(Register::Word(WordRegister::numbered(number)))
+}
+
+fn segment_register(number: u8) -> Written
+    ensures { result ≡ segment_register number }
+{
+    Written::Register(Register::Segment(SegmentRegister::numbered(number)))
 }
 
 /// A byte, extended to a word by its sign.
@@ -157,9 +171,7 @@ fn byte_operand(place: Place, size: Option<Keyword>, displacement: u16) -> Writt
     ensures { result ≡ byte_operand place size displacement }
 {
     match place {
-        Place::Register(number) => Written::Register(Register::Byte(ByteRegister::numbered(
-            number,
-        ))),
+        Place::Register(number) => byte_register(number),
         _ => memory_operand(place, size, displacement),
     }
 }
@@ -168,9 +180,7 @@ fn word_operand(place: Place, size: Option<Keyword>, displacement: u16) -> Writt
     ensures { result ≡ word_operand place size displacement }
 {
     match place {
-        Place::Register(number) => Written::Register(Register::Word(WordRegister::numbered(
-            number,
-        ))),
+        Place::Register(number) => word_register(number),
         _ => memory_operand(place, size, displacement),
     }
 }
