@@ -14,6 +14,7 @@ pub struct Tally {
 }
 
 impl Tally {
+    /// The tally before the first line.
     pub fn new() -> Tally
         ensures rows { result.rows ≡ 0 }
         ensures differing { result.differing ≡ 0 }
