@@ -1,13 +1,13 @@
 -- A source that gives an image has no fault.
 use Rattle.std.proofs.Common.{◌≡◌, ℕ, List, [], ◌∷◌, ◌++◌, refl, subst, arith, Option, None, Some, Ok, Err, inl, inr}
 use Rattle.assembler_lexeme.specs.declared.fault.LineFault.{LineFault}
-use Rattle.assembler_text.specs.declared.statement.Line.{Line}
-use Rattle.text_lines.specs.Lines.{text_lines}
-use Rattle.assembler_text.specs.Lines.{read_line}
+use Rattle.assembler_syntax.specs.declared.statement.Line.{Line}
+use Rattle.board_types.specs.TextLines.{text_lines}
+use Rattle.assembler_syntax.specs.Lines.{read_line}
 use Rattle.assembler.specs.declared.fault.SourceFault.{SourceFault}
 use Rattle.assembler.specs.declared.fault.AsmFault.{AsmFault}
 use Rattle.assembler.specs.declared.fault.AsmFault.TheVariants.{SourceTooLong, InLine, Memory}
-use Rattle.assembler.specs.Rows.{Row, AreRows, IsCleanRow, early_fault, names_of, spot_behind}
+use Rattle.assembler.specs.Rows.{Row, AreRows, IsCleanRow, early_fault, names_of, location_behind}
 use Rattle.assembler.specs.FirstFault.{IsFirst, IsEarlyFault, IsTextFault, HasLateFault}
 use Rattle.assembler.specs.Gives.{Gives, ArePlaced}
 use Rattle.assembler.proofs.AnsweringRows.{one_row, one_rows, rows_up_to, RowsUpTo}
@@ -21,12 +21,12 @@ not_found : (o : Option SourceFault) (fault : SourceFault) → o ≡ None → o 
 not_found o fault none some = cc
 
 -- a text that makes a clean row has no fault
-no_text_fault : (before : List Row) (text : List ℕ) (row : Row) (fault : SourceFault) → IsCleanRow before text row → IsTextFault (names_of before) (spot_behind before) text fault → ⊥
+no_text_fault : (before : List Row) (text : List ℕ) (row : Row) (fault : SourceFault) → IsCleanRow before text row → IsTextFault (names_of before) (location_behind before) text fault → ⊥
 no_text_fault before text row fault clean (inl read) = not_read text row.line read.0 clean.is_row.reads read.1
 no_text_fault before text row fault clean (inr found) =
-    let same : row ≡ found.0 = one_row (names_of before) (spot_behind before) text row found.0 clean.is_row found.1 in
-    not_found (early_fault (names_of before) found.0.spot found.0.line found.0.form) fault
-    (subst (λ (r : Row). early_fault (names_of before) r.spot r.line r.form ≡ None) same clean.clean) found.2
+    let same : row ≡ found.0 = one_row (names_of before) (location_behind before) text row found.0 clean.is_row found.1 in
+    not_found (early_fault (names_of before) found.0.location found.0.line found.0.form) fault
+    (subst (λ (r : Row). early_fault (names_of before) r.location r.line r.form ≡ None) same clean.clean) found.2
 
 -- texts that make clean rows have no fault of reading
 no_early_fault : (source : List ℕ) (rows : List Row) (fault : SourceFault) (number : ℕ) → AreRows [] (text_lines source) rows → IsEarlyFault source fault number → ⊥

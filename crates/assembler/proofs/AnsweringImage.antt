@@ -2,7 +2,7 @@
 use Rattle.std.proofs.Common.{◌≡◌, ℕ, List, [], refl, sym, subst, Option, None, Some}
 use Rattle.board_types.specs.Image.{image_byte}
 use Rattle.board_types.proofs.ImageBytes.{same_bytes}
-use Rattle.text_lines.specs.Lines.{text_lines}
+use Rattle.board_types.specs.TextLines.{text_lines}
 use Rattle.assembler.specs.Gives.{ArePlaced, Gives}
 use Rattle.assembler.specs.Rows.{Row}
 use Rattle.assembler.proofs.AnsweringRows.{one_rows}

@@ -12,12 +12,12 @@ use Rattle.std.proofs.lemmas.Map.Views.{Contains-keys_from_lookup}
 use Rattle.board_types.specs.Image.{IsImage, IsLoadable, image_byte}
 use Rattle.assembler.specs.declared.fault.SourceFault.TheVariants.{BadLine, UnknownName, BadForm, TwiceDefined, NoSegment}
 use Rattle.assembler.specs.declared.row.Content.{Content}
-use Rattle.assembler_statement.specs.declared.symbol.Location.{Location}
-use Rattle.assembler_statement.specs.Values.{Names}
+use Rattle.assembler_meaning.specs.declared.symbol.Location.{Location}
+use Rattle.assembler_meaning.specs.Values.{Names}
 use Rattle.assembler.specs.Placement.{content_of, bytes_by, bytes_from, address_behind, addresses_from, placed_at, placed_by, placed_by_all, lacks_name, has_wrong_number, is_past_end, is_loadable, is_placed, fault_at, late_fault, row_fault}
 use Rattle.assembler.specs.Rows.{Row, AreRows, IsCleanRow, names_of, early_fault, has_wrong_constant, has_unknown_constant, opens_within, lacks_form, defines_again, stands_outside}
 use Rattle.assembler.specs.Gives.{ArePlaced, Fits, FitsAt}
-use Rattle.assembler.proofs.AnsweringLength.{bytes_length}
+use Rattle.assembler.proofs.RowLength.{keeps_size}
 
 -- addresses that are apart: those behind are none of those before
 abbrev pub NoneIn : List ℕ → List ℕ → Type 0
@@ -65,9 +65,9 @@ none_taken placed [] none = refl
 none_taken placed (y ∷ ys) none = neither (is_placed placed y) (list_any (is_placed placed) ys) (placed_is placed y ∙ none.0) (none_taken placed ys none.1)
 
 -- the addresses of bytes
-addresses_are : (spot : Location) (n : ℕ) (bytes : List ℕ) → keys_of (bytes_from spot n bytes) ≡ addresses_from spot n (length bytes)
-addresses_are spot n [] = refl
-addresses_are spot n (b ∷ bs) = ap (λ (ks : List ℕ). address_behind spot n ∷ ks) (addresses_are spot (n + 1) bs)
+addresses_are : (location : Location) (n : ℕ) (bytes : List ℕ) → keys_of (bytes_from location n bytes) ≡ addresses_from location n (length bytes)
+addresses_are location n [] = refl
+addresses_are location n (b ∷ bs) = ap (λ (ks : List ℕ). address_behind location n ∷ ks) (addresses_are location (n + 1) bs)
 
 -- the image can be loaded at its addresses
 lt_yes : (a b : ℕ) → a < b → nat_lt a b ≡ true
@@ -130,65 +130,48 @@ clean_there before (text ∷ texts) (first ∷ front) row back are =
     subst (λ (rs : List Row). CleanThere rs row) (append_assoc before (first ∷ []) front)
     (clean_there (before ++ first ∷ []) texts front row back are.1)
 
-second_false : (a b c d e : Bool) → (if a then Some BadLine else (if b then Some UnknownName else (if c then Some BadForm else (if d then Some TwiceDefined else (if e then Some NoSegment else None))))) ≡ None → b ≡ false
-second_false true b c d e none = absurd (let never : Some BadLine ≡ None = none in cc)
-second_false false true c d e none = absurd (let never : Some UnknownName ≡ None = none in cc)
-second_false false false c d e none = refl
-
-pub knows_constants : (known : Names) (row : Row) → early_fault known row.spot row.line row.form ≡ None → has_unknown_constant known row.line.statement ≡ false
-unfolding early_fault
-knows_constants known row none =
-    second_false (opens_within row.spot row.line.statement || has_wrong_constant known row.line.statement) (has_unknown_constant known row.line.statement)
-    (lacks_form row.line.statement row.form) (defines_again known row.line) (stands_outside row.spot row.line) none
-
-no_fault_at : (names : Names) (is_taken : ℕ → Bool) (has_label : Bool) (spot : Location) (size : ℕ) (content : Option Content)
-    → lacks_name names spot content ≡ false → has_wrong_number names spot size content ≡ false → is_past_end spot size has_label ≡ false
-    → list_any is_taken (addresses_from spot 0 size) ≡ false → list_all is_loadable (addresses_from spot 0 size) ≡ true
-    → fault_at names is_taken has_label spot size content ≡ None
-no_fault_at names is_taken has_label spot size content known fits within free loadable = rw (known, fits, within, free, loadable) refl
+no_fault_at : (names : Names) (is_taken : ℕ → Bool) (has_label : Bool) (location : Location) (size : ℕ) (content : Option Content)
+    → lacks_name names location content ≡ false → has_wrong_number names location size content ≡ false → is_past_end location size has_label ≡ false
+    → list_any is_taken (addresses_from location 0 size) ≡ false → list_all is_loadable (addresses_from location 0 size) ≡ true
+    → fault_at names is_taken has_label location size content ≡ None
+no_fault_at names is_taken has_label location size content known fits within free loadable = rw (known, fits, within, free, loadable) refl
 
 -- how a row's bytes stand in an image
-pub record StandsIn (names : Names) (front : List Row) (row : Row) (spot : Location) : Type 0 where
-  pub length_is : length (bytes_by names spot row.size (content_of row.line.statement row.form)) ≡ row.size
-  pub free : list_any (is_placed (placed_by_all names front)) (addresses_from spot 0 row.size) ≡ false
-  pub loadable : list_all is_loadable (addresses_from spot 0 row.size) ≡ true
+pub record StandsIn (names : Names) (front : List Row) (row : Row) (location : Location) : Type 0 where
+  pub length_is : length (bytes_by names location row.size (content_of row.line.statement row.form)) ≡ row.size
+  pub free : list_any (is_placed (placed_by_all names front)) (addresses_from location 0 row.size) ≡ false
+  pub loadable : list_all is_loadable (addresses_from location 0 row.size) ≡ true
 
-pub placed_there : (names : Names) (row : Row) (spot : Location) → row.spot ≡ Some spot → placed_by names row ≡ bytes_from spot 0 (bytes_by names spot row.size (content_of row.line.statement row.form))
+pub placed_there : (names : Names) (row : Row) (location : Location) → row.location ≡ Some location → placed_by names row ≡ bytes_from location 0 (bytes_by names location row.size (content_of row.line.statement row.form))
 unfolding placed_by
-placed_there names row spot at = ap (λ (o : Option Location). placed_at names o row.size (content_of row.line.statement row.form)) at
+placed_there names row location at = ap (λ (o : Option Location). placed_at names o row.size (content_of row.line.statement row.form)) at
 
 names_split : (front : List Row) (row : Row) (back : List Row) → names_of (front ++ row ∷ back) ≡ names_of front ++ names_of (row ∷ back)
 names_split front row back = flat_map-append (λ (r : Row). r.names) front (row ∷ back)
 
 -- a clean row has as many bytes as its size says
-pub row_length : (front : List Row) (row : Row) (back : List Row) (text : List ℕ) (spot : Location)
-    → IsCleanRow front text row → FitsAt (names_of (front ++ row ∷ back)) row spot
-    → length (bytes_by (names_of (front ++ row ∷ back)) spot row.size (content_of row.line.statement row.form)) ≡ row.size
-row_length front row back text spot clean fits =
-    let whole : names_of (front ++ row ∷ back) ≡ names_of front ++ names_of (row ∷ back) = names_split front row back in
-    let Length : Names → Type 0 = λ names. length (bytes_by names spot row.size (content_of row.line.statement row.form)) ≡ row.size in
-    subst Length (sym whole)
-    (bytes_length (names_of front) (names_of (row ∷ back)) spot row.size row.line.statement row.form
-    (knows_constants (names_of front) row clean.clean)
-    (subst (λ (names : Names). lacks_name names spot (content_of row.line.statement row.form) ≡ false) whole fits.known)
-    (subst (λ (names : Names). has_wrong_number names spot row.size (content_of row.line.statement row.form) ≡ false) whole fits.fits)
-    ∙ sym clean.is_row.size)
+pub row_length : (front : List Row) (row : Row) (back : List Row) (text : List ℕ) (location : Location)
+    → IsCleanRow front text row → FitsAt (names_of (front ++ row ∷ back)) row location
+    → length (bytes_by (names_of (front ++ row ∷ back)) location row.size (content_of row.line.statement row.form)) ≡ row.size
+row_length front row back text location clean fits =
+    keeps_size (names_of front) (names_of (row ∷ back)) (names_of (front ++ row ∷ back)) row.location location row.line row.form row.size
+    clean.clean clean.is_row.size (names_split front row back) fits.known fits.fits
 
-stands_in : (names : Names) (front : List Row) (row : Row) (back : List Row) (spot : Location) (image : List (ℕ × ℕ)) → row.spot ≡ Some spot
-    → length (bytes_by names spot row.size (content_of row.line.statement row.form)) ≡ row.size
+stands_in : (names : Names) (front : List Row) (row : Row) (back : List Row) (location : Location) (image : List (ℕ × ℕ)) → row.location ≡ Some location
+    → length (bytes_by names location row.size (content_of row.line.statement row.form)) ≡ row.size
     → IsDistinct (λ (a b : ℕ). a == b) (keys_of (placed_by_all names (front ++ row ∷ back))) → IsImage image
     → ((address byte : ℕ) → Contains (placed_by_all names (front ++ row ∷ back)) (address, byte) → image_byte image address ≡ Some byte)
-    → StandsIn names front row spot
-stands_in names front row back spot image at long once is_image holds =
+    → StandsIn names front row location
+stands_in names front row back location image at long once is_image holds =
     let before : List (ℕ × ℕ) = placed_by_all names front in
     let own : List (ℕ × ℕ) = placed_by names row in
     let behind : List (ℕ × ℕ) = placed_by_all names back in
     let parts : placed_by_all names (front ++ row ∷ back) ≡ before ++ (own ++ behind) = placed_parts names front row back in
     let keys : keys_of (placed_by_all names (front ++ row ∷ back)) ≡ keys_of before ++ (keys_of own ++ keys_of behind) =
     ap (λ (es : List (ℕ × ℕ)). keys_of es) parts ∙ (keys_append before (own ++ behind) ∙ ap (λ (ks : List ℕ). keys_of before ++ ks) (keys_append own behind)) in
-    let addresses : keys_of own ≡ addresses_from spot 0 row.size =
-    ap (λ (es : List (ℕ × ℕ)). keys_of es) (placed_there names row spot at)
-    ∙ (addresses_are spot 0 (bytes_by names spot row.size (content_of row.line.statement row.form)) ∙ ap (addresses_from spot 0) long) in
+    let addresses : keys_of own ≡ addresses_from location 0 row.size =
+    ap (λ (es : List (ℕ × ℕ)). keys_of es) (placed_there names row location at)
+    ∙ (addresses_are location 0 (bytes_by names location row.size (content_of row.line.statement row.form)) ∙ ap (addresses_from location 0) long) in
     let apart : NoneIn (keys_of before) (keys_of own) =
     none_in_front (keys_of before) (keys_of own) (keys_of behind)
     (none_before (keys_of before) (keys_of own ++ keys_of behind) (subst (IsDistinct (λ (a b : ℕ). a == b)) keys once)) in
@@ -201,8 +184,8 @@ stands_in names front row back spot image at long once is_image holds =
           (Contains-append_right before (own ++ behind) (address, byte) (Contains-append_left own behind (address, byte) there)))));
     }
 
-no_late : (names : Names) (is_taken : ℕ → Bool) (has_label : Bool) (spot : Option Location) (size : ℕ) (content : Option Content)
-    → ((place : Location) → spot ≡ Some place → fault_at names is_taken has_label place size content ≡ None) → late_fault names is_taken has_label spot size content ≡ None
+no_late : (names : Names) (is_taken : ℕ → Bool) (has_label : Bool) (location : Option Location) (size : ℕ) (content : Option Content)
+    → ((place : Location) → location ≡ Some place → fault_at names is_taken has_label place size content ≡ None) → late_fault names is_taken has_label location size content ≡ None
 unfolding late_fault
 no_late names is_taken has_label None size content each = refl
 no_late names is_taken has_label (Some place) size content each = each place refl
@@ -213,7 +196,7 @@ pub no_row_fault : (texts : List (List ℕ)) (front : List Row) (row : Row) (bac
 no_row_fault texts front row back image are placed =
     let names : Names = names_of (front ++ row ∷ back) in
     let there : CleanThere front row = clean_there [] texts front row back are in
-    let each : (place : Location) → row.spot ≡ Some place
+    let each : (place : Location) → row.location ≡ Some place
     → fault_at names (is_placed (placed_by_all names front)) (is_some row.line.label) place row.size (content_of row.line.statement row.form) ≡ None = λ place at.
     let fits : FitsAt names row place = fits_there names front row back placed.fit place at in
     let stands : StandsIn names front row place =
@@ -221,4 +204,4 @@ no_row_fault texts front row back image are placed =
     (λ address byte contained. (placed.bytes address byte).1 contained) in
     no_fault_at names (is_placed (placed_by_all names front)) (is_some row.line.label) place row.size (content_of row.line.statement row.form)
     fits.known fits.fits fits.within stands.free stands.loadable in
-    no_late names (is_placed (placed_by_all names front)) (is_some row.line.label) row.spot row.size (content_of row.line.statement row.form) each
+    no_late names (is_placed (placed_by_all names front)) (is_some row.line.label) row.location row.size (content_of row.line.statement row.form) each

@@ -6,16 +6,16 @@ use Rattle.isa.specs.declared.form.Form.{Form}
 use Rattle.isa.specs.declared.row.Row.{Row as TableRow}
 use Rattle.isa.specs.Table.{rows as table_rows}
 use Rattle.assembler_lexeme.specs.declared.fault.LineFault.{LineFault}
-use Rattle.assembler_text.specs.declared.statement.Line.{Line}
-use Rattle.assembler_text.specs.declared.statement.Statement.{Statement}
-use Rattle.assembler_text.specs.declared.statement.Statement.TheVariants.{Empty, Segment, Ends, Equ, Org, Data, Instruction}
-use Rattle.assembler_form.specs.declared.asked.Asked.{Asked}
-use Rattle.assembler_form.specs.Choice.{IsChosen, NoneTakes}
-use Rattle.assembler_form.proofs.First.{one_form}
-use Rattle.assembler_statement.specs.declared.symbol.Location.{Location}
-use Rattle.assembler_statement.specs.Values.{Names}
-use Rattle.assembler_statement.specs.Instructions.{instruction_asked, IsChosenFor, IsFormFor}
-use Rattle.assembler.specs.Rows.{Row, IsRow, IsCleanRow, AreRows, IsFormOf, names_of, spot_behind, size_of, spot_after, label_definition, statement_definition}
+use Rattle.assembler_syntax.specs.declared.statement.Line.{Line}
+use Rattle.assembler_syntax.specs.declared.statement.Statement.{Statement}
+use Rattle.assembler_syntax.specs.declared.statement.Statement.TheVariants.{Empty, Segment, Ends, Equ, Org, Data, Instruction}
+use Rattle.assembler_meaning.specs.declared.asked.Asked.{Asked}
+use Rattle.assembler_meaning.specs.Choice.{IsChosen, NoneTakes}
+use Rattle.assembler_meaning.proofs.First.{one_form}
+use Rattle.assembler_meaning.specs.declared.symbol.Location.{Location}
+use Rattle.assembler_meaning.specs.Values.{Names}
+use Rattle.assembler_meaning.specs.Instructions.{instruction_asked, IsChosenFor, IsFormFor}
+use Rattle.assembler.specs.Rows.{Row, IsRow, IsCleanRow, AreRows, IsFormOf, names_of, location_behind, size_of, location_after, label_definition, statement_definition}
 
 -- a row of the encoding table that was chosen takes what is asked
 found_there : (rs : List TableRow) (place : ℕ) (r : TableRow) → slice_get rs place ≡ Some r → Contains rs r
@@ -57,15 +57,15 @@ one_row known here text r s is also =
     one_form_of known s.line.statement r.form s.form (subst (λ (l : Line). IsFormOf known l.statement r.form) line is.form) also.form in
     let size : r.size ≡ s.size =
     is.size ∙ (ap₂ (λ (l : Line) (f : Option Form). size_of known l.statement f) line form ∙ sym also.size) in
-    let spot : r.spot ≡ s.spot = is.spot ∙ sym also.spot in
+    let location : r.location ≡ s.location = is.location ∙ sym also.location in
     let next : r.next ≡ s.next =
-    is.next ∙ (ap₂ (λ (l : Line) (n : ℕ). spot_after known here l.statement n) line size ∙ sym also.next) in
+    is.next ∙ (ap₂ (λ (l : Line) (n : ℕ). location_after known here l.statement n) line size ∙ sym also.next) in
     let names : r.names ≡ s.names =
     is.names ∙ (ap (λ (l : Line). label_definition here l.label ++ statement_definition known l.statement) line ∙ sym also.names) in
-    λ i. record { line = line i; form = form i; size = size i; spot = spot i; next = next i; names = names i }
+    λ i. record { line = line i; form = form i; size = size i; location = location i; next = next i; names = names i }
 
 one_clean : (before : List Row) (text : List ℕ) (r s : Row) → IsCleanRow before text r → IsCleanRow before text s → r ≡ s
-one_clean before text r s is also = one_row (names_of before) (spot_behind before) text r s is.is_row also.is_row
+one_clean before text r s is also = one_row (names_of before) (location_behind before) text r s is.is_row also.is_row
 
 -- the texts make one list of rows
 pub one_rows : (before : List Row) (texts : List (List ℕ)) (rs ss : List Row) → AreRows before texts rs → AreRows before texts ss → rs ≡ ss

@@ -3,13 +3,12 @@ pub mod ReadingRows
 pub mod ReadingLoop
 pub mod ReadingWeights
 pub mod ReadingFaults
-pub mod PlacingLength
+pub mod RowLength
 pub mod PlacingImage
 pub mod PlacingAddresses
 pub mod PlacingRows
 pub mod AnsweringRows
 pub mod AnsweringImage
-pub mod AnsweringLength
 pub mod AnsweringPlaces
 pub mod AnsweringFaults
 pub mod ListingShown

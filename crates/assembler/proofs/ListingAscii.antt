@@ -17,32 +17,32 @@ use Rattle.dialect.specs.Words.{meaning_of}
 use Rattle.assembler_lexeme.specs.declared.fault.LineFault.{LineFault}
 use Rattle.assembler_lexeme.specs.declared.fault.LineFault.TheVariants.{BadCharacter, BadLine}
 use Rattle.assembler_lexeme.specs.declared.name.Name.{Name}
-use Rattle.assembler_text.specs.declared.expression.Term.{Term}
-use Rattle.assembler_text.specs.declared.operand.Operand.{Operand}
-use Rattle.assembler_text.specs.declared.statement.Width.{Width}
-use Rattle.assembler_text.specs.declared.statement.Item.{Item}
-use Rattle.assembler_text.specs.declared.statement.Line.{Line}
-use Rattle.assembler_text.specs.declared.statement.Statement.{Statement}
-use Rattle.assembler_text.specs.declared.statement.Statement.TheVariants as statements
+use Rattle.assembler_syntax.specs.declared.expression.Term.{Term}
+use Rattle.assembler_syntax.specs.declared.operand.Operand.{Operand}
+use Rattle.assembler_syntax.specs.declared.statement.DataWidth.{DataWidth}
+use Rattle.assembler_syntax.specs.declared.statement.Item.{Item}
+use Rattle.assembler_syntax.specs.declared.statement.Line.{Line}
+use Rattle.assembler_syntax.specs.declared.statement.Statement.{Statement}
+use Rattle.assembler_syntax.specs.declared.statement.Statement.TheVariants as statements
 use Rattle.assembler_lexeme.specs.declared.token.Token.{Token}
 use Rattle.assembler_lexeme.specs.declared.token.Token.TheVariants.{One, Number, Named, Word, Mark}
 use Rattle.assembler_lexeme.specs.declared.token.Mark.{Mark as MarkType}
 use Rattle.assembler_lexeme.specs.declared.token.Mark.TheVariants.{Colon}
 use Rattle.assembler_lexeme.specs.Lexemes.{is_blank, is_character, is_digit, is_letter, is_word_byte, lexemes, lexemes_from}
-use Rattle.text_lines.specs.Lines.{begins_with, onto_first, text_lines}
+use Rattle.board_types.specs.TextLines.{begins_with, onto_first, text_lines}
 use Rattle.assembler_lexeme.specs.Numbers.{number_of, last_byte}
 use Rattle.assembler_lexeme.specs.Faults.{◌>>=◌, wanted, all_of}
 use Rattle.assembler_lexeme.specs.Tokens.{between_quotes, mark_of, mark_token, name_of, number_token, quoted_token, text_token, token_of, tokens_of, word_token}
-use Rattle.assembler_text.specs.Expressions.{constant_of}
-use Rattle.assembler_text.specs.Operands.{operands_of}
-use Rattle.assembler_text.specs.Items.{items_of}
-use Rattle.assembler_text.specs.Parts.{is_colon}
-use Rattle.assembler_text.specs.Statements.{data_of, directive_of, ends_of, equ_of, instruction_of, is_at, is_directive, is_equ, keyword_statement, led_statement, onto_prefixes, org_of, prefixed_statement, prefixes_of, segment_by, segment_of, segment_token, statement_behind, statement_of, word_statement}
-use Rattle.assembler_text.specs.Lines.{labelled, line_of, read_line, with_label}
-use Rattle.assembler_statement.specs.declared.symbol.Location.{Location}
-use Rattle.assembler_statement.specs.declared.symbol.Symbol.{Symbol}
+use Rattle.assembler_syntax.specs.Expressions.{constant_of}
+use Rattle.assembler_syntax.specs.Operands.{operands_of}
+use Rattle.assembler_syntax.specs.Items.{items_of}
+use Rattle.assembler_syntax.specs.Parts.{is_colon}
+use Rattle.assembler_syntax.specs.Statements.{data_of, directive_of, ends_of, equ_of, instruction_of, is_at, is_directive, is_equ, keyword_statement, led_statement, onto_prefixes, org_of, prefixed_statement, prefixes_of, segment_by, segment_of, segment_token, statement_behind, statement_of, word_statement}
+use Rattle.assembler_syntax.specs.Lines.{labelled, line_of, read_line, with_label}
+use Rattle.assembler_meaning.specs.declared.symbol.Location.{Location}
+use Rattle.assembler_meaning.specs.declared.symbol.Symbol.{Symbol}
 use Rattle.assembler.specs.declared.row.KeptRow.{KeptRow}
-use Rattle.assembler_statement.specs.Values.{Names, constant_of as constant_in, symbol_value}
+use Rattle.assembler_meaning.specs.Values.{Names, constant_of as constant_in, symbol_value}
 use Rattle.assembler.specs.Kept.{Reads}
 use Rattle.assembler.specs.Listing.{letters_of, symbol_at}
 use Rattle.assembler.specs.Rows.{AreRows, Row, constant_definition, label_definition, names_of, statement_definition, statement_name}
@@ -204,7 +204,7 @@ org_with : (r : Result (List Term) LineFault) → AsciiStatement (r >>= (λ valu
 org_with (Ok value) = tt
 org_with (Err fault) = tt
 
-data_with : (width : Width) (r : Result (List Item) LineFault) → AsciiStatement (r >>= (λ items. Ok (statements.Data width items)))
+data_with : (width : DataWidth) (r : Result (List Item) LineFault) → AsciiStatement (r >>= (λ items. Ok (statements.Data width items)))
 data_with width (Ok items) = tt
 data_with width (Err fault) = tt
 
@@ -237,7 +237,7 @@ org_ascii : (ts : List Token) → AsciiStatement (org_of ts)
 unfolding org_of
 org_ascii ts = org_with (constant_of ts)
 
-data_ascii : (width : Width) (ts : List Token) → AsciiStatement (data_of width ts)
+data_ascii : (width : DataWidth) (ts : List Token) → AsciiStatement (data_of width ts)
 unfolding data_of
 data_ascii width ts = data_with width (items_of width ts)
 
@@ -345,10 +345,10 @@ both_ascii : (xs ys : Names) → AsciiNames xs → AsciiNames ys → AsciiNames 
 both_ascii [] ys left right = right
 both_ascii (x ∷ xs) ys left right = (left.0, both_ascii xs ys left.1 right)
 
-label_names : (spot : Option Location) (label : Option Name) → AsciiName label → AsciiNames (label_definition spot label)
+label_names : (location : Option Location) (label : Option Name) → AsciiName label → AsciiNames (label_definition location label)
 label_names None label ascii = tt
-label_names (Some spot) None ascii = tt
-label_names (Some spot) (Some name) ascii = (ascii, tt)
+label_names (Some location) None ascii = tt
+label_names (Some location) (Some name) ascii = (ascii, tt)
 
 constant_names : (name : Name) (o : Option ℤ) → IsAsciiName name → AsciiNames (constant_definition name o)
 constant_names name None ascii = tt

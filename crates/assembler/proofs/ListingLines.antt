@@ -10,16 +10,16 @@ use Rattle.std.proofs.lemmas.Bool.Decides.{nat_tests}
 use Rattle.std.proofs.lemmas.Grind.{flat_map-append}
 use Rattle.std.proofs.lemmas.List.Elements.{Contains-append_left, Contains-append_right}
 use Rattle.board_types.specs.Image.{image_byte}
-use Rattle.text_lines.specs.Lines.{text_lines}
+use Rattle.board_types.specs.TextLines.{text_lines}
 use Rattle.assembler.specs.declared.row.KeptRow.{KeptRow}
-use Rattle.assembler_statement.specs.declared.symbol.Location.{Location}
-use Rattle.assembler_statement.specs.Values.{Names}
+use Rattle.assembler_meaning.specs.declared.symbol.Location.{Location}
+use Rattle.assembler_meaning.specs.Values.{Names}
 use Rattle.assembler.specs.Gives.{ArePlaced, Fits, Gives}
 use Rattle.assembler.specs.Kept.{AreKept, EndsBy, Keeps, Reads}
 use Rattle.assembler.specs.Listing.{bytes_part, first_bytes, hex_byte_text, hex_word, line_at, listed, more_mark, place_part, row_bytes, spaces}
 use Rattle.assembler.specs.Placement.{address_behind, bytes_by, bytes_from, content_of, is_past_end, placed_by, placed_by_all}
 use Rattle.assembler.specs.Rows.{AreRows, IsCleanRow, Row, names_of}
-use Rattle.assembler.specs.Shown.{said_by, shown_at, shown_byte, shown_count, shown_digits, shown_line, shown_place, shown_spot, spot_by_size}
+use Rattle.assembler.specs.Shown.{said_by, shown_at, shown_byte, shown_count, shown_digits, shown_line, shown_place, shown_location, location_by_size}
 use Rattle.assembler.proofs.AnsweringRows.{one_rows}
 use Rattle.assembler.proofs.AnsweringPlaces.{fits_there, placed_there, placed_parts, row_length}
 use Rattle.assembler.proofs.ListingTexts.{ascii_of, characters_of}
@@ -94,12 +94,12 @@ nothing_more : (n : ℕ) → n + 0 ≡ n
 nothing_more n = omega arith
 
 -- the image's bytes at a row's addresses are the row's
-byte_there : (spot : Location) (n : ℕ) (bytes : List ℕ) (k : ℕ) → k < length bytes → Contains (bytes_from spot n bytes) (address_behind spot (n + k), get_or bytes k 0)
-byte_there spot n [] k within = absurd (omega arith)
-byte_there spot n (b ∷ bs) zero within = (0, omega arith, ap (λ (m : ℕ). (address_behind spot m, b)) (sym (nothing_more n)))
-byte_there spot n (b ∷ bs) (suc k) within =
-    Contains-append_right ((address_behind spot n, b) ∷ []) (bytes_from spot (n + 1) bs) (address_behind spot (n + suc k), get_or bs k 0)
-    (subst (λ (m : ℕ). Contains (bytes_from spot (n + 1) bs) (address_behind spot m, get_or bs k 0)) (moved n k) (byte_there spot (n + 1) bs k (omega arith)))
+byte_there : (location : Location) (n : ℕ) (bytes : List ℕ) (k : ℕ) → k < length bytes → Contains (bytes_from location n bytes) (address_behind location (n + k), get_or bytes k 0)
+byte_there location n [] k within = absurd (omega arith)
+byte_there location n (b ∷ bs) zero within = (0, omega arith, ap (λ (m : ℕ). (address_behind location m, b)) (sym (nothing_more n)))
+byte_there location n (b ∷ bs) (suc k) within =
+    Contains-append_right ((address_behind location n, b) ∷ []) (bytes_from location (n + 1) bs) (address_behind location (n + suc k), get_or bs k 0)
+    (subst (λ (m : ℕ). Contains (bytes_from location (n + 1) bs) (address_behind location m, get_or bs k 0)) (moved n k) (byte_there location (n + 1) bs k (omega arith)))
 
 none_before : (k : ℕ) → 0 + k ≡ k
 none_before k = omega arith
@@ -110,29 +110,29 @@ last_one xs b = refl
 never_false : true ≡ false → ⊥
 never_false is = cc
 
--- the image has these bytes behind a spot
+-- the image has these bytes behind a location
 abbrev pub Holds : List (ℕ × ℕ) → Location → List ℕ → Type 0
-Holds image spot bytes = (k : ℕ) → k < length bytes → image_byte image (address_behind spot k) ≡ Some (get_or bytes k 0)
+Holds image location bytes = (k : ℕ) → k < length bytes → image_byte image (address_behind location k) ≡ Some (get_or bytes k 0)
 
-holds_own : (names : Names) (front : List Row) (row : Row) (back : List Row) (image : List (ℕ × ℕ)) (spot : Location) → row.spot ≡ Some spot
+holds_own : (names : Names) (front : List Row) (row : Row) (back : List Row) (image : List (ℕ × ℕ)) (location : Location) → row.location ≡ Some location
     → ((address byte : ℕ) → Contains (placed_by_all names (front ++ row ∷ back)) (address, byte) → image_byte image address ≡ Some byte)
-    → Holds image spot (bytes_by names spot row.size (content_of row.line.statement row.form))
-holds_own names front row back image spot at holds k within =
-    let bytes : List ℕ = bytes_by names spot row.size (content_of row.line.statement row.form) in
-    let here : Contains (bytes_from spot 0 bytes) (address_behind spot k, get_or bytes k 0) =
-    subst (λ (m : ℕ). Contains (bytes_from spot 0 bytes) (address_behind spot m, get_or bytes k 0)) (none_before k) (byte_there spot 0 bytes k within) in
-    let own : Contains (placed_by names row) (address_behind spot k, get_or bytes k 0) =
-    subst (λ (es : List (ℕ × ℕ)). Contains es (address_behind spot k, get_or bytes k 0)) (sym (placed_there names row spot at)) here in
-    holds (address_behind spot k) (get_or bytes k 0)
-    (subst (λ (es : List (ℕ × ℕ)). Contains es (address_behind spot k, get_or bytes k 0)) (sym (placed_parts names front row back))
-    (Contains-append_right (placed_by_all names front) (placed_by names row ++ placed_by_all names back) (address_behind spot k, get_or bytes k 0)
-    (Contains-append_left (placed_by names row) (placed_by_all names back) (address_behind spot k, get_or bytes k 0) own)))
+    → Holds image location (bytes_by names location row.size (content_of row.line.statement row.form))
+holds_own names front row back image location at holds k within =
+    let bytes : List ℕ = bytes_by names location row.size (content_of row.line.statement row.form) in
+    let here : Contains (bytes_from location 0 bytes) (address_behind location k, get_or bytes k 0) =
+    subst (λ (m : ℕ). Contains (bytes_from location 0 bytes) (address_behind location m, get_or bytes k 0)) (none_before k) (byte_there location 0 bytes k within) in
+    let own : Contains (placed_by names row) (address_behind location k, get_or bytes k 0) =
+    subst (λ (es : List (ℕ × ℕ)). Contains es (address_behind location k, get_or bytes k 0)) (sym (placed_there names row location at)) here in
+    holds (address_behind location k) (get_or bytes k 0)
+    (subst (λ (es : List (ℕ × ℕ)). Contains es (address_behind location k, get_or bytes k 0)) (sym (placed_parts names front row back))
+    (Contains-append_right (placed_by_all names front) (placed_by names row ++ placed_by_all names back) (address_behind location k, get_or bytes k 0)
+    (Contains-append_left (placed_by names row) (placed_by_all names back) (address_behind location k, get_or bytes k 0) own)))
 
-digits_are : (image : List (ℕ × ℕ)) (spot : Location) (bytes : List ℕ) (k : ℕ) → Holds image spot bytes → k ≤ length bytes → shown_digits image spot k ≡ flat_map hex_byte_text (take k bytes)
-digits_are image spot bytes zero holds within = refl
-digits_are image spot bytes (suc k) holds within =
-    let byte : shown_byte image spot k ≡ get_or bytes k 0 = ap (λ (o : Option ℕ). unwrap_or o 0) (holds k (omega arith)) in
-    ap₂ (λ (xs : List ℕ) (b : ℕ). xs ++ hex_byte_text b) (digits_are image spot bytes k holds (omega arith)) byte
+digits_are : (image : List (ℕ × ℕ)) (location : Location) (bytes : List ℕ) (k : ℕ) → Holds image location bytes → k ≤ length bytes → shown_digits image location k ≡ flat_map hex_byte_text (take k bytes)
+digits_are image location bytes zero holds within = refl
+digits_are image location bytes (suc k) holds within =
+    let byte : shown_byte image location k ≡ get_or bytes k 0 = ap (λ (o : Option ℕ). unwrap_or o 0) (holds k (omega arith)) in
+    ap₂ (λ (xs : List ℕ) (b : ℕ). xs ++ hex_byte_text b) (digits_are image location bytes k holds (omega arith)) byte
     ∙ (last_one (flat_map hex_byte_text (take k bytes)) (get_or bytes k 0)
     ∙ (sym (flat_map-append hex_byte_text (take k bytes) (get_or bytes k 0 ∷ []))
     ∙ ap (λ (bs : List ℕ). flat_map hex_byte_text bs) (sym (take-suc bytes k 0 (omega arith)))))
@@ -161,47 +161,47 @@ filled_up size = elim (cases_lt 8 size) [
   | inr not_more ↦ rw (lt_not 8 size (omega arith)) (omega arith)
 ]
 
-place_is : (image : List (ℕ × ℕ)) (spot : Location) (bytes : List ℕ) → Holds image spot bytes → shown_place image spot (length bytes) ≡ bytes_part spot bytes
+place_is : (image : List (ℕ × ℕ)) (location : Location) (bytes : List ℕ) → Holds image location bytes → shown_place image location (length bytes) ≡ bytes_part location bytes
 unfolding shown_place bytes_part
-place_is image spot bytes holds =
+place_is image location bytes holds =
     let mark : List ℕ = more_mark bytes ∷ 32 ∷ [] in
-    let digits : shown_digits image spot (shown_count (length bytes)) ≡ flat_map hex_byte_text (take 8 bytes) =
-    digits_are image spot bytes (shown_count (length bytes)) holds (count_within (length bytes)) ∙ ap (λ (bs : List ℕ). flat_map hex_byte_text bs) (first_eight bytes) in
-    let whole : shown_digits image spot (shown_count (length bytes)) ++ (spaces (2 * (8 - shown_count (length bytes))) ++ mark) ≡ first_bytes bytes ++ mark =
+    let digits : shown_digits image location (shown_count (length bytes)) ≡ flat_map hex_byte_text (take 8 bytes) =
+    digits_are image location bytes (shown_count (length bytes)) holds (count_within (length bytes)) ∙ ap (λ (bs : List ℕ). flat_map hex_byte_text bs) (first_eight bytes) in
+    let whole : shown_digits image location (shown_count (length bytes)) ++ (spaces (2 * (8 - shown_count (length bytes))) ++ mark) ≡ first_bytes bytes ++ mark =
     ap₂ (λ (xs : List ℕ) (n : ℕ). xs ++ (spaces n ++ mark)) digits (filled_up (length bytes))
     ∙ sym (append_assoc (flat_map hex_byte_text (take 8 bytes)) (spaces (16 - 2 * length bytes)) mark) in
-    ap (λ (xs : List ℕ). hex_word spot.segment ++ (58 ∷ hex_word spot.offset ++ (32 ∷ xs))) whole
+    ap (λ (xs : List ℕ). hex_word location.segment ++ (58 ∷ hex_word location.offset ++ (32 ∷ xs))) whole
 
-part_is : (image : List (ℕ × ℕ)) (spot : Location) (bytes : List ℕ) → Holds image spot bytes
-    → shown_at image (spot_by_size (Some spot) (length bytes)) (length bytes) ≡ place_part (Some spot) bytes
-part_is image spot [] holds = refl
-part_is image spot (b ∷ bs) holds = place_is image spot (b ∷ bs) holds
+part_is : (image : List (ℕ × ℕ)) (location : Location) (bytes : List ℕ) → Holds image location bytes
+    → shown_at image (location_by_size (Some location) (length bytes)) (length bytes) ≡ place_part (Some location) bytes
+part_is image location [] holds = refl
+part_is image location (b ∷ bs) holds = place_is image location (b ∷ bs) holds
 
-nowhere : (image : List (ℕ × ℕ)) (size : ℕ) → shown_at image (spot_by_size None size) size ≡ spaces 28
+nowhere : (image : List (ℕ × ℕ)) (size : ℕ) → shown_at image (location_by_size None size) size ≡ spaces 28
 nowhere image zero = refl
 nowhere image (suc n) = refl
 
--- where a row has a spot, it has as many bytes as its size says, and the image holds them
+-- where a row has a location, it has as many bytes as its size says, and the image holds them
 abbrev Stands : Names → List (ℕ × ℕ) → Row → Type 0
 Stands names image row =
-    (spot : Location) → row.spot ≡ Some spot
-    → (length (bytes_by names spot row.size (content_of row.line.statement row.form)) ≡ row.size)
-    × Holds image spot (bytes_by names spot row.size (content_of row.line.statement row.form))
+    (location : Location) → row.location ≡ Some location
+    → (length (bytes_by names location row.size (content_of row.line.statement row.form)) ≡ row.size)
+    × Holds image location (bytes_by names location row.size (content_of row.line.statement row.form))
 
-row_part_is : (names : Names) (image : List (ℕ × ℕ)) (row : Row) (spot : Option Location) → row.spot ≡ spot → Stands names image row
-    → shown_at image (spot_by_size spot row.size) row.size ≡ place_part spot (row_bytes names row spot)
+row_part_is : (names : Names) (image : List (ℕ × ℕ)) (row : Row) (location : Option Location) → row.location ≡ location → Stands names image row
+    → shown_at image (location_by_size location row.size) row.size ≡ place_part location (row_bytes names row location)
 row_part_is names image row None at stands = nowhere image row.size
-row_part_is names image row (Some spot) at stands =
-    let bytes : List ℕ = bytes_by names spot row.size (content_of row.line.statement row.form) in
-    let there = stands spot at in
-    ap (λ (n : ℕ). shown_at image (spot_by_size (Some spot) n) n) (sym there.0) ∙ part_is image spot bytes there.1
+row_part_is names image row (Some location) at stands =
+    let bytes : List ℕ = bytes_by names location row.size (content_of row.line.statement row.form) in
+    let there = stands location at in
+    ap (λ (n : ℕ). shown_at image (location_by_size (Some location) n) n) (sym there.0) ∙ part_is image location bytes there.1
 
 stands_there : (texts : List (List ℕ)) (front : List Row) (row : Row) (back : List Row) (text : List ℕ) (image : List (ℕ × ℕ)) → IsCleanRow front text row
     → ArePlaced (front ++ row ∷ back) image → Stands (names_of (front ++ row ∷ back)) image row
-stands_there texts front row back text image clean placed spot at =
+stands_there texts front row back text image clean placed location at =
     let names : Names = names_of (front ++ row ∷ back) in (
-      row_length front row back text spot clean (fits_there names front row back placed.fit spot at),
-      holds_own names front row back image spot at (λ address byte there. (placed.bytes address byte).1 there),
+      row_length front row back text location clean (fits_there names front row back placed.fit location at),
+      holds_own names front row back image location at (λ address byte there. (placed.bytes address byte).1 there),
     )
 
 -- the listing's line of a kept row
@@ -211,35 +211,35 @@ line_is source texts rows kept i image there placed =
     let stands : Stands (names_of rows) image there.row =
     subst (λ (rs : List Row). Stands (names_of rs) image there.row) (sym there.split)
     (stands_there texts there.front there.row there.back there.text image there.clean (subst (λ (rs : List Row). ArePlaced rs image) there.split placed)) in
-    let part : shown_at image (shown_spot kept) kept.size ≡ place_part there.row.spot (row_bytes (names_of rows) there.row there.row.spot) =
-    ap₂ (λ (o : Option Location) (n : ℕ). shown_at image (spot_by_size o n) n) there.keeps.spot there.keeps.size
-    ∙ row_part_is (names_of rows) image there.row there.row.spot refl stands in
+    let part : shown_at image (shown_location kept) kept.size ≡ place_part there.row.location (row_bytes (names_of rows) there.row there.row.location) =
+    ap₂ (λ (o : Option Location) (n : ℕ). shown_at image (location_by_size o n) n) there.keeps.location there.keeps.size
+    ∙ row_part_is (names_of rows) image there.row there.row.location refl stands in
     ap₂ (λ (xs ys : List ℕ). Some (xs ++ ys)) part there.keeps.text ∙ sym (there.line (names_of rows))
 
 pub line_ascii : (source : List ℕ) (texts : List (List ℕ)) (rows : List Row) (kept : KeptRow) (i : ℕ) → LineThere source texts [] rows kept i → IsAscii (said_by source kept)
 line_ascii source texts rows kept i there =
     subst IsAscii (sym there.keeps.text) (ascii_of there.text (characters_of there.text there.row.line there.clean.is_row.reads))
 
-past_end : (spot : Location) (n : ℕ) (has_label : Bool) → is_past_end spot (suc n) has_label ≡ false → spot.offset + suc n ≤ 65536
-past_end spot n has_label is = elim (cases_lt 65536 (spot.offset + suc n)) [
-  | inl more ↦ absurd (never_false (rw (lt_yes 0 (suc n) (omega arith), lt_yes 65536 (spot.offset + suc n) more) at is))
+past_end : (location : Location) (n : ℕ) (has_label : Bool) → is_past_end location (suc n) has_label ≡ false → location.offset + suc n ≤ 65536
+past_end location n has_label is = elim (cases_lt 65536 (location.offset + suc n)) [
+  | inl more ↦ absurd (never_false (rw (lt_yes 0 (suc n) (omega arith), lt_yes 65536 (location.offset + suc n) more) at is))
   | inr not_more ↦ omega arith
 ]
 
-ends_by : (spot : Option Location) (size : ℕ) (has_label : Bool) → ((place : Location) → spot ≡ Some place → is_past_end place size has_label ≡ false) → EndsBy 65536 (spot_by_size spot size) size
-ends_by spot zero has_label within = tt
+ends_by : (location : Option Location) (size : ℕ) (has_label : Bool) → ((place : Location) → location ≡ Some place → is_past_end place size has_label ≡ false) → EndsBy 65536 (location_by_size location size) size
+ends_by location zero has_label within = tt
 ends_by None (suc n) has_label within = tt
 ends_by (Some place) (suc n) has_label within = past_end place n has_label (within place refl)
 
 pub line_ends : (source : List ℕ) (texts : List (List ℕ)) (rows : List Row) (kept : KeptRow) (i : ℕ) (image : List (ℕ × ℕ)) → LineThere source texts [] rows kept i → ArePlaced rows image
-    → EndsBy 65536 (shown_spot kept) kept.size
+    → EndsBy 65536 (shown_location kept) kept.size
 line_ends source texts rows kept i image there placed =
     let fit : Fits (names_of rows) there.row =
     fits_there (names_of rows) there.front there.row there.back (subst (AllByRecursion (Fits (names_of rows))) there.split placed.fit) in
-    let own : EndsBy 65536 (spot_by_size there.row.spot there.row.size) there.row.size =
-    ends_by there.row.spot there.row.size (is_some there.row.line.label) (λ place at. (fit place at).within) in
-    let Ends : Option Location → ℕ → Type 0 = λ o n. EndsBy 65536 (spot_by_size o n) n in
-    subst (λ (n : ℕ). Ends kept.spot n) (sym there.keeps.size) (subst (λ (o : Option Location). Ends o there.row.size) (sym there.keeps.spot) own)
+    let own : EndsBy 65536 (location_by_size there.row.location there.row.size) there.row.size =
+    ends_by there.row.location there.row.size (is_some there.row.line.label) (λ place at. (fit place at).within) in
+    let Ends : Option Location → ℕ → Type 0 = λ o n. EndsBy 65536 (location_by_size o n) n in
+    subst (λ (n : ℕ). Ends kept.location n) (sym there.keeps.size) (subst (λ (o : Option Location). Ends o there.row.size) (sym there.keeps.location) own)
 
 -- what a listing keeps
 module _ (source : List ℕ) (names : Names) (kepts : List KeptRow) (image : List (ℕ × ℕ)) (reads : Reads source names kepts) (gives : Gives source image) (i : ℕ) where
@@ -255,7 +255,7 @@ module _ (source : List ℕ) (names : Names) (kepts : List KeptRow) (image : Lis
   pub own_ascii : (kept : KeptRow) → slice_get kepts i ≡ Some kept → IsAscii (said_by source kept)
   own_ascii kept is = line_ascii source (text_lines source) reads.rows kept i (own_there kept is)
 
-  pub own_ends : (kept : KeptRow) → slice_get kepts i ≡ Some kept → EndsBy 65536 (shown_spot kept) kept.size
+  pub own_ends : (kept : KeptRow) → slice_get kepts i ≡ Some kept → EndsBy 65536 (shown_location kept) kept.size
   own_ends kept is = line_ends source (text_lines source) reads.rows kept i image (own_there kept is) own_placed
 
   one_line : (rows : List Row) → AreRows [] (text_lines source) rows → line_at (names_of reads.rows) (text_lines source) reads.rows i ≡ line_at names (text_lines source) rows i

@@ -8,10 +8,10 @@ use Rattle.std.proofs.lemmas.Bool.Decides.{nat_tests}
 use Rattle.std.proofs.lemmas.Str.{IsUtf8-from_ascii}
 use Rattle.assembler_lexeme.specs.declared.fault.LineFault.{LineFault}
 use Rattle.assembler_lexeme.specs.declared.fault.LineFault.TheVariants.{BadCharacter}
-use Rattle.assembler_text.specs.declared.statement.Line.{Line}
+use Rattle.assembler_syntax.specs.declared.statement.Line.{Line}
 use Rattle.assembler_lexeme.specs.Lexemes.{is_character, lexemes}
 use Rattle.assembler_lexeme.specs.Tokens.{tokens_of}
-use Rattle.assembler_text.specs.Lines.{read_line, line_of}
+use Rattle.assembler_syntax.specs.Lines.{read_line, line_of}
 use Rattle.assembler_lexeme.specs.Faults.{◌>>=◌}
 
 -- bytes that are UTF-8 are a text

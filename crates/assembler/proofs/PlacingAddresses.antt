@@ -7,51 +7,51 @@ use Rattle.std.proofs.lemmas.Bool.{cases_lt, eqb-true}
 use Rattle.std.proofs.lemmas.Bool.Decides.{nat_tests}
 use Rattle.std.proofs.lemmas.Map.Keys.{IsDistinct-cons, IsDistinct-head, IsDistinct-tail}
 use Rattle.board_types.specs.Image.{IsLoadable}
-use Rattle.assembler_statement.specs.declared.symbol.Location.{Location}
+use Rattle.assembler_meaning.specs.declared.symbol.Location.{Location}
 use Rattle.assembler.specs.Placement.{address_behind, addresses_from, bytes_from, is_loadable, is_placed}
-use Rattle.assembler.proofs.PlacingLength.{left_false, left_true, right_false, right_true}
+use Rattle.assembler.proofs.RowLength.{left_false, left_true, right_false, right_true}
 
 -- a test of each address
-any_from : (test : ℕ → Bool) (spot : Location) (n k : ℕ) → ((j : ℕ) → n ≤ j → j < n + k → test (address_behind spot j) ≡ false) → list_any test (addresses_from spot n k) ≡ false
-any_from test spot n zero none = refl
-any_from test spot n (suc k) none =
-    rw (none n (omega arith) (omega arith)) (any_from test spot (n + 1) k (λ j low high. none j (omega arith) (omega arith)))
+any_from : (test : ℕ → Bool) (location : Location) (n k : ℕ) → ((j : ℕ) → n ≤ j → j < n + k → test (address_behind location j) ≡ false) → list_any test (addresses_from location n k) ≡ false
+any_from test location n zero none = refl
+any_from test location n (suc k) none =
+    rw (none n (omega arith) (omega arith)) (any_from test location (n + 1) k (λ j low high. none j (omega arith) (omega arith)))
 
-pub any_none : (test : ℕ → Bool) (spot : Location) (size : ℕ) → ((j : ℕ) → j < size → test (address_behind spot j) ≡ false) → list_any test (addresses_from spot 0 size) ≡ false
-any_none test spot size none = any_from test spot 0 size (λ j low high. none j (omega arith))
+pub any_none : (test : ℕ → Bool) (location : Location) (size : ℕ) → ((j : ℕ) → j < size → test (address_behind location j) ≡ false) → list_any test (addresses_from location 0 size) ≡ false
+any_none test location size none = any_from test location 0 size (λ j low high. none j (omega arith))
 
 or_right : (a b : Bool) → b ≡ true → (a || b) ≡ true
 or_right true b e = refl
 or_right false b e = e
 
-any_there : (test : ℕ → Bool) (spot : Location) (n k j : ℕ) → n ≤ j → j < n + k → test (address_behind spot j) ≡ true → list_any test (addresses_from spot n k) ≡ true
-any_there test spot n zero j low high there = absurd (omega arith)
-any_there test spot n (suc k) j low high there = elim (cases_lt n j) [
-  | inl above ↦ or_right (test (address_behind spot n)) (list_any test (addresses_from spot (n + 1) k)) (any_there test spot (n + 1) k j (omega arith) (omega arith) there)
+any_there : (test : ℕ → Bool) (location : Location) (n k j : ℕ) → n ≤ j → j < n + k → test (address_behind location j) ≡ true → list_any test (addresses_from location n k) ≡ true
+any_there test location n zero j low high there = absurd (omega arith)
+any_there test location n (suc k) j low high there = elim (cases_lt n j) [
+  | inl above ↦ or_right (test (address_behind location n)) (list_any test (addresses_from location (n + 1) k)) (any_there test location (n + 1) k j (omega arith) (omega arith) there)
   | inr not_above ↦ let same : j ≡ n = omega arith in rw (rw same at there) refl
 ]
 
-pub any_at : (test : ℕ → Bool) (spot : Location) (size j : ℕ) → j < size → test (address_behind spot j) ≡ true → list_any test (addresses_from spot 0 size) ≡ true
-any_at test spot size j within there = any_there test spot 0 size j (omega arith) (omega arith) there
+pub any_at : (test : ℕ → Bool) (location : Location) (size j : ℕ) → j < size → test (address_behind location j) ≡ true → list_any test (addresses_from location 0 size) ≡ true
+any_at test location size j within there = any_there test location 0 size j (omega arith) (omega arith) there
 
-all_from : (test : ℕ → Bool) (spot : Location) (n k : ℕ) → ((j : ℕ) → n ≤ j → j < n + k → test (address_behind spot j) ≡ true) → list_all test (addresses_from spot n k) ≡ true
-all_from test spot n zero each = refl
-all_from test spot n (suc k) each =
-    rw (each n (omega arith) (omega arith)) (all_from test spot (n + 1) k (λ j low high. each j (omega arith) (omega arith)))
+all_from : (test : ℕ → Bool) (location : Location) (n k : ℕ) → ((j : ℕ) → n ≤ j → j < n + k → test (address_behind location j) ≡ true) → list_all test (addresses_from location n k) ≡ true
+all_from test location n zero each = refl
+all_from test location n (suc k) each =
+    rw (each n (omega arith) (omega arith)) (all_from test location (n + 1) k (λ j low high. each j (omega arith) (omega arith)))
 
-pub all_each : (test : ℕ → Bool) (spot : Location) (size : ℕ) → ((j : ℕ) → j < size → test (address_behind spot j) ≡ true) → list_all test (addresses_from spot 0 size) ≡ true
-all_each test spot size each = all_from test spot 0 size (λ j low high. each j (omega arith))
+pub all_each : (test : ℕ → Bool) (location : Location) (size : ℕ) → ((j : ℕ) → j < size → test (address_behind location j) ≡ true) → list_all test (addresses_from location 0 size) ≡ true
+all_each test location size each = all_from test location 0 size (λ j low high. each j (omega arith))
 
-all_there : (test : ℕ → Bool) (spot : Location) (n k j : ℕ) → n ≤ j → j < n + k → list_all test (addresses_from spot n k) ≡ true → test (address_behind spot j) ≡ true
-all_there test spot n zero j low high all = absurd (omega arith)
-all_there test spot n (suc k) j low high all = elim (cases_lt n j) [
+all_there : (test : ℕ → Bool) (location : Location) (n k j : ℕ) → n ≤ j → j < n + k → list_all test (addresses_from location n k) ≡ true → test (address_behind location j) ≡ true
+all_there test location n zero j low high all = absurd (omega arith)
+all_there test location n (suc k) j low high all = elim (cases_lt n j) [
   | inl above ↦
-      all_there test spot (n + 1) k j (omega arith) (omega arith) (right_true (test (address_behind spot n)) (list_all test (addresses_from spot (n + 1) k)) all)
-  | inr not_above ↦ let same : j ≡ n = omega arith in rw same (left_true (test (address_behind spot n)) (list_all test (addresses_from spot (n + 1) k)) all)
+      all_there test location (n + 1) k j (omega arith) (omega arith) (right_true (test (address_behind location n)) (list_all test (addresses_from location (n + 1) k)) all)
+  | inr not_above ↦ let same : j ≡ n = omega arith in rw same (left_true (test (address_behind location n)) (list_all test (addresses_from location (n + 1) k)) all)
 ]
 
-pub all_at : (test : ℕ → Bool) (spot : Location) (size j : ℕ) → list_all test (addresses_from spot 0 size) ≡ true → j < size → test (address_behind spot j) ≡ true
-all_at test spot size j all within = all_there test spot 0 size j (omega arith) (omega arith) all
+pub all_at : (test : ℕ → Bool) (location : Location) (size j : ℕ) → list_all test (addresses_from location 0 size) ≡ true → j < size → test (address_behind location j) ≡ true
+all_at test location size j all within = all_there test location 0 size j (omega arith) (omega arith) all
 
 not_both : (b : Bool) → b ≡ true → b ≡ false → ⊥
 not_both b holds fails = cc
@@ -60,9 +60,9 @@ not_all : (b : Bool) → (b ≡ true → ⊥) → b ≡ false
 not_all true never = absurd (never refl)
 not_all false never = refl
 
-pub all_not : (test : ℕ → Bool) (spot : Location) (size j : ℕ) → j < size → test (address_behind spot j) ≡ false → list_all test (addresses_from spot 0 size) ≡ false
-all_not test spot size j within fails =
-    not_all (list_all test (addresses_from spot 0 size)) (λ all. not_both (test (address_behind spot j)) (all_at test spot size j all within) fails)
+pub all_not : (test : ℕ → Bool) (location : Location) (size j : ℕ) → j < size → test (address_behind location j) ≡ false → list_all test (addresses_from location 0 size) ≡ false
+all_not test location size j within fails =
+    not_all (list_all test (addresses_from location 0 size)) (λ all. not_both (test (address_behind location j)) (all_at test location size j all within) fails)
 
 -- where the board can be loaded
 pub can_load_at : (address : ℕ) → is_loadable address ≡ true → IsLoadable address
@@ -88,29 +88,29 @@ loads_at address (inl below) = grind (arith, nat_tests)
 loads_at address (inr (low, high)) = grind (arith, nat_tests)
 
 -- the addresses of so many bytes
-pub keys_are : (spot : Location) (n : ℕ) (bytes : List ℕ) → keys_of (bytes_from spot n bytes) ≡ addresses_from spot n (length bytes)
-keys_are spot n [] = refl
-keys_are spot n (b ∷ bs) = ap (λ (ks : List ℕ). address_behind spot n ∷ ks) (keys_are spot (n + 1) bs)
+pub keys_are : (location : Location) (n : ℕ) (bytes : List ℕ) → keys_of (bytes_from location n bytes) ≡ addresses_from location n (length bytes)
+keys_are location n [] = refl
+keys_are location n (b ∷ bs) = ap (λ (ks : List ℕ). address_behind location n ∷ ks) (keys_are location (n + 1) bs)
 
 -- those of offsets of one segment differ
 wrapped : (a b : ℕ) → a < b → b < a + 1048576 → a % 1048576 ≡ b % 1048576 → ⊥
 wrapped a b above near same = omega arith
 
-pub differ : (spot : Location) (n j : ℕ) → n < j → j < n + 65537 → (address_behind spot n == address_behind spot j) ≡ false
-differ spot n j above near =
-    not_all (address_behind spot n == address_behind spot j)
-    (λ same. wrapped (16 * spot.segment + (spot.offset + n)) (16 * spot.segment + (spot.offset + j)) (omega arith) (omega arith)
-    (eqb-true (address_behind spot n) (address_behind spot j) same))
+pub differ : (location : Location) (n j : ℕ) → n < j → j < n + 65537 → (address_behind location n == address_behind location j) ≡ false
+differ location n j above near =
+    not_all (address_behind location n == address_behind location j)
+    (λ same. wrapped (16 * location.segment + (location.offset + n)) (16 * location.segment + (location.offset + j)) (omega arith) (omega arith)
+    (eqb-true (address_behind location n) (address_behind location j) same))
 
-differ_from : (spot : Location) (n m k : ℕ) → n < m → m + k ≤ n + 65536 → AllByRecursion (λ y. (address_behind spot n == y) ≡ false) (addresses_from spot m k)
-differ_from spot n m zero above near = tt
-differ_from spot n m (suc k) above near = (differ spot n m above (omega arith), differ_from spot n (m + 1) k (omega arith) (omega arith))
+differ_from : (location : Location) (n m k : ℕ) → n < m → m + k ≤ n + 65536 → AllByRecursion (λ y. (address_behind location n == y) ≡ false) (addresses_from location m k)
+differ_from location n m zero above near = tt
+differ_from location n m (suc k) above near = (differ location n m above (omega arith), differ_from location n (m + 1) k (omega arith) (omega arith))
 
-pub addresses_differ : (spot : Location) (n k : ℕ) → k ≤ 65536 → IsDistinct (λ a b. a == b) (addresses_from spot n k)
+pub addresses_differ : (location : Location) (n k : ℕ) → k ≤ 65536 → IsDistinct (λ a b. a == b) (addresses_from location n k)
 unfolding IsDistinct
-addresses_differ spot n zero few = tt
-addresses_differ spot n (suc k) few =
-    IsDistinct-cons (λ a b. a == b) (address_behind spot n) (addresses_from spot (n + 1) k) (differ_from spot n (n + 1) k (omega arith) (omega arith)) (addresses_differ spot (n + 1) k (omega arith))
+addresses_differ location n zero few = tt
+addresses_differ location n (suc k) few =
+    IsDistinct-cons (λ a b. a == b) (address_behind location n) (addresses_from location (n + 1) k) (differ_from location n (n + 1) k (omega arith) (omega arith)) (addresses_differ location (n + 1) k (omega arith))
 
 -- lists of distinct addresses that have none in common
 all_append : {X : Type 0} (P : X → Type 0) (xs ys : List X) → AllByRecursion P xs → AllByRecursion P ys → AllByRecursion P (xs ++ ys)
@@ -141,5 +141,5 @@ pub loads_is : (address : ℕ) (result : Bool) → (IsTrue result ↔ IsLoadable
 loads_is address true is = loads_at address (is.0 refl)
 loads_is address false is = not_all (is_loadable address) (λ e. never_true (is.1 (can_load_at address e)))
 
-pub loadable_at : (spot : Location) (size j address : ℕ) → list_all is_loadable (addresses_from spot 0 size) ≡ true → j < size → address ≡ address_behind spot j → IsLoadable address
-loadable_at spot size j address all within is = can_load_at address (ap is_loadable is ∙ all_at is_loadable spot size j all within)
+pub loadable_at : (location : Location) (size j address : ℕ) → list_all is_loadable (addresses_from location 0 size) ≡ true → j < size → address ≡ address_behind location j → IsLoadable address
+loadable_at location size j address all within is = can_load_at address (ap is_loadable is ∙ all_at is_loadable location size j all within)

@@ -15,7 +15,7 @@ use Rattle.std.proofs.lemmas.Map.Views.{Contains-from_lookup, lookup-from_Contai
 use Rattle.board_types.specs.Image.{IsImage, IsLoadable, image_byte}
 use Rattle.board_types.proofs.ImageBytes.{byte_put, sorted_put}
 use Rattle.board_types.proofs.Images.{image_put}
-use Rattle.assembler_statement.specs.declared.symbol.Location.{Location}
+use Rattle.assembler_meaning.specs.declared.symbol.Location.{Location}
 use Rattle.assembler.specs.Placement.{address_behind, bytes_from, is_placed}
 use Rattle.assembler.specs.SecondPass.{has_byte, with_entries}
 
@@ -89,12 +89,12 @@ bytes_are placed distinct address byte =
 pub next_byte : (bytes : List ℕ) (i : ℕ) → i < length bytes → drop i bytes ≡ get_or bytes i 0 ∷ drop (i + 1) bytes
 next_byte bytes i within = let one : i + 1 ≡ suc i = omega arith in rw one (drop-cons bytes i 0 within)
 
-pub put_next : (image new whole : List (ℕ × ℕ)) (spot : Location) (bytes : List ℕ) (at i address : ℕ) → i < length bytes → address ≡ address_behind spot at
-    → new ≡ insert_entry nat_cmp image address (get_or bytes i 0) → with_entries image (bytes_from spot at (drop i bytes)) ≡ whole
-    → with_entries new (bytes_from spot (at + 1) (drop (i + 1) bytes)) ≡ whole
-put_next image new whole spot bytes at i address within is put held =
-    ap (λ (im : List (ℕ × ℕ)). with_entries im (bytes_from spot (at + 1) (drop (i + 1) bytes))) (put ∙ ap (λ (a : ℕ). insert_entry nat_cmp image a (get_or bytes i 0)) is)
-    ∙ sym (ap (λ (bs : List ℕ). with_entries image (bytes_from spot at bs)) (next_byte bytes i within)) ∙ held
+pub put_next : (image new whole : List (ℕ × ℕ)) (location : Location) (bytes : List ℕ) (at i address : ℕ) → i < length bytes → address ≡ address_behind location at
+    → new ≡ insert_entry nat_cmp image address (get_or bytes i 0) → with_entries image (bytes_from location at (drop i bytes)) ≡ whole
+    → with_entries new (bytes_from location (at + 1) (drop (i + 1) bytes)) ≡ whole
+put_next image new whole location bytes at i address within is put held =
+    ap (λ (im : List (ℕ × ℕ)). with_entries im (bytes_from location (at + 1) (drop (i + 1) bytes))) (put ∙ ap (λ (a : ℕ). insert_entry nat_cmp image a (get_or bytes i 0)) is)
+    ∙ sym (ap (λ (bs : List ℕ). with_entries image (bytes_from location at bs)) (next_byte bytes i within)) ∙ held
 
 pub no_byte : (bytes : List ℕ) (i : ℕ) → length bytes ≤ i → drop i bytes ≡ []
 no_byte bytes i past = drop_all i bytes past

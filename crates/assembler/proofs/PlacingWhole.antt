@@ -11,15 +11,15 @@ use Rattle.std.proofs.lemmas.Grind.{flat_map-append}
 use Rattle.std.proofs.lemmas.List.Sums.{fold-append}
 use Rattle.std.specs.Prelude.{Contains, ◌↔◌}
 use Rattle.board_types.specs.Image.{IsImage, image_byte}
-use Rattle.text_lines.specs.Lines.{text_lines}
-use Rattle.text_lines.proofs.Counting.{few_lines}
+use Rattle.board_types.specs.TextLines.{text_lines}
+use Rattle.board_types.proofs.LineCounting.{few_lines}
 use Rattle.assembler.specs.declared.fault.SourceFault.{SourceFault}
 use Rattle.assembler.specs.declared.fault.AsmFault.{AsmFault}
 use Rattle.assembler.specs.declared.fault.AsmFault.TheVariants.{SourceTooLong, InLine, Memory}
 use Rattle.assembler.specs.declared.row.Content.{Content}
 use Rattle.assembler.specs.declared.row.KeptRow.{KeptRow}
-use Rattle.assembler_statement.specs.declared.symbol.Location.{Location}
-use Rattle.assembler_statement.specs.Values.{Names}
+use Rattle.assembler_meaning.specs.declared.symbol.Location.{Location}
+use Rattle.assembler_meaning.specs.Values.{Names}
 use Rattle.assembler.specs.Rows.{AreRows, Row, names_of}
 use Rattle.assembler.specs.Placement.{addresses_from, bytes_by, content_of, is_past_end, is_placed, late_fault, placed_at, placed_by, placed_by_all, row_fault}
 use Rattle.assembler.specs.Gives.{ArePlaced, Fits, FitsAt, Gives}
@@ -28,7 +28,7 @@ use Rattle.assembler.specs.Kept.{AreKept, Reads, content_in}
 use Rattle.assembler.specs.SecondPass.{AreFaultlessKept, AreKeptRows, HasSize, HasSizeAt, IsKept, KeepsSize, RowHasSize, StopsAt, entries_by, entries_by_all, has_byte, kept_fault, with_entries}
 use Rattle.assembler.proofs.PlacingAddresses.{addresses_differ, keys_are, still_differ}
 use Rattle.assembler.proofs.PlacingImage.{bytes_are, taken_is}
-use Rattle.assembler.proofs.PlacingLength.{row_length}
+use Rattle.assembler.proofs.RowLength.{keeps_size}
 use Rattle.assembler.proofs.PlacingRows.{can_stand, ends_within}
 
 -- ---- rows as they are kept
@@ -41,7 +41,7 @@ are_kept_rows source (text ∷ texts) [] [] are = absurd are
 are_kept_rows source (text ∷ texts) [] (row ∷ rows) are = absurd are
 are_kept_rows source (text ∷ texts) (kept ∷ kepts) [] are = absurd are
 are_kept_rows source (text ∷ texts) (kept ∷ kepts) (row ∷ rows) are =
-    (record { label = are.0.label; spot = are.0.spot; size = are.0.size; content = are.0.content }, are_kept_rows source texts kepts rows are.1)
+    (record { label = are.0.label; location = are.0.location; size = are.0.size; content = are.0.content }, are_kept_rows source texts kepts rows are.1)
 
 kept_count : (source : List ℕ) (texts : List (List ℕ)) (kepts : List KeptRow) (rows : List Row) → AreKept source texts kepts rows → length kepts ≡ length texts
 kept_count source [] [] [] are = refl
@@ -67,10 +67,10 @@ same_length (kept ∷ kepts) [] are = absurd are
 same_length (kept ∷ kepts) (row ∷ rows) are = ap suc (same_length kepts rows are.1)
 
 -- ---- rows have their sizes
-size_here : (names : Names) (row : Row) (here : Option Location) → row.spot ≡ here → ((spot : Location) → HasSizeAt names spot row.size (content_of row.line.statement row.form))
+size_here : (names : Names) (row : Row) (here : Option Location) → row.location ≡ here → ((location : Location) → HasSizeAt names location row.size (content_of row.line.statement row.form))
     → HasSize names here row.size (content_of row.line.statement row.form)
 size_here names row None at each = tt
-size_here names row (Some spot) at each = each spot
+size_here names row (Some location) at each = each location
 
 rows_sized : (names : Names) (before : List Row) (texts : List (List ℕ)) (rows : List Row) → AreRows before texts rows → names ≡ names_of (before ++ rows) → AllByRecursion (RowHasSize names) rows
 rows_sized names before [] [] are is = tt
@@ -78,15 +78,15 @@ rows_sized names before [] (row ∷ rows) are is = absurd are
 rows_sized names before (text ∷ texts) [] are is = absurd are
 rows_sized names before (text ∷ texts) (row ∷ rows) are is =
     let all : names ≡ names_of before ++ names_of (row ∷ rows) = is ∙ flat_map-append (λ (r : Row). r.names) before (row ∷ rows) in (
-      size_here names row row.spot refl
-          (λ spot. row_length (names_of before) (names_of (row ∷ rows)) names row.spot spot row.line row.form row.size are.0.clean are.0.is_row.size all),
+      size_here names row row.location refl
+          (λ location. keeps_size (names_of before) (names_of (row ∷ rows)) names row.location location row.line row.form row.size are.0.clean are.0.is_row.size all),
       rows_sized names (before ++ row ∷ []) texts rows are.1 (is ∙ ap names_of (sym (append_assoc before (row ∷ []) rows))),
     )
 
 kept_sized : (names : Names) (kept : KeptRow) (row : Row) → IsKept kept row → RowHasSize names row → KeepsSize names kept
 kept_sized names kept row is size =
-    subst (λ (o : Option Location). HasSize names o kept.size (content_in kept)) (sym is.spot)
-    (subst (λ (n : ℕ). HasSize names row.spot n (content_in kept)) (sym is.size) (subst (λ (o : Option Content). HasSize names row.spot row.size o) (sym is.content) size))
+    subst (λ (o : Option Location). HasSize names o kept.size (content_in kept)) (sym is.location)
+    (subst (λ (n : ℕ). HasSize names row.location n (content_in kept)) (sym is.size) (subst (λ (o : Option Content). HasSize names row.location row.size o) (sym is.content) size))
 
 kepts_sized : (names : Names) (kepts : List KeptRow) (rows : List Row) → AreKeptRows kepts rows → AllByRecursion (RowHasSize names) rows → AllByRecursion (KeepsSize names) kepts
 kepts_sized names [] [] are sized = tt
@@ -105,8 +105,8 @@ all_sized source names kepts reads =
 entries_is : (names : Names) (kept : KeptRow) (row : Row) → IsKept kept row → entries_by names kept ≡ placed_by names row
 unfolding placed_by
 entries_is names kept row is =
-    ap (λ (o : Option Location). placed_at names o kept.size (content_in kept)) is.spot
-    ∙ ap (λ (n : ℕ). placed_at names row.spot n (content_in kept)) is.size ∙ ap (λ (o : Option Content). placed_at names row.spot row.size o) is.content
+    ap (λ (o : Option Location). placed_at names o kept.size (content_in kept)) is.location
+    ∙ ap (λ (n : ℕ). placed_at names row.location n (content_in kept)) is.size ∙ ap (λ (o : Option Content). placed_at names row.location row.size o) is.content
 
 entries_are : (names : Names) (kepts : List KeptRow) (rows : List Row) → AreKeptRows kepts rows → entries_by_all names kepts ≡ placed_by_all names rows
 entries_are names [] [] are = refl
@@ -117,12 +117,12 @@ entries_are names (kept ∷ kepts) (row ∷ rows) are =
     ∙ ap (λ (es : List (ℕ × ℕ)). placed_by names row ++ es) (entries_are names kepts rows are.1)
 
 fault_is : (names : Names) (is_taken : ℕ → Bool) (kept : KeptRow) (row : Row) → IsKept kept row
-    → late_fault names is_taken (is_some row.line.label) row.spot row.size (content_of row.line.statement row.form) ≡ kept_fault names is_taken kept
+    → late_fault names is_taken (is_some row.line.label) row.location row.size (content_of row.line.statement row.form) ≡ kept_fault names is_taken kept
 fault_is names is_taken kept row is =
-    sym (ap (λ (b : Bool). late_fault names is_taken b kept.spot kept.size (content_in kept)) is.label
-    ∙ ap (λ (o : Option Location). late_fault names is_taken (is_some row.line.label) o kept.size (content_in kept)) is.spot
-    ∙ ap (λ (n : ℕ). late_fault names is_taken (is_some row.line.label) row.spot n (content_in kept)) is.size
-    ∙ ap (λ (o : Option Content). late_fault names is_taken (is_some row.line.label) row.spot row.size o) is.content)
+    sym (ap (λ (b : Bool). late_fault names is_taken b kept.location kept.size (content_in kept)) is.label
+    ∙ ap (λ (o : Option Location). late_fault names is_taken (is_some row.line.label) o kept.size (content_in kept)) is.location
+    ∙ ap (λ (n : ℕ). late_fault names is_taken (is_some row.line.label) row.location n (content_in kept)) is.size
+    ∙ ap (λ (o : Option Content). late_fault names is_taken (is_some row.line.label) row.location row.size o) is.content)
 
 row_fault_is : (names : Names) (befores : List KeptRow) (before : List Row) (kept : KeptRow) (row : Row) → AreKeptRows befores before → IsKept kept row
     → row_fault names before row ≡ kept_fault names (is_placed (entries_by_all names befores)) kept
@@ -147,13 +147,13 @@ faultless_are names befores before (kept ∷ kepts) (row ∷ rows) front are fre
 )
 
 -- ---- faultless rows fit, and no address is placed twice
-few_bytes : (spot : Location) (size : ℕ) (has_label : Bool) → is_past_end spot size has_label ≡ false → size ≤ 65536
-few_bytes spot zero has_label within = omega arith
-few_bytes spot (suc n) has_label within = let ends = ends_within spot (suc n) has_label within (omega arith) in omega (arith, ends)
+few_bytes : (location : Location) (size : ℕ) (has_label : Bool) → is_past_end location size has_label ≡ false → size ≤ 65536
+few_bytes location zero has_label within = omega arith
+few_bytes location (suc n) has_label within = let ends = ends_within location (suc n) has_label within (omega arith) in omega (arith, ends)
 
-keys_at : (names : Names) (spot : Location) (size : ℕ) (content : Option Content) → length (bytes_by names spot size content) ≡ size
-    → keys_of (placed_at names (Some spot) size content) ≡ addresses_from spot 0 size
-keys_at names spot size content long = keys_are spot 0 (bytes_by names spot size content) ∙ ap (addresses_from spot 0) long
+keys_at : (names : Names) (location : Location) (size : ℕ) (content : Option Content) → length (bytes_by names location size content) ≡ size
+    → keys_of (placed_at names (Some location) size content) ≡ addresses_from location 0 size
+keys_at names location size content long = keys_are location 0 (bytes_by names location size content) ∙ ap (addresses_from location 0) long
 
 pub record Stands (names : Names) (before : List (ℕ × ℕ)) (here : Option Location) (size : ℕ) (content : Option Content) : Type 0 where
   pub differ : IsDistinct (λ a b. a == b) (keys_of (placed_at names here size content))
@@ -163,36 +163,36 @@ stands : (names : Names) (before : List (ℕ × ℕ)) (has_label : Bool) (here :
     → late_fault names (is_placed before) has_label here size content ≡ None → HasSize names here size content → Stands names before here size content
 unfolding IsDistinct
 stands names before has_label None size content none has_size = record { differ = tt; free = refl }
-stands names before has_label (Some spot) size content none has_size =
-    let can = can_stand names (is_placed before) has_label spot size content none in
-    let keys = keys_at names spot size content (has_size can.known can.fits) in
+stands names before has_label (Some location) size content none has_size =
+    let can = can_stand names (is_placed before) has_label location size content none in
+    let keys = keys_at names location size content (has_size can.known can.fits) in
     record {
-      differ = subst (λ (ks : List ℕ). IsDistinct (λ a b. a == b) ks) (sym keys) (addresses_differ spot 0 size (few_bytes spot size has_label can.within));
+      differ = subst (λ (ks : List ℕ). IsDistinct (λ a b. a == b) ks) (sym keys) (addresses_differ location 0 size (few_bytes location size has_label can.within));
       free = ap (list_any (is_placed before)) keys ∙ can.free;
     }
 
-fits_at : (names : Names) (is_taken : ℕ → Bool) (row : Row) (spot : Location) → row.spot ≡ Some spot
-    → late_fault names is_taken (is_some row.line.label) row.spot row.size (content_of row.line.statement row.form) ≡ None → FitsAt names row spot
-fits_at names is_taken row spot at none =
-    let can = can_stand names is_taken (is_some row.line.label) spot row.size (content_of row.line.statement row.form)
+fits_at : (names : Names) (is_taken : ℕ → Bool) (row : Row) (location : Location) → row.location ≡ Some location
+    → late_fault names is_taken (is_some row.line.label) row.location row.size (content_of row.line.statement row.form) ≡ None → FitsAt names row location
+fits_at names is_taken row location at none =
+    let can = can_stand names is_taken (is_some row.line.label) location row.size (content_of row.line.statement row.form)
     (ap (λ (o : Option Location). late_fault names is_taken (is_some row.line.label) o row.size (content_of row.line.statement row.form)) (sym at) ∙ none) in
     record { known = can.known; fits = can.fits; within = can.within }
 
 all_fit : (names : Names) (before rows : List Row) → AreFaultless names before rows → AllByRecursion (Fits names) rows
 all_fit names before [] free = tt
 all_fit names before (row ∷ rows) free =
-    ((λ spot at. fits_at names (is_placed (placed_by_all names before)) row spot at free.0), all_fit names (before ++ row ∷ []) rows free.1)
+    ((λ location at. fits_at names (is_placed (placed_by_all names before)) row location at free.0), all_fit names (before ++ row ∷ []) rows free.1)
 
 row_stands : (names : Names) (before : List Row) (row : Row) → row_fault names before row ≡ None → RowHasSize names row
-    → Stands names (placed_by_all names before) row.spot row.size (content_of row.line.statement row.form)
+    → Stands names (placed_by_all names before) row.location row.size (content_of row.line.statement row.form)
 row_stands names before row none has_size =
-    stands names (placed_by_all names before) (is_some row.line.label) row.spot row.size (content_of row.line.statement row.form) none has_size
+    stands names (placed_by_all names before) (is_some row.line.label) row.location row.size (content_of row.line.statement row.form) none has_size
 
 keys_differ : (names : Names) (before : List Row) (row : Row) → row_fault names before row ≡ None → RowHasSize names row → IsDistinct (λ a b. a == b) (keys_of (placed_by_all names before))
     → IsDistinct (λ a b. a == b) (keys_of (placed_by_all names (before ++ row ∷ [])))
 unfolding placed_by
 keys_differ names before row none has_size differ =
-    let here = placed_at names row.spot row.size (content_of row.line.statement row.form) in
+    let here = placed_at names row.location row.size (content_of row.line.statement row.form) in
     let at = row_stands names before row none has_size in
     let all : placed_by_all names (before ++ row ∷ []) ≡ placed_by_all names before ++ here =
     flat_map-append (placed_by names) before (row ∷ []) ∙ ap (λ (es : List (ℕ × ℕ)). placed_by_all names before ++ es) (append-nil here) in

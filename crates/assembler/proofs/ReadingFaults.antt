@@ -3,27 +3,27 @@ use Rattle.std.proofs.Common.{◌≡◌, ℕ, ◌+◌, ◌^◌, ◌≤◌, refl,
 use Rattle.isa.specs.Encoding.{IsForm}
 use Rattle.isa.specs.declared.form.Form.{Form}
 use Rattle.assembler_lexeme.specs.declared.fault.LineFault.{LineFault}
-use Rattle.assembler_text.specs.declared.statement.Line.{Line}
-use Rattle.assembler_text.specs.declared.statement.Statement.{Statement}
-use Rattle.assembler_text.specs.declared.statement.Statement.TheVariants.{Empty, Segment, Ends, Equ, Org, Data, Instruction}
-use Rattle.assembler_text.specs.Lines.{read_line}
+use Rattle.assembler_syntax.specs.declared.statement.Line.{Line}
+use Rattle.assembler_syntax.specs.declared.statement.Statement.{Statement}
+use Rattle.assembler_syntax.specs.declared.statement.Statement.TheVariants.{Empty, Segment, Ends, Equ, Org, Data, Instruction}
+use Rattle.assembler_syntax.specs.Lines.{read_line}
 use Rattle.assembler.specs.declared.fault.SourceFault.{SourceFault}
 use Rattle.assembler.specs.declared.fault.SourceFault.TheVariants.{BadLine, UnknownName, BadForm, TwiceDefined, NoSegment}
 use Rattle.assembler.specs.declared.row.KeptRow.{KeptRow}
 use Rattle.assembler.specs.declared.row.Content.{Content}
-use Rattle.assembler.specs.declared.segment.State.{State}
-use Rattle.assembler_statement.specs.declared.symbol.Location.{Location}
-use Rattle.assembler_statement.specs.Values.{Names, AreSmall, term_limit}
+use Rattle.assembler.specs.declared.early.State.{State}
+use Rattle.assembler_meaning.specs.declared.symbol.Location.{Location}
+use Rattle.assembler_meaning.specs.Values.{Names, AreSmall, term_limit}
 use Rattle.assembler.specs.Rows.{IsFormOf, IsRow, defines_again, early_fault, has_unknown_constant, has_wrong_constant, label_definition, lacks_form, opens_within, size_of, stands_outside, statement_definition}
 use Rattle.assembler.specs.Placement.{content_of}
 use Rattle.assembler.specs.FirstFault.{IsTextFault, fault_of_line}
-use Rattle.assembler_statement.specs.declared.symbol.Symbol.{Symbol}
+use Rattle.assembler_meaning.specs.declared.symbol.Symbol.{Symbol}
 use Rattle.assembler_lexeme.specs.declared.name.Name.{Name}
 use Rattle.assembler.specs.Gives.{source_limit}
 use Rattle.assembler.proofs.ReadingWeights.{within_more}
 use Rattle.assembler.specs.FirstPass.{AddsRow, KeepsRow, definition_names, offset_of, row_of, size_limit}
 use Rattle.assembler.specs.Kept.{EndsBy, IsContent, IsSteady, content_in}
-use Rattle.assembler_text.specs.Weights.{IsWithin, are_terms_within, statement_weight}
+use Rattle.assembler_syntax.specs.Weights.{IsWithin, are_terms_within, statement_weight}
 use Rattle.assembler.proofs.ReadingNames.{or_false, small_append, small_label, small_statement}
 
 -- each test of the chain that finds no fault was false
@@ -46,27 +46,27 @@ pub record IsClean (names : Names) (line : Line) : Type 0 where
   pub constants : has_wrong_constant names line.statement ≡ false
   pub fresh : defines_again names line ≡ false
 
-pub is_clean : (names : Names) (spot : Option Location) (line : Line) (form : Option Form) → early_fault names spot line form ≡ None → IsClean names line
+pub is_clean : (names : Names) (location : Option Location) (line : Line) (form : Option Form) → early_fault names location line form ≡ None → IsClean names line
 unfolding early_fault
-is_clean names spot line form none =
-    let all = chain_none (opens_within spot line.statement || has_wrong_constant names line.statement) (has_unknown_constant names line.statement) (lacks_form line.statement form) (defines_again names line) (stands_outside spot line) none in
-    record { constants = (or_false (opens_within spot line.statement) (has_wrong_constant names line.statement) all.first).1; fresh = all.fourth }
+is_clean names location line form none =
+    let all = chain_none (opens_within location line.statement || has_wrong_constant names line.statement) (has_unknown_constant names line.statement) (lacks_form line.statement form) (defines_again names line) (stands_outside location line) none in
+    record { constants = (or_false (opens_within location line.statement) (has_wrong_constant names line.statement) all.first).1; fresh = all.fourth }
 
 -- the row of a line
-pub is_row : (names : Names) (spot : Option Location) (text : List ℕ) (line : Line) (form : Option Form) → read_line text ≡ Ok line → IsFormOf names line.statement form
-    → IsRow names spot text (row_of names spot line form)
-is_row names spot text line form reads chosen = record { reads = reads; form = chosen; size = refl; spot = refl; next = refl; names = refl }
+pub is_row : (names : Names) (location : Option Location) (text : List ℕ) (line : Line) (form : Option Form) → read_line text ≡ Ok line → IsFormOf names line.statement form
+    → IsRow names location text (row_of names location line form)
+is_row names location text line form reads chosen = record { reads = reads; form = chosen; size = refl; location = refl; next = refl; names = refl }
 
-pub read_fault : (names : Names) (spot : Option Location) (text : List ℕ) (found : LineFault) → read_line text ≡ Err found → IsTextFault names spot text (fault_of_line found)
-read_fault names spot text found reads = inl (found, reads, refl)
+pub read_fault : (names : Names) (location : Option Location) (text : List ℕ) (found : LineFault) → read_line text ≡ Err found → IsTextFault names location text (fault_of_line found)
+read_fault names location text found reads = inl (found, reads, refl)
 
-pub row_fault : (names : Names) (spot : Option Location) (text : List ℕ) (line : Line) (form : Option Form) (fault : SourceFault) → read_line text ≡ Ok line → IsFormOf names line.statement form
-    → early_fault names spot line form ≡ Some fault → IsTextFault names spot text fault
-row_fault names spot text line form fault reads chosen found = inr (row_of names spot line form, is_row names spot text line form reads chosen, found)
+pub row_fault : (names : Names) (location : Option Location) (text : List ℕ) (line : Line) (form : Option Form) (fault : SourceFault) → read_line text ≡ Ok line → IsFormOf names line.statement form
+    → early_fault names location line form ≡ Some fault → IsTextFault names location text fault
+row_fault names location text line form fault reads chosen found = inr (row_of names location line form, is_row names location text line form reads chosen, found)
 
-ends_by : (limit : ℕ) (spot : Option Location) (size : ℕ) → offset_of spot + size ≤ limit → EndsBy limit spot size
+ends_by : (limit : ℕ) (location : Option Location) (size : ℕ) → offset_of location + size ≤ limit → EndsBy limit location size
 ends_by limit None size near = tt
-ends_by limit (Some spot) size near = near
+ends_by limit (Some location) size near = near
 
 is_content : (statement : Statement) (form : Option Form) → are_terms_within term_limit statement ≡ true → IfSome form IsForm → IsContent (content_of statement form)
 is_content Empty form short shape = tt
@@ -81,10 +81,10 @@ is_content (Instruction i) (Some f) short shape = (short, shape)
 lighter : (size weight n : ℕ) → size ≤ size_limit weight → weight ≤ n → size ≤ size_limit n
 lighter size weight n bound light = omega arith
 
-steady : (kept : KeptRow) (spot : Option Location) (size : ℕ) (statement : Statement) (form : Option Form) → kept.spot ≡ spot → kept.size ≡ size → content_in kept ≡ content_of statement form
-    → offset_of spot + size ≤ 2 ^ 40 → are_terms_within term_limit statement ≡ true → IfSome form IsForm → IsSteady kept
-steady kept spot size statement form is sized holds near short shape = record {
-  ends = subst (λ (o : Option Location). EndsBy (2 ^ 40) o kept.size) (sym is) (ends_by (2 ^ 40) spot kept.size (rw sized near));
+steady : (kept : KeptRow) (location : Option Location) (size : ℕ) (statement : Statement) (form : Option Form) → kept.location ≡ location → kept.size ≡ size → content_in kept ≡ content_of statement form
+    → offset_of location + size ≤ 2 ^ 40 → are_terms_within term_limit statement ≡ true → IfSome form IsForm → IsSteady kept
+steady kept location size statement form is sized holds near short shape = record {
+  ends = subst (λ (o : Option Location). EndsBy (2 ^ 40) o kept.size) (sym is) (ends_by (2 ^ 40) location kept.size (rw sized near));
   content = subst (λ (o : Option Content). IsContent o) (sym holds) (is_content statement form short shape);
 }
 
@@ -99,27 +99,27 @@ longer a b size n bound grows = omega arith
 
 -- what the state and the kept row are behind a line without a fault
 pub adds_row : (old new : State) (start length : ℕ) (line : Line) (form : Option Form) (kept : KeptRow)
-    → AreSmall old.symbols.entries → offset_of old.spot + size_limit length ≤ 2 ^ 40 → are_terms_within term_limit line.statement ≡ true → statement_weight line.statement ≤ length
+    → AreSmall old.symbols.entries → offset_of old.location + size_limit length ≤ 2 ^ 40 → are_terms_within term_limit line.statement ≡ true → statement_weight line.statement ≤ length
     → IfSome form IsForm → IsClean old.symbols.entries line
     → size_of old.symbols.entries line.statement form ≤ size_limit (statement_weight line.statement)
-    → offset_of new.spot ≤ offset_of old.spot + size_of old.symbols.entries line.statement form + 65535
-    → new.spot ≡ (row_of old.symbols.entries old.spot line form).next
-    → new.symbols.entries ≡ (old.symbols.entries ++ label_definition old.spot line.label) ++ statement_definition old.symbols.entries line.statement
-    → KeepsRow start length kept (row_of old.symbols.entries old.spot line form)
-    → AddsRow old new start length (row_of old.symbols.entries old.spot line form) kept
+    → offset_of new.location ≤ offset_of old.location + size_of old.symbols.entries line.statement form + 65535
+    → new.location ≡ (row_of old.symbols.entries old.location line form).next
+    → new.symbols.entries ≡ (old.symbols.entries ++ label_definition old.location line.label) ++ statement_definition old.symbols.entries line.statement
+    → KeepsRow start length kept (row_of old.symbols.entries old.location line form)
+    → AddsRow old new start length (row_of old.symbols.entries old.location line form) kept
 adds_row old new start length line form kept small room short light shape clean bound grows next names keeps =
     let size = lighter (size_of old.symbols.entries line.statement form) (statement_weight line.statement) length bound light in
     record {
-      spot = next;
-      names = names ∙ append_assoc old.symbols.entries (label_definition old.spot line.label) (statement_definition old.symbols.entries line.statement);
+      location = next;
+      names = names ∙ append_assoc old.symbols.entries (label_definition old.location line.label) (statement_definition old.symbols.entries line.statement);
       keeps = keeps;
-      steady = steady kept old.spot (size_of old.symbols.entries line.statement form) line.statement form keeps.spot keeps.size keeps.content
-          (nearer (offset_of old.spot) (size_of old.symbols.entries line.statement form) length size room) short shape;
+      steady = steady kept old.location (size_of old.symbols.entries line.statement form) line.statement form keeps.location keeps.size keeps.content
+          (nearer (offset_of old.location) (size_of old.symbols.entries line.statement form) length size room) short shape;
       small = subst (λ (n : Names). AreSmall n) (sym names)
-          (small_append (old.symbols.entries ++ label_definition old.spot line.label) (statement_definition old.symbols.entries line.statement)
-          (small_append old.symbols.entries (label_definition old.spot line.label) small (small_label old.spot line.label (near (offset_of old.spot) length room)))
+          (small_append (old.symbols.entries ++ label_definition old.location line.label) (statement_definition old.symbols.entries line.statement)
+          (small_append old.symbols.entries (label_definition old.location line.label) small (small_label old.location line.label (near (offset_of old.location) length room)))
           (small_statement old.symbols.entries line.statement clean.constants));
-      grows = longer (offset_of old.spot) (offset_of new.spot) (size_of old.symbols.entries line.statement form) length size grows;
+      grows = longer (offset_of old.location) (offset_of new.location) (size_of old.symbols.entries line.statement form) length size grows;
     }
 
 pub is_short : (start n : ℕ) (statement : Statement) → start + n ≤ source_limit → IsWithin n statement → are_terms_within term_limit statement ≡ true

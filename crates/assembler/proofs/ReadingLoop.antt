@@ -1,22 +1,22 @@
 -- From one line of a source to the next.
 use Rattle.std.proofs.Common.{◌≡◌, ℕ, ◌+◌, ◌-◌, ◌*◌, ◌^◌, ◌<◌, ◌≤◌, inl, refl, sym, ap, ◌∙◌, subst, arith, List, [], ◌∷◌, ◌++◌, length, take, drop, Option, None, length-append, append_assoc}
 use Rattle.std.proofs.Math.Seq.{drop-append_seam, take-append_seam}
-use Rattle.text_lines.specs.Lines.{text_lines}
+use Rattle.board_types.specs.TextLines.{text_lines}
 use Rattle.assembler.specs.declared.fault.AsmFault.{AsmFault}
 use Rattle.assembler.specs.declared.fault.AsmFault.TheVariants.{SourceTooLong, InLine, Memory}
 use Rattle.assembler.specs.declared.fault.SourceFault.{SourceFault}
 use Rattle.assembler.specs.declared.row.KeptRow.{KeptRow}
-use Rattle.assembler.specs.declared.segment.State.{State}
-use Rattle.assembler_statement.specs.declared.symbol.Location.{Location}
-use Rattle.assembler_statement.specs.Values.{AreSmall, Names}
-use Rattle.assembler.specs.Rows.{Row, AreRows, IsCleanRow, IsRow, early_fault, names_of, spot_behind}
+use Rattle.assembler.specs.declared.early.State.{State}
+use Rattle.assembler_meaning.specs.declared.symbol.Location.{Location}
+use Rattle.assembler_meaning.specs.Values.{AreSmall, Names}
+use Rattle.assembler.specs.Rows.{Row, AreRows, IsCleanRow, IsRow, early_fault, names_of, location_behind}
 use Rattle.assembler.specs.FirstFault.{IsFirst, IsTextFault}
 use Rattle.assembler.specs.FirstPass.{HasRead, KeepsRow, KeepsText, StopsAt, offset_of, size_limit}
 use Rattle.assembler.specs.Gives.{source_limit}
 use Rattle.std.specs.List.{AllByRecursion}
 use Rattle.assembler.specs.Kept.{AreKept, IsSteady, Keeps, Reads}
 use Rattle.assembler.proofs.ReadingNames.{small_none}
-use Rattle.assembler.proofs.ReadingRows.{all_push, kept_push, names_push, no_more, rows_push, spot_push}
+use Rattle.assembler.proofs.ReadingRows.{all_push, kept_push, names_push, no_more, rows_push, location_push}
 
 -- a line of the rest, and what follows it
 pub record IsLine (rest text after : List ℕ) : Type 0 where
@@ -57,17 +57,17 @@ keeps_it source text start kept row inside stands keeps = record {
   inside = omega (arith, keeps.starts, keeps.ends);
   text = ap (λ (n : ℕ). take n (drop kept.start source)) keeps.ends ∙ ap (λ (n : ℕ). take (length text) (drop n source)) keeps.starts ∙ stands;
   label = keeps.label;
-  spot = keeps.spot;
+  location = keeps.location;
   size = keeps.size;
   content = keeps.content;
 }
 
 -- a row that is clean in the light of a state is clean behind the rows that left the state
-clean_in : (state : State) (rows : List Row) (text : List ℕ) (row : Row) → state.symbols.entries ≡ names_of rows → state.spot ≡ spot_behind rows
-    → IsRow state.symbols.entries state.spot text row → early_fault state.symbols.entries row.spot row.line row.form ≡ None → IsCleanRow rows text row
-clean_in state rows text row names spot is clean = record {
-  is_row = subst (λ (n : Names). IsRow n (spot_behind rows) text row) names (subst (λ (o : Option Location). IsRow state.symbols.entries o text row) spot is);
-  clean = subst (λ (n : Names). early_fault n row.spot row.line row.form ≡ None) names clean;
+clean_in : (state : State) (rows : List Row) (text : List ℕ) (row : Row) → state.symbols.entries ≡ names_of rows → state.location ≡ location_behind rows
+    → IsRow state.symbols.entries state.location text row → early_fault state.symbols.entries row.location row.line row.form ≡ None → IsCleanRow rows text row
+clean_in state rows text row names location is clean = record {
+  is_row = subst (λ (n : Names). IsRow n (location_behind rows) text row) names (subst (λ (o : Option Location). IsRow state.symbols.entries o text row) location is);
+  clean = subst (λ (n : Names). early_fault n row.location row.line row.form ≡ None) names clean;
 }
 
 room_left : (a b n p q : ℕ) → a ≤ 2 ^ 20 * p → b ≤ a + size_limit n + 65535 → n ≤ q → 0 < q → b ≤ 2 ^ 20 * (p + q)
@@ -89,15 +89,15 @@ reads_more source rest text after number start old new kept more read line start
       passed = read.passed ++ took;
       texts = read.texts ∙ ap (λ (ls : List (List ℕ)). read.front ++ ls) line.lines ∙ sym (append_assoc read.front (text ∷ []) (text_lines after));
       bytes = read.bytes ∙ ap (λ (r : List ℕ). read.passed ++ r) (taken_is rest text after line) ∙ sym (append_assoc read.passed took after);
-      are_rows = rows_push [] read.front read.rows text row read.are_rows (clean_in old read.rows text row read.names read.spot keeps.adds.is_row keeps.adds.clean);
+      are_rows = rows_push [] read.front read.rows text row read.are_rows (clean_in old read.rows text row read.names read.location keeps.adds.is_row keeps.adds.clean);
       are_kept = subst (λ (ks : List KeptRow). AreKept source (read.front ++ text ∷ []) ks (read.rows ++ row ∷ [])) (sym keeps.kept_last)
           (kept_push source read.front kept read.rows text keeps.kept row read.are_kept
           (keeps_it source text start keeps.kept row (inside_source source read.passed rest text after start read.bytes line at) (text_stands source read.passed rest text after start read.bytes line at) adds.keeps));
       names = adds.names ∙ ap (λ (ns : Names). ns ++ row.names) read.names ∙ sym (names_push read.rows row);
-      spot = adds.spot ∙ sym (spot_push read.rows row);
+      location = adds.location ∙ sym (location_push read.rows row);
       counted = omega (arith, read.counted, length-append read.front (text ∷ []));
       each_takes = omega (arith, read.each_takes, size, some);
-      room = rw size (room_left (offset_of old.spot) (offset_of new.spot) (length text) (length read.passed) (length took) read.room adds.grows (taken_size rest text after line) some);
+      room = rw size (room_left (offset_of old.location) (offset_of new.location) (length text) (length read.passed) (length took) read.room adds.grows (taken_size rest text after line) some);
       small = adds.small;
       steady = subst (λ (ks : List KeptRow). AllByRecursion IsSteady ks) (sym keeps.kept_last) (all_push IsSteady kept keeps.kept read.steady adds.steady);
     }
@@ -117,10 +117,10 @@ reads_all source rest number state kept read none within =
       steady = read.steady;
     }
 
-fault_behind : (state : State) (rows : List Row) (text : List ℕ) (fault : SourceFault) → state.symbols.entries ≡ names_of rows → state.spot ≡ spot_behind rows
-    → IsTextFault state.symbols.entries state.spot text fault → IsTextFault (names_of rows) (spot_behind rows) text fault
-fault_behind state rows text fault names spot found =
-    subst (λ (n : Names). IsTextFault n (spot_behind rows) text fault) names (subst (λ (o : Option Location). IsTextFault state.symbols.entries o text fault) spot found)
+fault_behind : (state : State) (rows : List Row) (text : List ℕ) (fault : SourceFault) → state.symbols.entries ≡ names_of rows → state.location ≡ location_behind rows
+    → IsTextFault state.symbols.entries state.location text fault → IsTextFault (names_of rows) (location_behind rows) text fault
+fault_behind state rows text fault names location found =
+    subst (λ (n : Names). IsTextFault n (location_behind rows) text fault) names (subst (λ (o : Option Location). IsTextFault state.symbols.entries o text fault) location found)
 
 -- the fault of the next line is the source's first
 pub stops_first : (source rest text after : List ℕ) (number : ℕ) (state : State) (kept : List KeptRow) (fault : AsmFault)
@@ -137,13 +137,13 @@ stops_first source rest text after number state kept (InLine fault at) read line
     counted = omega (arith, read.counted, stops.0);
     rows = read.rows;
     clean = read.are_rows;
-    found = fault_behind state read.rows text fault read.names read.spot stops.1;
+    found = fault_behind state read.rows text fault read.names read.location stops.1;
   }),
 )
 
 -- nothing is read yet
-pub starts : (source : List ℕ) (state : State) (kept : List KeptRow) → state.symbols.entries ≡ [] → state.spot ≡ None → kept ≡ [] → HasRead source source 0 state kept
-starts source state kept names spot none = record {
+pub starts : (source : List ℕ) (state : State) (kept : List KeptRow) → state.symbols.entries ≡ [] → state.location ≡ None → kept ≡ [] → HasRead source source 0 state kept
+starts source state kept names location none = record {
   front = [];
   rows = [];
   passed = [];
@@ -152,10 +152,10 @@ starts source state kept names spot none = record {
   are_rows = tt;
   are_kept = subst (λ (ks : List KeptRow). AreKept source [] ks []) (sym none) tt;
   names = names;
-  spot = spot;
+  location = location;
   counted = refl;
   each_takes = omega arith;
-  room = subst (λ (o : Option Location). offset_of o ≤ 0) (sym spot) (omega arith);
+  room = subst (λ (o : Option Location). offset_of o ≤ 0) (sym location) (omega arith);
   small = subst (λ (n : Names). AreSmall n) (sym names) small_none;
   steady = subst (λ (ks : List KeptRow). AllByRecursion IsSteady ks) (sym none) tt;
 }

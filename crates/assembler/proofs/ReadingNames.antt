@@ -6,16 +6,16 @@ use Rattle.std.proofs.lemmas.Slice.Eq.{bytes_eq-Decides}
 use Rattle.std.proofs.lemmas.Bool.Decides.{nat_tests, same_from_decides, Decides-like}
 use Rattle.std.proofs.lemmas.Int.{ints}
 use Rattle.assembler_lexeme.specs.declared.name.Name.{Name}
-use Rattle.assembler_text.specs.declared.statement.Line.{Line}
-use Rattle.assembler_text.specs.declared.statement.Statement.{Statement}
-use Rattle.assembler_text.specs.declared.statement.Statement.TheVariants.{Empty, Segment, Ends, Equ, Org, Data, Instruction}
-use Rattle.assembler_statement.specs.declared.symbol.Location.{Location}
-use Rattle.assembler_statement.specs.declared.symbol.Symbol.{Symbol}
-use Rattle.assembler_statement.specs.declared.symbol.Symbol.TheVariants.{Label, Constant}
-use Rattle.assembler_statement.specs.Values.{Names, AreSmall, IsSmall, IsSmallNumber, constant_of, meaning, same_name}
+use Rattle.assembler_syntax.specs.declared.statement.Line.{Line}
+use Rattle.assembler_syntax.specs.declared.statement.Statement.{Statement}
+use Rattle.assembler_syntax.specs.declared.statement.Statement.TheVariants.{Empty, Segment, Ends, Equ, Org, Data, Instruction}
+use Rattle.assembler_meaning.specs.declared.symbol.Location.{Location}
+use Rattle.assembler_meaning.specs.declared.symbol.Symbol.{Symbol}
+use Rattle.assembler_meaning.specs.declared.symbol.Symbol.TheVariants.{Label, Constant}
+use Rattle.assembler_meaning.specs.Values.{Names, AreSmall, IsSmall, IsSmallNumber, constant_of, meaning, same_name}
 use Rattle.assembler.specs.Rows.{constant_definition, defines_again, has_wrong_constant, is_same, label_definition, statement_definition, statement_name}
-use Rattle.assembler_statement.specs.Values.{is_defined}
-use Rattle.assembler_statement.specs.Data.{is_other}
+use Rattle.assembler_meaning.specs.Values.{is_defined}
+use Rattle.assembler_meaning.specs.Data.{is_other}
 use Rattle.assembler.specs.FirstPass.{IsNewDefinition, definition_names, offset_of}
 
 pub none_is : {A : Type 0} (o : Option A) → is_some o ≡ false → o ≡ None
@@ -66,11 +66,11 @@ small_none name symbol is = cc
 small_single : (name : Name) (x : Symbol) → IsSmall x → AreSmall ((name, x) ∷ [])
 small_single name x small other symbol is = single_by (same_name other name) x symbol small is
 
-pub small_label : (spot : Option Location) (label : Option Name) → offset_of spot ≤ 2 ^ 40 → AreSmall (label_definition spot label)
+pub small_label : (location : Option Location) (label : Option Name) → offset_of location ≤ 2 ^ 40 → AreSmall (label_definition location label)
 small_label None None near = small_none
 small_label None (Some name) near = small_none
-small_label (Some spot) None near = small_none
-small_label (Some spot) (Some name) near = small_single name (Label spot) near
+small_label (Some location) None near = small_none
+small_label (Some location) (Some name) near = small_single name (Label location) near
 
 word_small : (n : ℤ) → is_other (pos 0) (pos 65535) (Some n) ≡ false → IsSmallNumber n
 word_small n is = grind (arith, nat_tests, ints)
@@ -96,17 +96,17 @@ small_statement names (Data width items) right = small_none
 small_statement names (Instruction i) right = small_none
 
 -- the label of a line that defines nothing again is new
-label_by : (names : Names) (spot : Option Location) (label : Option Name) (d : Name × Symbol) → d ∷ [] ≡ label_definition spot label
+label_by : (names : Names) (location : Option Location) (label : Option Name) (d : Name × Symbol) → d ∷ [] ≡ label_definition location label
     → option_map_or (is_defined names) label false ≡ false → is_defined names d.0 ≡ false
 label_by names None None d is fresh = cc
 label_by names None (Some name) d is fresh = cc
-label_by names (Some spot) None d is fresh = cc
-label_by names (Some spot) (Some name) d is fresh = let same : d ≡ (name, Label spot) = cc in ap (λ (e : Name × Symbol). is_defined names e.0) same ∙ fresh
+label_by names (Some location) None d is fresh = cc
+label_by names (Some location) (Some name) d is fresh = let same : d ≡ (name, Label location) = cc in ap (λ (e : Name × Symbol). is_defined names e.0) same ∙ fresh
 
-pub label_new : (names : Names) (spot : Option Location) (line : Line) (d : Option (Name × Symbol)) → definition_names d ≡ label_definition spot line.label
+pub label_new : (names : Names) (location : Option Location) (line : Line) (d : Option (Name × Symbol)) → definition_names d ≡ label_definition location line.label
     → defines_again names line ≡ false → IsNewDefinition names d
-label_new names spot line None is fresh = tt
-label_new names spot line (Some d) is fresh = label_by names spot line.label d is (or_false _ _ fresh).0
+label_new names location line None is fresh = tt
+label_new names location line (Some d) is fresh = label_by names location line.label d is (or_false _ _ fresh).0
 
 constant_by : (name : Name) (o : Option ℤ) (d : Name × Symbol) → d ∷ [] ≡ constant_definition name o → name ≡ d.0
 constant_by name None d is = cc
@@ -126,19 +126,19 @@ unlike_by : (test : Bool) (x : Symbol) → test ≡ false → is_some (if test t
 unlike_by true x is = cc
 unlike_by false x is = refl
 
-unlike_label : (spot : Option Location) (label : Option Name) (name : Name) → is_same label (Some name) ≡ false → is_defined (label_definition spot label) name ≡ false
+unlike_label : (location : Option Location) (label : Option Name) (name : Name) → is_same label (Some name) ≡ false → is_defined (label_definition location label) name ≡ false
 unlike_label None None name other = refl
 unlike_label None (Some label) name other = refl
-unlike_label (Some spot) None name other = refl
-unlike_label (Some spot) (Some label) name other = unlike_by (same_name name label) (Label spot) (same_either name label ∙ other)
+unlike_label (Some location) None name other = refl
+unlike_label (Some location) (Some label) name other = unlike_by (same_name name label) (Label location) (same_either name label ∙ other)
 
-pub statement_new : (names : Names) (spot : Option Location) (line : Line) (d : Option (Name × Symbol)) → definition_names d ≡ statement_definition names line.statement
-    → defines_again names line ≡ false → IsNewDefinition (names ++ label_definition spot line.label) d
-statement_new names spot line None is fresh = tt
-statement_new names spot line (Some d) is fresh =
+pub statement_new : (names : Names) (location : Option Location) (line : Line) (d : Option (Name × Symbol)) → definition_names d ≡ statement_definition names line.statement
+    → defines_again names line ≡ false → IsNewDefinition (names ++ label_definition location line.label) d
+statement_new names location line None is fresh = tt
+statement_new names location line (Some d) is fresh =
     let named = name_by names line.statement d is in
     let parts = or_false _ _ (or_false _ _ fresh).1 in
     let absent : is_defined names d.0 ≡ false = ap (λ (o : Option Name). option_map_or (is_defined names) o false) (sym named) ∙ parts.0 in
     let other : is_same line.label (Some d.0) ≡ false = ap (λ (o : Option Name). is_same line.label o) (sym named) ∙ parts.1 in
-    ap (λ (o : Option Symbol). is_some o) (meaning_behind names (label_definition spot line.label) d.0 (none_is (meaning names d.0) absent))
-    ∙ unlike_label spot line.label d.0 other
+    ap (λ (o : Option Symbol). is_some o) (meaning_behind names (label_definition location line.label) d.0 (none_is (meaning names d.0) absent))
+    ∙ unlike_label location line.label d.0 other

@@ -2,9 +2,9 @@
 use Rattle.std.proofs.Common.{◌≡◌, ℕ, refl, sym, ap, ◌∙◌, subst, List, [], ◌∷◌, ◌++◌, Option, None, fold, append_assoc}
 use Rattle.std.specs.List.{AllByRecursion}
 use Rattle.assembler.specs.declared.row.KeptRow.{KeptRow}
-use Rattle.assembler_statement.specs.declared.symbol.Location.{Location}
-use Rattle.assembler_statement.specs.Values.{Names}
-use Rattle.assembler.specs.Rows.{Row, AreRows, IsCleanRow, names_of, spot_behind}
+use Rattle.assembler_meaning.specs.declared.symbol.Location.{Location}
+use Rattle.assembler_meaning.specs.Values.{Names}
+use Rattle.assembler.specs.Rows.{Row, AreRows, IsCleanRow, names_of, location_behind}
 use Rattle.assembler.specs.Kept.{AreKept, Keeps}
 
 pub no_more : {A : Type 0} (xs : List A) → xs ++ [] ≡ xs
@@ -15,8 +15,8 @@ fold_push : {A B : Type 0} (f : B → A → B) (b : B) (xs : List A) (x : A) →
 fold_push f b [] x = refl
 fold_push f b (y ∷ ys) x = fold_push f (f b y) ys x
 
-pub spot_push : (rows : List Row) (row : Row) → spot_behind (rows ++ row ∷ []) ≡ row.next
-spot_push rows row = fold_push (λ (spot : Option Location) (r : Row). r.next) None rows row
+pub location_push : (rows : List Row) (row : Row) → location_behind (rows ++ row ∷ []) ≡ row.next
+location_push rows row = fold_push (λ (location : Option Location) (r : Row). r.next) None rows row
 
 pub names_push : (rows : List Row) (row : Row) → names_of (rows ++ row ∷ []) ≡ names_of rows ++ row.names
 names_push [] row = no_more row.names

@@ -4,21 +4,21 @@ use Rattle.std.specs.List.{list_all}
 use Rattle.std.specs.Option.{option_map}
 use Rattle.std.proofs.lemmas.Bool.Decides.{nat_tests}
 use Rattle.isa.specs.declared.form.Form.{Form}
-use Rattle.assembler_text.specs.declared.expression.Term.{Term}
-use Rattle.assembler_text.specs.declared.operand.Operand.{Operand}
-use Rattle.assembler_text.specs.declared.operand.Operand.TheVariants as operands
-use Rattle.assembler_text.specs.declared.statement.Instruction.{Instruction as WrittenInstruction}
-use Rattle.assembler_text.specs.declared.statement.Item.{Item}
-use Rattle.assembler_text.specs.declared.statement.Item.TheVariants.{Once, Repeated}
-use Rattle.assembler_text.specs.declared.statement.Piece.{Piece}
-use Rattle.assembler_text.specs.declared.statement.Piece.TheVariants as pieces
-use Rattle.assembler_text.specs.declared.statement.Statement.{Statement}
-use Rattle.assembler_text.specs.declared.statement.Statement.TheVariants.{Empty, Segment, Ends, Equ, Org, Data, Instruction}
-use Rattle.assembler_form.specs.declared.asked.Asked.{Asked}
-use Rattle.assembler_form.specs.Asked.{asked}
-use Rattle.assembler_statement.specs.Values.{Names}
-use Rattle.assembler_statement.specs.Instructions.{IsFormFor, instruction_asked, operands_asked, prefixes_of}
-use Rattle.assembler_text.specs.Weights.{are_terms_within, is_displacement_within, is_expression_within, is_item_within, is_operand_within, is_piece_within}
+use Rattle.assembler_syntax.specs.declared.expression.Term.{Term}
+use Rattle.assembler_syntax.specs.declared.operand.Operand.{Operand}
+use Rattle.assembler_syntax.specs.declared.operand.Operand.TheVariants as operands
+use Rattle.assembler_syntax.specs.declared.statement.Instruction.{Instruction as WrittenInstruction}
+use Rattle.assembler_syntax.specs.declared.statement.Item.{Item}
+use Rattle.assembler_syntax.specs.declared.statement.Item.TheVariants.{Once, Repeated}
+use Rattle.assembler_syntax.specs.declared.statement.Piece.{Piece}
+use Rattle.assembler_syntax.specs.declared.statement.Piece.TheVariants as pieces
+use Rattle.assembler_syntax.specs.declared.statement.Statement.{Statement}
+use Rattle.assembler_syntax.specs.declared.statement.Statement.TheVariants.{Empty, Segment, Ends, Equ, Org, Data, Instruction}
+use Rattle.assembler_meaning.specs.declared.asked.Asked.{Asked}
+use Rattle.assembler_meaning.specs.Asked.{asked}
+use Rattle.assembler_meaning.specs.Values.{Names}
+use Rattle.assembler_meaning.specs.Instructions.{IsFormFor, instruction_asked, known_operands, prefixes_of}
+use Rattle.assembler_syntax.specs.Weights.{are_terms_within, is_displacement_within, is_expression_within, is_item_within, is_operand_within, is_piece_within}
 
 and_true : (a b : Bool) → (a && b) ≡ true → (a ≡ true) × (b ≡ true)
 and_true true b both = (refl, both)
@@ -85,4 +85,4 @@ pub few_prefixes : (names : Names) (i : WrittenInstruction) (f : Form) → IsFor
 unfolding instruction_asked
 few_prefixes names i f is =
     at_most (length (prefixes_of i)) 7
-    (few_by (nat_le (length (prefixes_of i)) 7) (option_map (λ os. asked i.mnemonic os.0 os.1) (operands_asked names i.operands)) f is)
+    (few_by (nat_le (length (prefixes_of i)) 7) (option_map (λ os. asked i.mnemonic os.0 os.1) (known_operands names i.operands)) f is)

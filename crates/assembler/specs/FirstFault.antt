@@ -3,15 +3,15 @@
 use Rattle.std.specs.Prelude.{ℕ, ◌≡◌, ◌≤◌, ◌<◌, ◌+◌, ◌⊎◌, codes, List, [], ◌∷◌, ◌++◌, length, Option, None, Some, Err}
 use Rattle.assembler_lexeme.specs.declared.fault.LineFault.{LineFault}
 use Rattle.assembler_lexeme.specs.declared.fault.LineFault.TheVariants as line_faults
-use Rattle.text_lines.specs.Lines.{text_lines}
-use Rattle.assembler_text.specs.Lines.{read_line}
+use Rattle.board_types.specs.TextLines.{text_lines}
+use Rattle.assembler_syntax.specs.Lines.{read_line}
 use Rattle.assembler.specs.declared.fault.SourceFault.{SourceFault}
 use Rattle.assembler.specs.declared.fault.SourceFault.TheVariants.{BadCharacter, BadLine, UnknownName, BadForm, TwiceDefined, Undefined, OutOfRange, OutOfSegment, Overlap, NoSegment, NotLoadable}
 use Rattle.assembler.specs.declared.fault.AsmFault.{AsmFault}
 use Rattle.assembler.specs.declared.fault.AsmFault.TheVariants.{SourceTooLong, InLine, Memory}
-use Rattle.assembler_statement.specs.declared.symbol.Location.{Location}
-use Rattle.assembler_statement.specs.Values.{Names}
-use Rattle.assembler.specs.Rows.{Row, IsRow, AreRows, early_fault, names_of, spot_behind}
+use Rattle.assembler_meaning.specs.declared.symbol.Location.{Location}
+use Rattle.assembler_meaning.specs.Values.{Names}
+use Rattle.assembler.specs.Rows.{Row, IsRow, AreRows, early_fault, names_of, location_behind}
 use Rattle.assembler.specs.Placement.{row_fault}
 use Rattle.assembler.specs.Gives.{source_limit}
 
@@ -25,10 +25,10 @@ abbrev pub IsReadFault : List ℕ → SourceFault → Type 0
 IsReadFault text fault = (found : LineFault) × (read_line text ≡ Err found) × (fault ≡ fault_of_line found)
 
 abbrev pub IsRowFault : Names → Option Location → List ℕ → SourceFault → Type 0
-IsRowFault names spot text fault = (row : Row) × IsRow names spot text row × (early_fault names row.spot row.line row.form ≡ Some fault)
+IsRowFault names location text fault = (row : Row) × IsRow names location text row × (early_fault names row.location row.line row.form ≡ Some fault)
 
 abbrev pub IsTextFault : Names → Option Location → List ℕ → SourceFault → Type 0
-IsTextFault names spot text fault = IsReadFault text fault ⊎ IsRowFault names spot text fault
+IsTextFault names location text fault = IsReadFault text fault ⊎ IsRowFault names location text fault
 
 -- the lines before the one with this number are clean, and it has the fault
 pub record IsEarlyFault (source : List ℕ) (fault : SourceFault) (number : ℕ) : Type 0 where
@@ -39,7 +39,7 @@ pub record IsEarlyFault (source : List ℕ) (fault : SourceFault) (number : ℕ)
   pub counted : length front + 1 ≡ number
   pub rows : List Row
   pub clean : AreRows [] front rows
-  pub found : IsTextFault (names_of rows) (spot_behind rows) text fault
+  pub found : IsTextFault (names_of rows) (location_behind rows) text fault
 
 -- each of these rows has no fault behind those before it
 abbrev pub AreFaultless : Names → List Row → List Row → Type 0

@@ -4,26 +4,26 @@ use Rattle.std.specs.Prelude.{ℕ, ◌≡◌, ◌≤◌, ◌+◌, ◌*◌, ◌^�
 use Rattle.std.specs.List.{AllByRecursion}
 use Rattle.isa.specs.declared.form.Form.{Form}
 use Rattle.assembler_lexeme.specs.declared.name.Name.{Name}
-use Rattle.assembler_text.specs.declared.statement.Line.{Line}
-use Rattle.text_lines.specs.Lines.{text_lines}
+use Rattle.assembler_syntax.specs.declared.statement.Line.{Line}
+use Rattle.board_types.specs.TextLines.{text_lines}
 use Rattle.assembler.specs.declared.fault.AsmFault.{AsmFault}
 use Rattle.assembler.specs.declared.fault.AsmFault.TheVariants.{SourceTooLong, InLine, Memory}
 use Rattle.assembler.specs.declared.fault.LineStop.{LineStop}
 use Rattle.assembler.specs.declared.fault.LineStop.TheVariants as stops
 use Rattle.assembler.specs.declared.row.KeptRow.{KeptRow}
-use Rattle.assembler.specs.declared.segment.State.{State}
-use Rattle.assembler_statement.specs.declared.symbol.Location.{Location}
-use Rattle.assembler_statement.specs.declared.symbol.Symbol.{Symbol}
-use Rattle.assembler_statement.specs.Values.{Names, AreSmall}
-use Rattle.assembler.specs.Rows.{Row, IsRow, AreRows, early_fault, label_definition, names_of, size_of, spot_after, spot_behind, statement_definition}
-use Rattle.assembler_statement.specs.Values.{is_defined}
+use Rattle.assembler.specs.declared.early.State.{State}
+use Rattle.assembler_meaning.specs.declared.symbol.Location.{Location}
+use Rattle.assembler_meaning.specs.declared.symbol.Symbol.{Symbol}
+use Rattle.assembler_meaning.specs.Values.{Names, AreSmall}
+use Rattle.assembler.specs.Rows.{Row, IsRow, AreRows, early_fault, label_definition, names_of, size_of, location_after, location_behind, statement_definition}
+use Rattle.assembler_meaning.specs.Values.{is_defined}
 use Rattle.assembler.specs.Placement.{content_of}
 use Rattle.assembler.specs.FirstFault.{IsTextFault}
 use Rattle.assembler.specs.Kept.{AreKept, IsSteady, content_in}
 
 -- how far into its segment the next byte goes
 abbrev pub offset_of : Option Location → ℕ
-offset_of (Some spot) = spot.offset
+offset_of (Some location) = location.offset
 offset_of None = 0
 
 -- a name with what it stands for, where there is one
@@ -41,13 +41,13 @@ size_limit n = 2 ^ 18 * (n + 1)
 
 -- the row of a line with its form, in the light of the lines before it
 abbrev pub row_of : Names → Option Location → Line → Option Form → Row
-row_of names spot line form = record {
+row_of names location line form = record {
   line = line;
   form = form;
   size = size_of names line.statement form;
-  spot = spot;
-  next = spot_after names spot line.statement (size_of names line.statement form);
-  names = label_definition spot line.label ++ statement_definition names line.statement;
+  location = location;
+  next = location_after names location line.statement (size_of names line.statement form);
+  names = label_definition location line.label ++ statement_definition names line.statement;
 }
 
 -- of a row, with the place of its text
@@ -55,24 +55,24 @@ pub record KeepsRow (start length : ℕ) (kept : KeptRow) (row : Row) : Type 0 w
   pub starts : kept.start ≡ start
   pub ends : kept.length ≡ length
   pub label : kept.has_label ≡ is_some row.line.label
-  pub spot : kept.spot ≡ row.spot
+  pub location : kept.location ≡ row.location
   pub size : kept.size ≡ row.size
   pub content : content_in kept ≡ content_of row.line.statement row.form
 
 -- a row was added behind the lines before it
 pub record AddsRow (old new : State) (start length : ℕ) (row : Row) (kept : KeptRow) : Type 0 where
-  pub spot : new.spot ≡ row.next
+  pub location : new.location ≡ row.next
   pub names : new.symbols.entries ≡ old.symbols.entries ++ row.names
   pub keeps : KeepsRow start length kept row
   pub steady : IsSteady kept
   pub small : AreSmall new.symbols.entries
-  pub grows : offset_of new.spot ≤ offset_of old.spot + size_limit length + 65535
+  pub grows : offset_of new.location ≤ offset_of old.location + size_limit length + 65535
 
 -- a text was read, and its row added
 pub record AddsText (old new : State) (start : ℕ) (text : List ℕ) (kept : KeptRow) : Type 0 where
   pub row : Row
-  pub is_row : IsRow old.symbols.entries old.spot text row
-  pub clean : early_fault old.symbols.entries row.spot row.line row.form ≡ None
+  pub is_row : IsRow old.symbols.entries old.location text row
+  pub clean : early_fault old.symbols.entries row.location row.line row.form ≡ None
   pub adds : AddsRow old new start (length text) row kept
 
 -- a text was read, and what its row keeps added to what is kept
@@ -83,11 +83,11 @@ pub record KeepsText (old new : State) (start : ℕ) (text : List ℕ) (before a
 
 -- why a text isn't added
 abbrev pub StopsText : State → List ℕ → LineStop → Type 0
-StopsText old text (stops.Fault fault) = IsTextFault old.symbols.entries old.spot text fault
+StopsText old text (stops.Fault fault) = IsTextFault old.symbols.entries old.location text fault
 StopsText old text stops.Memory = Unit {0}
 
 abbrev pub StopsAt : State → List ℕ → ℕ → AsmFault → Type 0
-StopsAt old text number (InLine fault at) = (at ≡ number) × IsTextFault old.symbols.entries old.spot text fault
+StopsAt old text number (InLine fault at) = (at ≡ number) × IsTextFault old.symbols.entries old.location text fault
 StopsAt old text number SourceTooLong = ⊥
 StopsAt old text number Memory = Unit {0}
 
@@ -101,9 +101,9 @@ pub record HasRead (source rest : List ℕ) (number : ℕ) (state : State) (kept
   pub are_rows : AreRows [] front rows
   pub are_kept : AreKept source front kept rows
   pub names : state.symbols.entries ≡ names_of rows
-  pub spot : state.spot ≡ spot_behind rows
+  pub location : state.location ≡ location_behind rows
   pub counted : number ≡ length front
   pub each_takes : number ≤ length passed
-  pub room : offset_of state.spot ≤ 2 ^ 20 * length passed
+  pub room : offset_of state.location ≤ 2 ^ 20 * length passed
   pub small : AreSmall state.symbols.entries
   pub steady : AllByRecursion IsSteady kept

@@ -4,9 +4,9 @@ use Rattle.std.specs.Prelude.{ℕ, ◌≡◌, ◌≤◌, ◌↔◌, ◌==◌, fa
 use Rattle.std.specs.List.{AllByRecursion, IsDistinct}
 use Rattle.std.specs.Map.{keys_of}
 use Rattle.board_types.specs.Image.{IsImage, image_byte}
-use Rattle.text_lines.specs.Lines.{text_lines}
-use Rattle.assembler_statement.specs.declared.symbol.Location.{Location}
-use Rattle.assembler_statement.specs.Values.{Names}
+use Rattle.board_types.specs.TextLines.{text_lines}
+use Rattle.assembler_meaning.specs.declared.symbol.Location.{Location}
+use Rattle.assembler_meaning.specs.Values.{Names}
 use Rattle.assembler.specs.Placement.{content_of, lacks_name, has_wrong_number, is_past_end, placed_by_all}
 use Rattle.assembler.specs.Rows.{Row, AreRows, names_of}
 
@@ -15,13 +15,13 @@ abbrev pub source_limit : ℕ
 source_limit = 1048576
 
 -- the names of a line are defined, its numbers fit, and no byte or label of it lies past the segment's end
-pub record FitsAt (names : Names) (row : Row) (spot : Location) : Type 0 where
-  pub known : lacks_name names spot (content_of row.line.statement row.form) ≡ false
-  pub fits : has_wrong_number names spot row.size (content_of row.line.statement row.form) ≡ false
-  pub within : is_past_end spot row.size (is_some row.line.label) ≡ false
+pub record FitsAt (names : Names) (row : Row) (location : Location) : Type 0 where
+  pub known : lacks_name names location (content_of row.line.statement row.form) ≡ false
+  pub fits : has_wrong_number names location row.size (content_of row.line.statement row.form) ≡ false
+  pub within : is_past_end location row.size (is_some row.line.label) ≡ false
 
 abbrev pub Fits : Names → Row → Type 0
-Fits names row = (spot : Location) → row.spot ≡ Some spot → FitsAt names row spot
+Fits names row = (location : Location) → row.location ≡ Some location → FitsAt names row location
 
 -- The rows place these bytes, in the light of the names that they define: each row fits, no address is placed twice,
 -- and the image has a byte at an address if and only if some row places it there.

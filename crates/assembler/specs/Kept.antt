@@ -5,14 +5,14 @@ use Rattle.std.specs.Option.{option_map}
 use Rattle.std.specs.Box.{box_value}
 use Rattle.std.specs.List.{AllByRecursion}
 use Rattle.isa.specs.Encoding.{IsForm}
-use Rattle.assembler_text.specs.declared.statement.Statement.TheVariants as statements
-use Rattle.text_lines.specs.Lines.{text_lines}
-use Rattle.assembler_text.specs.Weights.{are_terms_within}
+use Rattle.assembler_syntax.specs.declared.statement.Statement.TheVariants as statements
+use Rattle.board_types.specs.TextLines.{text_lines}
+use Rattle.assembler_syntax.specs.Weights.{are_terms_within}
 use Rattle.assembler.specs.declared.row.Content.{Content}
 use Rattle.assembler.specs.declared.row.Content.TheVariants.{Data, Code}
 use Rattle.assembler.specs.declared.row.KeptRow.{KeptRow}
-use Rattle.assembler_statement.specs.declared.symbol.Location.{Location}
-use Rattle.assembler_statement.specs.Values.{Names, AreSmall, term_limit}
+use Rattle.assembler_meaning.specs.declared.symbol.Location.{Location}
+use Rattle.assembler_meaning.specs.Values.{Names, AreSmall, term_limit}
 use Rattle.assembler.specs.Gives.{source_limit}
 use Rattle.assembler.specs.Placement.{content_of}
 use Rattle.assembler.specs.Rows.{Row, AreRows, names_of}
@@ -26,7 +26,7 @@ pub record Keeps (source said : List ℕ) (kept : KeptRow) (row : Row) : Type 0 
   pub inside : kept.start + kept.length ≤ length source
   pub text : take kept.length (drop kept.start source) ≡ said
   pub label : kept.has_label ≡ is_some row.line.label
-  pub spot : kept.spot ≡ row.spot
+  pub location : kept.location ≡ row.location
   pub size : kept.size ≡ row.size
   pub content : content_in kept ≡ content_of row.line.statement row.form
 
@@ -42,11 +42,11 @@ IsContent (Some (Code f i)) = (are_terms_within term_limit (statements.Instructi
 IsContent None = Unit {0}
 
 abbrev pub EndsBy : ℕ → Option Location → ℕ → Type 0
-EndsBy limit (Some spot) size = spot.offset + size ≤ limit
+EndsBy limit (Some location) size = location.offset + size ≤ limit
 EndsBy limit None size = Unit {0}
 
 pub record IsSteady (kept : KeptRow) : Type 0 where
-  pub ends : EndsBy (2 ^ 40) kept.spot kept.size
+  pub ends : EndsBy (2 ^ 40) kept.location kept.size
   pub content : IsContent (content_in kept)
 
 -- the source's lines make clean rows, of which these are kept, and these names

@@ -5,8 +5,8 @@ use Rattle.std.specs.Option.{option_map}
 use Rattle.std.specs.List.{flat_map, slice_get, take_while}
 use Rattle.std.specs.Fmt.{digit_glyph}
 use Rattle.assembler_lexeme.specs.declared.name.Name.{Name}
-use Rattle.assembler_statement.specs.declared.symbol.Location.{Location}
-use Rattle.assembler_statement.specs.Values.{Names, symbol_value}
+use Rattle.assembler_meaning.specs.declared.symbol.Location.{Location}
+use Rattle.assembler_meaning.specs.Values.{Names, symbol_value}
 use Rattle.assembler.specs.Placement.{bytes_by, content_of}
 use Rattle.assembler.specs.Rows.{Row}
 
@@ -34,20 +34,20 @@ abbrev pub more_mark : List ℕ → ℕ
 more_mark bytes = if nat_lt 8 (length bytes) then 43 else 32
 
 unfoldable pub bytes_part : Location → List ℕ → List ℕ
-bytes_part spot bytes = hex_word spot.segment ++ (58 ∷ hex_word spot.offset ++ (32 ∷ first_bytes bytes ++ (more_mark bytes ∷ 32 ∷ [])))
+bytes_part location bytes = hex_word location.segment ++ (58 ∷ hex_word location.offset ++ (32 ∷ first_bytes bytes ++ (more_mark bytes ∷ 32 ∷ [])))
 
 -- spaces stand for no bytes
 abbrev pub place_part : Option Location → List ℕ → List ℕ
-place_part (Some spot) (b ∷ bs) = bytes_part spot (b ∷ bs)
-place_part spot bytes = spaces 28
+place_part (Some location) (b ∷ bs) = bytes_part location (b ∷ bs)
+place_part location bytes = spaces 28
 
 abbrev pub row_bytes : Names → Row → Option Location → List ℕ
-row_bytes names row (Some spot) = bytes_by names spot row.size (content_of row.line.statement row.form)
+row_bytes names row (Some location) = bytes_by names location row.size (content_of row.line.statement row.form)
 row_bytes names row None = []
 
 -- a line of the listing: the row's bytes and the line's text
 abbrev pub listed : Names → List ℕ → Row → List ℕ
-listed names text row = place_part row.spot (row_bytes names row row.spot) ++ text
+listed names text row = place_part row.location (row_bytes names row row.location) ++ text
 
 -- the line of this number, from 0 on
 abbrev pub line_at : Names → List (List ℕ) → List Row → ℕ → Option (List ℕ)

@@ -6,21 +6,21 @@ use Rattle.std.specs.List.{list_any, list_all, flat_map}
 use Rattle.board_types.specs.Address.{physical}
 use Rattle.isa.specs.declared.form.Form.{Form}
 use Rattle.isa.specs.declared.form.Values.{Values}
-use Rattle.assembler_text.specs.declared.statement.Statement.{Statement}
-use Rattle.assembler_text.specs.declared.statement.Statement.TheVariants as statements
-use Rattle.assembler_text.specs.declared.statement.Instruction.{Instruction}
-use Rattle.assembler_form.specs.declared.values.Numbers.{Numbers}
-use Rattle.assembler_form.specs.Values.{values_of}
+use Rattle.assembler_syntax.specs.declared.statement.Statement.{Statement}
+use Rattle.assembler_syntax.specs.declared.statement.Statement.TheVariants as statements
+use Rattle.assembler_syntax.specs.declared.statement.Instruction.{Instruction}
+use Rattle.assembler_meaning.specs.declared.fields.Numbers.{Numbers}
+use Rattle.assembler_meaning.specs.Fields.{values_of}
 use Rattle.assembler.specs.declared.fault.SourceFault.{SourceFault}
 use Rattle.assembler.specs.declared.fault.SourceFault.TheVariants.{Undefined, OutOfRange, OutOfSegment, Overlap, NotLoadable}
 use Rattle.assembler.specs.declared.row.Content.{Content}
 use Rattle.assembler.specs.declared.row.Content.TheVariants.{Data, Code}
-use Rattle.assembler_statement.specs.declared.symbol.Location.{Location}
-use Rattle.assembler_statement.specs.Values.{Names}
-use Rattle.assembler_statement.specs.Instructions.{numbers_of}
-use Rattle.assembler_statement.specs.Data.{are_items_known, do_items_fit, data_bytes}
+use Rattle.assembler_meaning.specs.declared.symbol.Location.{Location}
+use Rattle.assembler_meaning.specs.Values.{Names}
+use Rattle.assembler_meaning.specs.Instructions.{numbers_of}
+use Rattle.assembler_meaning.specs.Data.{are_items_known, do_items_fit, data_bytes}
 use Rattle.assembler.specs.Rows.{Row}
-use Rattle.assembler_statement.specs.Instructions.{code_bytes}
+use Rattle.assembler_meaning.specs.Instructions.{code_bytes}
 
 -- what a line places: data, or an instruction in its form
 abbrev pub content_of : Statement → Option Form → Option Content
@@ -34,70 +34,70 @@ fields_for f next (Some n) = values_of f (pos next) n
 fields_for f next None = None
 
 abbrev pub fields_of : Names → Location → ℕ → Form → Instruction → Option Values
-fields_of names spot size f i = fields_for f (spot.offset + size) (numbers_of names spot.offset i.operands)
+fields_of names location size f i = fields_for f (location.offset + size) (numbers_of names location.offset i.operands)
 
--- the bytes of what stands at a spot
+-- the bytes of what stands at a location
 abbrev pub bytes_by : Names → Location → ℕ → Option Content → List ℕ
-bytes_by names spot size (Some (Data width items)) = data_bytes names spot.offset width items
-bytes_by names spot size (Some (Code f i)) = option_map_or (code_bytes f i) (fields_of names spot size f i) []
-bytes_by names spot size None = []
+bytes_by names location size (Some (Data width items)) = data_bytes names location.offset width items
+bytes_by names location size (Some (Code f i)) = option_map_or (code_bytes f i) (fields_of names location size f i) []
+bytes_by names location size None = []
 
--- bytes at addresses that rise by one from a spot on
+-- bytes at addresses that rise by one from a location on
 abbrev pub address_behind : Location → ℕ → ℕ
-address_behind spot n = physical spot.segment (spot.offset + n)
+address_behind location n = physical location.segment (location.offset + n)
 
 abbrev pub bytes_from : Location → ℕ → List ℕ → List (ℕ × ℕ)
-bytes_from spot n [] = []
-bytes_from spot n (b ∷ bs) = (address_behind spot n, b) ∷ bytes_from spot (n + 1) bs
+bytes_from location n [] = []
+bytes_from location n (b ∷ bs) = (address_behind location n, b) ∷ bytes_from location (n + 1) bs
 
 abbrev pub placed_at : Names → Option Location → ℕ → Option Content → List (ℕ × ℕ)
-placed_at names (Some spot) size content = bytes_from spot 0 (bytes_by names spot size content)
+placed_at names (Some location) size content = bytes_from location 0 (bytes_by names location size content)
 placed_at names None size content = []
 
 -- what a row places: addresses, each with its byte
 unfoldable pub placed_by : Names → Row → List (ℕ × ℕ)
-placed_by names row = placed_at names row.spot row.size (content_of row.line.statement row.form)
+placed_by names row = placed_at names row.location row.size (content_of row.line.statement row.form)
 
 abbrev pub placed_by_all : Names → List Row → List (ℕ × ℕ)
 placed_by_all names rows = flat_map (placed_by names) rows
 
 -- a name that no line defines, or that is no label where one is wanted
 abbrev pub lacks_name : Names → Location → Option Content → Bool
-lacks_name names spot (Some (Data width items)) = not (are_items_known names spot.offset items)
-lacks_name names spot (Some (Code f i)) = is_none (numbers_of names spot.offset i.operands)
-lacks_name names spot None = false
+lacks_name names location (Some (Data width items)) = not (are_items_known names location.offset items)
+lacks_name names location (Some (Code f i)) = is_none (numbers_of names location.offset i.operands)
+lacks_name names location None = false
 
 -- a number that doesn't fit
 abbrev pub has_wrong_number : Names → Location → ℕ → Option Content → Bool
-has_wrong_number names spot size (Some (Data width items)) = not (do_items_fit names spot.offset width items)
-has_wrong_number names spot size (Some (Code f i)) = is_none (fields_of names spot size f i)
-has_wrong_number names spot size None = false
+has_wrong_number names location size (Some (Data width items)) = not (do_items_fit names location.offset width items)
+has_wrong_number names location size (Some (Code f i)) = is_none (fields_of names location size f i)
+has_wrong_number names location size None = false
 
 -- a byte or a label past the segment's end
 abbrev pub is_past_end : Location → ℕ → Bool → Bool
-is_past_end spot size has_label = (nat_lt 0 size && nat_lt 65536 (spot.offset + size)) || (has_label && nat_lt 65535 spot.offset)
+is_past_end location size has_label = (nat_lt 0 size && nat_lt 65536 (location.offset + size)) || (has_label && nat_lt 65535 location.offset)
 
 abbrev pub is_loadable : ℕ → Bool
 is_loadable address = nat_lt address 0xA0000 || (nat_le 0xF0000 address && nat_lt address 0x100000)
 
--- the addresses of so many bytes from a spot on
+-- the addresses of so many bytes from a location on
 abbrev pub addresses_from : Location → ℕ → ℕ → List ℕ
-addresses_from spot n zero = []
-addresses_from spot n (suc more) = address_behind spot n ∷ addresses_from spot (n + 1) more
+addresses_from location n zero = []
+addresses_from location n (suc more) = address_behind location n ∷ addresses_from location (n + 1) more
 
--- The fault of what stands at a spot, in the light of all names and of the addresses that are taken: of its faults the
+-- The fault of what stands at a location, in the light of all names and of the addresses that are taken: of its faults the
 -- one with the least number.
 abbrev pub fault_at : Names → (ℕ → Bool) → Bool → Location → ℕ → Option Content → Option SourceFault
-fault_at names is_taken has_label spot size content =
-    if lacks_name names spot content then Some Undefined else (
-    if has_wrong_number names spot size content then Some OutOfRange else (
-    if is_past_end spot size has_label then Some OutOfSegment else (
-    if list_any is_taken (addresses_from spot 0 size) then Some Overlap else (
-    if list_all is_loadable (addresses_from spot 0 size) then None else Some NotLoadable))))
+fault_at names is_taken has_label location size content =
+    if lacks_name names location content then Some Undefined else (
+    if has_wrong_number names location size content then Some OutOfRange else (
+    if is_past_end location size has_label then Some OutOfSegment else (
+    if list_any is_taken (addresses_from location 0 size) then Some Overlap else (
+    if list_all is_loadable (addresses_from location 0 size) then None else Some NotLoadable))))
 
 -- a line outside of segments places nothing
 unfoldable pub late_fault : Names → (ℕ → Bool) → Bool → Option Location → ℕ → Option Content → Option SourceFault
-late_fault names is_taken has_label (Some spot) size content = fault_at names is_taken has_label spot size content
+late_fault names is_taken has_label (Some location) size content = fault_at names is_taken has_label location size content
 late_fault names is_taken has_label None size content = None
 
 -- some earlier line placed a byte there
@@ -107,4 +107,4 @@ is_placed placed address = list_any (λ entry. entry.0 == address) placed
 -- the fault that a row has behind these
 abbrev pub row_fault : Names → List Row → Row → Option SourceFault
 row_fault names before row =
-    late_fault names (is_placed (placed_by_all names before)) (is_some row.line.label) row.spot row.size (content_of row.line.statement row.form)
+    late_fault names (is_placed (placed_by_all names before)) (is_some row.line.label) row.location row.size (content_of row.line.statement row.form)

@@ -5,21 +5,21 @@ use Rattle.std.specs.Option.{option_map, option_map_or}
 use Rattle.std.specs.List.{list_any, flat_map}
 use Rattle.isa.specs.declared.form.Form.{Form}
 use Rattle.assembler_lexeme.specs.declared.name.Name.{Name}
-use Rattle.assembler_text.specs.declared.statement.Line.{Line}
-use Rattle.assembler_text.specs.declared.statement.Statement.{Statement}
-use Rattle.assembler_text.specs.declared.statement.Statement.TheVariants.{Segment, Ends, Equ, Org, Data, Instruction}
-use Rattle.assembler_text.specs.Lines.{read_line}
+use Rattle.assembler_syntax.specs.declared.statement.Line.{Line}
+use Rattle.assembler_syntax.specs.declared.statement.Statement.{Statement}
+use Rattle.assembler_syntax.specs.declared.statement.Statement.TheVariants.{Segment, Ends, Equ, Org, Data, Instruction}
+use Rattle.assembler_syntax.specs.Lines.{read_line}
 use Rattle.assembler.specs.declared.fault.SourceFault.{SourceFault}
 use Rattle.assembler.specs.declared.fault.SourceFault.TheVariants.{BadLine, UnknownName, BadForm, TwiceDefined, NoSegment}
-use Rattle.assembler_statement.specs.declared.symbol.Location.{Location}
-use Rattle.assembler_statement.specs.declared.symbol.Symbol.TheVariants.{Label, Constant}
-use Rattle.assembler_statement.specs.Values.{Names, same_name, constant_of}
-use Rattle.assembler_statement.specs.Instructions.{instruction_asked, instruction_size, IsFormFor}
-use Rattle.assembler_statement.specs.Data.{counts_of, data_size, natural}
-use Rattle.assembler_statement.specs.Data.{is_other}
-use Rattle.assembler_statement.specs.Data.{is_wrong_count}
-use Rattle.assembler_statement.specs.Data.{is_unknown}
-use Rattle.assembler_statement.specs.Values.{is_defined}
+use Rattle.assembler_meaning.specs.declared.symbol.Location.{Location}
+use Rattle.assembler_meaning.specs.declared.symbol.Symbol.TheVariants.{Label, Constant}
+use Rattle.assembler_meaning.specs.Values.{Names, same_name, constant_of}
+use Rattle.assembler_meaning.specs.Instructions.{instruction_asked, instruction_size, IsFormFor}
+use Rattle.assembler_meaning.specs.Data.{counts_of, data_size, natural}
+use Rattle.assembler_meaning.specs.Data.{is_other}
+use Rattle.assembler_meaning.specs.Data.{is_wrong_count}
+use Rattle.assembler_meaning.specs.Data.{is_unknown}
+use Rattle.assembler_meaning.specs.Values.{is_defined}
 
 -- a line of a source, with the form that its instruction has, how many bytes it places, where the first of them goes,
 -- where the next byte goes behind it, and the names that it defines, its label first
@@ -27,7 +27,7 @@ pub record Row : Type 0 where
   pub line : Line
   pub form : Option Form
   pub size : ℕ
-  pub spot : Option Location
+  pub location : Option Location
   pub next : Option Location
   pub names : Names
 
@@ -35,8 +35,8 @@ pub record Row : Type 0 where
 abbrev pub names_of : List Row → Names
 names_of rows = flat_map (λ row. row.names) rows
 
-abbrev pub spot_behind : List Row → Option Location
-spot_behind rows = fold (λ spot row. row.next) None rows
+abbrev pub location_behind : List Row → Option Location
+location_behind rows = fold (λ location row. row.next) None rows
 
 abbrev pub IsFormOf : Names → Statement → Option Form → Type 0
 IsFormOf names (Instruction i) form = IsFormFor (instruction_asked names i) form
@@ -53,21 +53,21 @@ abbrev pub opened_at : ℤ → Location
 opened_at n = record { segment = natural n; offset = 0 }
 
 abbrev pub set_to : ℤ → Location → Location
-set_to n spot = record spot { offset = natural n }
+set_to n location = record location { offset = natural n }
 
 abbrev pub moved_on : ℕ → Location → Location
-moved_on size spot = record spot { offset = spot.offset + size }
+moved_on size location = record location { offset = location.offset + size }
 
-abbrev pub spot_after : Names → Option Location → Statement → ℕ → Option Location
-spot_after names spot (Segment name n) size = option_map opened_at (constant_of names n)
-spot_after names spot Ends size = None
-spot_after names spot (Org n) size = option_and_then (λ v. option_map (set_to v) spot) (constant_of names n)
-spot_after names spot statement size = option_map (moved_on size) spot
+abbrev pub location_after : Names → Option Location → Statement → ℕ → Option Location
+location_after names location (Segment name n) size = option_map opened_at (constant_of names n)
+location_after names location Ends size = None
+location_after names location (Org n) size = option_and_then (λ v. option_map (set_to v) location) (constant_of names n)
+location_after names location statement size = option_map (moved_on size) location
 
 -- a label stands for the place of the next byte, a name of SEGMENT or EQU for its constant
 abbrev pub label_definition : Option Location → Option Name → Names
-label_definition (Some spot) (Some name) = (name, Label spot) ∷ []
-label_definition spot label = []
+label_definition (Some location) (Some name) = (name, Label location) ∷ []
+label_definition location label = []
 
 abbrev pub constant_definition : Name → Option ℤ → Names
 constant_definition name (Some n) = (name, Constant n) ∷ []
@@ -83,8 +83,8 @@ pub record IsRow (known : Names) (here : Option Location) (text : List ℕ) (row
   pub reads : read_line text ≡ Ok row.line
   pub form : IsFormOf known row.line.statement row.form
   pub size : row.size ≡ size_of known row.line.statement row.form
-  pub spot : row.spot ≡ here
-  pub next : row.next ≡ spot_after known here row.line.statement row.size
+  pub location : row.location ≡ here
+  pub next : row.next ≡ location_after known here row.line.statement row.size
   pub names : row.names ≡ label_definition here row.line.label ++ statement_definition known row.line.statement
 
 -- the constants of a statement: paragraphs and locations are words, counts before DUP words but 0, and EQU takes any
@@ -104,8 +104,8 @@ has_unknown_constant names (Data width items) = list_any (is_unknown names) (cou
 has_unknown_constant names statement = false
 
 abbrev pub opens_within : Option Location → Statement → Bool
-opens_within (Some spot) (Segment name n) = true
-opens_within spot statement = false
+opens_within (Some location) (Segment name n) = true
+opens_within location statement = false
 
 abbrev pub lacks_form : Statement → Option Form → Bool
 lacks_form (Instruction i) None = true
@@ -135,22 +135,22 @@ wants_segment (Instruction i) = true
 wants_segment statement = false
 
 abbrev pub stands_outside : Option Location → Line → Bool
-stands_outside (Some spot) line = false
+stands_outside (Some location) line = false
 stands_outside None line = is_some line.label || wants_segment line.statement
 
 -- the fault that a line has in the light of the lines before it: of its faults the one with the least number
 unfoldable pub early_fault : Names → Option Location → Line → Option Form → Option SourceFault
-early_fault names spot line form =
-    if opens_within spot line.statement || has_wrong_constant names line.statement then Some BadLine else (
+early_fault names location line form =
+    if opens_within location line.statement || has_wrong_constant names line.statement then Some BadLine else (
     if has_unknown_constant names line.statement then Some UnknownName else (
     if lacks_form line.statement form then Some BadForm else (
     if defines_again names line then Some TwiceDefined else (
-    if stands_outside spot line then Some NoSegment else None))))
+    if stands_outside location line then Some NoSegment else None))))
 
 -- a text makes this row behind these, and has no fault there
 pub record IsCleanRow (before : List Row) (text : List ℕ) (row : Row) : Type 0 where
-  pub is_row : IsRow (names_of before) (spot_behind before) text row
-  pub clean : early_fault (names_of before) row.spot row.line row.form ≡ None
+  pub is_row : IsRow (names_of before) (location_behind before) text row
+  pub clean : early_fault (names_of before) row.location row.line row.form ≡ None
 
 -- the texts make these rows, each clean behind those before it
 abbrev pub AreRows : List Row → List (List ℕ) → List Row → Type 0

@@ -5,17 +5,17 @@ use Rattle.std.specs.List.{flat_map, list_all, list_any}
 use Rattle.std.specs.Ordering.{nat_cmp}
 use Rattle.std.specs.BTreeMap.{insert_entry}
 use Rattle.board_types.specs.Image.{image_byte}
-use Rattle.assembler_text.specs.declared.statement.Item.{Item}
-use Rattle.assembler_text.specs.declared.statement.Width.{Width}
+use Rattle.assembler_syntax.specs.declared.statement.Item.{Item}
+use Rattle.assembler_syntax.specs.declared.statement.DataWidth.{DataWidth}
 use Rattle.assembler.specs.declared.fault.SourceFault.{SourceFault}
 use Rattle.assembler.specs.declared.fault.SourceFault.TheVariants.{Undefined, OutOfRange, OutOfSegment, Overlap, NotLoadable}
 use Rattle.assembler.specs.declared.fault.AsmFault.{AsmFault}
 use Rattle.assembler.specs.declared.fault.AsmFault.TheVariants.{SourceTooLong, InLine, Memory}
 use Rattle.assembler.specs.declared.row.Content.{Content}
 use Rattle.assembler.specs.declared.row.KeptRow.{KeptRow}
-use Rattle.assembler_statement.specs.declared.symbol.Location.{Location}
-use Rattle.assembler_statement.specs.Values.{Names}
-use Rattle.assembler_statement.specs.Data.{are_items_known, do_items_fit}
+use Rattle.assembler_meaning.specs.declared.symbol.Location.{Location}
+use Rattle.assembler_meaning.specs.Values.{Names}
+use Rattle.assembler_meaning.specs.Data.{are_items_known, do_items_fit}
 use Rattle.assembler.specs.Placement.{addresses_from, bytes_by, content_of, has_wrong_number, is_loadable, is_past_end, lacks_name, late_fault, placed_at, is_placed}
 use Rattle.assembler.specs.Kept.{content_in}
 use Rattle.assembler.specs.Rows.{Row}
@@ -30,44 +30,44 @@ with_entries image placed = fold (λ held entry. insert_entry nat_cmp held entry
 
 -- what a kept row places
 abbrev pub entries_by : Names → KeptRow → List (ℕ × ℕ)
-entries_by names kept = placed_at names kept.spot kept.size (content_in kept)
+entries_by names kept = placed_at names kept.location kept.size (content_in kept)
 
 abbrev pub entries_by_all : Names → List KeptRow → List (ℕ × ℕ)
 entries_by_all names rows = flat_map (entries_by names) rows
 
 -- the fault of a kept row where these addresses are taken
 abbrev pub kept_fault : Names → (ℕ → Bool) → KeptRow → Option SourceFault
-kept_fault names is_taken kept = late_fault names is_taken kept.has_label kept.spot kept.size (content_in kept)
+kept_fault names is_taken kept = late_fault names is_taken kept.has_label kept.location kept.size (content_in kept)
 
--- the names and numbers of what stands at a spot
+-- the names and numbers of what stands at a location
 abbrev pub content_fault : Names → Location → ℕ → Option Content → Option SourceFault
-content_fault names spot size content =
-    if lacks_name names spot content then Some Undefined else (
-    if has_wrong_number names spot size content then Some OutOfRange else None)
+content_fault names location size content =
+    if lacks_name names location content then Some Undefined else (
+    if has_wrong_number names location size content then Some OutOfRange else None)
 
-abbrev pub data_fault : Names → Location → Width → List Item → Option SourceFault
-data_fault names spot width items =
-    if not (are_items_known names spot.offset items) then Some Undefined else (
-    if not (do_items_fit names spot.offset width items) then Some OutOfRange else None)
+abbrev pub data_fault : Names → Location → DataWidth → List Item → Option SourceFault
+data_fault names location width items =
+    if not (are_items_known names location.offset items) then Some Undefined else (
+    if not (do_items_fit names location.offset width items) then Some OutOfRange else None)
 
 -- the place of so many bytes, where these addresses are taken
 abbrev pub placing_fault : (ℕ → Bool) → Bool → Location → ℕ → Option SourceFault
-placing_fault is_taken has_label spot size =
-    if is_past_end spot size has_label then Some OutOfSegment else (
-    if list_any is_taken (addresses_from spot 0 size) then Some Overlap else (
-    if list_all is_loadable (addresses_from spot 0 size) then None else Some NotLoadable))
+placing_fault is_taken has_label location size =
+    if is_past_end location size has_label then Some OutOfSegment else (
+    if list_any is_taken (addresses_from location 0 size) then Some Overlap else (
+    if list_all is_loadable (addresses_from location 0 size) then None else Some NotLoadable))
 
 -- what has no such fault has as many bytes as its row says
 abbrev pub HasSizeAt : Names → Location → ℕ → Option Content → Type 0
-HasSizeAt names spot size content =
-    lacks_name names spot content ≡ false → has_wrong_number names spot size content ≡ false → length (bytes_by names spot size content) ≡ size
+HasSizeAt names location size content =
+    lacks_name names location content ≡ false → has_wrong_number names location size content ≡ false → length (bytes_by names location size content) ≡ size
 
 abbrev pub HasSize : Names → Option Location → ℕ → Option Content → Type 0
-HasSize names (Some spot) size content = HasSizeAt names spot size content
+HasSize names (Some location) size content = HasSizeAt names location size content
 HasSize names None size content = Unit {0}
 
 abbrev pub KeepsSize : Names → KeptRow → Type 0
-KeepsSize names kept = HasSize names kept.spot kept.size (content_in kept)
+KeepsSize names kept = HasSize names kept.location kept.size (content_in kept)
 
 -- the line with this number stops at this fault, or for want of memory
 abbrev pub StopsAt : ℕ → Option SourceFault → AsmFault → Type 0
@@ -81,18 +81,18 @@ AreFaultlessKept names before [] = Unit {0}
 AreFaultlessKept names before (kept ∷ more) =
     (kept_fault names (is_placed (entries_by_all names before)) kept ≡ None) × AreFaultlessKept names (before ++ kept ∷ []) more
 
--- what stands at a spot has no fault where these addresses are taken
-pub record CanStand (names : Names) (is_taken : ℕ → Bool) (has_label : Bool) (spot : Location) (size : ℕ) (content : Option Content) : Type 0 where
-  pub known : lacks_name names spot content ≡ false
-  pub fits : has_wrong_number names spot size content ≡ false
-  pub within : is_past_end spot size has_label ≡ false
-  pub free : list_any is_taken (addresses_from spot 0 size) ≡ false
-  pub loadable : list_all is_loadable (addresses_from spot 0 size) ≡ true
+-- what stands at a location has no fault where these addresses are taken
+pub record CanStand (names : Names) (is_taken : ℕ → Bool) (has_label : Bool) (location : Location) (size : ℕ) (content : Option Content) : Type 0 where
+  pub known : lacks_name names location content ≡ false
+  pub fits : has_wrong_number names location size content ≡ false
+  pub within : is_past_end location size has_label ≡ false
+  pub free : list_any is_taken (addresses_from location 0 size) ≡ false
+  pub loadable : list_all is_loadable (addresses_from location 0 size) ≡ true
 
 -- what is kept of a row
 pub record IsKept (kept : KeptRow) (row : Row) : Type 0 where
   pub label : kept.has_label ≡ is_some row.line.label
-  pub spot : kept.spot ≡ row.spot
+  pub location : kept.location ≡ row.location
   pub size : kept.size ≡ row.size
   pub content : content_in kept ≡ content_of row.line.statement row.form
 
@@ -103,4 +103,4 @@ AreKeptRows (kept ∷ more) [] = ⊥
 AreKeptRows (kept ∷ more) (row ∷ rows) = IsKept kept row × AreKeptRows more rows
 
 abbrev pub RowHasSize : Names → Row → Type 0
-RowHasSize names row = HasSize names row.spot row.size (content_of row.line.statement row.form)
+RowHasSize names row = HasSize names row.location row.size (content_of row.line.statement row.form)

@@ -4,38 +4,38 @@ use Rattle.std.specs.Prelude.{ℕ, zero, suc, ◌-◌, ◌*◌, nat_lt, if◌the
 use Rattle.std.specs.Option.{unwrap_or}
 use Rattle.board_types.specs.Image.{image_byte}
 use Rattle.assembler.specs.declared.row.KeptRow.{KeptRow}
-use Rattle.assembler_statement.specs.declared.symbol.Location.{Location}
+use Rattle.assembler_meaning.specs.declared.symbol.Location.{Location}
 use Rattle.assembler.specs.Placement.{address_behind}
 use Rattle.assembler.specs.Listing.{hex_byte_text, hex_word, spaces}
 
--- the byte that the image has so far behind a spot
+-- the byte that the image has so far behind a location
 abbrev pub shown_byte : List (ℕ × ℕ) → Location → ℕ → ℕ
-shown_byte image spot n = unwrap_or (image_byte image (address_behind spot n)) 0
+shown_byte image location n = unwrap_or (image_byte image (address_behind location n)) 0
 
--- the digits of the first bytes behind a spot
+-- the digits of the first bytes behind a location
 abbrev pub shown_digits : List (ℕ × ℕ) → Location → ℕ → List ℕ
-shown_digits image spot zero = []
-shown_digits image spot (suc n) = shown_digits image spot n ++ hex_byte_text (shown_byte image spot n)
+shown_digits image location zero = []
+shown_digits image location (suc n) = shown_digits image location n ++ hex_byte_text (shown_byte image location n)
 
 abbrev pub shown_count : ℕ → ℕ
 shown_count size = if nat_lt 8 size then 8 else size
 
 -- where so many bytes stand, and the first eight of them
 unfoldable pub shown_place : List (ℕ × ℕ) → Location → ℕ → List ℕ
-shown_place image spot size =
-    hex_word spot.segment ++ (58 ∷ hex_word spot.offset ++ (32 ∷ shown_digits image spot (shown_count size)
+shown_place image location size =
+    hex_word location.segment ++ (58 ∷ hex_word location.offset ++ (32 ∷ shown_digits image location (shown_count size)
     ++ (spaces (2 * (8 - shown_count size)) ++ ((if nat_lt 8 size then 43 else 32) ∷ 32 ∷ []))))
 
 -- where a row's bytes stand, if it has some
-abbrev pub spot_by_size : Option Location → ℕ → Option Location
-spot_by_size spot zero = None
-spot_by_size spot (suc n) = spot
+abbrev pub location_by_size : Option Location → ℕ → Option Location
+location_by_size location zero = None
+location_by_size location (suc n) = location
 
-abbrev pub shown_spot : KeptRow → Option Location
-shown_spot kept = spot_by_size kept.spot kept.size
+abbrev pub shown_location : KeptRow → Option Location
+shown_location kept = location_by_size kept.location kept.size
 
 abbrev pub shown_at : List (ℕ × ℕ) → Option Location → ℕ → List ℕ
-shown_at image (Some spot) size = shown_place image spot size
+shown_at image (Some location) size = shown_place image location size
 shown_at image None size = spaces 28
 
 -- a row's text in the source
@@ -44,4 +44,4 @@ said_by source kept = take kept.length (drop kept.start source)
 
 -- the listing's line of a row
 abbrev pub shown_line : List ℕ → List (ℕ × ℕ) → KeptRow → List ℕ
-shown_line source image kept = shown_at image (shown_spot kept) kept.size ++ said_by source kept
+shown_line source image kept = shown_at image (shown_location kept) kept.size ++ said_by source kept

@@ -1,14 +1,14 @@
 //! The assembler: from a source to the image that it gives.
 ghost use Rattle.std.specs.Prelude.{◌≡◌, [], ℕ, List, IfOk, IfErr, MatchResult};
-ghost use Rattle.text_lines.specs.Lines.{text_lines};
+ghost use Rattle.board_types.specs.TextLines.{text_lines};
 ghost use Rattle.assembler.specs.declared.fault.AsmFault.TheVariants.{Memory};
 ghost use Rattle.assembler.specs.FirstFault.{IsFirst};
 ghost use Rattle.assembler.specs.Gives.{Gives};
 ghost use Rattle.assembler.specs.Rows.{AreRows, Row, names_of};
 
 use crate::fault::AsmFault;
-use crate::late::place_rows;
 use crate::listing::Listing;
+use crate::placing::place_rows;
 use crate::reading::read_source;
 use std::alloc::Global;
 

@@ -3,9 +3,9 @@
 #![tactic(auto)]
 
 pub mod assembly;
+mod early;
 pub mod fault;
-mod late;
 pub mod listing;
+mod placing;
 mod reading;
 mod row;
-mod segment;

@@ -4,19 +4,19 @@ ghost use Rattle.std.specs.List.{prefix_len};
 ghost use Rattle.std.specs.Option.{option_map};
 ghost use Rattle.std.specs.Str.{IsAscii};
 ghost use Rattle.std.specs.String.{string_bytes};
-ghost use Rattle.text_lines.specs.Lines.{text_lines};
+ghost use Rattle.board_types.specs.TextLines.{text_lines};
 ghost use Rattle.assembler.specs.declared.fault.AsmFault.TheVariants.{Memory};
 ghost use Rattle.assembler.specs.Kept.{EndsBy};
 ghost use Rattle.assembler.specs.Listing.{hex_byte_text, hex_word, letters_of, line_at, spaces, symbol_at};
 ghost use Rattle.assembler.specs.Rows.{AreRows, Row};
-ghost use Rattle.assembler.specs.Shown.{said_by, shown_digits, shown_line, shown_place, shown_spot};
+ghost use Rattle.assembler.specs.Shown.{said_by, shown_digits, shown_line, shown_place, shown_location};
 
 use crate::fault::AsmFault;
-use crate::late::address_at;
+use crate::placing::address_at;
 use crate::reading::Reading;
 use crate::row::KeptRow;
 use assembler_lexeme::name::Name;
-use assembler_statement::symbol::Location;
+use assembler_meaning::symbol::Location;
 use board_types::image::Image;
 use std::alloc::{AllocError, Global};
 use std::fmt;
@@ -101,11 +101,11 @@ fn line_text(
 ) -> Result<String, AllocError>
     requires inside { row.now.start + row.now.length ≤ length source.now }
     requires ascii { IsAscii (said_by source.now row.now) }
-    requires ends { EndsBy 65536 (shown_spot row.now) row.now.size }
+    requires ends { EndsBy 65536 (shown_location row.now) row.now.size }
     ensures { IfOk result (λ text. string_bytes text ≡ shown_line source.now image.now row.now) }
 {
-    let mut text = match row.spot {
-        Some(spot) if row.size > 0 => place_text(alloc, image, spot, row.size)?,
+    let mut text = match row.location {
+        Some(location) if row.size > 0 => place_text(alloc, image, location, row.size)?,
         _ => no_place_text(alloc)?,
     };
     let behind = source.split_at(row.start as usize).1;
@@ -124,16 +124,21 @@ fn no_place_text(alloc: Global) -> Result<String, AllocError>
 
 /// Where the bytes stand, and the first eight of them.
 #[tactic(auto, unfolding(crate::specs::Shown::shown_place))]
-fn place_text(alloc: Global, image: &Image, spot: Location, size: u64) -> Result<String, AllocError>
+fn place_text(
+    alloc: Global,
+    image: &Image,
+    location: Location,
+    size: u64,
+) -> Result<String, AllocError>
     requires some { 0 < size }
-    requires within { spot.offset + size ≤ 65536 }
-    ensures { IfOk result (λ text. string_bytes text ≡ shown_place image.now spot size) }
+    requires within { location.offset + size ≤ 65536 }
+    ensures { IfOk result (λ text. string_bytes text ≡ shown_place image.now location size) }
 {
-    let segment = HexWord(spot.segment);
-    let offset = HexWord(spot.offset as u16);
+    let segment = HexWord(location.segment);
+    let offset = HexWord(location.offset as u16);
     let mut text = format!(in alloc; "{segment}:{offset} ")?;
     let count = if size > SHOWN { SHOWN } else { size };
-    push_bytes(alloc, &mut text, image, spot, count)?;
+    push_bytes(alloc, &mut text, image, location, count)?;
     push_spaces(&mut text, 2 * (SHOWN - count))?;
     text.push(if size > SHOWN { '+' } else { ' ' })?;
     text.push(' ')?;
@@ -146,14 +151,14 @@ fn push_bytes(
     alloc: Global,
     text: &mut String,
     image: &Image,
-    spot: Location,
+    location: Location,
     count: u64,
 ) -> Result<(), AllocError>
-    requires within { spot.offset + count ≤ 65536 }
-    ensures { OnOk result (string_bytes text.new ≡ string_bytes text.old ++ shown_digits image.now spot count) }
+    requires within { location.offset + count ≤ 65536 }
+    ensures { OnOk result (string_bytes text.new ≡ string_bytes text.old ++ shown_digits image.now location count) }
 {
     for n in 0..count {
-        let byte = image.get(address_at(spot, n)).unwrap_or(0);
+        let byte = image.get(address_at(location, n)).unwrap_or(0);
         let digits = byte_text(alloc, byte)?;
         text.push_str(digits.as_str())?;
     }

@@ -10,23 +10,23 @@ ghost use Rattle.assembler.specs.Gives.{source_limit};
 ghost use Rattle.assembler.specs.Kept.{Reads};
 ghost use Rattle.assembler.specs.Placement.{content_of};
 ghost use Rattle.assembler.specs.Rows.{IsFormOf, early_fault, label_definition, statement_definition};
-ghost use Rattle.assembler_statement.specs.Values.{AreSmall, term_limit};
-ghost use Rattle.assembler_text.specs.Weights.{IsWithin, are_terms_within};
+ghost use Rattle.assembler_meaning.specs.Values.{AreSmall, term_limit};
+ghost use Rattle.assembler_syntax.specs.Weights.{IsWithin, are_terms_within};
 
+use crate::early::{State, early_fault, location_after, size_of, statement_form};
 use crate::fault::{AsmFault, LineStop, SourceFault};
 use crate::row::{Content, KeptRow};
-use crate::segment::{State, early_fault, size_of, spot_after, statement_form};
 use assembler_lexeme::fault::LineError;
 use assembler_lexeme::name::Name;
-use assembler_statement::constant::constant_of;
-use assembler_statement::symbol::{Location, Symbol, Symbols};
-use assembler_text::read::read_line;
-use assembler_text::statement::{Line, Statement};
+use assembler_meaning::constant::constant_of;
+use assembler_meaning::symbol::{Location, Symbol, Symbols};
+use assembler_syntax::read::read_line;
+use assembler_syntax::statement::{Line, Statement};
+use board_types::text::next_line;
 use indexmap::IndexMap;
 use isa::form::Form;
 use std::alloc::{AllocError, Global};
 use std::boxed::Box;
-use text_lines::next_line;
 
 /// What the first pass keeps of a source: a copy of it, its rows and its names.
 #[derive(Drop)]
@@ -48,7 +48,7 @@ pub(crate) fn read_source(alloc: Global, source: &[u8]) -> Result<Reading, AsmFa
     };
     let mut rows = Vec::new(alloc);
     let mut state = State {
-        spot: None,
+        location: None,
         symbols: IndexMap::new(alloc),
     };
     let mut number = 0;
@@ -77,7 +77,7 @@ fn add_text(
 ) -> Result<(), AsmFault>
     requires place { start + length text.now ≤ source_limit }
     requires small { AreSmall state.old.symbols.entries }
-    requires room { offset_of state.old.spot + size_limit (length text.now) ≤ 2 ^ 40 }
+    requires room { offset_of state.old.location + size_limit (length text.now) ≤ 2 ^ 40 }
     ensures ok { OnOk result (KeepsText state.old state.new start text.now rows.old.items rows.new.items) }
     ensures err { IfErr result (StopsAt state.old text.now number) }
 {
@@ -107,7 +107,7 @@ fn read_row(
 ) -> Result<KeptRow, LineStop>
     requires place { start + length text.now ≤ source_limit }
     requires small { AreSmall state.old.symbols.entries }
-    requires room { offset_of state.old.spot + size_limit (length text.now) ≤ 2 ^ 40 }
+    requires room { offset_of state.old.location + size_limit (length text.now) ≤ 2 ^ 40 }
     ensures ok { IfOk result (AddsText state.old state.new start text.now) }
     ensures err { IfErr result (StopsText state.old text.now) }
 {
@@ -138,39 +138,39 @@ fn add_line(
 ) -> Result<KeptRow, AllocError>
     requires place { start + length ≤ source_limit }
     requires small { AreSmall state.old.symbols.entries }
-    requires room { offset_of state.old.spot + size_limit length ≤ 2 ^ 40 }
+    requires room { offset_of state.old.location + size_limit length ≤ 2 ^ 40 }
     requires within { IsWithin length line.statement }
     requires chosen { IsFormOf state.old.symbols.entries line.statement form }
     requires form { IfSome form IsForm }
-    requires clean { early_fault state.old.symbols.entries state.old.spot line form ≡ None }
-    ensures { IfOk result (AddsRow state.old state.new start length (row_of state.old.symbols.entries state.old.spot line form)) }
+    requires clean { early_fault state.old.symbols.entries state.old.location line form ≡ None }
+    ensures { IfOk result (AddsRow state.old state.new start length (row_of state.old.symbols.entries state.old.location line form)) }
 {
-    let spot = state.spot;
+    let location = state.location;
     let size = size_of(&state.symbols, &line.statement, form);
-    let next = spot_after(state, &line.statement, size);
+    let next = location_after(state, &line.statement, size);
     let has_label = line.label.is_some();
-    let label = label_definition(spot, line.label);
+    let label = label_definition(location, line.label);
     let constant = statement_definition(&state.symbols, &line.statement);
     define(&mut state.symbols, label)?;
     define(&mut state.symbols, constant)?;
-    state.spot = next;
+    state.location = next;
     let content = kept(alloc, line.statement, form)?;
     Ok(KeptRow {
         start: start as u32,
         length: length as u32,
         has_label,
-        spot,
+        location,
         size,
         content,
     })
 }
 
 /// The name that a label defines, at the place of the next byte.
-fn label_definition(spot: Option<Location>, label: Option<Name>) -> Option<(Name, Symbol)>
-    ensures { definition_names result ≡ label_definition spot label }
+fn label_definition(location: Option<Location>, label: Option<Name>) -> Option<(Name, Symbol)>
+    ensures { definition_names result ≡ label_definition location label }
 {
-    match (spot, label) {
-        (Some(spot), Some(label)) => Some((label, Symbol::Label(spot))),
+    match (location, label) {
+        (Some(location), Some(label)) => Some((label, Symbol::Label(location))),
         _ => None,
     }
 }

@@ -1,15 +1,15 @@
 //! The lines of a source as the first pass leaves them.
 
 use assembler_lexeme::sequence::Sequence;
-use assembler_statement::symbol::Location;
-use assembler_text::statement::{Instruction, Item, Width};
+use assembler_meaning::symbol::Location;
+use assembler_syntax::statement::{DataWidth, Instruction, Item};
 use isa::form::Form;
 use std::boxed::Box;
 
 /// What a line places.
 #[derive(Drop)]
 pub(crate) enum Content {
-    Data(Width, Sequence<Item>),
+    Data(DataWidth, Sequence<Item>),
     /// An instruction with the form that was chosen for it.
     Code(Form, Instruction),
 }
@@ -23,7 +23,7 @@ pub(crate) struct KeptRow {
     pub(crate) length: u32,
     pub(crate) has_label: bool,
     /// Where its first byte goes, if a segment is open.
-    pub(crate) spot: Option<Location>,
+    pub(crate) location: Option<Location>,
     /// How many bytes it places.
     pub(crate) size: u64,
     pub(crate) content: Option<Box<Content>>,

@@ -8,17 +8,17 @@ use Rattle.isa.specs.declared.form.Form.{Form}
 use Rattle.isa.specs.declared.form.Values.{Values}
 use Rattle.isa.specs.Encoding.{FitsForm, IsForm}
 use Rattle.isa.specs.Table.{rows as table}
-use Rattle.assembler_text.specs.declared.statement.Line.{Line}
-use Rattle.assembler_text.specs.declared.statement.Instruction.{Instruction as Written}
-use Rattle.assembler_text.specs.declared.statement.Statement.TheVariants.{Instruction}
-use Rattle.assembler_form.specs.declared.asked.Asked.{Asked}
-use Rattle.assembler_form.specs.declared.values.Numbers.{Numbers}
-use Rattle.assembler_form.specs.Choice.{IsChosen}
-use Rattle.assembler_form.proofs.Fields.{values_fit}
-use Rattle.assembler_form.proofs.Shapes.{form_of_first}
-use Rattle.assembler_statement.specs.declared.symbol.Location.{Location}
-use Rattle.assembler_statement.specs.Instructions.{instruction_asked, instruction_size, prefixes_of, IsFormFor}
-use Rattle.assembler_statement.specs.Values.{Names}
+use Rattle.assembler_syntax.specs.declared.statement.Line.{Line}
+use Rattle.assembler_syntax.specs.declared.statement.Instruction.{Instruction as Written}
+use Rattle.assembler_syntax.specs.declared.statement.Statement.TheVariants.{Instruction}
+use Rattle.assembler_meaning.specs.declared.asked.Asked.{Asked}
+use Rattle.assembler_meaning.specs.declared.fields.Numbers.{Numbers}
+use Rattle.assembler_meaning.specs.Choice.{IsChosen}
+use Rattle.assembler_meaning.proofs.FieldRanges.{values_fit}
+use Rattle.assembler_meaning.proofs.Shapes.{form_of_first}
+use Rattle.assembler_meaning.specs.declared.symbol.Location.{Location}
+use Rattle.assembler_meaning.specs.Instructions.{instruction_asked, instruction_size, prefixes_of, IsFormFor}
+use Rattle.assembler_meaning.specs.Values.{Names}
 use Rattle.assembler.specs.declared.fault.SourceFault.TheVariants.{BadLine, UnknownName, BadForm, TwiceDefined, NoSegment}
 use Rattle.assembler.specs.Placement.{fields_for}
 use Rattle.assembler.specs.Rows.{Row, AreRows, IsCleanRow, IsFormOf, early_fault, defines_again, has_unknown_constant, has_wrong_constant, lacks_form, names_of, opens_within, size_of, stands_outside, wants_segment}
@@ -70,19 +70,19 @@ neither_by false false false true e none = absurd (let never : Some TwiceDefined
 neither_by false false false false true none = absurd (let never : Some NoSegment ≡ None = none in cc)
 neither_by false false false false false none = record { formed = refl; placed = refl }
 
-has_neither : (known : Names) (spot : Option Location) (line : Line) (form : Option Form) → early_fault known spot line form ≡ None
-    → HasNeither (lacks_form line.statement form) (stands_outside spot line)
+has_neither : (known : Names) (location : Option Location) (line : Line) (form : Option Form) → early_fault known location line form ≡ None
+    → HasNeither (lacks_form line.statement form) (stands_outside location line)
 unfolding early_fault
-has_neither known spot line form none =
-    neither_by (opens_within spot line.statement || has_wrong_constant known line.statement) (has_unknown_constant known line.statement)
-    (lacks_form line.statement form) (defines_again known line) (stands_outside spot line) none
+has_neither known location line form none =
+    neither_by (opens_within location line.statement || has_wrong_constant known line.statement) (has_unknown_constant known line.statement)
+    (lacks_form line.statement form) (defines_again known line) (stands_outside location line) none
 
 right_false : (a b : Bool) → (a || b) ≡ false → b ≡ false
 right_false false b is = is
 right_false true b is = absurd (let never : true ≡ false = is in cc)
 
-place_there : (spot : Option Location) (line : Line) (i : Written) → line.statement ≡ Instruction i → stands_outside spot line ≡ false
-    → (place : Location) × (spot ≡ Some place)
+place_there : (location : Option Location) (line : Line) (i : Written) → line.statement ≡ Instruction i → stands_outside location line ≡ false
+    → (place : Location) × (location ≡ Some place)
 place_there (Some place) line i is placed = (place, refl)
 place_there None line i is placed =
     absurd (let never : true ≡ false = sym (ap wants_segment is) ∙ right_false (is_some line.label) (wants_segment line.statement) placed in cc)
@@ -106,9 +106,9 @@ few_prefixes known i a is = few_by (nat_le (length (prefixes_of i)) 7) (length (
 
 pub record HasPlace (row : Row) (i : Written) : Type 0 where
   pub form : Form
-  pub spot : Location
+  pub location : Location
   pub has_form : row.form ≡ Some form
-  pub has_place : row.spot ≡ Some spot
+  pub has_place : row.location ≡ Some location
   pub is_form : IsForm form
   pub few : length (prefixes_of i) ≤ 7
   pub size : row.size ≡ instruction_size form i
@@ -117,14 +117,14 @@ pub has_place : (row : Row) (i : Written) → row.line.statement ≡ Instruction
 has_place row i is there =
     let is_row = there.clean.is_row in
     let known : Names = names_of there.before in
-    let neither = has_neither known row.spot row.line row.form there.clean.clean in
-    let place = place_there row.spot row.line i is neither.placed in
+    let neither = has_neither known row.location row.line row.form there.clean.clean in
+    let place = place_there row.location row.line i is neither.placed in
     let form = form_there row.form i (sym (ap (λ s. lacks_form s row.form) is) ∙ neither.formed) in
     let formed : IsFormOf known (Instruction i) (Some form.0) = subst (IsFormOf known (Instruction i)) form.1 (subst (λ s. IsFormOf known s row.form) is is_row.form) in
     let chosen = chosen_there (instruction_asked known i) form.0 formed in
     record {
       form = form.0;
-      spot = place.0;
+      location = place.0;
       has_form = form.1;
       has_place = place.1;
       is_form = form_of_first form.0 form.0.row chosen.0 table chosen.2.parts refl chosen.2.first;

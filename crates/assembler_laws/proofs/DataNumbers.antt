@@ -3,10 +3,10 @@ use Rattle.std.proofs.Common.{◌≡◌, ℕ, ℤ, zero, suc, pos, ◌+ℤ◌, �
 use Rattle.std.specs.Prelude.{negsuc, ◌⊎◌}
 use Rattle.std.proofs.lemmas.Int.{ints}
 use Rattle.std.proofs.lemmas.Bool.Decides.{nat_tests}
-use Rattle.assembler_text.specs.declared.statement.Width.{Width}
-use Rattle.assembler_text.specs.declared.statement.Width.TheVariants.{Byte, Word, Double}
-use Rattle.assembler_form.specs.Values.{modulo}
-use Rattle.assembler_statement.specs.Data.{fits_width, number_bytes, width_size}
+use Rattle.assembler_syntax.specs.declared.statement.DataWidth.{DataWidth}
+use Rattle.assembler_syntax.specs.declared.statement.DataWidth.TheVariants.{Byte, Word, Double}
+use Rattle.assembler_meaning.specs.Fields.{modulo}
+use Rattle.assembler_meaning.specs.Data.{fits_width, number_bytes, width_size}
 
 -- the number of this many bytes that a value is
 pub record IsNumber (size : ℕ) (value : ℤ) (number : ℕ) : Type 0 where
@@ -40,12 +40,12 @@ double_number (negsuc n) fits =
     let few : n < 2147483648 = grind (arith, nat_tests) in
     record { below = omega arith; is_value = inr (omega (arith, ints)) }
 
-pub number_of : Width → ℤ → ℕ
+pub number_of : DataWidth → ℤ → ℕ
 number_of Byte value = modulo 256 value
 number_of Word value = modulo 65536 value
 number_of Double value = modulo 4294967296 value
 
-pub is_number : (width : Width) (value : ℤ) → fits_width width value ≡ true → IsNumber (width_size width) value (number_of width value)
+pub is_number : (width : DataWidth) (value : ℤ) → fits_width width value ≡ true → IsNumber (width_size width) value (number_of width value)
 unfolding number_of
 is_number Byte value fits = byte_number value fits
 is_number Word value fits = word_number value fits
@@ -69,14 +69,14 @@ four_bytes u (suc (suc (suc zero))) d few within = omega arith
 four_bytes u (suc (suc (suc (suc k)))) d few within = absurd (omega (arith, within))
 
 -- its bytes, low byte first
-pub bytes_are : (width : Width) (value : ℤ) → IsNumber (width_size width) value (number_of width value) → (k d : ℕ) → k < width_size width
+pub bytes_are : (width : DataWidth) (value : ℤ) → IsNumber (width_size width) value (number_of width value) → (k d : ℕ) → k < width_size width
     → get_or (number_bytes width value) k d ≡ number_of width value / 256 ^ k % 256
 unfolding number_of
 bytes_are Byte value is k d within = one_byte (modulo 256 value) k d is.below within
 bytes_are Word value is k d within = two_bytes (modulo 65536 value) k d is.below within
 bytes_are Double value is k d within = four_bytes (modulo 4294967296 value) k d is.below within
 
-pub number_size : (width : Width) (value : ℤ) → length (number_bytes width value) ≡ width_size width
+pub number_size : (width : DataWidth) (value : ℤ) → length (number_bytes width value) ≡ width_size width
 number_size Byte value = refl
 number_size Word value = refl
 number_size Double value = refl

@@ -7,12 +7,12 @@ use Rattle.std.proofs.lemmas.Grind.{flat_map-append}
 use Rattle.std.proofs.lemmas.List.{get_or_append_left, get_or-append-add, length-append}
 use Rattle.std.proofs.lemmas.List.Folds.{list_all-append, list_any-append}
 use Rattle.std.proofs.lemmas.List.Sums.{sum_by-cons}
-use Rattle.assembler_text.specs.declared.statement.Width.{Width}
-use Rattle.assembler_text.specs.declared.statement.Piece.{Piece}
-use Rattle.assembler_text.specs.declared.statement.Piece.TheVariants.{Value, Text}
-use Rattle.assembler_text.specs.declared.statement.Item.{Item}
-use Rattle.assembler_statement.specs.Data.{are_items_known, data_bytes, do_items_fit, does_piece_fit, is_piece_known, item_bytes, number_bytes, piece_bytes, piece_size, pieces_of, repeated, times_of, width_size}
-use Rattle.assembler_statement.specs.Values.{Names, value_of}
+use Rattle.assembler_syntax.specs.declared.statement.DataWidth.{DataWidth}
+use Rattle.assembler_syntax.specs.declared.statement.Piece.{Piece}
+use Rattle.assembler_syntax.specs.declared.statement.Piece.TheVariants.{Value, Text}
+use Rattle.assembler_syntax.specs.declared.statement.Item.{Item}
+use Rattle.assembler_meaning.specs.Data.{are_items_known, data_bytes, do_items_fit, does_piece_fit, is_piece_known, item_bytes, number_bytes, piece_bytes, piece_size, pieces_of, repeated, times_of, width_size}
+use Rattle.assembler_meaning.specs.Values.{Names, value_of}
 use Rattle.assembler_laws.specs.DataBytes.{item_size, StandsBehind}
 use Rattle.assembler_laws.proofs.DataNumbers.{number_size}
 use Rattle.assembler_laws.proofs.Prefixes.{left_false, right_false}
@@ -82,11 +82,11 @@ there_none f p front x back none =
     (right_false (list_any p (flat_map f front)) (list_any p (f x) || list_any p (flat_map f back)) (sym parts ∙ none))
 
 -- ---- how many bytes there are
-value_size : (width : Width) (value : Option ℤ) → is_some value ≡ true → length (option_map_or (number_bytes width) value []) ≡ width_size width
+value_size : (width : DataWidth) (value : Option ℤ) → is_some value ≡ true → length (option_map_or (number_bytes width) value []) ≡ width_size width
 value_size width (Some n) known = number_size width n
 value_size width None known = absurd (let never : false ≡ true = known in cc)
 
-piece_count : (names : Names) (here : ℕ) (width : Width) (piece : Piece) → is_piece_known names here piece ≡ true
+piece_count : (names : Names) (here : ℕ) (width : DataWidth) (piece : Piece) → is_piece_known names here piece ≡ true
     → length (piece_bytes names here width piece) ≡ piece_size width piece
 piece_count names here width (Value terms) known = value_size width (value_of names here terms) known
 piece_count names here width (Text text) known = refl
@@ -100,7 +100,7 @@ made_count f size p each (x ∷ xs) all =
     let rest = made_count f size p each xs is.1 in
     omega (arith, first, rest, length-append (f x) (flat_map f xs), sum_by-cons size x xs)
 
-pieces_count : (names : Names) (here : ℕ) (width : Width) (pieces : List Piece) → list_all (is_piece_known names here) pieces ≡ true
+pieces_count : (names : Names) (here : ℕ) (width : DataWidth) (pieces : List Piece) → list_all (is_piece_known names here) pieces ≡ true
     → length (flat_map (piece_bytes names here width) pieces) ≡ sum_by (piece_size width) pieces
 pieces_count names here width pieces all = made_count (piece_bytes names here width) (piece_size width) (is_piece_known names here) (piece_count names here width) pieces all
 
@@ -111,13 +111,13 @@ repeated_count (suc n) bytes = omega (arith, repeated_count n bytes, length-appe
 abbrev is_item_known : Names → ℕ → Item → Bool
 is_item_known names here item = list_all (is_piece_known names here) (pieces_of item)
 
-item_count : (names : Names) (here : ℕ) (width : Width) (item : Item) → is_item_known names here item ≡ true
+item_count : (names : Names) (here : ℕ) (width : DataWidth) (item : Item) → is_item_known names here item ≡ true
     → length (item_bytes names here width item) ≡ item_size names width item
 item_count names here width item all =
     repeated_count (times_of names item) (flat_map (piece_bytes names here width) (pieces_of item))
     ∙ ap (λ (n : ℕ). times_of names item * n) (pieces_count names here width (pieces_of item) all)
 
-pub line_count : (names : Names) (here : ℕ) (width : Width) (items : List Item) → are_items_known names here items ≡ true
+pub line_count : (names : Names) (here : ℕ) (width : DataWidth) (items : List Item) → are_items_known names here items ≡ true
     → length (data_bytes names here width items) ≡ sum_by (item_size names width) items
 unfolding are_items_known data_bytes
 line_count names here width items all = made_count (item_bytes names here width) (item_size names width) (is_item_known names here) (item_count names here width) items all
@@ -137,11 +137,11 @@ copy_there bytes (suc n) (suc copy) within =
     }
 
 -- ---- a piece among all bytes of the line
-pub record IsInOrder (names : Names) (here : ℕ) (width : Width) (piece : Piece) : Type 0 where
+pub record IsInOrder (names : Names) (here : ℕ) (width : DataWidth) (piece : Piece) : Type 0 where
   pub known : is_piece_known names here piece ≡ true
   pub fits : does_piece_fit names here width piece ≡ true
 
-pub in_order : (names : Names) (here : ℕ) (width : Width) (items : List Item) (piece : Piece) (start : ℕ) → are_items_known names here items ≡ true
+pub in_order : (names : Names) (here : ℕ) (width : DataWidth) (items : List Item) (piece : Piece) (start : ℕ) → are_items_known names here items ≡ true
     → do_items_fit names here width items ≡ true → StandsBehind names width items piece start → IsInOrder names here width piece
 unfolding are_items_known do_items_fit
 in_order names here width items piece start known fits is =
@@ -155,7 +155,7 @@ in_order names here width items piece start known fits is =
       fits = there_all (does_piece_fit names here width) is.front piece is.back (sym (ap (list_all (does_piece_fit names here width)) is.pieces_are) ∙ item_fits);
     }
 
-pub piece_there : (names : Names) (here : ℕ) (width : Width) (items : List Item) (piece : Piece) (start : ℕ) → are_items_known names here items ≡ true
+pub piece_there : (names : Names) (here : ℕ) (width : DataWidth) (items : List Item) (piece : Piece) (start : ℕ) → are_items_known names here items ≡ true
     → StandsBehind names width items piece start → HasPart (data_bytes names here width items) start (piece_bytes names here width piece)
 unfolding are_items_known data_bytes
 piece_there names here width items piece start known is =

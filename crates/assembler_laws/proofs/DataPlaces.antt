@@ -8,20 +8,20 @@ use Rattle.std.proofs.lemmas.List.{drop_more, length-take-le, map-append, take-a
 use Rattle.std.proofs.lemmas.List.Elements.{Contains-append_right}
 use Rattle.std.proofs.lemmas.List.Sums.{sum_by-cons}
 use Rattle.board_types.specs.Image.{image_byte}
-use Rattle.assembler_text.specs.declared.expression.Term.{Term}
-use Rattle.assembler_text.specs.declared.statement.Line.{Line}
-use Rattle.assembler_text.specs.declared.statement.Width.{Width}
-use Rattle.assembler_text.specs.declared.statement.Piece.{Piece}
-use Rattle.assembler_text.specs.declared.statement.Piece.TheVariants.{Value, Text}
-use Rattle.assembler_text.specs.declared.statement.Item.{Item}
-use Rattle.assembler_text.specs.declared.statement.Item.TheVariants.{Once, Repeated}
-use Rattle.assembler_text.specs.declared.statement.Statement.{Statement}
-use Rattle.assembler_text.specs.declared.statement.Statement.TheVariants.{Data}
-use Rattle.text_lines.specs.Lines.{text_lines}
-use Rattle.assembler_statement.specs.declared.symbol.Location.{Location}
-use Rattle.assembler_statement.specs.Data.{are_items_known, counts_of, data_bytes, do_items_fit, fits_width, is_other, is_unknown, is_wrong_count, item_counts, natural, number_bytes, piece_bytes, width_size}
-use Rattle.assembler_statement.specs.Values.{Names, constant_of, value_of}
-use Rattle.assembler_statement.proofs.LeavesLength.{constant_stays, keeps_behind, Keeps}
+use Rattle.assembler_syntax.specs.declared.expression.Term.{Term}
+use Rattle.assembler_syntax.specs.declared.statement.Line.{Line}
+use Rattle.assembler_syntax.specs.declared.statement.DataWidth.{DataWidth}
+use Rattle.assembler_syntax.specs.declared.statement.Piece.{Piece}
+use Rattle.assembler_syntax.specs.declared.statement.Piece.TheVariants.{Value, Text}
+use Rattle.assembler_syntax.specs.declared.statement.Item.{Item}
+use Rattle.assembler_syntax.specs.declared.statement.Item.TheVariants.{Once, Repeated}
+use Rattle.assembler_syntax.specs.declared.statement.Statement.{Statement}
+use Rattle.assembler_syntax.specs.declared.statement.Statement.TheVariants.{Data}
+use Rattle.board_types.specs.TextLines.{text_lines}
+use Rattle.assembler_meaning.specs.declared.symbol.Location.{Location}
+use Rattle.assembler_meaning.specs.Data.{are_items_known, counts_of, data_bytes, do_items_fit, fits_width, is_other, is_unknown, is_wrong_count, item_counts, natural, number_bytes, piece_bytes, width_size}
+use Rattle.assembler_meaning.specs.Values.{Names, constant_of, value_of}
+use Rattle.assembler_meaning.proofs.LeavesLength.{constant_stays, keeps_behind, Keeps}
 use Rattle.assembler.specs.Gives.{Fits, FitsAt}
 use Rattle.assembler.specs.Placement.{address_behind, bytes_by, bytes_from, content_of, has_wrong_number, lacks_name, placed_by}
 use Rattle.assembler.specs.Rows.{Row, AreRows, has_unknown_constant, has_wrong_constant, names_of, stands_outside, wants_segment}
@@ -49,37 +49,37 @@ pub split_there : {X : Type 0} (xs : List X) (x : X) → Contains xs x → IsSpl
 split_there xs x there = split_at xs x there.0 there.1 there.2
 
 -- ---- bytes at their addresses
-from_there : (spot : Location) (n : ℕ) (bytes : List ℕ) (k m d : ℕ) → k < length bytes → m ≡ n + k
-    → Contains (bytes_from spot n bytes) (address_behind spot m, get_or bytes k d)
-from_there spot n [] k m d within at = absurd (omega (arith, within))
-from_there spot n (b ∷ bs) zero m d within at =
-    let same : n ≡ m = omega (arith, at) in (0, omega arith, ap (λ (p : ℕ). (address_behind spot p, b)) same)
-from_there spot n (b ∷ bs) (suc k) m d within at =
-    Contains-append_right ((address_behind spot n, b) ∷ []) (bytes_from spot (n + 1) bs) (address_behind spot m, get_or bs k d)
-    (from_there spot (n + 1) bs k m d (omega (arith, within)) (omega (arith, at)))
+from_there : (location : Location) (n : ℕ) (bytes : List ℕ) (k m d : ℕ) → k < length bytes → m ≡ n + k
+    → Contains (bytes_from location n bytes) (address_behind location m, get_or bytes k d)
+from_there location n [] k m d within at = absurd (omega (arith, within))
+from_there location n (b ∷ bs) zero m d within at =
+    let same : n ≡ m = omega (arith, at) in (0, omega arith, ap (λ (p : ℕ). (address_behind location p, b)) same)
+from_there location n (b ∷ bs) (suc k) m d within at =
+    Contains-append_right ((address_behind location n, b) ∷ []) (bytes_from location (n + 1) bs) (address_behind location m, get_or bs k d)
+    (from_there location (n + 1) bs k m d (omega (arith, within)) (omega (arith, at)))
 
 -- the image has these bytes from a place on
 abbrev HasBytes : List (ℕ × ℕ) → Location → List ℕ → Type 0
-HasBytes image spot bytes = (k d : ℕ) → k < length bytes → image_byte image (address_behind spot k) ≡ Some (get_or bytes k d)
+HasBytes image location bytes = (k d : ℕ) → k < length bytes → image_byte image (address_behind location k) ≡ Some (get_or bytes k d)
 
-has_part : (image : List (ℕ × ℕ)) (spot : Location) (bytes part : List ℕ) (start : ℕ) → HasBytes image spot bytes → HasPart bytes start part
-    → HasText image spot start part
-has_part image spot bytes part start has is k d within =
+has_part : (image : List (ℕ × ℕ)) (location : Location) (bytes part : List ℕ) (start : ℕ) → HasBytes image location bytes → HasPart bytes start part
+    → HasText image location start part
+has_part image location bytes part start has is k d within =
     let inside : start + k < length bytes = (let whole = part_within bytes part start is in omega (arith, whole, within)) in
     has (start + k) d inside ∙ ap Some (part_there bytes part start k d is within)
 
 -- ---- a piece
-some_value : (width : Width) (o : Option ℤ) → is_some o ≡ true → option_map_or (fits_width width) o true ≡ true
+some_value : (width : DataWidth) (o : Option ℤ) → is_some o ≡ true → option_map_or (fits_width width) o true ≡ true
     → (value : ℤ) × (o ≡ Some value) × (fits_width width value ≡ true)
 some_value width (Some value) known fits = (value, refl, fits)
 some_value width None known fits = absurd (let never : false ≡ true = known in cc)
 
-has_value : (names : Names) (image : List (ℕ × ℕ)) (spot : Location) (start : ℕ) (width : Width) (terms : List Term)
-    → IsInOrder names spot.offset width (Value terms) → HasText image spot start (piece_bytes names spot.offset width (Value terms))
-    → HasValue names image spot start (width_size width) terms
-has_value names image spot start width terms in_its_order has =
-    let is = some_value width (value_of names spot.offset terms) in_its_order.known in_its_order.fits in
-    let bytes : piece_bytes names spot.offset width (Value terms) ≡ number_bytes width is.0 =
+has_value : (names : Names) (image : List (ℕ × ℕ)) (location : Location) (start : ℕ) (width : DataWidth) (terms : List Term)
+    → IsInOrder names location.offset width (Value terms) → HasText image location start (piece_bytes names location.offset width (Value terms))
+    → HasValue names image location start (width_size width) terms
+has_value names image location start width terms in_its_order has =
+    let is = some_value width (value_of names location.offset terms) in_its_order.known in_its_order.fits in
+    let bytes : piece_bytes names location.offset width (Value terms) ≡ number_bytes width is.0 =
     ap (λ (o : Option ℤ). option_map_or (number_bytes width) o []) is.1 in
     let whole = is_number width is.0 is.2 in (
       is.0,
@@ -89,16 +89,16 @@ has_value names image spot start width terms in_its_order has =
         below = whole.below;
         is_value = whole.is_value;
         bytes = λ k within.
-            subst (λ (bs : List ℕ). HasText image spot start bs) bytes has k 0 (subst (λ (n : ℕ). k < n) (sym (number_size width is.0)) within)
+            subst (λ (bs : List ℕ). HasText image location start bs) bytes has k 0 (subst (λ (n : ℕ). k < n) (sym (number_size width is.0)) within)
             ∙ ap Some (bytes_are width is.0 whole k 0 within);
       },
     )
 
-has_piece : (names : Names) (image : List (ℕ × ℕ)) (spot : Location) (start : ℕ) (width : Width) (piece : Piece)
-    → IsInOrder names spot.offset width piece → HasText image spot start (piece_bytes names spot.offset width piece)
-    → HasPiece names image spot start width piece
-has_piece names image spot start width (Value terms) in_its_order has = has_value names image spot start width terms in_its_order has
-has_piece names image spot start width (Text text) in_its_order has = has
+has_piece : (names : Names) (image : List (ℕ × ℕ)) (location : Location) (start : ℕ) (width : DataWidth) (piece : Piece)
+    → IsInOrder names location.offset width piece → HasText image location start (piece_bytes names location.offset width piece)
+    → HasPiece names image location start width piece
+has_piece names image location start width (Value terms) in_its_order has = has_value names image location start width terms in_its_order has
+has_piece names image location start width (Text text) in_its_order has = has
 
 -- ---- how many times an item stands there
 count_is : (o : Option ℤ) → is_none o ≡ false → is_other (pos 1) (pos 65535) o ≡ false → o ≡ Some (pos (option_map_or natural o 0))
@@ -123,14 +123,14 @@ has_count known all keeps (Repeated count each) wrong unknown =
 abbrev number_item : List Term → Item
 number_item terms = Once (Value terms)
 
-numbers_size : (names : Names) (width : Width) (values : List (List Term)) → sum_by (item_size names width) (map number_item values) ≡ length values * width_size width
+numbers_size : (names : Names) (width : DataWidth) (values : List (List Term)) → sum_by (item_size names width) (map number_item values) ≡ length values * width_size width
 numbers_size names width [] = omega arith
 numbers_size names width (terms ∷ values) =
     let rest = numbers_size names width values in
     let first : item_size names width (number_item terms) ≡ width_size width = omega arith in
     omega (arith, rest, first, sum_by-cons (item_size names width) (number_item terms) (map number_item values))
 
-number_behind : (names : Names) (width : Width) (items : List Item) (values : List (List Term)) (i : ℕ) (d : List Term) → i < length values
+number_behind : (names : Names) (width : DataWidth) (items : List Item) (values : List (List Term)) (i : ℕ) (d : List Term) → i < length values
     → items ≡ map number_item values → StandsBehind names width items (Value (get_or values i d)) (i * width_size width)
 number_behind names width items values i d within is =
     let parts : values ≡ take i values ++ get_or values i d ∷ drop (i + 1) values =
@@ -151,7 +151,7 @@ number_behind names width items values i d within is =
       counted = omega (arith, size);
     }
 
-text_behind : (names : Names) (width : Width) (items : List Item) (text : List ℕ) → items ≡ Once (Text text) ∷ [] → StandsBehind names width items (Text text) 0
+text_behind : (names : Names) (width : DataWidth) (items : List Item) (text : List ℕ) → items ≡ Once (Text text) ∷ [] → StandsBehind names width items (Text text) 0
 text_behind names width items text is = record {
   before = [];
   item = Once (Text text);
@@ -165,7 +165,7 @@ text_behind names width items text is = record {
   counted = omega arith;
 }
 
-copy_behind : (names : Names) (width : Width) (items : List Item) (count terms : List Term) (n i : ℕ) → items ≡ Repeated count (Value terms ∷ []) ∷ []
+copy_behind : (names : Names) (width : DataWidth) (items : List Item) (count terms : List Term) (n i : ℕ) → items ≡ Repeated count (Value terms ∷ []) ∷ []
     → constant_of names count ≡ Some (pos n) → i < n → StandsBehind names width items (Value terms) (i * width_size width)
 copy_behind names width items count terms n i is times within = record {
   before = [];
@@ -181,8 +181,8 @@ copy_behind names width items count terms n i is times within = record {
 }
 
 -- ---- the law
-placed_in : (here : Option Location) (line : Line) → wants_segment line.statement ≡ true → stands_outside here line ≡ false → (spot : Location) × (here ≡ Some spot)
-placed_in (Some spot) line wants placed = (spot, refl)
+placed_in : (here : Option Location) (line : Line) → wants_segment line.statement ≡ true → stands_outside here line ≡ false → (location : Location) × (here ≡ Some location)
+placed_in (Some location) line wants placed = (location, refl)
 placed_in None line wants placed =
     absurd (let never : true ≡ false = sym wants ∙ right_false (is_some line.label) (wants_segment line.statement) placed in cc)
 
@@ -190,28 +190,28 @@ not_false : (b : Bool) → not b ≡ false → b ≡ true
 not_false true is = refl
 not_false false is = absurd (let never : true ≡ false = is in cc)
 
-places_data : (names : Names) (image : List (ℕ × ℕ)) (row : Row) (width : Width) (items : List Item) (spot : Location) → row.spot ≡ Some spot
-    → are_items_known names spot.offset items ≡ true → do_items_fit names spot.offset width items ≡ true
-    → ((item : Item) → Contains items item → HasCount names item) → length (data_bytes names spot.offset width items) ≡ row.size
-    → HasBytes image spot (data_bytes names spot.offset width items) → PlacesData names image row width items
-places_data names image row width items spot at known fits counts long has =
-    let each : (piece : Piece) (start : ℕ) → StandsBehind names width items piece start → HasPiece names image spot start width piece = λ piece start is.
-    has_piece names image spot start width piece (in_order names spot.offset width items piece start known fits is)
-    (has_part image spot (data_bytes names spot.offset width items) (piece_bytes names spot.offset width piece) start has
-    (piece_there names spot.offset width items piece start known is)) in
+places_data : (names : Names) (image : List (ℕ × ℕ)) (row : Row) (width : DataWidth) (items : List Item) (location : Location) → row.location ≡ Some location
+    → are_items_known names location.offset items ≡ true → do_items_fit names location.offset width items ≡ true
+    → ((item : Item) → Contains items item → HasCount names item) → length (data_bytes names location.offset width items) ≡ row.size
+    → HasBytes image location (data_bytes names location.offset width items) → PlacesData names image row width items
+places_data names image row width items location at known fits counts long has =
+    let each : (piece : Piece) (start : ℕ) → StandsBehind names width items piece start → HasPiece names image location start width piece = λ piece start is.
+    has_piece names image location start width piece (in_order names location.offset width items piece start known fits is)
+    (has_part image location (data_bytes names location.offset width items) (piece_bytes names location.offset width piece) start has
+    (piece_there names location.offset width items piece start known is)) in
     record {
-      spot = spot;
+      location = location;
       has_place = at;
       counts = counts;
-      size = sym long ∙ line_count names spot.offset width items known;
+      size = sym long ∙ line_count names location.offset width items known;
       pieces = each;
       numbers = λ values is i d within. each (Value (get_or values i d)) (i * width_size width) (number_behind names width items values i d within is);
       text = λ text is. each (Text text) 0 (text_behind names width items text is);
       copies = λ count terms n is times i within. each (Value terms) (i * width_size width) (copy_behind names width items count terms n i is times within);
     }
 
-counts_there : (front : List Row) (row : Row) (back : List Row) (width : Width) (items : List Item) → row.line.statement ≡ Data width items
-    → HasNone (names_of front) row.spot row.line row.form → (item : Item) → Contains items item → HasCount (names_of (front ++ row ∷ back)) item
+counts_there : (front : List Row) (row : Row) (back : List Row) (width : DataWidth) (items : List Item) → row.line.statement ≡ Data width items
+    → HasNone (names_of front) row.location row.line row.form → (item : Item) → Contains items item → HasCount (names_of (front ++ row ∷ back)) item
 counts_there front row back width items is none item there =
     let known : Names = names_of front in
     let keeps : Keeps known (names_of (front ++ row ∷ back)) =
@@ -229,23 +229,23 @@ data_goes_low_byte_first source image gives row width items within is =
     let split = split_there gives.rows row within in
     let there : IsCleanThere split.front row =
     clean_behind [] (text_lines source) split.front row split.back (subst (AreRows [] (text_lines source)) split.is gives.are_rows) in
-    let none : HasNone (names_of split.front) row.spot row.line row.form = has_none (names_of split.front) row.spot row.line row.form there.clean.clean in
-    let place = placed_in row.spot row.line (ap wants_segment is) none.outside in
-    let spot : Location = place.0 in
-    let fits : FitsAt names row spot =
-    fits_there names split.front row split.back (subst (AllByRecursion (Fits names)) split.is gives.placed.fit) spot place.1 in
-    let bytes : List ℕ = data_bytes names spot.offset width items in
-    let placed : placed_by names row ≡ bytes_from spot 0 bytes =
-    bytes_placed names row spot place.1 ∙ ap (λ (s : Statement). bytes_from spot 0 (bytes_by names spot row.size (content_of s row.form))) is in
-    places_data names image row width items spot place.1
-    (not_false (are_items_known names spot.offset items) (sym (ap (λ (s : Statement). lacks_name names spot (content_of s row.form)) is) ∙ fits.known))
-    (not_false (do_items_fit names spot.offset width items) (sym (ap (λ (s : Statement). has_wrong_number names spot row.size (content_of s row.form)) is) ∙ fits.fits))
+    let none : HasNone (names_of split.front) row.location row.line row.form = has_none (names_of split.front) row.location row.line row.form there.clean.clean in
+    let place = placed_in row.location row.line (ap wants_segment is) none.outside in
+    let location : Location = place.0 in
+    let fits : FitsAt names row location =
+    fits_there names split.front row split.back (subst (AllByRecursion (Fits names)) split.is gives.placed.fit) location place.1 in
+    let bytes : List ℕ = data_bytes names location.offset width items in
+    let placed : placed_by names row ≡ bytes_from location 0 bytes =
+    bytes_placed names row location place.1 ∙ ap (λ (s : Statement). bytes_from location 0 (bytes_by names location row.size (content_of s row.form))) is in
+    places_data names image row width items location place.1
+    (not_false (are_items_known names location.offset items) (sym (ap (λ (s : Statement). lacks_name names location (content_of s row.form)) is) ∙ fits.known))
+    (not_false (do_items_fit names location.offset width items) (sym (ap (λ (s : Statement). has_wrong_number names location row.size (content_of s row.form)) is) ∙ fits.fits))
     (subst (λ (rows : List Row). (item : Item) → Contains items item → HasCount (names_of rows) item) (sym split.is)
     (counts_there split.front row split.back width items is none))
-    (ap (λ (s : Statement). length (bytes_by names spot row.size (content_of s row.form))) (sym is)
-    ∙ subst (λ (rows : List Row). length (bytes_by (names_of rows) spot row.size (content_of row.line.statement row.form)) ≡ row.size) (sym split.is)
-    (row_length split.front row split.back there.text spot there.clean (subst (λ (rows : List Row). FitsAt (names_of rows) row spot) split.is fits)))
+    (ap (λ (s : Statement). length (bytes_by names location row.size (content_of s row.form))) (sym is)
+    ∙ subst (λ (rows : List Row). length (bytes_by (names_of rows) location row.size (content_of row.line.statement row.form)) ≡ row.size) (sym split.is)
+    (row_length split.front row split.back there.text location there.clean (subst (λ (rows : List Row). FitsAt (names_of rows) row location) split.is fits)))
     (λ k d inside.
-    (gives.placed.bytes (address_behind spot k) (get_or bytes k d)).1
-    (placed_there (placed_by names) gives.rows row (address_behind spot k, get_or bytes k d) within
-    (subst (λ es. Contains es (address_behind spot k, get_or bytes k d)) (sym placed) (from_there spot 0 bytes k k d inside (omega arith)))))
+    (gives.placed.bytes (address_behind location k) (get_or bytes k d)).1
+    (placed_there (placed_by names) gives.rows row (address_behind location k, get_or bytes k d) within
+    (subst (λ es. Contains es (address_behind location k, get_or bytes k d)) (sym placed) (from_there location 0 bytes k k d inside (omega arith)))))

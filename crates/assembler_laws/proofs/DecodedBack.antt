@@ -8,13 +8,13 @@ use Rattle.decode.specs.declared.decoded.Decoded.{Decoded}
 use Rattle.decode.specs.declared.decoded.Decoded.TheVariants.{Found, NoRow}
 use Rattle.decode.specs.Decoding.{code_at, decoded_from, IsDecoded, StandsIn}
 use Rattle.decode.proofs.Exact.{exact, none_is_longer}
-use Rattle.assembler_text.specs.declared.statement.Instruction.{Instruction as Written}
-use Rattle.assembler_text.specs.declared.statement.Statement.TheVariants.{Instruction}
-use Rattle.assembler_statement.specs.declared.symbol.Location.{Location}
-use Rattle.assembler_statement.specs.Instructions.{code_bytes, instruction_size, numbers_of}
-use Rattle.assembler_statement.specs.Values.{Names}
-use Rattle.assembler_statement.proofs.LeavesLength.{code_length}
-use Rattle.text_lines.specs.Lines.{text_lines}
+use Rattle.assembler_syntax.specs.declared.statement.Instruction.{Instruction as Written}
+use Rattle.assembler_syntax.specs.declared.statement.Statement.TheVariants.{Instruction}
+use Rattle.assembler_meaning.specs.declared.symbol.Location.{Location}
+use Rattle.assembler_meaning.specs.Instructions.{code_bytes, instruction_size, numbers_of}
+use Rattle.assembler_meaning.specs.Values.{Names}
+use Rattle.assembler_meaning.proofs.LeavesLength.{code_length}
+use Rattle.board_types.specs.TextLines.{text_lines}
 use Rattle.assembler.specs.declared.row.Content.TheVariants.{Code}
 use Rattle.assembler.specs.Placement.{bytes_by, bytes_from, content_of, fields_of, has_wrong_number, placed_by}
 use Rattle.assembler.specs.Rows.{Row, names_of}
@@ -35,42 +35,42 @@ unfolding form_length
 some_bytes f i = omega arith
 
 -- what stands at the front is decoded
-stands_there : (byte : ℕ → ℕ) (spot : Location) (i : Instr) → ((address : ℕ) → byte address < 256) → IsInstr i
-    → spot.offset + length (spelling i) ≤ 65536
-    → ((address b : ℕ) → Contains (bytes_from spot 0 (spelling i)) (address, b) → byte address ≡ b)
-    → decoded_from (code_at byte spot.segment spot.offset) ≡ Found i (length (spelling i))
-stands_there byte spot i bytes is within each =
-    let code : List ℕ = code_at byte spot.segment spot.offset in
-    found_is code (decoded_from code) i (length (spelling i)) (exact code (seen_long byte spot) (seen_bytes byte spot bytes))
-    (record { is_instr = is; length = refl; spelled = seen_first byte spot (spelling i) (none_is_longer i is) within each })
+stands_there : (byte : ℕ → ℕ) (location : Location) (i : Instr) → ((address : ℕ) → byte address < 256) → IsInstr i
+    → location.offset + length (spelling i) ≤ 65536
+    → ((address b : ℕ) → Contains (bytes_from location 0 (spelling i)) (address, b) → byte address ≡ b)
+    → decoded_from (code_at byte location.segment location.offset) ≡ Found i (length (spelling i))
+stands_there byte location i bytes is within each =
+    let code : List ℕ = code_at byte location.segment location.offset in
+    found_is code (decoded_from code) i (length (spelling i)) (exact code (seen_long byte location) (seen_bytes byte location bytes))
+    (record { is_instr = is; length = refl; spelled = seen_first byte location (spelling i) (none_is_longer i is) within each })
 
 row_decodes : (byte : ℕ → ℕ) (names : Names) (row : Row) (i : Written) → row.line.statement ≡ Instruction i → HasPlace row i → Fits names row
     → ((address : ℕ) → byte address < 256) → ((address b : ℕ) → Contains (placed_by names row) (address, b) → byte address ≡ b)
     → DecodesBack byte names row i
 row_decodes byte names row i is has fits bytes each =
     let f = has.form in
-    let spot = has.spot in
-    let fit : FitsAt names row spot = fits spot has.has_place in
+    let location = has.location in
+    let fit : FitsAt names row location = fits location has.has_place in
     let content : content_of row.line.statement row.form ≡ Some (Code f i) = ap (λ s. content_of s row.form) is ∙ ap (content_of (Instruction i)) has.has_form in
-    let numbers = some_there (fields_of names spot row.size f i) (sym (ap (has_wrong_number names spot row.size) content) ∙ fit.fits) in
+    let numbers = some_there (fields_of names location row.size f i) (sym (ap (has_wrong_number names location row.size) content) ∙ fit.fits) in
     let v = numbers.0 in
     let instr : Instr = instr_of f i v in
     let instr_is : IsInstr instr = record {
       few = has.few;
       form = has.is_form;
-      values = fields_fit f (spot.offset + row.size) (numbers_of names spot.offset i.operands) v numbers.1;
+      values = fields_fit f (location.offset + row.size) (numbers_of names location.offset i.operands) v numbers.1;
     } in
     let long : length (spelling instr) ≡ row.size = code_length f i v ∙ sym has.size in
-    let ends : spot.offset + row.size ≤ 65536 =
-    ends_within spot row.size (is_some row.line.label) fit.within (subst (λ n. 0 < n) (sym has.size) (some_bytes f i)) in
-    let placed : placed_by names row ≡ bytes_from spot 0 (spelling instr) =
-    bytes_placed names row spot has.has_place ∙ ap (λ c. bytes_from spot 0 (bytes_by names spot row.size c)) content
-    ∙ ap (λ o. bytes_from spot 0 (option_map_or (code_bytes f i) o [])) numbers.1 in
-    let decodes = stands_there byte spot instr bytes instr_is (subst (λ n. spot.offset + n ≤ 65536) (sym long) ends)
+    let ends : location.offset + row.size ≤ 65536 =
+    ends_within location row.size (is_some row.line.label) fit.within (subst (λ n. 0 < n) (sym has.size) (some_bytes f i)) in
+    let placed : placed_by names row ≡ bytes_from location 0 (spelling instr) =
+    bytes_placed names row location has.has_place ∙ ap (λ c. bytes_from location 0 (bytes_by names location row.size c)) content
+    ∙ ap (λ o. bytes_from location 0 (option_map_or (code_bytes f i) o [])) numbers.1 in
+    let decodes = stands_there byte location instr bytes instr_is (subst (λ n. location.offset + n ≤ 65536) (sym long) ends)
     (λ address b there. each address b (subst (λ es. Contains es (address, b)) (sym placed) there)) in
     record {
       form = f;
-      spot = spot;
+      location = location;
       numbers = v;
       has_form = has.has_form;
       has_place = has.has_place;

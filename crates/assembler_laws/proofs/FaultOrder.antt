@@ -4,15 +4,15 @@ use Rattle.std.specs.List.{list_all, list_any}
 use Rattle.isa.specs.declared.form.Form.{Form}
 use Rattle.assembler_lexeme.specs.declared.fault.LineFault.{LineFault}
 use Rattle.assembler_lexeme.specs.declared.fault.LineFault.TheVariants as line_faults
-use Rattle.assembler_text.specs.declared.statement.Line.{Line}
-use Rattle.assembler_statement.specs.declared.symbol.Location.{Location}
-use Rattle.assembler_statement.specs.Values.{Names}
+use Rattle.assembler_syntax.specs.declared.statement.Line.{Line}
+use Rattle.assembler_meaning.specs.declared.symbol.Location.{Location}
+use Rattle.assembler_meaning.specs.Values.{Names}
 use Rattle.assembler.specs.declared.fault.SourceFault.{SourceFault}
 use Rattle.assembler.specs.declared.fault.SourceFault.TheVariants.{BadLine, UnknownName, BadForm, TwiceDefined, Undefined, OutOfRange, OutOfSegment, Overlap, NoSegment, NotLoadable}
 use Rattle.assembler.specs.declared.row.Content.{Content}
 use Rattle.assembler.specs.FirstFault.{HasLateFault, IsTextFault, fault_of_line, source_fault_number}
 use Rattle.assembler.specs.Placement.{addresses_from, content_of, has_wrong_number, is_loadable, is_past_end, is_placed, lacks_name, late_fault, placed_by_all}
-use Rattle.assembler.specs.Rows.{Row, defines_again, early_fault, has_unknown_constant, has_wrong_constant, lacks_form, names_of, opens_within, spot_behind, stands_outside}
+use Rattle.assembler.specs.Rows.{Row, defines_again, early_fault, has_unknown_constant, has_wrong_constant, lacks_form, names_of, opens_within, location_behind, stands_outside}
 use Rattle.assembler_laws.specs.FirstFaults.{FaultsComeInPasses, HasEarly, HasLate, IsLeast, LeastNumbersComeFirst, is_early}
 use Rattle.assembler_laws.proofs.Uniqueness.{never_both}
 
@@ -168,61 +168,61 @@ least_so : (P Q : SourceFault → Type 0) (fault : SourceFault) → ((other : So
 least_so P Q fault there back is = record { has = there fault is.has; least = λ other has. is.least other (back other has) }
 
 abbrev FailsLine : Names → Option Location → Line → Option Form → SourceFault → Type 0
-FailsLine known spot line form =
-    Fails_early (opens_within spot line.statement || has_wrong_constant known line.statement) (has_unknown_constant known line.statement)
-    (lacks_form line.statement form) (defines_again known line) (stands_outside spot line)
+FailsLine known location line form =
+    Fails_early (opens_within location line.statement || has_wrong_constant known line.statement) (has_unknown_constant known line.statement)
+    (lacks_form line.statement form) (defines_again known line) (stands_outside location line)
 
-line_has : (known : Names) (spot : Option Location) (line : Line) (form : Option Form) (fault : SourceFault) → FailsLine known spot line form fault → HasEarly known spot line form fault
-line_has known spot line form BadLine is = is
-line_has known spot line form fault is = is
+line_has : (known : Names) (location : Option Location) (line : Line) (form : Option Form) (fault : SourceFault) → FailsLine known location line form fault → HasEarly known location line form fault
+line_has known location line form BadLine is = is
+line_has known location line form fault is = is
 
-line_fails : (known : Names) (spot : Option Location) (line : Line) (form : Option Form) (fault : SourceFault) → HasEarly known spot line form fault → FailsLine known spot line form fault
-line_fails known spot line form BadLine is = is
-line_fails known spot line form fault is = is
+line_fails : (known : Names) (location : Option Location) (line : Line) (form : Option Form) (fault : SourceFault) → HasEarly known location line form fault → FailsLine known location line form fault
+line_fails known location line form BadLine is = is
+line_fails known location line form fault is = is
 
-early_is_least : (known : Names) (spot : Option Location) (line : Line) (form : Option Form) (fault : SourceFault) → early_fault known spot line form ≡ Some fault
-    → IsLeast (HasEarly known spot line form) fault
+early_is_least : (known : Names) (location : Option Location) (line : Line) (form : Option Form) (fault : SourceFault) → early_fault known location line form ≡ Some fault
+    → IsLeast (HasEarly known location line form) fault
 unfolding early_fault
-early_is_least known spot line form fault is =
-    least_so (FailsLine known spot line form) (HasEarly known spot line form) fault (line_has known spot line form) (line_fails known spot line form)
-    (early_first (opens_within spot line.statement || has_wrong_constant known line.statement) (has_unknown_constant known line.statement)
-    (lacks_form line.statement form) (defines_again known line) (stands_outside spot line) fault is)
+early_is_least known location line form fault is =
+    least_so (FailsLine known location line form) (HasEarly known location line form) fault (line_has known location line form) (line_fails known location line form)
+    (early_first (opens_within location line.statement || has_wrong_constant known line.statement) (has_unknown_constant known line.statement)
+    (lacks_form line.statement form) (defines_again known line) (stands_outside location line) fault is)
 
-least_is_early : (known : Names) (spot : Option Location) (line : Line) (form : Option Form) (fault : SourceFault) → IsLeast (HasEarly known spot line form) fault
-    → early_fault known spot line form ≡ Some fault
+least_is_early : (known : Names) (location : Option Location) (line : Line) (form : Option Form) (fault : SourceFault) → IsLeast (HasEarly known location line form) fault
+    → early_fault known location line form ≡ Some fault
 unfolding early_fault
-least_is_early known spot line form fault is =
-    early_back (opens_within spot line.statement || has_wrong_constant known line.statement) (has_unknown_constant known line.statement)
-    (lacks_form line.statement form) (defines_again known line) (stands_outside spot line) fault
-    (least_so (HasEarly known spot line form) (FailsLine known spot line form) fault (line_fails known spot line form) (line_has known spot line form) is)
+least_is_early known location line form fault is =
+    early_back (opens_within location line.statement || has_wrong_constant known line.statement) (has_unknown_constant known line.statement)
+    (lacks_form line.statement form) (defines_again known line) (stands_outside location line) fault
+    (least_so (HasEarly known location line form) (FailsLine known location line form) fault (line_fails known location line form) (line_has known location line form) is)
 
 abbrev FailsPlace : Names → (ℕ → Bool) → Bool → Location → ℕ → Option Content → SourceFault → Type 0
-FailsPlace names is_taken has_label spot size content =
-    Fails_late (lacks_name names spot content) (has_wrong_number names spot size content) (is_past_end spot size has_label)
-    (list_any is_taken (addresses_from spot 0 size)) (list_all is_loadable (addresses_from spot 0 size))
+FailsPlace names is_taken has_label location size content =
+    Fails_late (lacks_name names location content) (has_wrong_number names location size content) (is_past_end location size has_label)
+    (list_any is_taken (addresses_from location 0 size)) (list_all is_loadable (addresses_from location 0 size))
 
-place_has : (names : Names) (is_taken : ℕ → Bool) (has_label : Bool) (spot : Location) (size : ℕ) (content : Option Content) (fault : SourceFault)
-    → FailsPlace names is_taken has_label spot size content fault → HasLate names is_taken has_label spot size content fault
-place_has names is_taken has_label spot size content Undefined is = is
-place_has names is_taken has_label spot size content fault is = is
+place_has : (names : Names) (is_taken : ℕ → Bool) (has_label : Bool) (location : Location) (size : ℕ) (content : Option Content) (fault : SourceFault)
+    → FailsPlace names is_taken has_label location size content fault → HasLate names is_taken has_label location size content fault
+place_has names is_taken has_label location size content Undefined is = is
+place_has names is_taken has_label location size content fault is = is
 
-place_fails : (names : Names) (is_taken : ℕ → Bool) (has_label : Bool) (spot : Location) (size : ℕ) (content : Option Content) (fault : SourceFault)
-    → HasLate names is_taken has_label spot size content fault → FailsPlace names is_taken has_label spot size content fault
-place_fails names is_taken has_label spot size content Undefined is = is
-place_fails names is_taken has_label spot size content fault is = is
+place_fails : (names : Names) (is_taken : ℕ → Bool) (has_label : Bool) (location : Location) (size : ℕ) (content : Option Content) (fault : SourceFault)
+    → HasLate names is_taken has_label location size content fault → FailsPlace names is_taken has_label location size content fault
+place_fails names is_taken has_label location size content Undefined is = is
+place_fails names is_taken has_label location size content fault is = is
 
 pub least_numbers_come_first : LeastNumbersComeFirst
 least_numbers_come_first = record {
-  early = λ known spot line form fault. (early_is_least known spot line form fault, least_is_early known spot line form fault);
-  late = λ names is_taken has_label spot size content fault. (
-    (λ is. least_so (FailsPlace names is_taken has_label spot size content) (HasLate names is_taken has_label spot size content) fault
-        (place_has names is_taken has_label spot size content) (place_fails names is_taken has_label spot size content)
-        (late_first (lacks_name names spot content) (has_wrong_number names spot size content) (is_past_end spot size has_label)
-        (list_any is_taken (addresses_from spot 0 size)) (list_all is_loadable (addresses_from spot 0 size)) fault is)),
-    (λ is. late_back (lacks_name names spot content) (has_wrong_number names spot size content) (is_past_end spot size has_label)
-        (list_any is_taken (addresses_from spot 0 size)) (list_all is_loadable (addresses_from spot 0 size)) fault
-        (least_so (HasLate names is_taken has_label spot size content) (FailsPlace names is_taken has_label spot size content) fault
-        (place_fails names is_taken has_label spot size content) (place_has names is_taken has_label spot size content) is)),
+  early = λ known location line form fault. (early_is_least known location line form fault, least_is_early known location line form fault);
+  late = λ names is_taken has_label location size content fault. (
+    (λ is. least_so (FailsPlace names is_taken has_label location size content) (HasLate names is_taken has_label location size content) fault
+        (place_has names is_taken has_label location size content) (place_fails names is_taken has_label location size content)
+        (late_first (lacks_name names location content) (has_wrong_number names location size content) (is_past_end location size has_label)
+        (list_any is_taken (addresses_from location 0 size)) (list_all is_loadable (addresses_from location 0 size)) fault is)),
+    (λ is. late_back (lacks_name names location content) (has_wrong_number names location size content) (is_past_end location size has_label)
+        (list_any is_taken (addresses_from location 0 size)) (list_all is_loadable (addresses_from location 0 size)) fault
+        (least_so (HasLate names is_taken has_label location size content) (FailsPlace names is_taken has_label location size content) fault
+        (place_fails names is_taken has_label location size content) (place_has names is_taken has_label location size content) is)),
   );
 }
 
@@ -248,32 +248,32 @@ of_reading line_faults.BadCharacter = refl
 of_reading line_faults.BadLine = refl
 of_reading line_faults.UnknownName = refl
 
-text_is_early : (names : Names) (spot : Option Location) (text : List ℕ) (fault : SourceFault) → IsTextFault names spot text fault → is_early fault ≡ true
+text_is_early : (names : Names) (location : Option Location) (text : List ℕ) (fault : SourceFault) → IsTextFault names location text fault → is_early fault ≡ true
 unfolding early_fault
-text_is_early names spot text fault (inl read) = ap is_early read.2 ∙ of_reading read.0
-text_is_early names spot text fault (inr found) =
+text_is_early names location text fault (inl read) = ap is_early read.2 ∙ of_reading read.0
+text_is_early names location text fault (inr found) =
     let row : Row = found.0 in
     of_first_pass _ _ _ _ _ fault
-    (early_first (opens_within row.spot row.line.statement || has_wrong_constant names row.line.statement) (has_unknown_constant names row.line.statement)
-    (lacks_form row.line.statement row.form) (defines_again names row.line) (stands_outside row.spot row.line) fault found.2).has
+    (early_first (opens_within row.location row.line.statement || has_wrong_constant names row.line.statement) (has_unknown_constant names row.line.statement)
+    (lacks_form row.line.statement row.form) (defines_again names row.line) (stands_outside row.location row.line) fault found.2).has
 
 late_is_late : (names : Names) (is_taken : ℕ → Bool) (has_label : Bool) (here : Option Location) (size : ℕ) (content : Option Content) (fault : SourceFault)
     → late_fault names is_taken has_label here size content ≡ Some fault → is_early fault ≡ false
 unfolding late_fault
 late_is_late names is_taken has_label None size content fault is = absurd (let never : None ≡ Some fault = is in cc)
-late_is_late names is_taken has_label (Some spot) size content fault is =
+late_is_late names is_taken has_label (Some location) size content fault is =
     of_second_pass _ _ _ _ _ fault
-    (late_first (lacks_name names spot content) (has_wrong_number names spot size content) (is_past_end spot size has_label)
-    (list_any is_taken (addresses_from spot 0 size)) (list_all is_loadable (addresses_from spot 0 size)) fault is).has
+    (late_first (lacks_name names location content) (has_wrong_number names location size content) (is_past_end location size has_label)
+    (list_any is_taken (addresses_from location 0 size)) (list_all is_loadable (addresses_from location 0 size)) fault is).has
 
 row_is_late : (rows : List Row) (fault : SourceFault) (number : ℕ) → HasLateFault rows fault number → is_early fault ≡ false
 row_is_late rows fault number late =
-    late_is_late (names_of rows) (is_placed (placed_by_all (names_of rows) late.front)) (is_some late.row.line.label) late.row.spot late.row.size
+    late_is_late (names_of rows) (is_placed (placed_by_all (names_of rows) late.front)) (is_some late.row.line.label) late.row.location late.row.size
     (content_of late.row.line.statement late.row.form) fault late.found
 
 pub faults_come_in_passes : FaultsComeInPasses
 faults_come_in_passes source = record {
-  early = λ fault number is. text_is_early (names_of is.rows) (spot_behind is.rows) is.text fault is.found;
+  early = λ fault number is. text_is_early (names_of is.rows) (location_behind is.rows) is.text fault is.found;
   late = λ fault number is. row_is_late is.rows fault number is.found;
   never_both = never_both source;
 }

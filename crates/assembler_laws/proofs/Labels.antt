@@ -7,18 +7,18 @@ use Rattle.std.proofs.lemmas.Grind.{flat_map-append}
 use Rattle.std.proofs.lemmas.Slice.Eq.{bytes_eq-Decides}
 use Rattle.isa.specs.declared.form.Form.{Form}
 use Rattle.assembler_lexeme.specs.declared.name.Name.{Name}
-use Rattle.assembler_text.specs.declared.expression.Term.{Term}
-use Rattle.assembler_text.specs.declared.statement.Line.{Line}
-use Rattle.assembler_text.specs.declared.statement.Statement.{Statement}
-use Rattle.assembler_text.specs.declared.statement.Statement.TheVariants.{Empty, Segment, Ends, Equ, Org, Data, Instruction}
-use Rattle.text_lines.specs.Lines.{text_lines}
-use Rattle.assembler_statement.specs.declared.symbol.Location.{Location}
-use Rattle.assembler_statement.specs.declared.symbol.Symbol.{Symbol}
-use Rattle.assembler_statement.specs.declared.symbol.Symbol.TheVariants.{Label, Constant}
-use Rattle.assembler_statement.specs.Values.{Names, constant_of, is_defined, meaning, same_name}
+use Rattle.assembler_syntax.specs.declared.expression.Term.{Term}
+use Rattle.assembler_syntax.specs.declared.statement.Line.{Line}
+use Rattle.assembler_syntax.specs.declared.statement.Statement.{Statement}
+use Rattle.assembler_syntax.specs.declared.statement.Statement.TheVariants.{Empty, Segment, Ends, Equ, Org, Data, Instruction}
+use Rattle.board_types.specs.TextLines.{text_lines}
+use Rattle.assembler_meaning.specs.declared.symbol.Location.{Location}
+use Rattle.assembler_meaning.specs.declared.symbol.Symbol.{Symbol}
+use Rattle.assembler_meaning.specs.declared.symbol.Symbol.TheVariants.{Label, Constant}
+use Rattle.assembler_meaning.specs.Values.{Names, constant_of, is_defined, meaning, same_name}
 use Rattle.assembler.specs.Gives.{Fits}
 use Rattle.assembler.specs.Placement.{bytes_by, bytes_from, content_of, placed_at, placed_by}
-use Rattle.assembler.specs.Rows.{Row, AreRows, constant_definition, defines_again, has_unknown_constant, is_same, label_definition, names_of, size_of, spot_behind, statement_definition, statement_name, stands_outside, wants_segment}
+use Rattle.assembler.specs.Rows.{Row, AreRows, constant_definition, defines_again, has_unknown_constant, is_same, label_definition, names_of, size_of, location_behind, statement_definition, statement_name, stands_outside, wants_segment}
 use Rattle.assembler.proofs.AnsweringPlaces.{fits_there, placed_there, row_length}
 use Rattle.assembler_laws.specs.Places.{LinesStandWhereCounted, StandsWhereCounted, said_constant}
 use Rattle.assembler_laws.proofs.Prefixes.{along, clean_behind, has_none, left_false, right_false, HasNone, IsCleanThere}
@@ -43,19 +43,19 @@ not_known : (known : Names) (label : Option Name) (name : Name) → label ≡ So
 not_known known label name is new = sym (ap (λ (l : Option Name). option_map_or (is_defined known) l false) is) ∙ new
 
 labelled : (here : Option Location) (line : Line) (name : Name) → line.label ≡ Some name → stands_outside here line ≡ false
-    → (spot : Location) × (here ≡ Some spot)
-labelled (Some spot) line name is placed = (spot, refl)
+    → (location : Location) × (here ≡ Some location)
+labelled (Some location) line name is placed = (location, refl)
 labelled None line name is placed =
     absurd (let never : true ≡ false = sym (ap is_some is) ∙ left_false (is_some line.label) (wants_segment line.statement) placed in cc)
 
-label_there : (known rest : Names) (here : Option Location) (line : Line) (name : Name) (spot : Location) → line.label ≡ Some name → here ≡ Some spot
+label_there : (known rest : Names) (here : Option Location) (line : Line) (name : Name) (location : Location) → line.label ≡ Some name → here ≡ Some location
     → is_defined known name ≡ false
-    → meaning (known ++ ((label_definition here line.label ++ statement_definition known line.statement) ++ rest)) name ≡ Some (Label spot)
-label_there known rest here line name spot is at new =
+    → meaning (known ++ ((label_definition here line.label ++ statement_definition known line.statement) ++ rest)) name ≡ Some (Label location)
+label_there known rest here line name location is at new =
     new_there name known ((label_definition here line.label ++ statement_definition known line.statement) ++ rest) new
     ∙ ap (λ (o : Option Location). meaning ((label_definition o line.label ++ statement_definition known line.statement) ++ rest) name) at
-    ∙ ap (λ (l : Option Name). meaning ((label_definition (Some spot) l ++ statement_definition known line.statement) ++ rest) name) is
-    ∙ ap (λ (b : Bool). cond b (Some (Label spot)) (meaning (statement_definition known line.statement ++ rest) name)) (bytes_same name.letters)
+    ∙ ap (λ (l : Option Name). meaning ((label_definition (Some location) l ++ statement_definition known line.statement) ++ rest) name) is
+    ∙ ap (λ (b : Bool). cond b (Some (Label location)) (meaning (statement_definition known line.statement ++ rest) name)) (bytes_same name.letters)
 
 -- ---- what the name of a constant stands for
 differs_back : (found : Bool) (a b : Name) → same_name b a ≡ found → same_name a b ≡ false → found ≡ false
@@ -67,13 +67,13 @@ differs_back true a b is differ =
 label_differs : (a b : Name) → same_name a b ≡ false → same_name b a ≡ false
 label_differs a b differ = differs_back (same_name b a) a b refl differ
 
-skip_label : (spot : Option Location) (label : Option Name) (rest : Names) (name : Name) → is_same label (Some name) ≡ false
-    → meaning (label_definition spot label ++ rest) name ≡ meaning rest name
+skip_label : (location : Option Location) (label : Option Name) (rest : Names) (name : Name) → is_same label (Some name) ≡ false
+    → meaning (label_definition location label ++ rest) name ≡ meaning rest name
 skip_label None None rest name differ = refl
 skip_label None (Some label) rest name differ = refl
-skip_label (Some spot) None rest name differ = refl
-skip_label (Some spot) (Some label) rest name differ =
-    ap (λ (b : Bool). cond b (Some (Label spot)) (meaning rest name)) (label_differs label name differ)
+skip_label (Some location) None rest name differ = refl
+skip_label (Some location) (Some label) rest name differ =
+    ap (λ (b : Bool). cond b (Some (Label location)) (meaning rest name)) (label_differs label name differ)
 
 found_first : (name : Name) (o : Option ℤ) (rest : Names) → is_none o ≡ false
     → (n : ℤ) × (o ≡ Some n) × (meaning (constant_definition name o ++ rest) name ≡ Some (Constant n))
@@ -136,9 +136,9 @@ constant_there known rest here line name terms is unknown again =
     )
 
 -- ---- how many bytes a line places
-bytes_count : (spot : Location) (n : ℕ) (bytes : List ℕ) → length (bytes_from spot n bytes) ≡ length bytes
-bytes_count spot n [] = refl
-bytes_count spot n (b ∷ bs) = let more = bytes_count spot (n + 1) bs in omega (arith, more)
+bytes_count : (location : Location) (n : ℕ) (bytes : List ℕ) → length (bytes_from location n bytes) ≡ length bytes
+bytes_count location n [] = refl
+bytes_count location n (b ∷ bs) = let more = bytes_count location (n + 1) bs in omega (arith, more)
 
 nothing_outside : (known : Names) (form : Option Form) (statement : Statement) → wants_segment statement ≡ false → size_of known statement form ≡ 0
 nothing_outside known form Empty wants = refl
@@ -149,18 +149,18 @@ nothing_outside known form (Org n) wants = refl
 nothing_outside known form (Data width items) wants = absurd (let never : true ≡ false = wants in cc)
 nothing_outside known form (Instruction i) wants = absurd (let never : true ≡ false = wants in cc)
 
-placed_nowhere : (names : Names) (row : Row) → row.spot ≡ None → placed_by names row ≡ []
+placed_nowhere : (names : Names) (row : Row) → row.location ≡ None → placed_by names row ≡ []
 unfolding placed_by
 placed_nowhere names row at = ap (λ (o : Option Location). placed_at names o row.size (content_of row.line.statement row.form)) at
 
 counted_at : (front : List Row) (row : Row) (back : List Row) → IsCleanThere front row → Fits (names_of (front ++ row ∷ back)) row
-    → (here : Option Location) → row.spot ≡ here → length (placed_by (names_of (front ++ row ∷ back)) row) ≡ row.size
-counted_at front row back there fits (Some spot) at =
-    ap length (placed_there (names_of (front ++ row ∷ back)) row spot at)
-    ∙ bytes_count spot 0 (bytes_by (names_of (front ++ row ∷ back)) spot row.size (content_of row.line.statement row.form))
-    ∙ row_length front row back there.text spot there.clean (fits spot at)
+    → (here : Option Location) → row.location ≡ here → length (placed_by (names_of (front ++ row ∷ back)) row) ≡ row.size
+counted_at front row back there fits (Some location) at =
+    ap length (placed_there (names_of (front ++ row ∷ back)) row location at)
+    ∙ bytes_count location 0 (bytes_by (names_of (front ++ row ∷ back)) location row.size (content_of row.line.statement row.form))
+    ∙ row_length front row back there.text location there.clean (fits location at)
 counted_at front row back there fits None at =
-    let none : HasNone (names_of front) row.spot row.line row.form = has_none (names_of front) row.spot row.line row.form there.clean.clean in
+    let none : HasNone (names_of front) row.location row.line row.form = has_none (names_of front) row.location row.line row.form there.clean.clean in
     let wants : wants_segment row.line.statement ≡ false =
     right_false (is_some row.line.label) (wants_segment row.line.statement)
     (ap (λ (o : Option Location). stands_outside o row.line) (sym at) ∙ none.outside) in
@@ -172,29 +172,29 @@ stands_so : (texts : List (List ℕ)) (front : List Row) (row : Row) (back : Lis
     → Fits (names_of (front ++ row ∷ back)) row → AreClean front → StandsWhereCounted (names_of (front ++ row ∷ back)) front row
 stands_so texts front row back are fits clean =
     let there : IsCleanThere front row = clean_behind [] texts front row back are in
-    let none : HasNone (names_of front) row.spot row.line row.form = has_none (names_of front) row.spot row.line row.form there.clean.clean in
+    let none : HasNone (names_of front) row.location row.line row.form = has_none (names_of front) row.location row.line row.form there.clean.clean in
     let told : IsTold front = along IsTold told_behind [] texts front row back are told_of_none in
-    let at : row.spot ≡ spot_behind front = there.clean.is_row.spot in
+    let at : row.location ≡ location_behind front = there.clean.is_row.location in
     record {
-      place = λ spot. ((λ is. told spot (sym at ∙ is)), (λ counted. at ∙ stands_at front spot clean counted.0 counted.1));
+      place = λ location. ((λ is. told location (sym at ∙ is)), (λ counted. at ∙ stands_at front location clean counted.0 counted.1));
       label = λ name is.
-          let spot = labelled row.spot row.line name is none.outside in (
-            spot.0,
-            spot.1,
+          let location = labelled row.location row.line name is none.outside in (
+            location.0,
+            location.1,
             ap (λ (ns : Names). meaning ns name) (flat_map-append (λ (r : Row). r.names) front (row ∷ back))
                 ∙ ap (λ (ns : Names). meaning (names_of front ++ (ns ++ names_of back)) name) there.clean.is_row.names
-                ∙ label_there (names_of front) (names_of back) (spot_behind front) row.line name spot.0 is (sym at ∙ spot.1)
+                ∙ label_there (names_of front) (names_of back) (location_behind front) row.line name location.0 is (sym at ∙ location.1)
                 (not_known (names_of front) row.line.label name is
                 (left_false (option_map_or (is_defined (names_of front)) row.line.label false) _ none.again)),
           );
       constant = λ name terms is.
-          let named = constant_there (names_of front) (names_of back) (spot_behind front) row.line name terms is none.unknown none.again in (
+          let named = constant_there (names_of front) (names_of back) (location_behind front) row.line name terms is none.unknown none.again in (
             named.0,
             named.1,
             ap (λ (ns : Names). meaning ns name) (flat_map-append (λ (r : Row). r.names) front (row ∷ back))
                 ∙ ap (λ (ns : Names). meaning (names_of front ++ (ns ++ names_of back)) name) there.clean.is_row.names ∙ named.2,
           );
-      bytes = counted_at front row back there fits row.spot refl;
+      bytes = counted_at front row back there fits row.location refl;
     }
 
 pub lines_stand_where_counted : LinesStandWhereCounted

@@ -8,9 +8,9 @@ use Rattle.isa.specs.declared.operation.Arithmetic.TheVariants as arithmetic
 use Rattle.isa.specs.declared.operation.Shift.TheVariants as shift
 use Rattle.isa.specs.declared.operation.Product.TheVariants as product
 use Rattle.isa.specs.declared.operation.Unary.TheVariants as unary
-use Rattle.isa.specs.declared.operation.Condition.TheVariants as condition
+use Rattle.isa.specs.declared.operation.JumpCondition.TheVariants as condition
 use Rattle.isa.specs.declared.operation.Looping.TheVariants as looping
-use Rattle.isa.specs.declared.operation.Text.TheVariants as text
+use Rattle.isa.specs.declared.operation.Strings.TheVariants as strings
 use Rattle.isa.specs.declared.operation.Adjust.TheVariants as adjust
 use Rattle.isa.specs.declared.operation.Transfer.TheVariants as transfer
 use Rattle.isa.specs.declared.operation.Control.TheVariants as control
@@ -35,10 +35,10 @@ all =
     operations.Jump condition.NotParity ∷ operations.Jump condition.Less ∷ operations.Jump condition.NotLess ∷
     operations.Jump condition.LessOrZero ∷ operations.Jump condition.Greater ∷ operations.Looping looping.Loopne ∷
     operations.Looping looping.Loope ∷ operations.Looping looping.Loop ∷ operations.Looping looping.Jcxz ∷
-    operations.Text text.Movsb ∷ operations.Text text.Movsw ∷ operations.Text text.Cmpsb ∷
-    operations.Text text.Cmpsw ∷ operations.Text text.Stosb ∷ operations.Text text.Stosw ∷
-    operations.Text text.Lodsb ∷ operations.Text text.Lodsw ∷ operations.Text text.Scasb ∷
-    operations.Text text.Scasw ∷ operations.Adjust adjust.Daa ∷ operations.Adjust adjust.Das ∷
+    operations.Strings strings.Movsb ∷ operations.Strings strings.Movsw ∷ operations.Strings strings.Cmpsb ∷
+    operations.Strings strings.Cmpsw ∷ operations.Strings strings.Stosb ∷ operations.Strings strings.Stosw ∷
+    operations.Strings strings.Lodsb ∷ operations.Strings strings.Lodsw ∷ operations.Strings strings.Scasb ∷
+    operations.Strings strings.Scasw ∷ operations.Adjust adjust.Daa ∷ operations.Adjust adjust.Das ∷
     operations.Adjust adjust.Aaa ∷ operations.Adjust adjust.Aas ∷ operations.Adjust adjust.Aam ∷
     operations.Adjust adjust.Aad ∷ operations.Adjust adjust.Cbw ∷ operations.Adjust adjust.Cwd ∷
     operations.Transfer transfer.Mov ∷ operations.Transfer transfer.Xchg ∷ operations.Transfer transfer.Lea ∷
@@ -99,16 +99,16 @@ place_of (operations.Looping looping.Loopne) = 40
 place_of (operations.Looping looping.Loope) = 41
 place_of (operations.Looping looping.Loop) = 42
 place_of (operations.Looping looping.Jcxz) = 43
-place_of (operations.Text text.Movsb) = 44
-place_of (operations.Text text.Movsw) = 45
-place_of (operations.Text text.Cmpsb) = 46
-place_of (operations.Text text.Cmpsw) = 47
-place_of (operations.Text text.Stosb) = 48
-place_of (operations.Text text.Stosw) = 49
-place_of (operations.Text text.Lodsb) = 50
-place_of (operations.Text text.Lodsw) = 51
-place_of (operations.Text text.Scasb) = 52
-place_of (operations.Text text.Scasw) = 53
+place_of (operations.Strings strings.Movsb) = 44
+place_of (operations.Strings strings.Movsw) = 45
+place_of (operations.Strings strings.Cmpsb) = 46
+place_of (operations.Strings strings.Cmpsw) = 47
+place_of (operations.Strings strings.Stosb) = 48
+place_of (operations.Strings strings.Stosw) = 49
+place_of (operations.Strings strings.Lodsb) = 50
+place_of (operations.Strings strings.Lodsw) = 51
+place_of (operations.Strings strings.Scasb) = 52
+place_of (operations.Strings strings.Scasw) = 53
 place_of (operations.Adjust adjust.Daa) = 54
 place_of (operations.Adjust adjust.Das) = 55
 place_of (operations.Adjust adjust.Aaa) = 56
@@ -198,16 +198,16 @@ stands_there (operations.Looping looping.Loopne) = refl
 stands_there (operations.Looping looping.Loope) = refl
 stands_there (operations.Looping looping.Loop) = refl
 stands_there (operations.Looping looping.Jcxz) = refl
-stands_there (operations.Text text.Movsb) = refl
-stands_there (operations.Text text.Movsw) = refl
-stands_there (operations.Text text.Cmpsb) = refl
-stands_there (operations.Text text.Cmpsw) = refl
-stands_there (operations.Text text.Stosb) = refl
-stands_there (operations.Text text.Stosw) = refl
-stands_there (operations.Text text.Lodsb) = refl
-stands_there (operations.Text text.Lodsw) = refl
-stands_there (operations.Text text.Scasb) = refl
-stands_there (operations.Text text.Scasw) = refl
+stands_there (operations.Strings strings.Movsb) = refl
+stands_there (operations.Strings strings.Movsw) = refl
+stands_there (operations.Strings strings.Cmpsb) = refl
+stands_there (operations.Strings strings.Cmpsw) = refl
+stands_there (operations.Strings strings.Stosb) = refl
+stands_there (operations.Strings strings.Stosw) = refl
+stands_there (operations.Strings strings.Lodsb) = refl
+stands_there (operations.Strings strings.Lodsw) = refl
+stands_there (operations.Strings strings.Scasb) = refl
+stands_there (operations.Strings strings.Scasw) = refl
 stands_there (operations.Adjust adjust.Daa) = refl
 stands_there (operations.Adjust adjust.Das) = refl
 stands_there (operations.Adjust adjust.Aaa) = refl

@@ -6,18 +6,18 @@ use Rattle.isa.specs.declared.form.Form.{Form}
 use Rattle.isa.specs.declared.row.Row.{Row as TableRow}
 use Rattle.isa.specs.Row.{first_of, operation_of, second_of}
 use Rattle.isa.specs.Table.{rows as table}
-use Rattle.assembler_form.specs.declared.asked.Asked.{Asked}
-use Rattle.assembler_form.specs.Choice.{IsFirst as IsFirstRow, NoneTakes}
-use Rattle.assembler_form.specs.Parts.{form_with}
-use Rattle.assembler_form.specs.Takes.{is_of, Takes}
+use Rattle.assembler_meaning.specs.declared.asked.Asked.{Asked}
+use Rattle.assembler_meaning.specs.Choice.{IsFirst as IsFirstRow, NoneTakes}
+use Rattle.assembler_meaning.specs.Parts.{form_with}
+use Rattle.assembler_meaning.specs.Takes.{is_of, Takes}
 use Rattle.assembler_lexeme.specs.declared.fault.LineFault.{LineFault}
-use Rattle.assembler_text.specs.declared.statement.Line.{Line}
-use Rattle.assembler_text.specs.declared.statement.Statement.{Statement}
-use Rattle.assembler_text.specs.declared.statement.Statement.TheVariants.{Empty, Segment, Ends, Equ, Org, Data, Instruction}
-use Rattle.text_lines.specs.Lines.{text_lines}
-use Rattle.assembler_text.specs.Lines.{read_line}
-use Rattle.assembler_statement.specs.Instructions.{instruction_asked, IsChosenFor, IsFormFor}
-use Rattle.assembler_statement.specs.Values.{Names}
+use Rattle.assembler_syntax.specs.declared.statement.Line.{Line}
+use Rattle.assembler_syntax.specs.declared.statement.Statement.{Statement}
+use Rattle.assembler_syntax.specs.declared.statement.Statement.TheVariants.{Empty, Segment, Ends, Equ, Org, Data, Instruction}
+use Rattle.board_types.specs.TextLines.{text_lines}
+use Rattle.assembler_syntax.specs.Lines.{read_line}
+use Rattle.assembler_meaning.specs.Instructions.{instruction_asked, IsChosenFor, IsFormFor}
+use Rattle.assembler_meaning.specs.Values.{Names}
 use Rattle.assembler.specs.declared.fault.AsmFault.{AsmFault}
 use Rattle.assembler.specs.declared.fault.AsmFault.TheVariants.{SourceTooLong, InLine, Memory}
 use Rattle.assembler.specs.declared.fault.SourceFault.{SourceFault}
@@ -25,7 +25,7 @@ use Rattle.assembler.specs.FirstFault.{AreFaultless, IsFirst, IsTextFault, fault
 use Rattle.assembler.specs.FirstPass.{row_of}
 use Rattle.assembler.specs.Gives.{source_limit}
 use Rattle.assembler.specs.Placement.{row_fault}
-use Rattle.assembler.specs.Rows.{Row, AreRows, IsCleanRow, IsFormOf, IsRow, early_fault, names_of, spot_behind}
+use Rattle.assembler.specs.Rows.{Row, AreRows, IsCleanRow, IsFormOf, IsRow, early_fault, names_of, location_behind}
 use Rattle.assembler.proofs.ReadingFaults.{is_row}
 use Rattle.assembler_laws.specs.FirstFaults.{EachSourceHasAnOutcome}
 use Rattle.assembler_laws.proofs.Operations.{one_or_other}
@@ -106,19 +106,19 @@ form_of names (Instruction i) = form_for (instruction_asked names i)
 
 -- ---- a text makes a clean row, or has a fault
 abbrev HasOutcome : List Row → List ℕ → Type 0
-HasOutcome before text = ((row : Row) × IsCleanRow before text row) ⊎ ((fault : SourceFault) × IsTextFault (names_of before) (spot_behind before) text fault)
+HasOutcome before text = ((row : Row) × IsCleanRow before text row) ⊎ ((fault : SourceFault) × IsTextFault (names_of before) (location_behind before) text fault)
 
-row_outcome : (before : List Row) (text : List ℕ) (row : Row) → IsRow (names_of before) (spot_behind before) text row → (o : Option SourceFault)
-    → early_fault (names_of before) row.spot row.line row.form ≡ o → HasOutcome before text
+row_outcome : (before : List Row) (text : List ℕ) (row : Row) → IsRow (names_of before) (location_behind before) text row → (o : Option SourceFault)
+    → early_fault (names_of before) row.location row.line row.form ≡ o → HasOutcome before text
 row_outcome before text row is None at = inl (row, record { is_row = is; clean = at })
 row_outcome before text row is (Some fault) at = inr (fault, inr (row, is, at))
 
 read_outcome : (before : List Row) (text : List ℕ) (r : Result Line LineFault) → read_line text ≡ r → HasOutcome before text
 read_outcome before text (Ok line) reads =
     let form = form_of (names_of before) line.statement in
-    let row : Row = row_of (names_of before) (spot_behind before) line form.0 in
-    row_outcome before text row (is_row (names_of before) (spot_behind before) text line form.0 reads form.1)
-    (early_fault (names_of before) row.spot row.line row.form) refl
+    let row : Row = row_of (names_of before) (location_behind before) line form.0 in
+    row_outcome before text row (is_row (names_of before) (location_behind before) text line form.0 reads form.1)
+    (early_fault (names_of before) row.location row.line row.form) refl
 read_outcome before text (Err found) reads = inr (fault_of_line found, inl (found, reads, refl))
 
 text_outcome : (before : List Row) (text : List ℕ) → HasOutcome before text
@@ -133,7 +133,7 @@ record HasEarly (before : List Row) (texts : List (List ℕ)) : Type 0 where
   pub rows : List Row
   pub clean : AreRows before front rows
   pub fault : SourceFault
-  pub found : IsTextFault (names_of (before ++ rows)) (spot_behind (before ++ rows)) text fault
+  pub found : IsTextFault (names_of (before ++ rows)) (location_behind (before ++ rows)) text fault
 
 abbrev HaveOutcome : List Row → List (List ℕ) → Type 0
 HaveOutcome before texts = ((rows : List Row) × AreRows before texts rows) ⊎ HasEarly before texts
@@ -149,10 +149,10 @@ texts_behind before text texts row is (inr early) = inr (record {
   rows = row ∷ early.rows;
   clean = (is, early.clean);
   fault = early.fault;
-  found = subst (λ (rs : List Row). IsTextFault (names_of rs) (spot_behind rs) early.text early.fault) (append_assoc before (row ∷ []) early.rows) early.found;
+  found = subst (λ (rs : List Row). IsTextFault (names_of rs) (location_behind rs) early.text early.fault) (append_assoc before (row ∷ []) early.rows) early.found;
 })
 
-fault_first : (before : List Row) (text : List ℕ) (texts : List (List ℕ)) (fault : SourceFault) → IsTextFault (names_of before) (spot_behind before) text fault
+fault_first : (before : List Row) (text : List ℕ) (texts : List (List ℕ)) (fault : SourceFault) → IsTextFault (names_of before) (location_behind before) text fault
     → HaveOutcome before (text ∷ texts)
 fault_first before text texts fault found = inr (record {
   front = [];
@@ -162,7 +162,7 @@ fault_first before text texts fault found = inr (record {
   rows = [];
   clean = tt;
   fault = fault;
-  found = subst (λ (rs : List Row). IsTextFault (names_of rs) (spot_behind rs) text fault) (sym (append-nil before)) found;
+  found = subst (λ (rs : List Row). IsTextFault (names_of rs) (location_behind rs) text fault) (sym (append-nil before)) found;
 })
 
 texts_outcome : (before : List Row) (texts : List (List ℕ)) → HaveOutcome before texts

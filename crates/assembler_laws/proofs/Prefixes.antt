@@ -1,9 +1,9 @@
 -- What holds of the lines before each line of a source that is accepted.
 use Rattle.std.proofs.Common.{◌≡◌, ℕ, ◌||◌, List, [], ◌∷◌, ◌++◌, refl, sym, subst, Bool, true, false, Option, None, Some, append_assoc, append-nil, if◌then◌else◌}
 use Rattle.isa.specs.declared.form.Form.{Form}
-use Rattle.assembler_text.specs.declared.statement.Line.{Line}
-use Rattle.assembler_statement.specs.declared.symbol.Location.{Location}
-use Rattle.assembler_statement.specs.Values.{Names}
+use Rattle.assembler_syntax.specs.declared.statement.Line.{Line}
+use Rattle.assembler_meaning.specs.declared.symbol.Location.{Location}
+use Rattle.assembler_meaning.specs.Values.{Names}
 use Rattle.assembler.specs.declared.fault.SourceFault.{SourceFault}
 use Rattle.assembler.specs.declared.fault.SourceFault.TheVariants.{BadLine, UnknownName, BadForm, TwiceDefined, NoSegment}
 use Rattle.assembler.specs.Rows.{Row, AreRows, IsCleanRow, early_fault, defines_again, has_unknown_constant, has_wrong_constant, lacks_form, opens_within, stands_outside}
@@ -37,13 +37,13 @@ along P more before (text ∷ texts) (first ∷ front) row back are there =
     (along P more (before ++ first ∷ []) texts front row back are.1 (more before first (record { text = text; clean = are.0 }) there))
 
 -- what a clean line has not
-pub record HasNone (known : Names) (spot : Option Location) (line : Line) (form : Option Form) : Type 0 where
-  pub opens : opens_within spot line.statement ≡ false
+pub record HasNone (known : Names) (location : Option Location) (line : Line) (form : Option Form) : Type 0 where
+  pub opens : opens_within location line.statement ≡ false
   pub wrong : has_wrong_constant known line.statement ≡ false
   pub unknown : has_unknown_constant known line.statement ≡ false
   pub lacks : lacks_form line.statement form ≡ false
   pub again : defines_again known line ≡ false
-  pub outside : stands_outside spot line ≡ false
+  pub outside : stands_outside location line ≡ false
 
 pub left_false : (a b : Bool) → (a || b) ≡ false → a ≡ false
 left_false true b is = cc
@@ -61,18 +61,18 @@ is_else : (test : Bool) (fault : SourceFault) (rest : Option SourceFault) → (i
 is_else true fault rest none = cc
 is_else false fault rest none = record { fails = refl; goes_on = none }
 
-pub has_none : (known : Names) (spot : Option Location) (line : Line) (form : Option Form) → early_fault known spot line form ≡ None
-    → HasNone known spot line form
+pub has_none : (known : Names) (location : Option Location) (line : Line) (form : Option Form) → early_fault known location line form ≡ None
+    → HasNone known location line form
 unfolding early_fault
-has_none known spot line form none =
-    let first = is_else (opens_within spot line.statement || has_wrong_constant known line.statement) BadLine _ none in
+has_none known location line form none =
+    let first = is_else (opens_within location line.statement || has_wrong_constant known line.statement) BadLine _ none in
     let second = is_else (has_unknown_constant known line.statement) UnknownName _ first.goes_on in
     let third = is_else (lacks_form line.statement form) BadForm _ second.goes_on in
     let fourth = is_else (defines_again known line) TwiceDefined _ third.goes_on in
-    let fifth = is_else (stands_outside spot line) NoSegment None fourth.goes_on in
+    let fifth = is_else (stands_outside location line) NoSegment None fourth.goes_on in
     record {
-      opens = left_false (opens_within spot line.statement) (has_wrong_constant known line.statement) first.fails;
-      wrong = right_false (opens_within spot line.statement) (has_wrong_constant known line.statement) first.fails;
+      opens = left_false (opens_within location line.statement) (has_wrong_constant known line.statement) first.fails;
+      wrong = right_false (opens_within location line.statement) (has_wrong_constant known line.statement) first.fails;
       unknown = second.fails;
       lacks = third.fails;
       again = fourth.fails;

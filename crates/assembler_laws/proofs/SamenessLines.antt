@@ -1,7 +1,7 @@
 -- Lines that are read alike make the same rows.
 use Rattle.std.proofs.Common.{ℕ, List, [], ◌∷◌, ◌++◌, sym, ◌∙◌}
-use Rattle.text_lines.specs.Lines.{text_lines}
-use Rattle.assembler_text.specs.Laws.{CaseDoesNotCount as CaseDoesNotCountInLines}
+use Rattle.board_types.specs.TextLines.{text_lines}
+use Rattle.assembler_syntax.specs.Laws.{CaseDoesNotCount as CaseDoesNotCountInLines}
 use Rattle.assembler.specs.Rows.{Row, IsCleanRow, AreRows}
 use Rattle.assembler_laws.specs.Sameness.{StandPairwise, DifferInCase, CaseDoesNotCount}
 
@@ -11,7 +11,7 @@ row_alike law before line other row alike is = record {
     reads = sym (law line other alike.characters alike.same_lexemes) ∙ is.is_row.reads;
     form = is.is_row.form;
     size = is.is_row.size;
-    spot = is.is_row.spot;
+    location = is.is_row.location;
     next = is.is_row.next;
     names = is.is_row.names;
   };

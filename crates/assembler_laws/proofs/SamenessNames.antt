@@ -4,12 +4,12 @@ use Rattle.std.specs.Prelude.{pos, cond, is_some}
 use Rattle.std.specs.Option.{option_map}
 use Rattle.std.specs.List.{list_all, list_any, flat_map}
 use Rattle.assembler_lexeme.specs.declared.name.Name.{Name}
-use Rattle.assembler_text.specs.declared.expression.Atom.{Atom}
-use Rattle.assembler_text.specs.declared.expression.Atom.TheVariants.{Number, Named, Here, SegmentOf}
-use Rattle.assembler_text.specs.declared.expression.Term.{Term}
-use Rattle.assembler_statement.specs.declared.symbol.Location.{Location}
-use Rattle.assembler_statement.specs.declared.symbol.Symbol.{Symbol}
-use Rattle.assembler_statement.specs.Values.{Names, meaning, symbol_value, label_place, label_of, atom_value, signed, term_value, added, value_of, is_defined, is_constant_symbol, is_constant_atom, constant_of}
+use Rattle.assembler_syntax.specs.declared.expression.Atom.{Atom}
+use Rattle.assembler_syntax.specs.declared.expression.Atom.TheVariants.{Number, Named, Here, SegmentOf}
+use Rattle.assembler_syntax.specs.declared.expression.Term.{Term}
+use Rattle.assembler_meaning.specs.declared.symbol.Location.{Location}
+use Rattle.assembler_meaning.specs.declared.symbol.Symbol.{Symbol}
+use Rattle.assembler_meaning.specs.Values.{Names, meaning, symbol_value, label_place, label_of, atom_value, signed, term_value, added, value_of, is_defined, is_constant_symbol, is_constant_atom, constant_of}
 use Rattle.assembler_laws.specs.Sameness.{IsOneToOne, renamed_atom, renamed_term, renamed_terms}
 
 -- what passes in a changed list

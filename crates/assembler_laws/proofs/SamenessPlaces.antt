@@ -8,12 +8,12 @@ use Rattle.isa.specs.declared.form.Form.{Form}
 use Rattle.isa.specs.declared.form.Values.{Values}
 use Rattle.board_types.specs.Image.{image_byte}
 use Rattle.assembler_lexeme.specs.declared.name.Name.{Name}
-use Rattle.assembler_text.specs.declared.statement.Statement.{Statement}
-use Rattle.assembler_text.specs.declared.statement.Statement.TheVariants as statements
-use Rattle.assembler_text.specs.declared.statement.Instruction.{Instruction}
-use Rattle.text_lines.specs.Lines.{text_lines}
-use Rattle.assembler_statement.specs.declared.symbol.Location.{Location}
-use Rattle.assembler_statement.specs.Values.{Names}
+use Rattle.assembler_syntax.specs.declared.statement.Statement.{Statement}
+use Rattle.assembler_syntax.specs.declared.statement.Statement.TheVariants as statements
+use Rattle.assembler_syntax.specs.declared.statement.Instruction.{Instruction}
+use Rattle.board_types.specs.TextLines.{text_lines}
+use Rattle.assembler_meaning.specs.declared.symbol.Location.{Location}
+use Rattle.assembler_meaning.specs.Values.{Names}
 use Rattle.assembler.specs.declared.row.Content.{Content}
 use Rattle.assembler.specs.declared.row.Content.TheVariants.{Data, Code}
 use Rattle.assembler.specs.Placement.{content_of, fields_for, fields_of, bytes_by, bytes_from, placed_at, placed_by, placed_by_all, lacks_name, has_wrong_number, is_past_end}
@@ -42,54 +42,54 @@ content_renamed rename (statements.Instruction i) None = refl
 content_renamed rename (statements.Instruction i) (Some f) = refl
 
 module _ (rename : Name → Name) (once : IsOneToOne rename) where
-  same_fields : (names : Names) (spot : Location) (size : ℕ) (f : Form) (i : Instruction)
-      → fields_of (renamed_names rename names) spot size f (renamed_instruction rename i) ≡ fields_of names spot size f i
-  same_fields names spot size f i = ap (fields_for f (spot.offset + size)) (same_numbers rename once names spot.offset i.operands)
+  same_fields : (names : Names) (location : Location) (size : ℕ) (f : Form) (i : Instruction)
+      → fields_of (renamed_names rename names) location size f (renamed_instruction rename i) ≡ fields_of names location size f i
+  same_fields names location size f i = ap (fields_for f (location.offset + size)) (same_numbers rename once names location.offset i.operands)
 
-  same_bytes : (names : Names) (spot : Location) (size : ℕ) (content : Option Content)
-      → bytes_by (renamed_names rename names) spot size (option_map (renamed_content rename) content) ≡ bytes_by names spot size content
-  same_bytes names spot size None = refl
-  same_bytes names spot size (Some (Data width items)) = same_data_bytes rename once names spot.offset width items
-  same_bytes names spot size (Some (Code f i)) =
-      λ k. option_map_or (λ (v : Values). same_code rename once f i v k) (same_fields names spot size f i k) []
+  same_bytes : (names : Names) (location : Location) (size : ℕ) (content : Option Content)
+      → bytes_by (renamed_names rename names) location size (option_map (renamed_content rename) content) ≡ bytes_by names location size content
+  same_bytes names location size None = refl
+  same_bytes names location size (Some (Data width items)) = same_data_bytes rename once names location.offset width items
+  same_bytes names location size (Some (Code f i)) =
+      λ k. option_map_or (λ (v : Values). same_code rename once f i v k) (same_fields names location size f i k) []
 
-  same_placed_at : (names : Names) (spot : Option Location) (size : ℕ) (content : Option Content)
-      → placed_at (renamed_names rename names) spot size (option_map (renamed_content rename) content) ≡ placed_at names spot size content
+  same_placed_at : (names : Names) (location : Option Location) (size : ℕ) (content : Option Content)
+      → placed_at (renamed_names rename names) location size (option_map (renamed_content rename) content) ≡ placed_at names location size content
   same_placed_at names None size content = refl
-  same_placed_at names (Some spot) size content = ap (bytes_from spot 0) (same_bytes names spot size content)
+  same_placed_at names (Some location) size content = ap (bytes_from location 0) (same_bytes names location size content)
 
   same_placed : (names : Names) (row : Row) → placed_by (renamed_names rename names) (renamed_row rename row) ≡ placed_by names row
   unfolding placed_by
   same_placed names row =
-      ap (placed_at (renamed_names rename names) row.spot row.size) (content_renamed rename row.line.statement row.form)
-      ∙ same_placed_at names row.spot row.size (content_of row.line.statement row.form)
+      ap (placed_at (renamed_names rename names) row.location row.size) (content_renamed rename row.line.statement row.form)
+      ∙ same_placed_at names row.location row.size (content_of row.line.statement row.form)
 
   same_placed_by_all : (names : Names) (rows : List Row)
       → placed_by_all (renamed_names rename names) (map (renamed_row rename) rows) ≡ placed_by_all names rows
   same_placed_by_all names rows =
       flat_changed (renamed_row rename) (placed_by (renamed_names rename names)) (placed_by names) (same_placed names) rows
 
-  same_lacks : (names : Names) (spot : Location) (content : Option Content)
-      → lacks_name (renamed_names rename names) spot (option_map (renamed_content rename) content) ≡ lacks_name names spot content
-  same_lacks names spot None = refl
-  same_lacks names spot (Some (Data width items)) = λ k. not (same_items_known rename once names spot.offset items k)
-  same_lacks names spot (Some (Code f i)) = λ k. is_none (same_numbers rename once names spot.offset i.operands k)
+  same_lacks : (names : Names) (location : Location) (content : Option Content)
+      → lacks_name (renamed_names rename names) location (option_map (renamed_content rename) content) ≡ lacks_name names location content
+  same_lacks names location None = refl
+  same_lacks names location (Some (Data width items)) = λ k. not (same_items_known rename once names location.offset items k)
+  same_lacks names location (Some (Code f i)) = λ k. is_none (same_numbers rename once names location.offset i.operands k)
 
-  same_wrong : (names : Names) (spot : Location) (size : ℕ) (content : Option Content)
-      → has_wrong_number (renamed_names rename names) spot size (option_map (renamed_content rename) content) ≡ has_wrong_number names spot size content
-  same_wrong names spot size None = refl
-  same_wrong names spot size (Some (Data width items)) = λ k. not (same_items_fit rename once names spot.offset width items k)
-  same_wrong names spot size (Some (Code f i)) = λ k. is_none (same_fields names spot size f i k)
+  same_wrong : (names : Names) (location : Location) (size : ℕ) (content : Option Content)
+      → has_wrong_number (renamed_names rename names) location size (option_map (renamed_content rename) content) ≡ has_wrong_number names location size content
+  same_wrong names location size None = refl
+  same_wrong names location size (Some (Data width items)) = λ k. not (same_items_fit rename once names location.offset width items k)
+  same_wrong names location size (Some (Code f i)) = λ k. is_none (same_fields names location size f i k)
 
   fits_renamed : (names : Names) (row : Row) → Fits names row → Fits (renamed_names rename names) (renamed_row rename row)
-  fits_renamed names row fits = λ spot at.
-      let is = fits spot at in
+  fits_renamed names row fits = λ location at.
+      let is = fits location at in
       let content = content_renamed rename row.line.statement row.form in
       record {
-        known = ap (lacks_name (renamed_names rename names) spot) content ∙ (same_lacks names spot (content_of row.line.statement row.form) ∙ is.known);
-        fits = ap (has_wrong_number (renamed_names rename names) spot row.size) content
-            ∙ (same_wrong names spot row.size (content_of row.line.statement row.form) ∙ is.fits);
-        within = ap (is_past_end spot row.size) (same_labelling rename once row.line.label) ∙ is.within;
+        known = ap (lacks_name (renamed_names rename names) location) content ∙ (same_lacks names location (content_of row.line.statement row.form) ∙ is.known);
+        fits = ap (has_wrong_number (renamed_names rename names) location row.size) content
+            ∙ (same_wrong names location row.size (content_of row.line.statement row.form) ∙ is.fits);
+        within = ap (is_past_end location row.size) (same_labelling rename once row.line.label) ∙ is.within;
       }
 
   all_fit_renamed : (names : Names) (rows : List Row)

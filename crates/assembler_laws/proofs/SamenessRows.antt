@@ -3,10 +3,10 @@ use Rattle.std.proofs.Common.{◌≡◌, ◌∙◌, ℕ, List, [], ◌∷◌, �
 use Rattle.std.specs.Prelude.{fold}
 use Rattle.assembler_lexeme.specs.declared.fault.LineFault.{LineFault}
 use Rattle.assembler_lexeme.specs.declared.name.Name.{Name}
-use Rattle.assembler_text.specs.declared.statement.Line.{Line}
-use Rattle.assembler_statement.specs.declared.symbol.Location.{Location}
-use Rattle.assembler_statement.specs.Values.{Names}
-use Rattle.assembler.specs.Rows.{Row, IsRow, IsCleanRow, AreRows, names_of, spot_behind, label_definition, statement_definition, early_fault}
+use Rattle.assembler_syntax.specs.declared.statement.Line.{Line}
+use Rattle.assembler_meaning.specs.declared.symbol.Location.{Location}
+use Rattle.assembler_meaning.specs.Values.{Names}
+use Rattle.assembler.specs.Rows.{Row, IsRow, IsCleanRow, AreRows, names_of, location_behind, label_definition, statement_definition, early_fault}
 use Rattle.assembler_laws.specs.Sameness.{IsOneToOne, renamed_line, StandPairwise, DifferInNames}
 use Rattle.assembler_laws.proofs.SamenessNames.{renamed_names, renamed_behind}
 use Rattle.assembler_laws.proofs.SamenessStatements.{same_form, same_size, same_next, label_renamed, statement_renamed, same_early}
@@ -29,13 +29,13 @@ names_renamed rename [] = refl
 names_renamed rename (r ∷ rs) =
     ap (λ (ns : Names). renamed_names rename r.names ++ ns) (names_renamed rename rs) ∙ sym (renamed_behind rename r.names (names_of rs))
 
-same_spot_from : (rename : Name → Name) (spot : Option Location) (rows : List Row)
-    → fold (λ (s : Option Location) (r : Row). r.next) spot (map (renamed_row rename) rows) ≡ fold (λ (s : Option Location) (r : Row). r.next) spot rows
-same_spot_from rename spot [] = refl
-same_spot_from rename spot (r ∷ rs) = same_spot_from rename r.next rs
+same_location_from : (rename : Name → Name) (location : Option Location) (rows : List Row)
+    → fold (λ (s : Option Location) (r : Row). r.next) location (map (renamed_row rename) rows) ≡ fold (λ (s : Option Location) (r : Row). r.next) location rows
+same_location_from rename location [] = refl
+same_location_from rename location (r ∷ rs) = same_location_from rename r.next rs
 
-same_spot : (rename : Name → Name) (rows : List Row) → spot_behind (map (renamed_row rename) rows) ≡ spot_behind rows
-same_spot rename rows = same_spot_from rename None rows
+same_location : (rename : Name → Name) (rows : List Row) → location_behind (map (renamed_row rename) rows) ≡ location_behind rows
+same_location rename rows = same_location_from rename None rows
 
 module _ (rename : Name → Name) (once : IsOneToOne rename) where
   row_renamed : (known : Names) (here : Option Location) (line other : List ℕ) (row : Row) → DifferInNames rename line other
@@ -44,7 +44,7 @@ module _ (rename : Name → Name) (once : IsOneToOne rename) where
     reads = differ.reads_renamed ∙ ap (λ (l : Line). read (renamed_line rename l)) (read_same differ.says row.line (sym differ.reads ∙ is.reads));
     form = same_form rename once known row.line.statement row.form is.form;
     size = is.size ∙ sym (same_size rename once known row.line.statement row.form);
-    spot = is.spot;
+    location = is.location;
     next = is.next ∙ sym (same_next rename once known here row.line.statement row.size);
     names =
         ap (renamed_names rename) is.names
@@ -56,14 +56,14 @@ module _ (rename : Name → Name) (once : IsOneToOne rename) where
       → IsCleanRow before line row → IsCleanRow (map (renamed_row rename) before) other (renamed_row rename row)
   clean_renamed before line other row differ is =
       let known : renamed_names rename (names_of before) ≡ names_of (map (renamed_row rename) before) = sym (names_renamed rename before) in
-      let here : spot_behind before ≡ spot_behind (map (renamed_row rename) before) = sym (same_spot rename before) in
+      let here : location_behind before ≡ location_behind (map (renamed_row rename) before) = sym (same_location rename before) in
       record {
-        is_row = subst (λ (ns : Names). IsRow ns (spot_behind (map (renamed_row rename) before)) other (renamed_row rename row)) known
+        is_row = subst (λ (ns : Names). IsRow ns (location_behind (map (renamed_row rename) before)) other (renamed_row rename row)) known
             (subst (λ (s : Option Location). IsRow (renamed_names rename (names_of before)) s other (renamed_row rename row)) here
-            (row_renamed (names_of before) (spot_behind before) line other row differ is.is_row));
+            (row_renamed (names_of before) (location_behind before) line other row differ is.is_row));
         clean =
-            ap (λ (ns : Names). early_fault ns row.spot (renamed_line rename row.line) row.form) (sym known)
-            ∙ (same_early rename once (names_of before) row.spot row.line row.form ∙ is.clean);
+            ap (λ (ns : Names). early_fault ns row.location (renamed_line rename row.line) row.form) (sym known)
+            ∙ (same_early rename once (names_of before) row.location row.line row.form ∙ is.clean);
       }
 
   pub rows_renamed : (before : List Row) (lines others : List (List ℕ)) (rows : List Row) → StandPairwise (DifferInNames rename) lines others

@@ -4,17 +4,17 @@ use Rattle.std.specs.Prelude.{ℤ, pos, negsuc, is_some, is_none}
 use Rattle.std.specs.Option.{option_map, option_map_or}
 use Rattle.isa.specs.declared.form.Form.{Form}
 use Rattle.assembler_lexeme.specs.declared.name.Name.{Name}
-use Rattle.assembler_text.specs.declared.expression.Term.{Term}
-use Rattle.assembler_text.specs.declared.statement.Line.{Line}
-use Rattle.assembler_text.specs.declared.statement.Statement.{Statement}
-use Rattle.assembler_text.specs.declared.statement.Statement.TheVariants.{Empty, Segment, Ends, Equ, Org, Data, Instruction}
-use Rattle.assembler_form.specs.declared.asked.Asked.{Asked}
-use Rattle.assembler_statement.specs.declared.symbol.Location.{Location}
-use Rattle.assembler_statement.specs.Values.{Names, constant_of, is_defined}
-use Rattle.assembler_statement.specs.Instructions.{IsFormFor}
-use Rattle.assembler_statement.specs.Data.{is_other, is_wrong_count, is_unknown}
+use Rattle.assembler_syntax.specs.declared.expression.Term.{Term}
+use Rattle.assembler_syntax.specs.declared.statement.Line.{Line}
+use Rattle.assembler_syntax.specs.declared.statement.Statement.{Statement}
+use Rattle.assembler_syntax.specs.declared.statement.Statement.TheVariants.{Empty, Segment, Ends, Equ, Org, Data, Instruction}
+use Rattle.assembler_meaning.specs.declared.asked.Asked.{Asked}
+use Rattle.assembler_meaning.specs.declared.symbol.Location.{Location}
+use Rattle.assembler_meaning.specs.Values.{Names, constant_of, is_defined}
+use Rattle.assembler_meaning.specs.Instructions.{IsFormFor}
+use Rattle.assembler_meaning.specs.Data.{is_other, is_wrong_count, is_unknown}
 use Rattle.assembler.specs.declared.fault.SourceFault.TheVariants.{BadLine, UnknownName, BadForm, TwiceDefined, NoSegment}
-use Rattle.assembler.specs.Rows.{IsFormOf, size_of, opened_at, set_to, spot_after, label_definition, constant_definition, statement_definition, has_wrong_constant, has_unknown_constant, opens_within, lacks_form, statement_name, is_same, defines_again, wants_segment, stands_outside, early_fault}
+use Rattle.assembler.specs.Rows.{IsFormOf, size_of, opened_at, set_to, location_after, label_definition, constant_definition, statement_definition, has_wrong_constant, has_unknown_constant, opens_within, lacks_form, statement_name, is_same, defines_again, wants_segment, stands_outside, early_fault}
 use Rattle.assembler_laws.specs.Sameness.{IsOneToOne, renamed_terms, renamed_statement, renamed_line}
 use Rattle.assembler_laws.proofs.SamenessNames.{renamed_names, same_constant, same_defined}
 use Rattle.assembler_laws.proofs.SamenessInstructions.{same_asked, same_instruction_size}
@@ -43,7 +43,7 @@ module _ (rename : Name → Name) (once : IsOneToOne rename) where
   same_size names (Instruction i) (Some f) = same_instruction_size rename once f i
 
   pub same_next : (names : Names) (here : Option Location) (statement : Statement) (size : ℕ)
-      → spot_after (renamed_names rename names) here (renamed_statement rename statement) size ≡ spot_after names here statement size
+      → location_after (renamed_names rename names) here (renamed_statement rename statement) size ≡ location_after names here statement size
   same_next names here Empty size = refl
   same_next names here (Segment name n) size = ap (option_map opened_at) (same_constant rename once names n)
   same_next names here Ends size = refl
@@ -56,8 +56,8 @@ module _ (rename : Name → Name) (once : IsOneToOne rename) where
       → label_definition here (option_map rename label) ≡ renamed_names rename (label_definition here label)
   label_renamed None None = refl
   label_renamed None (Some name) = refl
-  label_renamed (Some spot) None = refl
-  label_renamed (Some spot) (Some name) = refl
+  label_renamed (Some location) None = refl
+  label_renamed (Some location) (Some name) = refl
 
   constant_renamed : (name : Name) (n : Option ℤ) → constant_definition (rename name) n ≡ renamed_names rename (constant_definition name n)
   constant_renamed name None = refl
@@ -109,13 +109,13 @@ module _ (rename : Name → Name) (once : IsOneToOne rename) where
   same_opening None (Org n) = refl
   same_opening None (Data width items) = refl
   same_opening None (Instruction i) = refl
-  same_opening (Some spot) Empty = refl
-  same_opening (Some spot) (Segment name n) = refl
-  same_opening (Some spot) Ends = refl
-  same_opening (Some spot) (Equ name n) = refl
-  same_opening (Some spot) (Org n) = refl
-  same_opening (Some spot) (Data width items) = refl
-  same_opening (Some spot) (Instruction i) = refl
+  same_opening (Some location) Empty = refl
+  same_opening (Some location) (Segment name n) = refl
+  same_opening (Some location) Ends = refl
+  same_opening (Some location) (Equ name n) = refl
+  same_opening (Some location) (Org n) = refl
+  same_opening (Some location) (Data width items) = refl
+  same_opening (Some location) (Instruction i) = refl
 
   same_lack : (statement : Statement) (form : Option Form) → lacks_form (renamed_statement rename statement) form ≡ lacks_form statement form
   same_lack Empty form = refl
@@ -172,7 +172,7 @@ module _ (rename : Name → Name) (once : IsOneToOne rename) where
 
   same_outside : (here : Option Location) (line : Line) → stands_outside here (renamed_line rename line) ≡ stands_outside here line
   same_outside None line = λ i. same_labelling line.label i || same_want line.statement i
-  same_outside (Some spot) line = refl
+  same_outside (Some location) line = refl
 
   pub same_early : (names : Names) (here : Option Location) (line : Line) (form : Option Form)
       → early_fault (renamed_names rename names) here (renamed_line rename line) form ≡ early_fault names here line form

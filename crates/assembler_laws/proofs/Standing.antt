@@ -4,12 +4,12 @@ use Rattle.std.specs.Prelude.{pos, negsuc, ◌⊎◌, sum_by}
 use Rattle.std.specs.Option.{option_map}
 use Rattle.std.specs.List.{AllByRecursion}
 use Rattle.std.proofs.lemmas.List.Sums.{fold-append, sum_by_push}
-use Rattle.assembler_text.specs.declared.statement.Statement.{Statement}
-use Rattle.assembler_text.specs.declared.statement.Statement.TheVariants.{Empty, Segment, Ends, Equ, Org, Data, Instruction}
-use Rattle.assembler_statement.specs.declared.symbol.Location.{Location}
-use Rattle.assembler_statement.specs.Values.{Names, constant_of}
-use Rattle.assembler_statement.specs.Data.{is_other, natural}
-use Rattle.assembler.specs.Rows.{Row, has_unknown_constant, has_wrong_constant, names_of, opened_at, set_to, spot_after, spot_behind, stands_outside, wants_segment}
+use Rattle.assembler_syntax.specs.declared.statement.Statement.{Statement}
+use Rattle.assembler_syntax.specs.declared.statement.Statement.TheVariants.{Empty, Segment, Ends, Equ, Org, Data, Instruction}
+use Rattle.assembler_meaning.specs.declared.symbol.Location.{Location}
+use Rattle.assembler_meaning.specs.Values.{Names, constant_of}
+use Rattle.assembler_meaning.specs.Data.{is_other, natural}
+use Rattle.assembler.specs.Rows.{Row, has_unknown_constant, has_wrong_constant, names_of, opened_at, set_to, location_after, location_behind, stands_outside, wants_segment}
 use Rattle.assembler_laws.specs.Places.{IsCountedTo, IsOpenAt, SaysOffset, SaysParagraph, changes_segment, sets_location}
 use Rattle.assembler_laws.proofs.Prefixes.{has_none, right_false, HasNone, IsCleanThere}
 
@@ -20,11 +20,11 @@ abbrev pub at_place : ℕ → ℕ → Location
 at_place paragraph offset = record { segment = paragraph; offset = offset }
 
 -- the place behind one line more
-pub behind_more : (before : List Row) (row : Row) → spot_behind (before ++ row ∷ []) ≡ row.next
-behind_more before row = fold-append (λ (spot : Option Location) (r : Row). r.next) None before (row ∷ [])
+pub behind_more : (before : List Row) (row : Row) → location_behind (before ++ row ∷ []) ≡ row.next
+behind_more before row = fold-append (λ (location : Option Location) (r : Row). r.next) None before (row ∷ [])
 
 pub next_is : (before : List Row) (row : Row) → IsCleanThere before row
-    → spot_behind (before ++ row ∷ []) ≡ spot_after (names_of before) (spot_behind before) row.line.statement row.size
+    → location_behind (before ++ row ∷ []) ≡ location_after (names_of before) (location_behind before) row.line.statement row.size
 next_is before row there = behind_more before row ∙ there.clean.is_row.next
 
 all_push : {X : Type 0} (P : X → Type 0) (xs : List X) (x : X) → AllByRecursion P xs → P x → AllByRecursion P (xs ++ x ∷ [])
@@ -60,55 +60,55 @@ counted_more lines row offset stays to =
     }
 
 -- a statement that says the whole place, one that says the offset in the same segment, and one that says nothing
-record Opens (known : Names) (statement : Statement) (spot : Location) : Type 0 where
-  pub paragraph : SaysParagraph known statement spot.segment
-  pub offset : SaysOffset known statement spot.offset
+record Opens (known : Names) (statement : Statement) (location : Location) : Type 0 where
+  pub paragraph : SaysParagraph known statement location.segment
+  pub offset : SaysOffset known statement location.offset
 
-record Sets (known : Names) (here : Option Location) (statement : Statement) (spot : Location) : Type 0 where
+record Sets (known : Names) (here : Option Location) (statement : Statement) (location : Location) : Type 0 where
   pub stays : changes_segment statement ≡ false
-  pub offset : SaysOffset known statement spot.offset
+  pub offset : SaysOffset known statement location.offset
   pub from : Location
   pub was : here ≡ Some from
-  pub same : from.segment ≡ spot.segment
+  pub same : from.segment ≡ location.segment
 
-record Moves (here : Option Location) (statement : Statement) (size : ℕ) (spot : Location) : Type 0 where
+record Moves (here : Option Location) (statement : Statement) (size : ℕ) (location : Location) : Type 0 where
   pub stays : changes_segment statement ≡ false
   pub counts : sets_location statement ≡ false
   pub from : Location
   pub was : here ≡ Some from
-  pub same : from.segment ≡ spot.segment
-  pub moved : from.offset + size ≡ spot.offset
+  pub same : from.segment ≡ location.segment
+  pub moved : from.offset + size ≡ location.offset
 
 abbrev Told : Names → Option Location → Statement → ℕ → Location → Type 0
-Told known here statement size spot = Opens known statement spot ⊎ (Sets known here statement spot ⊎ Moves here statement size spot)
+Told known here statement size location = Opens known statement location ⊎ (Sets known here statement location ⊎ Moves here statement size location)
 
 some_is : (a b : Location) → Some a ≡ Some b → a ≡ b
 some_is a b is = cc
 
-opened_by : (o : Option ℤ) (spot : Location) → option_map opened_at o ≡ Some spot → is_other (pos 0) (pos 65535) o ≡ false
-    → (o ≡ Some (pos spot.segment)) × (spot.offset ≡ 0)
-opened_by None spot at wrong = absurd (let never : None ≡ Some spot = at in cc)
-opened_by (Some (pos p)) spot at wrong =
-    let is : opened_at (pos p) ≡ spot = some_is (opened_at (pos p)) spot at in
+opened_by : (o : Option ℤ) (location : Location) → option_map opened_at o ≡ Some location → is_other (pos 0) (pos 65535) o ≡ false
+    → (o ≡ Some (pos location.segment)) × (location.offset ≡ 0)
+opened_by None location at wrong = absurd (let never : None ≡ Some location = at in cc)
+opened_by (Some (pos p)) location at wrong =
+    let is : opened_at (pos p) ≡ location = some_is (opened_at (pos p)) location at in
     (ap (λ (l : Location). Some (pos l.segment)) is, sym (ap (λ (l : Location). l.offset) is))
-opened_by (Some (negsuc p)) spot at wrong = absurd (let never : true ≡ false = wrong in cc)
+opened_by (Some (negsuc p)) location at wrong = absurd (let never : true ≡ false = wrong in cc)
 
-set_by : (o : Option ℤ) (here : Option Location) (spot : Location) → option_and_then (λ v. option_map (set_to v) here) o ≡ Some spot
+set_by : (o : Option ℤ) (here : Option Location) (location : Location) → option_and_then (λ v. option_map (set_to v) here) o ≡ Some location
     → is_other (pos 0) (pos 65535) o ≡ false
-    → (o ≡ Some (pos spot.offset)) × ((from : Location) × (here ≡ Some from) × (from.segment ≡ spot.segment))
-set_by None here spot at wrong = absurd (let never : None ≡ Some spot = at in cc)
-set_by (Some (pos n)) None spot at wrong = absurd (let never : None ≡ Some spot = at in cc)
-set_by (Some (pos n)) (Some from) spot at wrong =
-    let is : set_to (pos n) from ≡ spot = some_is (set_to (pos n) from) spot at in
+    → (o ≡ Some (pos location.offset)) × ((from : Location) × (here ≡ Some from) × (from.segment ≡ location.segment))
+set_by None here location at wrong = absurd (let never : None ≡ Some location = at in cc)
+set_by (Some (pos n)) None location at wrong = absurd (let never : None ≡ Some location = at in cc)
+set_by (Some (pos n)) (Some from) location at wrong =
+    let is : set_to (pos n) from ≡ location = some_is (set_to (pos n) from) location at in
     (ap (λ (l : Location). Some (pos l.offset)) is, (from, refl, ap (λ (l : Location). l.segment) is))
-set_by (Some (negsuc n)) here spot at wrong = absurd (let never : true ≡ false = wrong in cc)
+set_by (Some (negsuc n)) here location at wrong = absurd (let never : true ≡ false = wrong in cc)
 
-moved_by : (here : Option Location) (statement : Statement) (size : ℕ) (spot : Location) → changes_segment statement ≡ false
-    → sets_location statement ≡ false → option_map (λ (l : Location). at_place l.segment (l.offset + size)) here ≡ Some spot
-    → Moves here statement size spot
-moved_by None statement size spot stays counts at = absurd (let never : None ≡ Some spot = at in cc)
-moved_by (Some from) statement size spot stays counts at =
-    let is : at_place from.segment (from.offset + size) ≡ spot = some_is (at_place from.segment (from.offset + size)) spot at in
+moved_by : (here : Option Location) (statement : Statement) (size : ℕ) (location : Location) → changes_segment statement ≡ false
+    → sets_location statement ≡ false → option_map (λ (l : Location). at_place l.segment (l.offset + size)) here ≡ Some location
+    → Moves here statement size location
+moved_by None statement size location stays counts at = absurd (let never : None ≡ Some location = at in cc)
+moved_by (Some from) statement size location stays counts at =
+    let is : at_place from.segment (from.offset + size) ≡ location = some_is (at_place from.segment (from.offset + size)) location at in
     record {
       stays = stays;
       counts = counts;
@@ -118,21 +118,21 @@ moved_by (Some from) statement size spot stays counts at =
       moved = ap (λ (l : Location). l.offset) is;
     }
 
-told_by : (known : Names) (here : Option Location) (statement : Statement) (size : ℕ) (spot : Location)
-    → has_wrong_constant known statement ≡ false → spot_after known here statement size ≡ Some spot → Told known here statement size spot
-told_by known here Empty size spot wrong at = inr (inr (moved_by here Empty size spot refl refl at))
-told_by known here (Segment name n) size spot wrong at =
-    let is = opened_by (constant_of known n) spot at wrong in inl (record { paragraph = is.0; offset = is.1 })
-told_by known here Ends size spot wrong at = absurd (let never : None ≡ Some spot = at in cc)
-told_by known here (Equ name n) size spot wrong at = inr (inr (moved_by here (Equ name n) size spot refl refl at))
-told_by known here (Org n) size spot wrong at =
-    let is = set_by (constant_of known n) here spot at wrong in
+told_by : (known : Names) (here : Option Location) (statement : Statement) (size : ℕ) (location : Location)
+    → has_wrong_constant known statement ≡ false → location_after known here statement size ≡ Some location → Told known here statement size location
+told_by known here Empty size location wrong at = inr (inr (moved_by here Empty size location refl refl at))
+told_by known here (Segment name n) size location wrong at =
+    let is = opened_by (constant_of known n) location at wrong in inl (record { paragraph = is.0; offset = is.1 })
+told_by known here Ends size location wrong at = absurd (let never : None ≡ Some location = at in cc)
+told_by known here (Equ name n) size location wrong at = inr (inr (moved_by here (Equ name n) size location refl refl at))
+told_by known here (Org n) size location wrong at =
+    let is = set_by (constant_of known n) here location at wrong in
     inr (inl (record { stays = refl; offset = is.0; from = is.1.0; was = is.1.1; same = is.1.2 }))
-told_by known here (Data width items) size spot wrong at = inr (inr (moved_by here (Data width items) size spot refl refl at))
-told_by known here (Instruction i) size spot wrong at = inr (inr (moved_by here (Instruction i) size spot refl refl at))
+told_by known here (Data width items) size location wrong at = inr (inr (moved_by here (Data width items) size location refl refl at))
+told_by known here (Instruction i) size location wrong at = inr (inr (moved_by here (Instruction i) size location refl refl at))
 
 abbrev pub IsTold : List Row → Type 0
-IsTold lines = (spot : Location) → spot_behind lines ≡ Some spot → IsOpenAt lines spot.segment × IsCountedTo lines spot.offset
+IsTold lines = (location : Location) → location_behind lines ≡ Some location → IsOpenAt lines location.segment × IsCountedTo lines location.offset
 
 opens_here : (before : List Row) (row : Row) (paragraph : ℕ) → SaysParagraph (names_of before) row.line.statement paragraph
     → IsOpenAt (before ++ row ∷ []) paragraph
@@ -151,27 +151,27 @@ counts_here before row offset says = record {
   counted = let same : offset ≡ offset + 0 = omega arith in same;
 }
 
-told_more : (before : List Row) (row : Row) (spot : Location) → IsTold before → Told (names_of before) (spot_behind before) row.line.statement row.size spot
-    → IsOpenAt (before ++ row ∷ []) spot.segment × IsCountedTo (before ++ row ∷ []) spot.offset
-told_more before row spot is (inl opens) = (opens_here before row spot.segment opens.paragraph, counts_here before row spot.offset opens.offset)
-told_more before row spot is (inr (inl sets)) =
+told_more : (before : List Row) (row : Row) (location : Location) → IsTold before → Told (names_of before) (location_behind before) row.line.statement row.size location
+    → IsOpenAt (before ++ row ∷ []) location.segment × IsCountedTo (before ++ row ∷ []) location.offset
+told_more before row location is (inl opens) = (opens_here before row location.segment opens.paragraph, counts_here before row location.offset opens.offset)
+told_more before row location is (inr (inl sets)) =
     let was = is sets.from sets.was in
-    (open_more before row spot.segment sets.stays (subst (IsOpenAt before) sets.same was.0), counts_here before row spot.offset sets.offset)
-told_more before row spot is (inr (inr moves)) =
+    (open_more before row location.segment sets.stays (subst (IsOpenAt before) sets.same was.0), counts_here before row location.offset sets.offset)
+told_more before row location is (inr (inr moves)) =
     let was = is moves.from moves.was in (
-      open_more before row spot.segment moves.stays (subst (IsOpenAt before) moves.same was.0),
+      open_more before row location.segment moves.stays (subst (IsOpenAt before) moves.same was.0),
       subst (IsCountedTo (before ++ row ∷ [])) moves.moved (counted_more before row moves.from.offset moves.counts was.1),
     )
 
 pub told_behind : (before : List Row) (row : Row) → IsCleanThere before row → IsTold before → IsTold (before ++ row ∷ [])
-told_behind before row there is spot at =
-    let none : HasNone (names_of before) row.spot row.line row.form =
-    has_none (names_of before) row.spot row.line row.form there.clean.clean in
-    told_more before row spot is
-    (told_by (names_of before) (spot_behind before) row.line.statement row.size spot none.wrong (sym (next_is before row there) ∙ at))
+told_behind before row there is location at =
+    let none : HasNone (names_of before) row.location row.line row.form =
+    has_none (names_of before) row.location row.line row.form there.clean.clean in
+    told_more before row location is
+    (told_by (names_of before) (location_behind before) row.line.statement row.size location none.wrong (sym (next_is before row there) ∙ at))
 
 pub told_of_none : IsTold []
-told_of_none spot at = absurd (let never : None ≡ Some spot = at in cc)
+told_of_none location at = absurd (let never : None ≡ Some location = at in cc)
 
 -- ---- and back
 abbrev pub AreClean : List Row → Type 0
@@ -209,7 +209,7 @@ moved_within : (paragraph size : ℕ) (here : Option Location) → IsIn paragrap
 moved_within paragraph size here is = (is.0 + size, ap (option_map (λ (l : Location). at_place l.segment (l.offset + size))) is.1)
 
 in_more : (known : Names) (here : Option Location) (statement : Statement) (size paragraph : ℕ) → has_unknown_constant known statement ≡ false
-    → changes_segment statement ≡ false → IsIn paragraph here → IsIn paragraph (spot_after known here statement size)
+    → changes_segment statement ≡ false → IsIn paragraph here → IsIn paragraph (location_after known here statement size)
 in_more known here Empty size paragraph unknown stays is = moved_within paragraph size here is
 in_more known here (Segment name n) size paragraph unknown stays is = absurd (let never : true ≡ false = stays in cc)
 in_more known here Ends size paragraph unknown stays is = absurd (let never : true ≡ false = stays in cc)
@@ -223,7 +223,7 @@ moved_to : (offset size : ℕ) (here : Option Location) → IsTo offset here
 moved_to offset size here is = (is.0, ap (option_map (λ (l : Location). at_place l.segment (l.offset + size))) is.1)
 
 to_more : (known : Names) (here : Option Location) (statement : Statement) (size offset : ℕ) → sets_location statement ≡ false
-    → IsTo offset here → IsTo (offset + size) (spot_after known here statement size)
+    → IsTo offset here → IsTo (offset + size) (location_after known here statement size)
 to_more known here Empty size offset stays is = moved_to offset size here is
 to_more known here (Segment name n) size offset stays is = absurd (let never : true ≡ false = stays in cc)
 to_more known here Ends size offset stays is = absurd (let never : true ≡ false = stays in cc)
@@ -234,7 +234,7 @@ to_more known here (Instruction i) size offset stays is = moved_to offset size h
 
 -- behind the statement that says it
 in_first : (known : Names) (here : Option Location) (statement : Statement) (size paragraph : ℕ) → SaysParagraph known statement paragraph
-    → IsIn paragraph (spot_after known here statement size)
+    → IsIn paragraph (location_after known here statement size)
 in_first known here Empty size paragraph says = absurd says
 in_first known here (Segment name n) size paragraph says = (0, ap (option_map opened_at) says)
 in_first known here Ends size paragraph says = absurd says
@@ -254,12 +254,12 @@ set_at o (Some from) offset placed says = (from.segment, ap (option_and_then (λ
 
 place_wanted : (here : Option Location) (labelled wants : Bool) → wants ≡ true → (outside : Option Location → Bool)
     → outside None ≡ (labelled || wants) → outside here ≡ false → is_some here ≡ true
-place_wanted (Some spot) labelled wants is outside at none = refl
+place_wanted (Some location) labelled wants is outside at none = refl
 place_wanted None labelled wants is outside at none = absurd (let never : true ≡ false = sym is ∙ right_false labelled wants (sym at ∙ none) in cc)
 
 to_first : (known : Names) (here : Option Location) (statement : Statement) (size offset : ℕ) → has_unknown_constant known statement ≡ false
     → (wants_segment statement ≡ true → is_some here ≡ true) → SaysOffset known statement offset
-    → IsTo offset (spot_after known here statement size)
+    → IsTo offset (location_after known here statement size)
 to_first known here Empty size offset unknown placed says = absurd says
 to_first known here (Segment name n) size offset unknown placed says = opened_to (constant_of known n) offset unknown says
 to_first known here Ends size offset unknown placed says = absurd says
@@ -268,57 +268,57 @@ to_first known here (Org n) size offset unknown placed says = set_at (constant_o
 to_first known here (Data width items) size offset unknown placed says = absurd says
 to_first known here (Instruction i) size offset unknown placed says = absurd says
 
-none_of : (before : List Row) (row : Row) → IsCleanThere before row → HasNone (names_of before) row.spot row.line row.form
-none_of before row there = has_none (names_of before) row.spot row.line row.form there.clean.clean
+none_of : (before : List Row) (row : Row) → IsCleanThere before row → HasNone (names_of before) row.location row.line row.form
+none_of before row there = has_none (names_of before) row.location row.line row.form there.clean.clean
 
-opened_spot : (lines : List Row) (paragraph : ℕ) → AreClean lines → IsOpenAt lines paragraph → IsIn paragraph (spot_behind lines)
-opened_spot lines paragraph clean opened =
+opened_location : (lines : List Row) (paragraph : ℕ) → AreClean lines → IsOpenAt lines paragraph → IsIn paragraph (location_behind lines)
+opened_location lines paragraph clean opened =
     let front : List Row = opened.before ++ opened.opening ∷ [] in
     let parts : lines ≡ front ++ opened.since = opened.split ∙ sym (append_assoc opened.before (opened.opening ∷ []) opened.since) in
-    let first : IsIn paragraph (spot_behind front) =
+    let first : IsIn paragraph (location_behind front) =
     let there = clean opened.before opened.opening opened.since opened.split in
     subst (IsIn paragraph) (sym (next_is opened.before opened.opening there))
-    (in_first (names_of opened.before) (spot_behind opened.before) opened.opening.line.statement opened.opening.size paragraph opened.says) in
-    let all = walked (λ (passed : List Row). IsIn paragraph (spot_behind (front ++ passed))) front (λ (row : Row). changes_segment row.line.statement)
+    (in_first (names_of opened.before) (location_behind opened.before) opened.opening.line.statement opened.opening.size paragraph opened.says) in
+    let all = walked (λ (passed : List Row). IsIn paragraph (location_behind (front ++ passed))) front (λ (row : Row). changes_segment row.line.statement)
     (λ passed row there stays is.
-    subst (λ (ls : List Row). IsIn paragraph (spot_behind ls)) (append_assoc front passed (row ∷ []))
+    subst (λ (ls : List Row). IsIn paragraph (location_behind ls)) (append_assoc front passed (row ∷ []))
     (subst (IsIn paragraph) (sym (next_is (front ++ passed) row there))
-    (in_more (names_of (front ++ passed)) (spot_behind (front ++ passed)) row.line.statement row.size paragraph (none_of (front ++ passed) row there).unknown stays is)))
+    (in_more (names_of (front ++ passed)) (location_behind (front ++ passed)) row.line.statement row.size paragraph (none_of (front ++ passed) row there).unknown stays is)))
     [] opened.since (λ b r a is. clean b r a (parts ∙ is)) opened.stays
-    (subst (λ (ls : List Row). IsIn paragraph (spot_behind ls)) (sym (append-nil front)) first) in
-    subst (λ (ls : List Row). IsIn paragraph (spot_behind ls)) (sym parts) all
+    (subst (λ (ls : List Row). IsIn paragraph (location_behind ls)) (sym (append-nil front)) first) in
+    subst (λ (ls : List Row). IsIn paragraph (location_behind ls)) (sym parts) all
 
-counted_spot : (lines : List Row) (offset : ℕ) → AreClean lines → IsCountedTo lines offset → IsTo offset (spot_behind lines)
-counted_spot lines offset clean to =
+counted_location : (lines : List Row) (offset : ℕ) → AreClean lines → IsCountedTo lines offset → IsTo offset (location_behind lines)
+counted_location lines offset clean to =
     let front : List Row = to.before ++ to.setting ∷ [] in
     let parts : lines ≡ front ++ to.since = to.split ∙ sym (append_assoc to.before (to.setting ∷ []) to.since) in
-    let first : IsTo to.base (spot_behind front) =
+    let first : IsTo to.base (location_behind front) =
     let there = clean to.before to.setting to.since to.split in
     let none = none_of to.before to.setting there in
     subst (IsTo to.base) (sym (next_is to.before to.setting there))
-    (to_first (names_of to.before) (spot_behind to.before) to.setting.line.statement to.setting.size to.base none.unknown
-    (λ wants. place_wanted (spot_behind to.before) (is_some to.setting.line.label) (wants_segment to.setting.line.statement) wants
+    (to_first (names_of to.before) (location_behind to.before) to.setting.line.statement to.setting.size to.base none.unknown
+    (λ wants. place_wanted (location_behind to.before) (is_some to.setting.line.label) (wants_segment to.setting.line.statement) wants
     (λ (here : Option Location). stands_outside here to.setting.line) refl
-    (ap (λ (here : Option Location). stands_outside here to.setting.line) (sym there.clean.is_row.spot) ∙ none.outside)) to.says) in
-    let At : List Row → Type 0 = λ passed. IsTo (to.base + sum_by size_of_row passed) (spot_behind (front ++ passed)) in
+    (ap (λ (here : Option Location). stands_outside here to.setting.line) (sym there.clean.is_row.location) ∙ none.outside)) to.says) in
+    let At : List Row → Type 0 = λ passed. IsTo (to.base + sum_by size_of_row passed) (location_behind (front ++ passed)) in
     let all = walked At front (λ (row : Row). sets_location row.line.statement)
     (λ passed row there stays is.
     let more : (to.base + sum_by size_of_row passed) + row.size ≡ to.base + sum_by size_of_row (passed ++ row ∷ []) =
     omega (arith, sum_by_push size_of_row passed row) in
-    subst (λ (n : ℕ). IsTo n (spot_behind (front ++ (passed ++ row ∷ [])))) more
-    (subst (λ (ls : List Row). IsTo ((to.base + sum_by size_of_row passed) + row.size) (spot_behind ls)) (append_assoc front passed (row ∷ []))
+    subst (λ (n : ℕ). IsTo n (location_behind (front ++ (passed ++ row ∷ [])))) more
+    (subst (λ (ls : List Row). IsTo ((to.base + sum_by size_of_row passed) + row.size) (location_behind ls)) (append_assoc front passed (row ∷ []))
     (subst (IsTo ((to.base + sum_by size_of_row passed) + row.size)) (sym (next_is (front ++ passed) row there))
-    (to_more (names_of (front ++ passed)) (spot_behind (front ++ passed)) row.line.statement row.size (to.base + sum_by size_of_row passed) stays is))))
+    (to_more (names_of (front ++ passed)) (location_behind (front ++ passed)) row.line.statement row.size (to.base + sum_by size_of_row passed) stays is))))
     [] to.since (λ b r a is. clean b r a (parts ∙ is)) to.stays
-    (subst (λ (ls : List Row). IsTo (to.base + 0) (spot_behind ls)) (sym (append-nil front))
-    (subst (λ (n : ℕ). IsTo n (spot_behind front)) (let same : to.base ≡ to.base + 0 = omega arith in same) first)) in
-    subst (λ (n : ℕ). IsTo n (spot_behind lines)) (sym to.counted) (subst (λ (ls : List Row). IsTo (to.base + sum_by size_of_row to.since) (spot_behind ls)) (sym parts) all)
+    (subst (λ (ls : List Row). IsTo (to.base + 0) (location_behind ls)) (sym (append-nil front))
+    (subst (λ (n : ℕ). IsTo n (location_behind front)) (let same : to.base ≡ to.base + 0 = omega arith in same) first)) in
+    subst (λ (n : ℕ). IsTo n (location_behind lines)) (sym to.counted) (subst (λ (ls : List Row). IsTo (to.base + sum_by size_of_row to.since) (location_behind ls)) (sym parts) all)
 
-both_are : (spot : Location) (here : Option Location) → IsIn spot.segment here → IsTo spot.offset here → here ≡ Some spot
-both_are spot here inside to =
-    let same : at_place spot.segment inside.0 ≡ at_place to.0 spot.offset = some_is _ _ (sym inside.1 ∙ to.1) in
-    to.1 ∙ ap (λ (l : Location). Some (at_place l.segment spot.offset)) (sym same)
+both_are : (location : Location) (here : Option Location) → IsIn location.segment here → IsTo location.offset here → here ≡ Some location
+both_are location here inside to =
+    let same : at_place location.segment inside.0 ≡ at_place to.0 location.offset = some_is _ _ (sym inside.1 ∙ to.1) in
+    to.1 ∙ ap (λ (l : Location). Some (at_place l.segment location.offset)) (sym same)
 
-pub stands_at : (lines : List Row) (spot : Location) → AreClean lines → IsOpenAt lines spot.segment → IsCountedTo lines spot.offset
-    → spot_behind lines ≡ Some spot
-stands_at lines spot clean opened to = both_are spot (spot_behind lines) (opened_spot lines spot.segment clean opened) (counted_spot lines spot.offset clean to)
+pub stands_at : (lines : List Row) (location : Location) → AreClean lines → IsOpenAt lines location.segment → IsCountedTo lines location.offset
+    → location_behind lines ≡ Some location
+stands_at lines location clean opened to = both_are location (location_behind lines) (opened_location lines location.segment clean opened) (counted_location lines location.offset clean to)

@@ -3,16 +3,16 @@ use Rattle.std.proofs.Common.{◌≡◌, ◌∙◌, ℕ, zero, suc, ◌+◌, Lis
 use Rattle.std.specs.Prelude.{◌⊎◌}
 use Rattle.std.proofs.lemmas.List.{take-append-drop}
 use Rattle.assembler_lexeme.specs.declared.fault.LineFault.{LineFault}
-use Rattle.assembler_text.specs.declared.statement.Line.{Line}
-use Rattle.text_lines.specs.Lines.{text_lines}
-use Rattle.assembler_text.specs.Lines.{read_line}
-use Rattle.assembler_statement.specs.declared.symbol.Location.{Location}
-use Rattle.assembler_statement.specs.Values.{Names}
+use Rattle.assembler_syntax.specs.declared.statement.Line.{Line}
+use Rattle.board_types.specs.TextLines.{text_lines}
+use Rattle.assembler_syntax.specs.Lines.{read_line}
+use Rattle.assembler_meaning.specs.declared.symbol.Location.{Location}
+use Rattle.assembler_meaning.specs.Values.{Names}
 use Rattle.assembler.specs.declared.fault.AsmFault.TheVariants.{SourceTooLong, InLine, Memory}
 use Rattle.assembler.specs.declared.fault.SourceFault.{SourceFault}
 use Rattle.assembler.specs.FirstFault.{AreFaultless, HasLateFault, IsEarlyFault, IsLateFault, IsTextFault, fault_of_line}
 use Rattle.assembler.specs.Placement.{row_fault}
-use Rattle.assembler.specs.Rows.{Row, AreRows, IsCleanRow, early_fault, names_of, spot_behind}
+use Rattle.assembler.specs.Rows.{Row, AreRows, IsCleanRow, early_fault, names_of, location_behind}
 use Rattle.assembler.proofs.AnsweringRows.{one_row, one_rows, rows_up_to, RowsUpTo}
 use Rattle.assembler_laws.specs.FirstFaults.{LaterLinesDoNotCount, OneFaultIsFirst}
 
@@ -59,26 +59,26 @@ some_once o a b is also = cc
 never_found : (o : Option SourceFault) (fault : SourceFault) → o ≡ None → o ≡ Some fault → ⊥
 never_found o fault none some = cc
 
-one_text_fault : (names : Names) (spot : Option Location) (text : List ℕ) (a b : SourceFault) → IsTextFault names spot text a → IsTextFault names spot text b → a ≡ b
-one_text_fault names spot text a b (inl is) (inl also) = is.2 ∙ ap fault_of_line (read_once text is.0 also.0 is.1 also.1) ∙ sym also.2
-one_text_fault names spot text a b (inl is) (inr also) = absurd (not_read text also.0.line is.0 also.1.reads is.1)
-one_text_fault names spot text a b (inr is) (inl also) = absurd (not_read text is.0.line also.0 is.1.reads also.1)
-one_text_fault names spot text a b (inr is) (inr also) =
-    let same : is.0 ≡ also.0 = one_row names spot text is.0 also.0 is.1 also.1 in
-    some_once (early_fault names also.0.spot also.0.line also.0.form) a b
-    (subst (λ (row : Row). early_fault names row.spot row.line row.form ≡ Some a) same is.2) also.2
+one_text_fault : (names : Names) (location : Option Location) (text : List ℕ) (a b : SourceFault) → IsTextFault names location text a → IsTextFault names location text b → a ≡ b
+one_text_fault names location text a b (inl is) (inl also) = is.2 ∙ ap fault_of_line (read_once text is.0 also.0 is.1 also.1) ∙ sym also.2
+one_text_fault names location text a b (inl is) (inr also) = absurd (not_read text also.0.line is.0 also.1.reads is.1)
+one_text_fault names location text a b (inr is) (inl also) = absurd (not_read text is.0.line also.0 is.1.reads also.1)
+one_text_fault names location text a b (inr is) (inr also) =
+    let same : is.0 ≡ also.0 = one_row names location text is.0 also.0 is.1 also.1 in
+    some_once (early_fault names also.0.location also.0.line also.0.form) a b
+    (subst (λ (row : Row). early_fault names row.location row.line row.form ≡ Some a) same is.2) also.2
 
 no_text_fault : (before : List Row) (text : List ℕ) (row : Row) (fault : SourceFault) → IsCleanRow before text row
-    → IsTextFault (names_of before) (spot_behind before) text fault → ⊥
+    → IsTextFault (names_of before) (location_behind before) text fault → ⊥
 no_text_fault before text row fault clean (inl read) = not_read text row.line read.0 clean.is_row.reads read.1
 no_text_fault before text row fault clean (inr found) =
-    let same : row ≡ found.0 = one_row (names_of before) (spot_behind before) text row found.0 clean.is_row found.1 in
-    never_found (early_fault (names_of before) found.0.spot found.0.line found.0.form) fault
-    (subst (λ (r : Row). early_fault (names_of before) r.spot r.line r.form ≡ None) same clean.clean) found.2
+    let same : row ≡ found.0 = one_row (names_of before) (location_behind before) text row found.0 clean.is_row found.1 in
+    never_found (early_fault (names_of before) found.0.location found.0.line found.0.form) fault
+    (subst (λ (r : Row). early_fault (names_of before) r.location r.line r.form ≡ None) same clean.clean) found.2
 
 -- clean lines have no fault of the first pass among them
 none_among : (texts : List (List ℕ)) (rows : List Row) (front : List (List ℕ)) (text : List ℕ) (back : List (List ℕ)) (before : List Row) (fault : SourceFault)
-    → texts ≡ front ++ text ∷ back → AreRows [] texts rows → AreRows [] front before → IsTextFault (names_of before) (spot_behind before) text fault → ⊥
+    → texts ≡ front ++ text ∷ back → AreRows [] texts rows → AreRows [] front before → IsTextFault (names_of before) (location_behind before) text fault → ⊥
 none_among texts rows front text back before fault split are clean found =
     let own : RowsUpTo [] front text = rows_up_to [] front text back rows (subst (λ (ts : List (List ℕ)). AreRows [] ts rows) split are) in
     let same : own.rows ≡ before = one_rows [] front own.rows before own.clean clean in
@@ -90,11 +90,11 @@ one_early : (source : List ℕ) (a b : SourceFault) (m n : ℕ) (is : IsEarlyFau
 one_early source a b m n is also (inl same) =
     let rows : is.rows ≡ also.rows =
     one_rows [] also.front is.rows also.rows (subst (λ (ts : List (List ℕ)). AreRows [] ts is.rows) same.0 is.clean) also.clean in
-    let found : IsTextFault (names_of also.rows) (spot_behind also.rows) also.text a =
-    subst (λ (t : List ℕ). IsTextFault (names_of also.rows) (spot_behind also.rows) t a) same.1
-    (subst (λ (rs : List Row). IsTextFault (names_of rs) (spot_behind rs) is.text a) rows is.found) in
+    let found : IsTextFault (names_of also.rows) (location_behind also.rows) also.text a =
+    subst (λ (t : List ℕ). IsTextFault (names_of also.rows) (location_behind also.rows) t a) same.1
+    (subst (λ (rs : List Row). IsTextFault (names_of rs) (location_behind rs) is.text a) rows is.found) in
     let number : m ≡ n = sym is.counted ∙ ap (λ (ts : List (List ℕ)). length ts + 1) same.0 ∙ also.counted in
-    ap₂ InLine (one_text_fault (names_of also.rows) (spot_behind also.rows) also.text a b found also.found) number
+    ap₂ InLine (one_text_fault (names_of also.rows) (location_behind also.rows) also.text a b found also.found) number
 one_early source a b m n is also (inr (inl longer)) =
     absurd (none_among also.front also.rows is.front is.text longer.0 is.rows a longer.1 also.clean is.clean is.found)
 one_early source a b m n is also (inr (inr longer)) =

@@ -2,39 +2,39 @@
 -- Laws: claims above the definitions, each proved as the contract of a function.
 use Rattle.std.specs.Prelude.{ℕ, ℤ, pos, ◌≡◌, ◌⊎◌, ◌+◌, ◌+ℤ◌, ◌*◌, ◌/◌, ◌%◌, ◌^◌, ◌<◌, List, [], ◌∷◌, ◌++◌, length, get_or, map, sum_by, Some, Contains}
 use Rattle.board_types.specs.Image.{image_byte}
-use Rattle.assembler_text.specs.declared.expression.Term.{Term}
-use Rattle.assembler_text.specs.declared.statement.Width.{Width}
-use Rattle.assembler_text.specs.declared.statement.Piece.{Piece}
-use Rattle.assembler_text.specs.declared.statement.Piece.TheVariants.{Value, Text}
-use Rattle.assembler_text.specs.declared.statement.Item.{Item}
-use Rattle.assembler_text.specs.declared.statement.Item.TheVariants.{Once, Repeated}
-use Rattle.assembler_text.specs.declared.statement.Statement.TheVariants.{Data}
-use Rattle.assembler_statement.specs.declared.symbol.Location.{Location}
-use Rattle.assembler_statement.specs.Data.{piece_size, pieces_of, times_of, width_size}
-use Rattle.assembler_statement.specs.Values.{Names, constant_of, value_of}
+use Rattle.assembler_syntax.specs.declared.expression.Term.{Term}
+use Rattle.assembler_syntax.specs.declared.statement.DataWidth.{DataWidth}
+use Rattle.assembler_syntax.specs.declared.statement.Piece.{Piece}
+use Rattle.assembler_syntax.specs.declared.statement.Piece.TheVariants.{Value, Text}
+use Rattle.assembler_syntax.specs.declared.statement.Item.{Item}
+use Rattle.assembler_syntax.specs.declared.statement.Item.TheVariants.{Once, Repeated}
+use Rattle.assembler_syntax.specs.declared.statement.Statement.TheVariants.{Data}
+use Rattle.assembler_meaning.specs.declared.symbol.Location.{Location}
+use Rattle.assembler_meaning.specs.Data.{piece_size, pieces_of, times_of, width_size}
+use Rattle.assembler_meaning.specs.Values.{Names, constant_of, value_of}
 use Rattle.assembler.specs.Placement.{address_behind}
 use Rattle.assembler.specs.Rows.{Row, names_of}
 use Rattle.assembler.specs.Gives.{Gives}
 
 -- From this place on the image has a number of this many bytes, low byte first. A negative number stands there as the
 -- one that is 256^size higher.
-pub record HasNumber (image : List (ℕ × ℕ)) (spot : Location) (start size : ℕ) (value : ℤ) : Type 0 where
+pub record HasNumber (image : List (ℕ × ℕ)) (location : Location) (start size : ℕ) (value : ℤ) : Type 0 where
   pub number : ℕ
   pub below : number < 256 ^ size
   pub is_value : (value ≡ pos number) ⊎ (value +ℤ pos (256 ^ size) ≡ pos number)
-  pub bytes : (k : ℕ) → k < size → image_byte image (address_behind spot (start + k)) ≡ Some (number / 256 ^ k % 256)
+  pub bytes : (k : ℕ) → k < size → image_byte image (address_behind location (start + k)) ≡ Some (number / 256 ^ k % 256)
 
 -- it has the value of this expression there
 abbrev pub HasValue : Names → List (ℕ × ℕ) → Location → ℕ → ℕ → List Term → Type 0
-HasValue names image spot start size terms = (value : ℤ) × (value_of names spot.offset terms ≡ Some value) × HasNumber image spot start size value
+HasValue names image location start size terms = (value : ℤ) × (value_of names location.offset terms ≡ Some value) × HasNumber image location start size value
 
 -- it has these characters there, one byte each
 abbrev pub HasText : List (ℕ × ℕ) → Location → ℕ → List ℕ → Type 0
-HasText image spot start text = (k d : ℕ) → k < length text → image_byte image (address_behind spot (start + k)) ≡ Some (get_or text k d)
+HasText image location start text = (k d : ℕ) → k < length text → image_byte image (address_behind location (start + k)) ≡ Some (get_or text k d)
 
-abbrev pub HasPiece : Names → List (ℕ × ℕ) → Location → ℕ → Width → Piece → Type 0
-HasPiece names image spot start width (Value terms) = HasValue names image spot start (width_size width) terms
-HasPiece names image spot start width (Text text) = HasText image spot start text
+abbrev pub HasPiece : Names → List (ℕ × ℕ) → Location → ℕ → DataWidth → Piece → Type 0
+HasPiece names image location start width (Value terms) = HasValue names image location start (width_size width) terms
+HasPiece names image location start width (Text text) = HasText image location start text
 
 -- an item stands there once, or as many times as the constant before DUP says
 abbrev pub HasCount : Names → Item → Type 0
@@ -42,12 +42,12 @@ HasCount names (Once piece) = times_of names (Once piece) ≡ 1
 HasCount names (Repeated count each) = constant_of names count ≡ Some (pos (times_of names (Repeated count each)))
 
 -- how many bytes an item has
-abbrev pub item_size : Names → Width → Item → ℕ
+abbrev pub item_size : Names → DataWidth → Item → ℕ
 item_size names width item = times_of names item * sum_by (piece_size width) (pieces_of item)
 
 -- A piece of a data line, with as many bytes before it as the items before its own have, the copies before its own, and
 -- the pieces before it in the copy.
-pub record StandsBehind (names : Names) (width : Width) (items : List Item) (piece : Piece) (start : ℕ) : Type 0 where
+pub record StandsBehind (names : Names) (width : DataWidth) (items : List Item) (piece : Piece) (start : ℕ) : Type 0 where
   pub before : List Item
   pub item : Item
   pub after : List Item
@@ -62,20 +62,20 @@ pub record StandsBehind (names : Names) (width : Width) (items : List Item) (pie
 -- A data line stands in a segment, has as many bytes as its items, and each piece of it stands where it is counted to. So
 -- with DW x, y and z the i-th number stands two times i bytes on, with DB 'AB' the i-th character i bytes, and with
 -- n DUP (x) the i-th copy of n.
-pub record PlacesData (names : Names) (image : List (ℕ × ℕ)) (row : Row) (width : Width) (items : List Item) : Type 0 where
-  pub spot : Location
-  pub has_place : row.spot ≡ Some spot
+pub record PlacesData (names : Names) (image : List (ℕ × ℕ)) (row : Row) (width : DataWidth) (items : List Item) : Type 0 where
+  pub location : Location
+  pub has_place : row.location ≡ Some location
   pub counts : (item : Item) → Contains items item → HasCount names item
   pub size : row.size ≡ sum_by (item_size names width) items
-  pub pieces : (piece : Piece) (start : ℕ) → StandsBehind names width items piece start → HasPiece names image spot start width piece
+  pub pieces : (piece : Piece) (start : ℕ) → StandsBehind names width items piece start → HasPiece names image location start width piece
   pub numbers : (values : List (List Term)) → items ≡ map (λ terms. Once (Value terms)) values → (i : ℕ) (d : List Term) → i < length values
-      → HasValue names image spot (i * width_size width) (width_size width) (get_or values i d)
-  pub text : (text : List ℕ) → items ≡ Once (Text text) ∷ [] → HasText image spot 0 text
+      → HasValue names image location (i * width_size width) (width_size width) (get_or values i d)
+  pub text : (text : List ℕ) → items ≡ Once (Text text) ∷ [] → HasText image location 0 text
   pub copies : (count terms : List Term) (n : ℕ) → items ≡ Repeated count (Value terms ∷ []) ∷ [] → constant_of names count ≡ Some (pos n)
-      → (i : ℕ) → i < n → HasValue names image spot (i * width_size width) (width_size width) terms
+      → (i : ℕ) → i < n → HasValue names image location (i * width_size width) (width_size width) terms
 
 -- the image of an accepted source has each data line so
 abbrev pub DataGoesLowByteFirst : Type 0
 DataGoesLowByteFirst =
-    (source : List ℕ) (image : List (ℕ × ℕ)) (gives : Gives source image) (row : Row) (width : Width) (items : List Item)
+    (source : List ℕ) (image : List (ℕ × ℕ)) (gives : Gives source image) (row : Row) (width : DataWidth) (items : List Item)
     → Contains gives.rows row → row.line.statement ≡ Data width items → PlacesData (names_of gives.rows) image row width items

@@ -7,11 +7,11 @@ use Rattle.isa.specs.declared.form.Values.{Values}
 use Rattle.isa.specs.declared.form.Instr.{Instr}
 use Rattle.decode.specs.declared.decoded.Decoded.TheVariants.{Found}
 use Rattle.decode.specs.Decoding.{code_at, decoded_from}
-use Rattle.assembler_text.specs.declared.statement.Instruction.{Instruction as Written}
-use Rattle.assembler_text.specs.declared.statement.Statement.TheVariants.{Instruction}
-use Rattle.assembler_statement.specs.declared.symbol.Location.{Location}
-use Rattle.assembler_statement.specs.Instructions.{prefixes_of}
-use Rattle.assembler_statement.specs.Values.{Names}
+use Rattle.assembler_syntax.specs.declared.statement.Instruction.{Instruction as Written}
+use Rattle.assembler_syntax.specs.declared.statement.Statement.TheVariants.{Instruction}
+use Rattle.assembler_meaning.specs.declared.symbol.Location.{Location}
+use Rattle.assembler_meaning.specs.Instructions.{prefixes_of}
+use Rattle.assembler_meaning.specs.Values.{Names}
 use Rattle.assembler.specs.Placement.{fields_of}
 use Rattle.assembler.specs.Rows.{Row, names_of}
 use Rattle.assembler.specs.Gives.{Gives}
@@ -29,12 +29,12 @@ instr_of f i v = record { prefixes = record { items = prefixes_of i }; form = f;
 -- memory at that place is this instruction, with as many bytes as the row.
 pub record DecodesBack (byte : ℕ → ℕ) (names : Names) (row : Row) (i : Written) : Type 0 where
   pub form : Form
-  pub spot : Location
+  pub location : Location
   pub numbers : Values
   pub has_form : row.form ≡ Some form
-  pub has_place : row.spot ≡ Some spot
-  pub has_numbers : fields_of names spot row.size form i ≡ Some numbers
-  pub decodes : decoded_from (code_at byte spot.segment spot.offset) ≡ Found (instr_of form i numbers) row.size
+  pub has_place : row.location ≡ Some location
+  pub has_numbers : fields_of names location row.size form i ≡ Some numbers
+  pub decodes : decoded_from (code_at byte location.segment location.offset) ≡ Found (instr_of form i numbers) row.size
 
 -- in each memory that holds the image of an accepted source, each instruction of the source decodes back
 abbrev pub BytesDecodeBack : Type 0

@@ -3,10 +3,10 @@
 use Rattle.std.specs.Prelude.{ℕ, ◌≡◌, ◌≢◌, ◌⊎◌, ◌<◌, ◌≤◌, ◌+◌, ◌↔◌, Bool, true, false, ◌||◌, List, [], ◌∷◌, ◌++◌, length, take, Option, Some}
 use Rattle.std.specs.List.{list_all, list_any}
 use Rattle.isa.specs.declared.form.Form.{Form}
-use Rattle.assembler_text.specs.declared.statement.Line.{Line}
-use Rattle.text_lines.specs.Lines.{text_lines}
-use Rattle.assembler_statement.specs.declared.symbol.Location.{Location}
-use Rattle.assembler_statement.specs.Values.{Names}
+use Rattle.assembler_syntax.specs.declared.statement.Line.{Line}
+use Rattle.board_types.specs.TextLines.{text_lines}
+use Rattle.assembler_meaning.specs.declared.symbol.Location.{Location}
+use Rattle.assembler_meaning.specs.Values.{Names}
 use Rattle.assembler.specs.declared.fault.AsmFault.{AsmFault}
 use Rattle.assembler.specs.declared.fault.AsmFault.TheVariants.{InLine, Memory}
 use Rattle.assembler.specs.declared.fault.SourceFault.{SourceFault}
@@ -69,21 +69,21 @@ LaterLinesDoNotCount =
 
 -- which faults a line that is read has in the light of the lines before
 abbrev pub HasEarly : Names → Option Location → Line → Option Form → SourceFault → Type 0
-HasEarly known spot line form BadLine = (opens_within spot line.statement || has_wrong_constant known line.statement) ≡ true
-HasEarly known spot line form UnknownName = has_unknown_constant known line.statement ≡ true
-HasEarly known spot line form BadForm = lacks_form line.statement form ≡ true
-HasEarly known spot line form TwiceDefined = defines_again known line ≡ true
-HasEarly known spot line form NoSegment = stands_outside spot line ≡ true
-HasEarly known spot line form fault = ⊥
+HasEarly known location line form BadLine = (opens_within location line.statement || has_wrong_constant known line.statement) ≡ true
+HasEarly known location line form UnknownName = has_unknown_constant known line.statement ≡ true
+HasEarly known location line form BadForm = lacks_form line.statement form ≡ true
+HasEarly known location line form TwiceDefined = defines_again known line ≡ true
+HasEarly known location line form NoSegment = stands_outside location line ≡ true
+HasEarly known location line form fault = ⊥
 
 -- which faults what stands at a place has, in the light of all names and of the addresses that are taken
 abbrev pub HasLate : Names → (ℕ → Bool) → Bool → Location → ℕ → Option Content → SourceFault → Type 0
-HasLate names is_taken has_label spot size content Undefined = lacks_name names spot content ≡ true
-HasLate names is_taken has_label spot size content OutOfRange = has_wrong_number names spot size content ≡ true
-HasLate names is_taken has_label spot size content OutOfSegment = is_past_end spot size has_label ≡ true
-HasLate names is_taken has_label spot size content Overlap = list_any is_taken (addresses_from spot 0 size) ≡ true
-HasLate names is_taken has_label spot size content NotLoadable = list_all is_loadable (addresses_from spot 0 size) ≡ false
-HasLate names is_taken has_label spot size content fault = ⊥
+HasLate names is_taken has_label location size content Undefined = lacks_name names location content ≡ true
+HasLate names is_taken has_label location size content OutOfRange = has_wrong_number names location size content ≡ true
+HasLate names is_taken has_label location size content OutOfSegment = is_past_end location size has_label ≡ true
+HasLate names is_taken has_label location size content Overlap = list_any is_taken (addresses_from location 0 size) ≡ true
+HasLate names is_taken has_label location size content NotLoadable = list_all is_loadable (addresses_from location 0 size) ≡ false
+HasLate names is_taken has_label location size content fault = ⊥
 
 -- of the faults that there are this one has the least number
 pub record IsLeast (Has : SourceFault → Type 0) (fault : SourceFault) : Type 0 where
@@ -92,7 +92,7 @@ pub record IsLeast (Has : SourceFault → Type 0) (fault : SourceFault) : Type 0
 
 -- of the faults of a line that is read the one with the least number is its fault, in each pass
 pub record LeastNumbersComeFirst : Type 0 where
-  pub early : (known : Names) (spot : Option Location) (line : Line) (form : Option Form) (fault : SourceFault)
-      → (early_fault known spot line form ≡ Some fault) ↔ IsLeast (HasEarly known spot line form) fault
-  pub late : (names : Names) (is_taken : ℕ → Bool) (has_label : Bool) (spot : Location) (size : ℕ) (content : Option Content) (fault : SourceFault)
-      → (fault_at names is_taken has_label spot size content ≡ Some fault) ↔ IsLeast (HasLate names is_taken has_label spot size content) fault
+  pub early : (known : Names) (location : Option Location) (line : Line) (form : Option Form) (fault : SourceFault)
+      → (early_fault known location line form ≡ Some fault) ↔ IsLeast (HasEarly known location line form) fault
+  pub late : (names : Names) (is_taken : ℕ → Bool) (has_label : Bool) (location : Location) (size : ℕ) (content : Option Content) (fault : SourceFault)
+      → (fault_at names is_taken has_label location size content ≡ Some fault) ↔ IsLeast (HasLate names is_taken has_label location size content) fault

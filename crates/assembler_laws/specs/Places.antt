@@ -3,12 +3,12 @@
 use Rattle.std.specs.Prelude.{ℕ, ℤ, pos, ◌≡◌, ◌+◌, ◌↔◌, Bool, true, false, List, ◌∷◌, ◌++◌, length, sum_by, Option, None, Some}
 use Rattle.std.specs.List.{AllByRecursion}
 use Rattle.assembler_lexeme.specs.declared.name.Name.{Name}
-use Rattle.assembler_text.specs.declared.expression.Term.{Term}
-use Rattle.assembler_text.specs.declared.statement.Statement.{Statement}
-use Rattle.assembler_text.specs.declared.statement.Statement.TheVariants.{Segment, Ends, Equ, Org}
-use Rattle.assembler_statement.specs.declared.symbol.Location.{Location}
-use Rattle.assembler_statement.specs.declared.symbol.Symbol.TheVariants.{Label, Constant}
-use Rattle.assembler_statement.specs.Values.{Names, constant_of, meaning}
+use Rattle.assembler_syntax.specs.declared.expression.Term.{Term}
+use Rattle.assembler_syntax.specs.declared.statement.Statement.{Statement}
+use Rattle.assembler_syntax.specs.declared.statement.Statement.TheVariants.{Segment, Ends, Equ, Org}
+use Rattle.assembler_meaning.specs.declared.symbol.Location.{Location}
+use Rattle.assembler_meaning.specs.declared.symbol.Symbol.TheVariants.{Label, Constant}
+use Rattle.assembler_meaning.specs.Values.{Names, constant_of, meaning}
 use Rattle.assembler.specs.Placement.{placed_by}
 use Rattle.assembler.specs.Rows.{Row, names_of}
 use Rattle.assembler.specs.Gives.{Gives}
@@ -68,8 +68,8 @@ said_constant statement = None
 -- that place in the names of the source, and such a line has a place; what SEGMENT or EQU names is there its constant, told
 -- by the lines before; and a line places as many bytes as its size says.
 pub record StandsWhereCounted (names : Names) (front : List Row) (row : Row) : Type 0 where
-  pub place : (spot : Location) → (row.spot ≡ Some spot) ↔ (IsOpenAt front spot.segment × IsCountedTo front spot.offset)
-  pub label : (name : Name) → row.line.label ≡ Some name → (spot : Location) × (row.spot ≡ Some spot) × (meaning names name ≡ Some (Label spot))
+  pub place : (location : Location) → (row.location ≡ Some location) ↔ (IsOpenAt front location.segment × IsCountedTo front location.offset)
+  pub label : (name : Name) → row.line.label ≡ Some name → (location : Location) × (row.location ≡ Some location) × (meaning names name ≡ Some (Label location))
   pub constant : (name : Name) (terms : List Term) → said_constant row.line.statement ≡ Some (name, terms)
       → (n : ℤ) × (constant_of (names_of front) terms ≡ Some n) × (meaning names name ≡ Some (Constant n))
   pub bytes : length (placed_by names row) ≡ row.size

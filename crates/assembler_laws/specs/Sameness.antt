@@ -4,24 +4,24 @@ use Rattle.std.specs.Prelude.{ℕ, ◌≡◌, ◌≤◌, List, [], ◌∷◌, le
 use Rattle.std.specs.List.{list_all}
 use Rattle.std.specs.Option.{option_map}
 use Rattle.assembler_lexeme.specs.declared.name.Name.{Name}
-use Rattle.assembler_text.specs.declared.expression.Atom.{Atom}
-use Rattle.assembler_text.specs.declared.expression.Atom.TheVariants.{Number, Named, Here, SegmentOf}
-use Rattle.assembler_text.specs.declared.expression.Term.{Term}
-use Rattle.assembler_text.specs.declared.operand.Address.{Address}
-use Rattle.assembler_text.specs.declared.operand.Operand.{Operand}
-use Rattle.assembler_text.specs.declared.operand.Operand.TheVariants as operands
-use Rattle.assembler_text.specs.declared.statement.Piece.{Piece}
-use Rattle.assembler_text.specs.declared.statement.Piece.TheVariants as pieces
-use Rattle.assembler_text.specs.declared.statement.Item.{Item}
-use Rattle.assembler_text.specs.declared.statement.Item.TheVariants.{Once, Repeated}
-use Rattle.assembler_text.specs.declared.statement.Instruction.{Instruction as InstructionType}
-use Rattle.assembler_text.specs.declared.statement.Statement.{Statement}
-use Rattle.assembler_text.specs.declared.statement.Statement.TheVariants.{Empty, Segment, Ends, Equ, Org, Data, Instruction}
-use Rattle.assembler_text.specs.declared.statement.Line.{Line}
-use Rattle.assembler_text.specs.Lines.{read_line}
-use Rattle.assembler_statement.specs.Values.{same_name}
+use Rattle.assembler_syntax.specs.declared.expression.Atom.{Atom}
+use Rattle.assembler_syntax.specs.declared.expression.Atom.TheVariants.{Number, Named, Here, SegmentOf}
+use Rattle.assembler_syntax.specs.declared.expression.Term.{Term}
+use Rattle.assembler_syntax.specs.declared.operand.Address.{Address}
+use Rattle.assembler_syntax.specs.declared.operand.Operand.{Operand}
+use Rattle.assembler_syntax.specs.declared.operand.Operand.TheVariants as operands
+use Rattle.assembler_syntax.specs.declared.statement.Piece.{Piece}
+use Rattle.assembler_syntax.specs.declared.statement.Piece.TheVariants as pieces
+use Rattle.assembler_syntax.specs.declared.statement.Item.{Item}
+use Rattle.assembler_syntax.specs.declared.statement.Item.TheVariants.{Once, Repeated}
+use Rattle.assembler_syntax.specs.declared.statement.Instruction.{Instruction as InstructionType}
+use Rattle.assembler_syntax.specs.declared.statement.Statement.{Statement}
+use Rattle.assembler_syntax.specs.declared.statement.Statement.TheVariants.{Empty, Segment, Ends, Equ, Org, Data, Instruction}
+use Rattle.assembler_syntax.specs.declared.statement.Line.{Line}
+use Rattle.assembler_syntax.specs.Lines.{read_line}
+use Rattle.assembler_meaning.specs.Values.{same_name}
 use Rattle.assembler_lexeme.specs.Lexemes.{is_character, lexemes, folded}
-use Rattle.text_lines.specs.Lines.{text_lines}
+use Rattle.board_types.specs.TextLines.{text_lines}
 use Rattle.assembler.specs.Gives.{source_limit, Gives}
 
 -- there are as many lines as there are others, and each stands so to the other in its place

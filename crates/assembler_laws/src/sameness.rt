@@ -1,7 +1,7 @@
 //! Sources that say the same.
 ghost use Rattle.assembler_laws.specs.Sameness.{CaseDoesNotCount, RenamingDoesNotCount};
 
-use assembler_text::laws;
+use assembler_syntax::laws;
 
 /// Sources whose lines' lexemes differ in case outside quotes alone give the same image, if neither is longer than a
 /// source may be.

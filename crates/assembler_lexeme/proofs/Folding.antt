@@ -13,7 +13,8 @@ use Rattle.dialect.proofs.Once.{case_is_nothing}
 use Rattle.assembler_lexeme.specs.declared.name.Name.{Name}
 use Rattle.assembler_lexeme.specs.declared.token.Token.TheVariants.{Named, Word, Mark}
 use Rattle.assembler_lexeme.specs.Lexemes.{folded, is_letter, is_digit}
-use Rattle.assembler_lexeme.specs.Numbers.{digit_of, spelled, in_bounds, number_to, number_of, last_byte, without_last}
+use Rattle.board_types.specs.Digits.{digit_of, spelled}
+use Rattle.assembler_lexeme.specs.Numbers.{in_bounds, number_to, number_of, last_byte, without_last}
 use Rattle.assembler_lexeme.specs.Faults.{all_of, wanted}
 use Rattle.assembler_lexeme.specs.Tokens.{name_of, word_token, number_token, mark_of, mark_token, token_of, tokens_of}
 

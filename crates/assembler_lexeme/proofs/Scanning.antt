@@ -2,7 +2,7 @@
 use Rattle.std.proofs.Common.{◌≡◌, ℕ, ◌+◌, ◌-◌, ◌≤◌, List, [], ◌∷◌, length, take, drop, refl, ap, ◌∙◌, arith, Bool, true, false, ◌==◌, ◌&&◌, if◌then◌else◌, suc, get_or}
 use Rattle.std.proofs.lemmas.Bool.Decides.{nat_tests}
 use Rattle.assembler_lexeme.specs.Lexemes.{is_word_byte, is_blank, lexemes_from, word_size, text_size}
-use Rattle.text_lines.specs.Lines.{begins_with, onto_first}
+use Rattle.board_types.specs.TextLines.{begins_with, onto_first}
 
 -- a byte of a word is neither a semicolon, nor a blank, nor a quote
 no_comment : (b : ℕ) → is_word_byte b ≡ true → (b == 59) ≡ false

@@ -15,7 +15,7 @@ use Rattle.assembler_lexeme.specs.declared.token.Token.{Token}
 use Rattle.assembler_lexeme.specs.declared.token.Token.TheVariants.{One, Number, Named, Quoted, Word, Mark}
 use Rattle.assembler_lexeme.specs.declared.token.Mark.{Mark as MarkType}
 use Rattle.assembler_lexeme.specs.Lexemes.{is_letter, is_digit, is_blank, is_word_byte, lexemes_from, lexemes}
-use Rattle.text_lines.specs.Lines.{begins_with, onto_first}
+use Rattle.board_types.specs.TextLines.{begins_with, onto_first}
 use Rattle.assembler_lexeme.specs.Numbers.{last_byte, number_of}
 use Rattle.assembler_lexeme.specs.Faults.{◌>>=◌, all_of, wanted}
 use Rattle.assembler_lexeme.specs.Tokens.{name_of, word_token, number_token, text_token, between_quotes, quoted_token, mark_of, mark_token, token_of, tokens_of}

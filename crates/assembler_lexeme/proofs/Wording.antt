@@ -3,7 +3,8 @@ use Rattle.std.proofs.Common.{◌≡◌, ℕ, ◌+◌, ◌-◌, ◌*◌, ◌<◌
 use Rattle.std.proofs.lemmas.List.{take_at, drop_at}
 use Rattle.std.specs.Char.{to_ascii_uppercase}
 use Rattle.std.proofs.lemmas.Bool.Decides.{nat_tests}
-use Rattle.assembler_lexeme.specs.Numbers.{spelled, in_bounds, digit_of}
+use Rattle.board_types.specs.Digits.{digit_of, spelled}
+use Rattle.assembler_lexeme.specs.Numbers.{in_bounds}
 
 -- a number that is too large stays too large with more digits
 grows : (base n d : ℕ) → 0 < base → n ≤ n * base + d

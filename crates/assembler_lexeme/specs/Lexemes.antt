@@ -2,7 +2,7 @@
 -- To be believed: public contracts say what they say by these definitions.
 use Rattle.std.specs.Prelude.{ℕ, ◌+◌, Bool, true, false, ◌==◌, ◌&&◌, ◌||◌, nat_le, if◌then◌else◌, List, [], ◌∷◌, map}
 use Rattle.std.specs.Char.{to_ascii_lowercase}
-use Rattle.text_lines.specs.Lines.{begins_with, onto_first}
+use Rattle.board_types.specs.TextLines.{begins_with, onto_first}
 
 -- the characters of a line: printable ASCII and the tabulator
 abbrev pub is_character : ℕ → Bool

@@ -13,7 +13,7 @@ use Rattle.assembler_lexeme.specs.declared.token.Token.TheVariants as kinds
 use Rattle.assembler_lexeme.specs.declared.token.Mark.{Mark}
 use Rattle.assembler_lexeme.specs.declared.token.Mark.TheVariants.{Comma, Colon, Plus, Minus, OpenBracket, CloseBracket, OpenParenthesis, CloseParenthesis, Dollar}
 use Rattle.assembler_lexeme.specs.Lexemes.{is_letter, is_digit}
-use Rattle.text_lines.specs.Lines.{begins_with}
+use Rattle.board_types.specs.TextLines.{begins_with}
 use Rattle.assembler_lexeme.specs.Numbers.{number_of, last_byte}
 use Rattle.assembler_lexeme.specs.Faults.{wanted, all_of}
 

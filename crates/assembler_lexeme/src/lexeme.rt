@@ -1,7 +1,7 @@
 //! The lexemes of a line.
 ghost use Rattle.std.specs.Prelude.{false, ◌≡◌, ◌<◌, ◌≤◌, [], ◌∷◌, length, IfSome, IfNone};
 ghost use Rattle.assembler_lexeme.specs.Lexemes.{is_blank, is_character, is_digit, is_letter, is_word_byte, lexemes, text_size, word_size};
-ghost use Rattle.text_lines.specs.Lines.{begins_with};
+ghost use Rattle.board_types.specs.TextLines.{begins_with};
 
 /// Whether a line may have the character.
 pub fn is_character(byte: u8) -> bool

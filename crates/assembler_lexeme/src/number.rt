@@ -1,17 +1,8 @@
 //! Numbers.
 ghost use Rattle.std.specs.Prelude.{◌≡◌, ◌≤◌, ◌<◌};
-ghost use Rattle.assembler_lexeme.specs.Numbers.{digit_of, number_of, number_to};
+ghost use Rattle.assembler_lexeme.specs.Numbers.{number_of, number_to};
 
-fn digit_of(byte: u8) -> u8
-    ensures { result ≡ digit_of byte }
-{
-    match byte {
-        b'0'..=b'9' => byte - b'0',
-        b'A'..=b'F' => byte - b'A' + 10,
-        b'a'..=b'f' => byte - b'a' + 10,
-        _ => 255,
-    }
-}
+use board_types::digits::digit_of;
 
 /// The number that these digits to a base of 2 to 16 spell, if it has at most 32 bits.
 #[tactic(auto, unfolding(crate::specs::Numbers::number_to))]

@@ -1,7 +1,7 @@
 //! The tokens of a line.
 ghost use Rattle.std.specs.Prelude.{◌≡◌, ◌==◌};
 ghost use Rattle.assembler_lexeme.specs.Lexemes.{lexemes};
-ghost use Rattle.text_lines.specs.Lines.{begins_with};
+ghost use Rattle.board_types.specs.TextLines.{begins_with};
 ghost use Rattle.assembler_lexeme.specs.Faults.{Gives};
 ghost use Rattle.assembler_lexeme.specs.Tokens.{mark_of, mark_token, number_token, quoted_token, text_token, token_of, tokens_of, word_token};
 

@@ -12,7 +12,7 @@ use Rattle.execute.specs.declared.boundary.Cause.TheVariants as causes
 use Rattle.execute.specs.PortWrites.{EachAccessKeeps, WritesAlone, port_writes_of}
 use Rattle.execute.proofs.Writes.{port_writes_tell, again_keeps_any, enter_keeps_any}
 use Rattle.mda_text.specs.Mda.{with_text_byte}
-use Rattle.memory.specs.Kinds.{is_text_address}
+use Rattle.memory.specs.Regions.{is_text_address}
 use Rattle.memory.specs.Map as map
 use Rattle.wiring.specs.Chips.{ChipsState}
 use Rattle.wiring.specs.Laws.{SoundsAlike}

@@ -12,7 +12,7 @@ use Rattle.execute.specs.declared.boundary.Cause.TheVariants as causes
 use Rattle.execute.proofs.Writes.{again_keeps_any, enter_keeps_any, step_keeps_any}
 use Rattle.mda_text.proofs.ScreenLaws.{is_blank}
 use Rattle.mda_text.specs.Mda as mda
-use Rattle.memory.specs.Kinds.{is_text_address, IsTextAddress}
+use Rattle.memory.specs.Regions.{is_text_address, IsTextAddress}
 use Rattle.memory.specs.Map as map
 use Rattle.memory.specs.Map.{IsRamSize}
 use Rattle.memory.proofs.Writes.{ram_written, whole_at_power_on}

@@ -8,7 +8,7 @@ use Rattle.execute.specs.Cpu.{CpuState}
 use Rattle.execute.specs.declared.shadow.Shadow.TheVariants as shadows
 use Rattle.execute.specs.PortWrites.{port_writes_of}
 use Rattle.mda_text.specs.Mda as mda
-use Rattle.memory.specs.Kinds.{IsTextAddress}
+use Rattle.memory.specs.Regions.{IsTextAddress}
 use Rattle.memory.specs.Map.{IsRamSize}
 use Rattle.pit8253.specs.Pit as pit
 use Rattle.wiring.specs.Chips.{ChipsState}

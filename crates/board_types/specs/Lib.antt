@@ -5,3 +5,5 @@ pub mod Keys
 pub mod Flags
 pub mod Bits
 pub mod Lines
+pub mod TextLines
+pub mod Digits

@@ -4,8 +4,8 @@ use crate::verb::{NONE, Verb};
 use board_types::address::ADDRESS_COUNT;
 use board_types::image::{Image, is_loadable};
 use keyboard::keyboard::Keyboard;
-use memory::kind::is_text_address;
 use memory::map::Memory;
+use memory::region::is_text_address;
 use std::alloc::{AllocError, Global};
 use std::mem;
 

@@ -6,7 +6,7 @@ use board_types::clock::Clock;
 use board_types::image::is_loadable;
 use board_types::keys::{Keys, is_scan_code};
 use board_types::regs::Flags;
-use memory::kind::is_text_address;
+use memory::region::is_text_address;
 use std::alloc::Global;
 
 /// Stamped key codes, and the clock of the next.

@@ -3,7 +3,8 @@ use Rattle.std.proofs.Common.{◌≡◌, ℕ, suc, ◌+◌, ◌*◌, ◌-◌, �
 use Rattle.std.proofs.Math.Nat.{min-eq_left, min-eq_right, pow-succ', pow-le-pow_right}
 use Rattle.std.proofs.lemmas.Bool.{ltb-true}
 use Rattle.std.proofs.lemmas.Bool.Decides.{nat_tests}
-use Rattle.debugger.specs.Words.{spelled, at_most_greatest, digit_of}
+use Rattle.board_types.specs.Digits.{digit_of, spelled}
+use Rattle.debugger.specs.Words.{at_most_greatest}
 
 more : (base n d m : ℕ) → 1 ≤ base → m ≤ n → m ≤ n * base + d
 more base n d m some large = grind arith

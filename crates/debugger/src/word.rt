@@ -1,6 +1,10 @@
 //! The words of a line, and the numbers that words spell.
 ghost use Rattle.std.specs.Prelude.{◌≡◌, ◌≤◌, ◌<◌, ◌^◌, ◌∷◌, [], length, true, IfSome, IfNone};
-ghost use Rattle.debugger.specs.Words.{at_most_greatest, begins_word, count_of, digit_of, hex_number, spelled, word_size, words_of};
+ghost use Rattle.board_types.specs.Digits.{spelled};
+ghost use Rattle.debugger.specs.Words.{at_most_greatest, begins_word, count_of, hex_number, words_of};
+
+use board_types::digits::digit_of;
+use board_types::text::length_before;
 
 /// The line without the spaces at its front.
 #[tactic(auto, unfolding(crate::specs::Words::words_of))]
@@ -15,23 +19,6 @@ fn skip_spaces(line: &[u8]) -> &[u8]
     rest
 }
 
-/// How many bytes stand before the first space.
-fn word_length(line: &[u8]) -> usize
-    ensures size { result ≡ word_size line.now }
-    ensures within { result ≤ length line.now }
-{
-    let mut length = 0;
-    let mut rest = line;
-    while let [first, after @ ..] = rest {
-        if *first == b' ' {
-            break;
-        }
-        length += 1;
-        rest = after;
-    }
-    length
-}
-
 /// The first word of a line and what follows it; none where only spaces are left.
 #[tactic(auto, unfolding(crate::specs::Words::words_of))]
 pub(crate) fn next_word(line: &[u8]) -> Option<(&[u8], &[u8])>
@@ -41,18 +28,7 @@ pub(crate) fn next_word(line: &[u8]) -> Option<(&[u8], &[u8])>
     let line = skip_spaces(line);
     match line {
         [] => None,
-        [_, rest @ ..] => Some(line.split_at(1 + word_length(rest))),
-    }
-}
-
-fn digit_of(byte: u8) -> u8
-    ensures { result ≡ digit_of byte }
-{
-    match byte {
-        b'0'..=b'9' => byte - b'0',
-        b'A'..=b'F' => byte - b'A' + 10,
-        b'a'..=b'f' => byte - b'a' + 10,
-        _ => 255,
+        [_, rest @ ..] => Some(line.split_at(1 + length_before(b' ', rest))),
     }
 }
 

@@ -1,14 +1,14 @@
 -- The laws of the words, computed on each word.
 use Rattle.std.proofs.Common.{◌≡◌, ℕ, List, Some, inl, inr, refl}
 use Rattle.isa.specs.declared.operation.Operation.{Operation}
-use Rattle.isa.specs.declared.operation.Operation.TheVariants.{Arithmetic, Shift, Product, Unary, Jump, Looping, Text, Adjust, Transfer, Control, Processor}
+use Rattle.isa.specs.declared.operation.Operation.TheVariants.{Arithmetic, Shift, Product, Unary, Jump, Looping, Strings, Adjust, Transfer, Control, Processor}
 use Rattle.isa.specs.declared.operation.Arithmetic.{Arithmetic as ArithmeticType}
 use Rattle.isa.specs.declared.operation.Shift.{Shift as ShiftType}
 use Rattle.isa.specs.declared.operation.Product.{Product as ProductType}
 use Rattle.isa.specs.declared.operation.Unary.{Unary as UnaryType}
-use Rattle.isa.specs.declared.operation.Condition.{Condition}
+use Rattle.isa.specs.declared.operation.JumpCondition.{JumpCondition}
 use Rattle.isa.specs.declared.operation.Looping.{Looping as LoopingType}
-use Rattle.isa.specs.declared.operation.Text.{Text as TextType}
+use Rattle.isa.specs.declared.operation.Strings.{Strings as StringsType}
 use Rattle.isa.specs.declared.operation.Adjust.{Adjust as AdjustType}
 use Rattle.isa.specs.declared.operation.Transfer.{Transfer as TransferType}
 use Rattle.isa.specs.declared.operation.Control.{Control as ControlType}
@@ -17,9 +17,9 @@ use Rattle.isa.specs.declared.operation.Arithmetic.TheVariants.{Add, Or, Adc, Sb
 use Rattle.isa.specs.declared.operation.Shift.TheVariants.{Rol, Ror, Rcl, Rcr, Shl, Shr, Sar}
 use Rattle.isa.specs.declared.operation.Product.TheVariants.{Mul, Imul, Div, Idiv}
 use Rattle.isa.specs.declared.operation.Unary.TheVariants.{Inc, Dec, Not, Neg}
-use Rattle.isa.specs.declared.operation.Condition.TheVariants.{Overflow, NotOverflow, Below, NotBelow, Zero, NotZero, BelowOrZero, Above, Sign, NotSign, Parity, NotParity, Less, NotLess, LessOrZero, Greater}
+use Rattle.isa.specs.declared.operation.JumpCondition.TheVariants.{Overflow, NotOverflow, Below, NotBelow, Zero, NotZero, BelowOrZero, Above, Sign, NotSign, Parity, NotParity, Less, NotLess, LessOrZero, Greater}
 use Rattle.isa.specs.declared.operation.Looping.TheVariants.{Loopne, Loope, Loop, Jcxz}
-use Rattle.isa.specs.declared.operation.Text.TheVariants.{Movsb, Movsw, Cmpsb, Cmpsw, Stosb, Stosw, Lodsb, Lodsw, Scasb, Scasw}
+use Rattle.isa.specs.declared.operation.Strings.TheVariants.{Movsb, Movsw, Cmpsb, Cmpsw, Stosb, Stosw, Lodsb, Lodsw, Scasb, Scasw}
 use Rattle.isa.specs.declared.operation.Adjust.TheVariants.{Daa, Das, Aaa, Aas, Aam, Aad, Cbw, Cwd}
 use Rattle.isa.specs.declared.operation.Transfer.TheVariants.{Mov, Xchg, Lea, Les, Lds, Push, Pop, Pushf, Popf, Sahf, Lahf, Xlat, In, Out}
 use Rattle.isa.specs.declared.operation.Control.TheVariants.{Jmp, Call, Ret, JmpFar, CallFar, Retf, Int3, Int, Into, Iret}
@@ -35,7 +35,7 @@ use Rattle.dialect.specs.declared.register.Register.TheVariants as registers
 use Rattle.dialect.specs.declared.keyword.Keyword.TheVariants as keywords
 use Rattle.dialect.specs.declared.meaning.Meaning.TheVariants as meanings
 use Rattle.dialect.specs.Words.{words, spells, meaning_of}
-use Rattle.dialect.specs.Names.{arithmetic_name, shift_name, product_name, unary_name, jump_name, looping_name, text_name, adjust_name, transfer_name, processor_name, operation_name}
+use Rattle.dialect.specs.Names.{arithmetic_name, shift_name, product_name, unary_name, jump_name, looping_name, strings_name, adjust_name, transfer_name, processor_name, operation_name}
 use Rattle.dialect.specs.Laws.{OperationsAreRead, RegistersAreRead, PrefixesAreRead, KeywordsAreRead, StandsFor}
 
 abbrev Plain : List ℕ → Operation → Type 0
@@ -77,7 +77,7 @@ unary_read Dec = refl
 unary_read Not = refl
 unary_read Neg = refl
 
-jump_read : (x : Condition) → Plain (jump_name x) (Jump x)
+jump_read : (x : JumpCondition) → Plain (jump_name x) (Jump x)
 unfolding words meaning_of spells
 jump_read Overflow = refl
 jump_read NotOverflow = refl
@@ -103,18 +103,18 @@ looping_read Loope = refl
 looping_read Loop = refl
 looping_read Jcxz = refl
 
-text_read : (x : TextType) → Plain (text_name x) (Text x)
+strings_read : (x : StringsType) → Plain (strings_name x) (Strings x)
 unfolding words meaning_of spells
-text_read Movsb = refl
-text_read Movsw = refl
-text_read Cmpsb = refl
-text_read Cmpsw = refl
-text_read Stosb = refl
-text_read Stosw = refl
-text_read Lodsb = refl
-text_read Lodsw = refl
-text_read Scasb = refl
-text_read Scasw = refl
+strings_read Movsb = refl
+strings_read Movsw = refl
+strings_read Cmpsb = refl
+strings_read Cmpsw = refl
+strings_read Stosb = refl
+strings_read Stosw = refl
+strings_read Lodsb = refl
+strings_read Lodsw = refl
+strings_read Scasb = refl
+strings_read Scasw = refl
 
 adjust_read : (x : AdjustType) → Plain (adjust_name x) (Adjust x)
 unfolding words meaning_of spells
@@ -184,7 +184,7 @@ operations_read (Product x) = plain (Product x) (product_read x)
 operations_read (Unary x) = plain (Unary x) (unary_read x)
 operations_read (Jump x) = plain (Jump x) (jump_read x)
 operations_read (Looping x) = plain (Looping x) (looping_read x)
-operations_read (Text x) = plain (Text x) (text_read x)
+operations_read (Strings x) = plain (Strings x) (strings_read x)
 operations_read (Adjust x) = plain (Adjust x) (adjust_read x)
 operations_read (Transfer x) = plain (Transfer x) (transfer_read x)
 operations_read (Control x) = control_read x

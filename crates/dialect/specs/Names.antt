@@ -2,14 +2,14 @@
 -- To be believed: public contracts say what they say by these definitions.
 use Rattle.std.specs.Prelude.{ℕ, List, codes}
 use Rattle.isa.specs.declared.operation.Operation.{Operation}
-use Rattle.isa.specs.declared.operation.Operation.TheVariants.{Arithmetic, Shift, Product, Unary, Jump, Looping, Text, Adjust, Transfer, Control, Processor}
+use Rattle.isa.specs.declared.operation.Operation.TheVariants.{Arithmetic, Shift, Product, Unary, Jump, Looping, Strings, Adjust, Transfer, Control, Processor}
 use Rattle.isa.specs.declared.operation.Arithmetic.{Arithmetic as ArithmeticType}
 use Rattle.isa.specs.declared.operation.Shift.{Shift as ShiftType}
 use Rattle.isa.specs.declared.operation.Product.{Product as ProductType}
 use Rattle.isa.specs.declared.operation.Unary.{Unary as UnaryType}
-use Rattle.isa.specs.declared.operation.Condition.{Condition}
+use Rattle.isa.specs.declared.operation.JumpCondition.{JumpCondition}
 use Rattle.isa.specs.declared.operation.Looping.{Looping as LoopingType}
-use Rattle.isa.specs.declared.operation.Text.{Text as TextType}
+use Rattle.isa.specs.declared.operation.Strings.{Strings as StringsType}
 use Rattle.isa.specs.declared.operation.Adjust.{Adjust as AdjustType}
 use Rattle.isa.specs.declared.operation.Transfer.{Transfer as TransferType}
 use Rattle.isa.specs.declared.operation.Control.{Control as ControlType}
@@ -18,9 +18,9 @@ use Rattle.isa.specs.declared.operation.Arithmetic.TheVariants.{Add, Or, Adc, Sb
 use Rattle.isa.specs.declared.operation.Shift.TheVariants.{Rol, Ror, Rcl, Rcr, Shl, Shr, Sar}
 use Rattle.isa.specs.declared.operation.Product.TheVariants.{Mul, Imul, Div, Idiv}
 use Rattle.isa.specs.declared.operation.Unary.TheVariants.{Inc, Dec, Not, Neg}
-use Rattle.isa.specs.declared.operation.Condition.TheVariants.{Overflow, NotOverflow, Below, NotBelow, Zero, NotZero, BelowOrZero, Above, Sign, NotSign, Parity, NotParity, Less, NotLess, LessOrZero, Greater}
+use Rattle.isa.specs.declared.operation.JumpCondition.TheVariants.{Overflow, NotOverflow, Below, NotBelow, Zero, NotZero, BelowOrZero, Above, Sign, NotSign, Parity, NotParity, Less, NotLess, LessOrZero, Greater}
 use Rattle.isa.specs.declared.operation.Looping.TheVariants.{Loopne, Loope, Loop, Jcxz}
-use Rattle.isa.specs.declared.operation.Text.TheVariants.{Movsb, Movsw, Cmpsb, Cmpsw, Stosb, Stosw, Lodsb, Lodsw, Scasb, Scasw}
+use Rattle.isa.specs.declared.operation.Strings.TheVariants.{Movsb, Movsw, Cmpsb, Cmpsw, Stosb, Stosw, Lodsb, Lodsw, Scasb, Scasw}
 use Rattle.isa.specs.declared.operation.Adjust.TheVariants.{Daa, Das, Aaa, Aas, Aam, Aad, Cbw, Cwd}
 use Rattle.isa.specs.declared.operation.Transfer.TheVariants.{Mov, Xchg, Lea, Les, Lds, Push, Pop, Pushf, Popf, Sahf, Lahf, Xlat, In, Out}
 use Rattle.isa.specs.declared.operation.Control.TheVariants.{Jmp, Call, Ret, JmpFar, CallFar, Retf, Int3, Int, Into, Iret}
@@ -73,7 +73,7 @@ unary_name Dec = codes "DEC"
 unary_name Not = codes "NOT"
 unary_name Neg = codes "NEG"
 
-abbrev pub jump_name : Condition → List ℕ
+abbrev pub jump_name : JumpCondition → List ℕ
 jump_name Overflow = codes "JO"
 jump_name NotOverflow = codes "JNO"
 jump_name Below = codes "JB"
@@ -97,17 +97,17 @@ looping_name Loope = codes "LOOPE"
 looping_name Loop = codes "LOOP"
 looping_name Jcxz = codes "JCXZ"
 
-abbrev pub text_name : TextType → List ℕ
-text_name Movsb = codes "MOVSB"
-text_name Movsw = codes "MOVSW"
-text_name Cmpsb = codes "CMPSB"
-text_name Cmpsw = codes "CMPSW"
-text_name Stosb = codes "STOSB"
-text_name Stosw = codes "STOSW"
-text_name Lodsb = codes "LODSB"
-text_name Lodsw = codes "LODSW"
-text_name Scasb = codes "SCASB"
-text_name Scasw = codes "SCASW"
+abbrev pub strings_name : StringsType → List ℕ
+strings_name Movsb = codes "MOVSB"
+strings_name Movsw = codes "MOVSW"
+strings_name Cmpsb = codes "CMPSB"
+strings_name Cmpsw = codes "CMPSW"
+strings_name Stosb = codes "STOSB"
+strings_name Stosw = codes "STOSW"
+strings_name Lodsb = codes "LODSB"
+strings_name Lodsw = codes "LODSW"
+strings_name Scasb = codes "SCASB"
+strings_name Scasw = codes "SCASW"
 
 abbrev pub adjust_name : AdjustType → List ℕ
 adjust_name Daa = codes "DAA"
@@ -166,7 +166,7 @@ operation_name (Product p) = product_name p
 operation_name (Unary u) = unary_name u
 operation_name (Jump c) = jump_name c
 operation_name (Looping l) = looping_name l
-operation_name (Text t) = text_name t
+operation_name (Strings t) = strings_name t
 operation_name (Adjust a) = adjust_name a
 operation_name (Transfer t) = transfer_name t
 operation_name (Control c) = control_name c

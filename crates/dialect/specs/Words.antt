@@ -7,14 +7,14 @@ use Rattle.std.specs.Option.{option_map}
 use Rattle.std.specs.Char.{to_ascii_lowercase}
 use Rattle.std.specs.Str.{bytes_eq}
 use Rattle.isa.specs.declared.operation.Operation.{Operation}
-use Rattle.isa.specs.declared.operation.Operation.TheVariants.{Arithmetic, Shift, Product, Unary, Jump, Looping, Text, Adjust, Transfer, Control, Processor}
+use Rattle.isa.specs.declared.operation.Operation.TheVariants.{Arithmetic, Shift, Product, Unary, Jump, Looping, Strings, Adjust, Transfer, Control, Processor}
 use Rattle.isa.specs.declared.operation.Arithmetic.TheVariants.{Add, Or, Adc, Sbb, And, Sub, Xor, Cmp, Test}
 use Rattle.isa.specs.declared.operation.Shift.TheVariants.{Rol, Ror, Rcl, Rcr, Shl, Shr, Sar}
 use Rattle.isa.specs.declared.operation.Product.TheVariants.{Mul, Imul, Div, Idiv}
 use Rattle.isa.specs.declared.operation.Unary.TheVariants.{Inc, Dec, Not, Neg}
-use Rattle.isa.specs.declared.operation.Condition.TheVariants.{Overflow, NotOverflow, Below, NotBelow, Zero, NotZero, BelowOrZero, Above, Sign, NotSign, Parity, NotParity, Less, NotLess, LessOrZero, Greater}
+use Rattle.isa.specs.declared.operation.JumpCondition.TheVariants.{Overflow, NotOverflow, Below, NotBelow, Zero, NotZero, BelowOrZero, Above, Sign, NotSign, Parity, NotParity, Less, NotLess, LessOrZero, Greater}
 use Rattle.isa.specs.declared.operation.Looping.TheVariants.{Loopne, Loope, Loop, Jcxz}
-use Rattle.isa.specs.declared.operation.Text.TheVariants.{Movsb, Movsw, Cmpsb, Cmpsw, Stosb, Stosw, Lodsb, Lodsw, Scasb, Scasw}
+use Rattle.isa.specs.declared.operation.Strings.TheVariants.{Movsb, Movsw, Cmpsb, Cmpsw, Stosb, Stosw, Lodsb, Lodsw, Scasb, Scasw}
 use Rattle.isa.specs.declared.operation.Adjust.TheVariants.{Daa, Das, Aaa, Aas, Aam, Aad, Cbw, Cwd}
 use Rattle.isa.specs.declared.operation.Transfer.TheVariants.{Mov, Xchg, Lea, Les, Lds, Push, Pop, Pushf, Popf, Sahf, Lahf, Xlat, In, Out}
 use Rattle.isa.specs.declared.operation.Control.TheVariants.{Ret, Retf, Int3, Int, Into, Iret}
@@ -121,16 +121,16 @@ words =
     plain (codes "LOOPZ") (Looping Loope) ∷
     plain (codes "LOOP") (Looping Loop) ∷
     plain (codes "JCXZ") (Looping Jcxz) ∷
-    plain (codes "MOVSB") (Text Movsb) ∷
-    plain (codes "MOVSW") (Text Movsw) ∷
-    plain (codes "CMPSB") (Text Cmpsb) ∷
-    plain (codes "CMPSW") (Text Cmpsw) ∷
-    plain (codes "STOSB") (Text Stosb) ∷
-    plain (codes "STOSW") (Text Stosw) ∷
-    plain (codes "LODSB") (Text Lodsb) ∷
-    plain (codes "LODSW") (Text Lodsw) ∷
-    plain (codes "SCASB") (Text Scasb) ∷
-    plain (codes "SCASW") (Text Scasw) ∷
+    plain (codes "MOVSB") (Strings Movsb) ∷
+    plain (codes "MOVSW") (Strings Movsw) ∷
+    plain (codes "CMPSB") (Strings Cmpsb) ∷
+    plain (codes "CMPSW") (Strings Cmpsw) ∷
+    plain (codes "STOSB") (Strings Stosb) ∷
+    plain (codes "STOSW") (Strings Stosw) ∷
+    plain (codes "LODSB") (Strings Lodsb) ∷
+    plain (codes "LODSW") (Strings Lodsw) ∷
+    plain (codes "SCASB") (Strings Scasb) ∷
+    plain (codes "SCASW") (Strings Scasw) ∷
     plain (codes "DAA") (Adjust Daa) ∷
     plain (codes "DAS") (Adjust Das) ∷
     plain (codes "AAA") (Adjust Aaa) ∷

@@ -1,14 +1,14 @@
 //! The names under which operations, registers, prefixes and keywords are written: of several the first.
 ghost use Rattle.std.specs.Prelude.{◌≡◌};
-ghost use Rattle.dialect.specs.Names.{adjust_name, arithmetic_name, byte_register_name, control_name, jump_name, keyword_name, looping_name, mnemonic_name, operation_name, prefix_name, processor_name, product_name, register_name, segment_register_name, shift_name, text_name, transfer_name, unary_name, word_register_name};
+ghost use Rattle.dialect.specs.Names.{adjust_name, arithmetic_name, byte_register_name, control_name, jump_name, keyword_name, looping_name, mnemonic_name, operation_name, prefix_name, processor_name, product_name, register_name, segment_register_name, shift_name, strings_name, transfer_name, unary_name, word_register_name};
 
 use crate::keyword::Keyword;
 use crate::mnemonic::Mnemonic;
 use crate::register::Register;
 use isa::form::{Prefix, Repeat};
 use isa::operation::{
-    Adjust, Arithmetic, Condition, Control, Looping, Operation, Processor, Product, Shift, Text,
-    Transfer, Unary,
+    Adjust, Arithmetic, Control, JumpCondition, Looping, Operation, Processor, Product, Shift,
+    Strings, Transfer, Unary,
 };
 use isa::register::{ByteRegister, SegmentRegister, WordRegister};
 
@@ -23,7 +23,7 @@ pub fn operation_name(operation: Operation) -> &'static str
         Operation::Unary(unary) => unary_name(unary),
         Operation::Jump(condition) => jump_name(condition),
         Operation::Looping(looping) => looping_name(looping),
-        Operation::Text(text) => text_name(text),
+        Operation::Strings(strings) => strings_name(strings),
         Operation::Adjust(adjust) => adjust_name(adjust),
         Operation::Transfer(transfer) => transfer_name(transfer),
         Operation::Control(control) => control_name(control),
@@ -83,26 +83,26 @@ fn unary_name(unary: Unary) -> &'static str
     }
 }
 
-fn jump_name(condition: Condition) -> &'static str
+fn jump_name(condition: JumpCondition) -> &'static str
     ensures { result.now ≡ jump_name condition }
 {
     match condition {
-        Condition::Overflow => "JO",
-        Condition::NotOverflow => "JNO",
-        Condition::Below => "JB",
-        Condition::NotBelow => "JNB",
-        Condition::Zero => "JZ",
-        Condition::NotZero => "JNZ",
-        Condition::BelowOrZero => "JBE",
-        Condition::Above => "JA",
-        Condition::Sign => "JS",
-        Condition::NotSign => "JNS",
-        Condition::Parity => "JP",
-        Condition::NotParity => "JNP",
-        Condition::Less => "JL",
-        Condition::NotLess => "JGE",
-        Condition::LessOrZero => "JLE",
-        Condition::Greater => "JG",
+        JumpCondition::Overflow => "JO",
+        JumpCondition::NotOverflow => "JNO",
+        JumpCondition::Below => "JB",
+        JumpCondition::NotBelow => "JNB",
+        JumpCondition::Zero => "JZ",
+        JumpCondition::NotZero => "JNZ",
+        JumpCondition::BelowOrZero => "JBE",
+        JumpCondition::Above => "JA",
+        JumpCondition::Sign => "JS",
+        JumpCondition::NotSign => "JNS",
+        JumpCondition::Parity => "JP",
+        JumpCondition::NotParity => "JNP",
+        JumpCondition::Less => "JL",
+        JumpCondition::NotLess => "JGE",
+        JumpCondition::LessOrZero => "JLE",
+        JumpCondition::Greater => "JG",
     }
 }
 
@@ -117,20 +117,20 @@ fn looping_name(looping: Looping) -> &'static str
     }
 }
 
-fn text_name(text: Text) -> &'static str
-    ensures { result.now ≡ text_name text }
+fn strings_name(strings: Strings) -> &'static str
+    ensures { result.now ≡ strings_name strings }
 {
-    match text {
-        Text::Movsb => "MOVSB",
-        Text::Movsw => "MOVSW",
-        Text::Cmpsb => "CMPSB",
-        Text::Cmpsw => "CMPSW",
-        Text::Stosb => "STOSB",
-        Text::Stosw => "STOSW",
-        Text::Lodsb => "LODSB",
-        Text::Lodsw => "LODSW",
-        Text::Scasb => "SCASB",
-        Text::Scasw => "SCASW",
+    match strings {
+        Strings::Movsb => "MOVSB",
+        Strings::Movsw => "MOVSW",
+        Strings::Cmpsb => "CMPSB",
+        Strings::Cmpsw => "CMPSW",
+        Strings::Stosb => "STOSB",
+        Strings::Stosw => "STOSW",
+        Strings::Lodsb => "LODSB",
+        Strings::Lodsw => "LODSW",
+        Strings::Scasb => "SCASB",
+        Strings::Scasw => "SCASW",
     }
 }
 

@@ -1,7 +1,7 @@
 -- What is written for the operands of an instruction (8086 Family User's Manual, "Machine Instruction Encoding and
 -- Decoding"; the size words and SHORT are this board's assembler dialect).
 -- To be believed: public contracts say what they say by these definitions.
-use Rattle.std.specs.Prelude.{ℕ, ◌+◌, ◌*◌, ◌%◌, Bool, true, false, nat_lt, if◌then◌else◌, Option, Some, None}
+use Rattle.std.specs.Prelude.{ℕ, ◌+◌, ◌*◌, ◌%◌, Bool, true, false, if◌then◌else◌, Option, Some, None}
 use Rattle.isa.specs.declared.operation.Operation.{Operation}
 use Rattle.isa.specs.declared.operation.Operation.TheVariants.{Control}
 use Rattle.isa.specs.declared.operation.Control.TheVariants.{Jmp}
@@ -16,6 +16,7 @@ use Rattle.isa.specs.declared.row.Kind.{Kind}
 use Rattle.isa.specs.declared.row.Kind.TheVariants as kinds
 use Rattle.isa.specs.Row.{operation_of}
 use Rattle.isa.specs.Registers.{byte_register_of, segment_register_of, word_register_of}
+use Rattle.isa.specs.Encoding.{sign_extended}
 use Rattle.dialect.specs.declared.keyword.Keyword.{Keyword}
 use Rattle.dialect.specs.declared.keyword.Keyword.TheVariants as keywords
 use Rattle.dialect.specs.declared.register.Register.TheVariants as registers
@@ -31,10 +32,6 @@ word_register n = Register (registers.Word (word_register_of n))
 
 abbrev pub segment_register : ℕ → Written
 segment_register n = Register (registers.Segment (segment_register_of n))
-
--- a byte, extended to a word by its sign
-abbrev pub extended : ℕ → ℕ
-extended byte = if nat_lt byte 128 then byte else (byte + 0xFF00) % 65536
 
 -- a target is told from the next instruction on, and wraps
 abbrev pub target_after : ℕ → ℕ → ℕ
@@ -74,7 +71,7 @@ memory_operand places.Absent size displacement = Nothing
 memory_operand (places.Register _) size displacement = Nothing
 memory_operand places.Direct size displacement = memory_at size None (Some displacement)
 memory_operand (places.Base base) size displacement = memory_at size (Some base) None
-memory_operand (places.BaseByte base) size displacement = memory_at size (Some base) (Some (extended displacement))
+memory_operand (places.BaseByte base) size displacement = memory_at size (Some base) (Some (sign_extended displacement))
 memory_operand (places.BaseWord base) size displacement = memory_at size (Some base) (Some displacement)
 
 -- a register or a place in memory
@@ -109,8 +106,8 @@ written_operand f v next kinds.Rm16 other = word_operand f.place (size_beside ke
 written_operand f v next kinds.Memory other = word_operand f.place (far_size (operation_of f.row)) v.displacement
 written_operand f v next kinds.Imm8 other = Byte (v.number % 256)
 written_operand f v next kinds.Imm16 other = Word v.number
-written_operand f v next kinds.Signed8 other = Word (extended v.number)
-written_operand f v next kinds.Rel8 other = target_operand (operation_of f.row) (target_after next (extended v.number))
+written_operand f v next kinds.Signed8 other = Word (sign_extended v.number)
+written_operand f v next kinds.Rel8 other = target_operand (operation_of f.row) (target_after next (sign_extended v.number))
 written_operand f v next kinds.Rel16 other = Word (target_after next v.number)
 written_operand f v next kinds.At8 other = memory_at None None (Some v.number)
 written_operand f v next kinds.At16 other = memory_at None None (Some v.number)

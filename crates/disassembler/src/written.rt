@@ -1,10 +1,10 @@
 //! What is written for the operands of an instruction.
 ghost use Rattle.std.specs.Prelude.{◌≡◌};
-ghost use Rattle.disassembler.specs.Written.{byte_operand, byte_register, escape_operand, extended, far_size, memory_operand, segment_register, size_beside, target_operand, tells_size, word_operand, word_register, written_operand};
+ghost use Rattle.disassembler.specs.Written.{byte_operand, byte_register, escape_operand, far_size, memory_operand, segment_register, size_beside, target_operand, tells_size, word_operand, word_register, written_operand};
 
 use dialect::keyword::Keyword;
 use dialect::register::Register;
-use isa::form::{Base, Form, Place, Values};
+use isa::form::{Base, Form, Place, Values, sign_extended};
 use isa::operation::{Control, Operation};
 use isa::register::{ByteRegister, SegmentRegister, WordRegister};
 use isa::row::Kind;
@@ -79,10 +79,10 @@ pub(crate) fn written_operand(
         ),
         Kind::Imm8 => Written::Byte((values.number % 256) as u8),
         Kind::Imm16 => Written::Word(values.number),
-        Kind::Signed8 => Written::Word(extended(values.number)),
+        Kind::Signed8 => Written::Word(sign_extended(values.number)),
         Kind::Rel8 => target_operand(
             form.row.operation(),
-            next.wrapping_add(extended(values.number)),
+            next.wrapping_add(sign_extended(values.number)),
         ),
         Kind::Rel16 => Written::Word(next.wrapping_add(values.number)),
         Kind::At8 | Kind::At16 => Written::Memory(Memory {
@@ -110,17 +110,6 @@ fn segment_register(number: u8) -> Written
     ensures { result ≡ segment_register number }
 {
     Written::Register(Register::Segment(SegmentRegister::numbered(number)))
-}
-
-/// A byte, extended to a word by its sign.
-fn extended(byte: u16) -> u16
-    ensures { result ≡ extended byte }
-{
-    if byte < 128 {
-        byte
-    } else {
-        byte.wrapping_add(0xFF00)
-    }
 }
 
 /// An ESC's number.
@@ -193,7 +182,7 @@ fn memory_operand(place: Place, size: Option<Keyword>, displacement: u16) -> Wri
         Place::Absent | Place::Register(_) => return Written::Nothing,
         Place::Direct => (None, Some(displacement)),
         Place::Base(base) => (Some(base), None),
-        Place::BaseByte(base) => (Some(base), Some(extended(displacement))),
+        Place::BaseByte(base) => (Some(base), Some(sign_extended(displacement))),
         Place::BaseWord(base) => (Some(base), Some(displacement)),
     };
     Written::Memory(Memory {

@@ -3,12 +3,12 @@ ghost use Rattle.std.specs.Prelude.{◌≡◌};
 
 use arrayvec::ArrayVec;
 use isa::form::Instr;
-use isa::operation::Text;
+use isa::operation::Strings;
 
 /// A repeated string instruction between two of its iterations, with all its prefixes.
 #[derive(Drop)]
 pub struct Repeating {
-    pub text: Text,
+    pub operation: Strings,
     pub instr: Instr,
 }
 
@@ -18,7 +18,7 @@ impl Repeating {
         ensures { result ≡ self.now }
     {
         Repeating {
-            text: self.text,
+            operation: self.operation,
             instr: copied(&self.instr),
         }
     }

@@ -6,8 +6,8 @@ use Rattle.isa.specs.declared.operation.Arithmetic.TheVariants.{Add, Adc, Sub, S
 use Rattle.isa.specs.declared.register.ByteRegister.TheVariants.{Al}
 use Rattle.isa.specs.Row.{second_of}
 use Rattle.bus.specs.Bus.{BusMeaning}
-use Rattle.execute_machine.specs.declared.location.Location.{Location}
-use Rattle.execute_machine.specs.declared.location.Location.TheVariants as locations
+use Rattle.execute_machine.specs.declared.location.OperandLocation.{OperandLocation}
+use Rattle.execute_machine.specs.declared.location.OperandLocation.TheVariants as locations
 use Rattle.execute_machine.specs.declared.width.Width.TheVariants.{Byte}
 use Rattle.execute_machine.specs.Locations.{Machine, location_of, operand_at, value_at, with_value_at, width_at}
 use Rattle.execute_machine.specs.Registers.{byte_register, with_byte_register}
@@ -15,7 +15,7 @@ use Rattle.execute_arith.specs.Meaning.{after_arithmetic, al_of, difference_of, 
 use Rattle.execute_arith.specs.Laws.{HasDifference, HasSum, SumsStandInAl}
 
 -- the same at two locations
-abbrev after_at : {S : Type 0} → BusMeaning S → Machine S → Arithmetic → Location → Location → Machine S
+abbrev after_at : {S : Type 0} → BusMeaning S → Machine S → Arithmetic → OperandLocation → OperandLocation → Machine S
 after_at bus m op to from =
     let width = width_at to in
     let a = operand_at bus m to width in
@@ -29,7 +29,7 @@ cut_twice n = omega arith
 low_half : (word n : ℕ) → (word / 256 * 256 + n % 256 % 256) % 256 ≡ n % 256
 low_half word n = omega arith
 
-sum_in_al : {S : Type 0} (bus : BusMeaning S) (m : Machine S) (from : Location) → HasSum (after_at bus m Add (locations.Byte Al) from).registers (al_of m.registers) (operand_at bus m from Byte) 0
+sum_in_al : {S : Type 0} (bus : BusMeaning S) (m : Machine S) (from : OperandLocation) → HasSum (after_at bus m Add (locations.Byte Al) from).registers (al_of m.registers) (operand_at bus m from Byte) 0
 unfolding result_of value_at with_flags_of with_value_at byte_register with_byte_register
 sum_in_al bus m from = record {
   before = m.registers.flags;
@@ -37,7 +37,7 @@ sum_in_al bus m from = record {
   flags = ap (λ a. with_sum m.registers.flags Byte a (operand_at bus m from Byte) 0) (cut_twice m.registers.ax);
 }
 
-carried_sum_in_al : {S : Type 0} (bus : BusMeaning S) (m : Machine S) (from : Location) → HasSum (after_at bus m Adc (locations.Byte Al) from).registers (al_of m.registers) (operand_at bus m from Byte) (from_bool m.registers.flags.carry)
+carried_sum_in_al : {S : Type 0} (bus : BusMeaning S) (m : Machine S) (from : OperandLocation) → HasSum (after_at bus m Adc (locations.Byte Al) from).registers (al_of m.registers) (operand_at bus m from Byte) (from_bool m.registers.flags.carry)
 unfolding result_of value_at with_flags_of with_value_at byte_register with_byte_register
 carried_sum_in_al bus m from = record {
   before = m.registers.flags;
@@ -45,7 +45,7 @@ carried_sum_in_al bus m from = record {
   flags = ap (λ a. with_sum m.registers.flags Byte a (operand_at bus m from Byte) (from_bool m.registers.flags.carry)) (cut_twice m.registers.ax);
 }
 
-difference_in_al : {S : Type 0} (bus : BusMeaning S) (m : Machine S) (from : Location) → HasDifference (after_at bus m Sub (locations.Byte Al) from).registers (al_of m.registers) (operand_at bus m from Byte) 0
+difference_in_al : {S : Type 0} (bus : BusMeaning S) (m : Machine S) (from : OperandLocation) → HasDifference (after_at bus m Sub (locations.Byte Al) from).registers (al_of m.registers) (operand_at bus m from Byte) 0
 unfolding result_of value_at with_flags_of with_value_at byte_register with_byte_register
 difference_in_al bus m from = record {
   before = m.registers.flags;
@@ -53,7 +53,7 @@ difference_in_al bus m from = record {
   flags = ap (λ a. with_difference m.registers.flags Byte a (operand_at bus m from Byte) 0) (cut_twice m.registers.ax);
 }
 
-borrowed_difference_in_al : {S : Type 0} (bus : BusMeaning S) (m : Machine S) (from : Location) → HasDifference (after_at bus m Sbb (locations.Byte Al) from).registers (al_of m.registers) (operand_at bus m from Byte) (from_bool m.registers.flags.carry)
+borrowed_difference_in_al : {S : Type 0} (bus : BusMeaning S) (m : Machine S) (from : OperandLocation) → HasDifference (after_at bus m Sbb (locations.Byte Al) from).registers (al_of m.registers) (operand_at bus m from Byte) (from_bool m.registers.flags.carry)
 unfolding result_of value_at with_flags_of with_value_at byte_register with_byte_register
 borrowed_difference_in_al bus m from = record {
   before = m.registers.flags;

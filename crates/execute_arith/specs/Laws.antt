@@ -10,7 +10,7 @@ use Rattle.isa.specs.declared.register.ByteRegister.TheVariants.{Al}
 use Rattle.isa.specs.declared.form.Instr.{Instr}
 use Rattle.isa.specs.Row.{first_of, second_of}
 use Rattle.bus.specs.Bus.{BusMeaning}
-use Rattle.execute_machine.specs.declared.location.Location.TheVariants as locations
+use Rattle.execute_machine.specs.declared.location.OperandLocation.TheVariants as locations
 use Rattle.execute_machine.specs.Locations.{Machine, location_of, operand_at, width_at}
 use Rattle.execute_machine.specs.declared.registers.Registers.{Registers}
 use Rattle.execute_machine.specs.FlagState.{FlagState}

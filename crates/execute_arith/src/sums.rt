@@ -35,8 +35,7 @@ fn sum_overflows(width: Width, a: u16, b: u16, carry: bool, sum: u16) -> bool
     requires sum { sum ≡ sum_of width a b (from_bool carry) }
     ensures { result ≡ is_outside width (signed_of width a +ℤ signed_of width b +ℤ pos (from_bool carry)) }
 {
-    is_negative(width, a) == is_negative(width, b)
-        && is_negative(width, sum) != is_negative(width, a)
+    width.is_negative(a) == width.is_negative(b) && width.is_negative(sum) != width.is_negative(a)
 }
 
 fn cut(width: Width, value: u32) -> u16
@@ -47,12 +46,6 @@ fn cut(width: Width, value: u32) -> u16
         Width::Byte => (value % 256) as u16,
         Width::Word => (value % 65536) as u16,
     }
-}
-
-fn is_negative(width: Width, value: u16) -> bool
-    ensures { result ≡ is_negative width value }
-{
-    value >= width.half_size()
 }
 
 /// The first of two numbers of this width less the second and the borrow, cut to the width, with its flags.
@@ -82,8 +75,8 @@ fn difference_overflows(width: Width, a: u16, b: u16, borrow: bool, difference: 
     requires difference { difference ≡ difference_of width a b (from_bool borrow) }
     ensures { result ≡ is_outside width (signed_of width a -ℤ signed_of width b -ℤ pos (from_bool borrow)) }
 {
-    is_negative(width, a) != is_negative(width, b)
-        && is_negative(width, difference) != is_negative(width, a)
+    width.is_negative(a) != width.is_negative(b)
+        && width.is_negative(difference) != width.is_negative(a)
 }
 
 /// The flags of the first of two numbers of this width less the second; the difference isn't kept.

@@ -3,8 +3,8 @@
 use Rattle.std.specs.Prelude.{ℕ, ◌≡◌, ◌+◌, ◌-◌, ◌<◌, ◌==◌, true, not, nat_lt, if◌then◌else◌}
 use Rattle.board_types.specs.Address.{physical, offset_after}
 use Rattle.board_types.specs.Iterate.{iterate}
-use Rattle.isa.specs.declared.operation.Condition.{Condition}
-use Rattle.isa.specs.declared.operation.Condition.TheVariants.{Overflow, NotOverflow, Below, NotBelow, Zero, NotZero, BelowOrZero, Above, Sign, NotSign, Parity, NotParity, Less, NotLess, LessOrZero, Greater}
+use Rattle.isa.specs.declared.operation.JumpCondition.{JumpCondition}
+use Rattle.isa.specs.declared.operation.JumpCondition.TheVariants.{Overflow, NotOverflow, Below, NotBelow, Zero, NotZero, BelowOrZero, Above, Sign, NotSign, Parity, NotParity, Less, NotLess, LessOrZero, Greater}
 use Rattle.isa.specs.declared.operation.Looping.TheVariants.{Loop}
 use Rattle.isa.specs.declared.operation.Control.TheVariants.{Call, Ret, CallFar, Retf, Iret}
 use Rattle.isa.specs.declared.form.Instr.{Instr}
@@ -16,7 +16,7 @@ use Rattle.execute_machine.specs.Stack.{after_entry}
 use Rattle.execute_control.specs.Meaning.{holds, is_loop_taken, after_looping, after_control, control_operand}
 
 -- the other condition of a pair: their opcodes differ in the lowest bit
-abbrev pub contrary : Condition → Condition
+abbrev pub contrary : JumpCondition → JumpCondition
 contrary Overflow = NotOverflow
 contrary NotOverflow = Overflow
 contrary Below = NotBelow
@@ -36,7 +36,7 @@ contrary Greater = LessOrZero
 
 -- of each pair exactly one condition holds
 abbrev pub ConditionsAreContrary : Type 0
-ConditionsAreContrary = (c : Condition) (f : FlagState) → holds (contrary c) f ≡ not (holds c f)
+ConditionsAreContrary = (c : JumpCondition) (f : FlagState) → holds (contrary c) f ≡ not (holds c f)
 
 -- how often a LOOP runs from this CX: 0 counts as 65,536
 abbrev pub loop_rounds : ℕ → ℕ

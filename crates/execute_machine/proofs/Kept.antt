@@ -2,8 +2,8 @@
 -- by these lemmas.
 use Rattle.std.proofs.Common.{ℕ}
 use Rattle.bus.specs.Bus.{BusMeaning, with_word_at}
-use Rattle.execute_machine.specs.declared.location.Location.{Location}
-use Rattle.execute_machine.specs.declared.location.Location.TheVariants.{Nothing, Byte, Word, Segment, ByteAt, WordAt, Number}
+use Rattle.execute_machine.specs.declared.location.OperandLocation.{OperandLocation}
+use Rattle.execute_machine.specs.declared.location.OperandLocation.TheVariants.{Nothing, Byte, Word, Segment, ByteAt, WordAt, Number}
 use Rattle.execute_machine.specs.Locations.{Machine, with_value_at}
 use Rattle.execute_machine.specs.Stack.{after_push, after_pop, after_entry_pushes, after_vector, after_entry}
 
@@ -15,7 +15,7 @@ pub kept_by_word : {S : Type 0} (bus : BusMeaning S) (P : S → Type 0) → Kept
 unfolding with_word_at
 kept_by_word bus P kept s segment offset word holds = kept.write _ _ _ (kept.write _ _ _ holds)
 
-pub kept_by_put : {S : Type 0} (bus : BusMeaning S) (P : S → Type 0) → Kept bus P → (m : Machine S) (l : Location) (value : ℕ) → P m.bus → P (with_value_at bus m l value).bus
+pub kept_by_put : {S : Type 0} (bus : BusMeaning S) (P : S → Type 0) → Kept bus P → (m : Machine S) (l : OperandLocation) (value : ℕ) → P m.bus → P (with_value_at bus m l value).bus
 unfolding with_value_at
 kept_by_put bus P kept m Nothing value holds = holds
 kept_by_put bus P kept m (Byte _) value holds = holds

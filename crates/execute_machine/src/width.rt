@@ -1,6 +1,6 @@
 //! The two widths of an operand.
 ghost use Rattle.std.specs.Prelude.{◌≡◌};
-ghost use Rattle.execute_machine.specs.Widths.{half_size, size_of};
+ghost use Rattle.execute_machine.specs.Widths.{half_size, is_negative, size_of};
 
 /// A byte or a word.
 #[derive(Clone, Copy)]
@@ -28,5 +28,12 @@ impl Width {
             Width::Byte => 128,
             Width::Word => 32768,
         }
+    }
+
+    /// Whether a value of this width is negative as a signed one.
+    pub fn is_negative(self, value: u16) -> bool
+        ensures { result ≡ is_negative self value }
+    {
+        value >= self.half_size()
     }
 }

@@ -15,12 +15,6 @@ pub struct Shifted {
     pub overflow: bool,
 }
 
-fn is_negative(width: Width, value: u16) -> bool
-    ensures { result ≡ is_negative width value }
-{
-    value >= width.half_size()
-}
-
 fn second_bit(width: Width, value: u16) -> bool
     requires { value < size_of width }
     ensures { result ≡ second_bit width value }
@@ -56,11 +50,11 @@ fn left(width: Width, operand: Shifted, entering: bool) -> Shifted
     ensures bound { result.value < size_of width }
 {
     let value = left_value(width, operand.value, entering);
-    let leaving = is_negative(width, operand.value);
+    let leaving = width.is_negative(operand.value);
     Shifted {
         value,
         carry: leaving,
-        overflow: is_negative(width, value) != leaving,
+        overflow: width.is_negative(value) != leaving,
     }
 }
 
@@ -85,7 +79,7 @@ fn right_rotation(width: Width, operand: Shifted, entering: bool) -> Shifted
     ensures bound { result.value < size_of width }
 {
     let value = right_value(width, operand.value, entering);
-    let overflow = is_negative(width, value) != second_bit(width, value);
+    let overflow = width.is_negative(value) != second_bit(width, value);
     right(width, operand, entering, overflow)
 }
 
@@ -96,7 +90,7 @@ fn single(operation: Shift, width: Width, operand: Shifted) -> Shifted
     ensures value { result ≡ after_single operation width operand }
     ensures bound { result.value < size_of width }
 {
-    let is_top = is_negative(width, operand.value);
+    let is_top = width.is_negative(operand.value);
     match operation {
         Shift::Rol => left(width, operand, is_top),
         Shift::Ror => right_rotation(width, operand, operand.value % 2 == 1),

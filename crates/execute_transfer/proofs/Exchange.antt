@@ -15,8 +15,8 @@ use Rattle.isa.specs.Row.{first_of, second_of}
 use Rattle.bus.specs.Bus.{BusMeaning, IsBus, with_word_at}
 use Rattle.execute_machine.specs.declared.registers.Registers.{Registers}
 use Rattle.execute_machine.specs.Registers.{byte_register, with_byte_register, word_register, with_word_register}
-use Rattle.execute_machine.specs.declared.location.Location.{Location}
-use Rattle.execute_machine.specs.declared.location.Location.TheVariants.{Byte, Word, ByteAt, WordAt}
+use Rattle.execute_machine.specs.declared.location.OperandLocation.{OperandLocation}
+use Rattle.execute_machine.specs.declared.location.OperandLocation.TheVariants.{Byte, Word, ByteAt, WordAt}
 use Rattle.execute_machine.specs.Locations.{Machine, machine, byte_place, location_of, value_at, with_value_at, word_at, word_place}
 use Rattle.execute_machine.specs.Memory.{HoldsBytes, HoldsWords, TakesWord}
 use Rattle.execute_machine.proofs.Memory.{high_of, high_reads_back, low_of, low_reads_back, word_fixed, word_leaves, word_reads_back}
@@ -24,12 +24,12 @@ use Rattle.execute_transfer.proofs.Halves.{byte_back, word_back}
 use Rattle.execute_transfer.specs.Meaning.{after_transfer, after_xchg, first_place, second_place}
 use Rattle.execute_transfer.specs.Laws.{AreRegisters, IsAsBefore, IsMemoryAndRegister, MemoryExchangesBack, RegistersExchangeBack}
 
-abbrev exchanged : {S : Type 0} → BusMeaning S → Machine S → Location → Location → Machine S
+abbrev exchanged : {S : Type 0} → BusMeaning S → Machine S → OperandLocation → OperandLocation → Machine S
 exchanged bus m first second = with_value_at bus (with_value_at bus m first (value_at bus m second)) second (value_at bus m first)
 
 -- a register's place is in no register
 
-abbrev IsRegister : Location → Type 0
+abbrev IsRegister : OperandLocation → Type 0
 IsRegister (Byte _) = Unit {0}
 IsRegister (Word _) = Unit {0}
 IsRegister _ = ⊥
@@ -113,18 +113,18 @@ bytes_back : (r : Registers) (v w : ByteRegister) → HoldsWords r → swapped_b
 unfolding word_register
 bytes_back r v w holds = swapped_back r v w (holds Ax) (holds Cx) (holds Dx) (holds Bx)
 
-registers_back_at : {S : Type 0} (bus : BusMeaning S) (m : Machine S) (first second : Location) → HoldsWords m.registers → AreRegisters first second → exchanged bus (exchanged bus m first second) first second ≡ m
+registers_back_at : {S : Type 0} (bus : BusMeaning S) (m : Machine S) (first second : OperandLocation) → HoldsWords m.registers → AreRegisters first second → exchanged bus (exchanged bus m first second) first second ≡ m
 unfolding with_value_at value_at
 registers_back_at bus m (Byte v) (Byte w) holds are = ap (λ r. machine r m.bus) (bytes_back m.registers v w holds)
 registers_back_at bus m (Word v) (Word w) holds are = ap (λ r. machine r m.bus) (words_back m.registers v w)
 registers_back_at bus m _ _ holds are = absurd are
 
-first_is_register : (first second : Location) → AreRegisters first second → IsRegister first
+first_is_register : (first second : OperandLocation) → AreRegisters first second → IsRegister first
 first_is_register (Byte v) (Byte w) are = tt
 first_is_register (Word v) (Word w) are = tt
 first_is_register _ _ are = absurd are
 
-second_is_register : (first second : Location) → AreRegisters first second → IsRegister second
+second_is_register : (first second : OperandLocation) → AreRegisters first second → IsRegister second
 second_is_register (Byte v) (Byte w) are = tt
 second_is_register (Word v) (Word w) are = tt
 second_is_register _ _ are = absurd are
@@ -198,7 +198,7 @@ word_restored bus laws s segment offset between word address fits takes holds wa
       ]
     ]
 
-memory_back_at : {S : Type 0} (bus : BusMeaning S) → IsBus bus → (m : Machine S) (first second : Location) → HoldsWords m.registers → HoldsBytes bus m.bus → IsMemoryAndRegister bus m.bus first second → IsAsBefore bus m (exchanged bus (exchanged bus m first second) first second)
+memory_back_at : {S : Type 0} (bus : BusMeaning S) → IsBus bus → (m : Machine S) (first second : OperandLocation) → HoldsWords m.registers → HoldsBytes bus m.bus → IsMemoryAndRegister bus m.bus first second → IsAsBefore bus m (exchanged bus (exchanged bus m first second) first second)
 unfolding with_value_at value_at
 memory_back_at bus laws m (ByteAt segment offset) (Byte b) words bytes takes =
     let place = physical segment offset in
@@ -227,7 +227,7 @@ memory_back_at bus laws m (WordAt segment offset) (Word w) words bytes (fits, ta
     }
 memory_back_at bus laws m _ _ words bytes is = absurd is
 
-register_is_second : {S : Type 0} (bus : BusMeaning S) (s : S) (first second : Location) → IsMemoryAndRegister bus s first second → IsRegister second
+register_is_second : {S : Type 0} (bus : BusMeaning S) (s : S) (first second : OperandLocation) → IsMemoryAndRegister bus s first second → IsRegister second
 register_is_second bus s (ByteAt segment offset) (Byte b) is = tt
 register_is_second bus s (WordAt segment offset) (Word w) is = tt
 register_is_second bus s _ _ is = absurd is

@@ -15,9 +15,10 @@ use Rattle.isa.specs.Row.{first_of}
 use Rattle.bus.specs.Bus.{BusMeaning, IsBus}
 use Rattle.execute_machine.specs.declared.registers.Registers.{Registers}
 use Rattle.execute_machine.specs.Registers.{segment_register}
-use Rattle.execute_machine.specs.declared.location.Location.{Location}
-use Rattle.execute_machine.specs.declared.location.Location.TheVariants.{ByteAt, WordAt}
-use Rattle.execute_machine.specs.Locations.{Machine, base_offset, byte_place, chosen_or, extended, location_of, machine, place_offset, segment_for, usual_segment, with_value_at, word_place}
+use Rattle.execute_machine.specs.declared.location.OperandLocation.{OperandLocation}
+use Rattle.execute_machine.specs.declared.location.OperandLocation.TheVariants.{ByteAt, WordAt}
+use Rattle.isa.specs.Encoding.{sign_extended}
+use Rattle.execute_machine.specs.Locations.{Machine, base_offset, byte_place, chosen_or, location_of, machine, place_offset, segment_for, usual_segment, with_value_at, word_place}
 use Rattle.execute_machine.specs.Memory.{TakesWord}
 use Rattle.execute_machine.specs.Stack.{after_pop, after_push, top_word}
 use Rattle.execute_machine.proofs.Memory.{word_reads_back}
@@ -43,7 +44,7 @@ base_without_sp r sp Bx = refl
 offset_without_sp : (r : Registers) (sp : ℕ) (place : Place) (displacement : ℕ) → place_offset (with_sp r sp) place displacement ≡ place_offset r place displacement
 unfolding place_offset
 offset_without_sp r sp (Base base) displacement = base_without_sp r sp base
-offset_without_sp r sp (BaseByte base) displacement = ap (λ o. offset_after o (extended displacement)) (base_without_sp r sp base)
+offset_without_sp r sp (BaseByte base) displacement = ap (λ o. offset_after o (sign_extended displacement)) (base_without_sp r sp base)
 offset_without_sp r sp (BaseWord base) displacement = ap (λ o. offset_after o displacement) (base_without_sp r sp base)
 offset_without_sp r sp _ displacement = refl
 
@@ -54,7 +55,7 @@ segment_without_sp r sp Cs = refl
 segment_without_sp r sp Ss = refl
 segment_without_sp r sp Ds = refl
 
-memory_without_sp : (at : ℕ → ℕ → Location) (r : Registers) (sp : ℕ) (i : Instr) (place : Place) → at (segment_for (with_sp r sp) i (usual_segment place)) (place_offset (with_sp r sp) place i.values.displacement) ≡ at (segment_for r i (usual_segment place)) (place_offset r place i.values.displacement)
+memory_without_sp : (at : ℕ → ℕ → OperandLocation) (r : Registers) (sp : ℕ) (i : Instr) (place : Place) → at (segment_for (with_sp r sp) i (usual_segment place)) (place_offset (with_sp r sp) place i.values.displacement) ≡ at (segment_for r i (usual_segment place)) (place_offset r place i.values.displacement)
 memory_without_sp at r sp i place =
     ap (λ s. at s (place_offset (with_sp r sp) place i.values.displacement)) (segment_without_sp r sp (chosen_or (chosen_segment i.prefixes.items) (usual_segment place)))
     ∙ ap (λ o. at (segment_for r i (usual_segment place)) o) (offset_without_sp r sp place i.values.displacement)

@@ -11,8 +11,8 @@ use Rattle.isa.specs.Registers.{byte_register_number, word_register_of}
 use Rattle.bus.specs.Bus.{BusMeaning}
 use Rattle.execute_machine.specs.declared.registers.Registers.{Registers}
 use Rattle.execute_machine.specs.Registers.{byte_register, with_byte_register, word_register, with_word_register}
-use Rattle.execute_machine.specs.declared.location.Location.{Location}
-use Rattle.execute_machine.specs.declared.location.Location.TheVariants.{Byte, Word, ByteAt, WordAt}
+use Rattle.execute_machine.specs.declared.location.OperandLocation.{OperandLocation}
+use Rattle.execute_machine.specs.declared.location.OperandLocation.TheVariants.{Byte, Word, ByteAt, WordAt}
 use Rattle.execute_machine.specs.Locations.{Machine, machine, with_value_at}
 use Rattle.execute_machine.specs.Memory.{HoldsBytes, HoldsWords, TakesWord}
 use Rattle.execute_machine.specs.Stack.{top_word}
@@ -38,7 +38,7 @@ PushSpStoresTheLowered {S} bus =
     (pushed.registers.sp ≡ lowered) × (top_word bus pushed ≡ lowered)
 
 -- two byte registers or two word registers
-abbrev pub AreRegisters : Location → Location → Type 0
+abbrev pub AreRegisters : OperandLocation → OperandLocation → Type 0
 AreRegisters (Byte _) (Byte _) = Unit {0}
 AreRegisters (Word _) (Word _) = Unit {0}
 AreRegisters _ _ = ⊥
@@ -51,7 +51,7 @@ RegistersExchangeBack {S} bus =
     → after_transfer bus (after_transfer bus m Xchg i) Xchg i ≡ m
 
 -- memory that takes bytes, and a register of its width
-abbrev pub IsMemoryAndRegister : {S : Type 0} → BusMeaning S → S → Location → Location → Type 0
+abbrev pub IsMemoryAndRegister : {S : Type 0} → BusMeaning S → S → OperandLocation → OperandLocation → Type 0
 IsMemoryAndRegister bus s (ByteAt segment offset) (Byte _) = bus.is_writable s (physical segment offset) ≡ true
 IsMemoryAndRegister bus s (WordAt segment offset) (Word _) = (offset < 65536) × TakesWord bus s segment offset
 IsMemoryAndRegister bus s _ _ = ⊥

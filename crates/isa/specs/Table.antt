@@ -5,17 +5,17 @@
 -- To be believed: public contracts say what they say by these definitions.
 use Rattle.std.specs.Prelude.{ℕ, ◌+◌, ◌*◌, List, [], ◌∷◌, ◌++◌, Some, None}
 use Rattle.isa.specs.declared.operation.Operation.{Operation}
-use Rattle.isa.specs.declared.operation.Operation.TheVariants.{Arithmetic, Shift, Product, Unary, Jump, Looping, Text, Adjust, Transfer, Control, Processor}
+use Rattle.isa.specs.declared.operation.Operation.TheVariants.{Arithmetic, Shift, Product, Unary, Jump, Looping, Strings, Adjust, Transfer, Control, Processor}
 use Rattle.isa.specs.declared.operation.Arithmetic.{Arithmetic as ArithmeticType}
 use Rattle.isa.specs.declared.operation.Arithmetic.TheVariants.{Add, Or, Adc, Sbb, And, Sub, Xor, Cmp, Test}
 use Rattle.isa.specs.declared.operation.Shift.{Shift as ShiftType}
 use Rattle.isa.specs.declared.operation.Shift.TheVariants.{Rol, Ror, Rcl, Rcr, Shl, Shr, Sar}
 use Rattle.isa.specs.declared.operation.Product.TheVariants.{Mul, Imul, Div, Idiv}
 use Rattle.isa.specs.declared.operation.Unary.TheVariants.{Inc, Dec, Not, Neg}
-use Rattle.isa.specs.declared.operation.Condition.{Condition}
-use Rattle.isa.specs.declared.operation.Condition.TheVariants.{Overflow, NotOverflow, Below, NotBelow, Zero, NotZero, BelowOrZero, Above, Sign, NotSign, Parity, NotParity, Less, NotLess, LessOrZero, Greater}
+use Rattle.isa.specs.declared.operation.JumpCondition.{JumpCondition}
+use Rattle.isa.specs.declared.operation.JumpCondition.TheVariants.{Overflow, NotOverflow, Below, NotBelow, Zero, NotZero, BelowOrZero, Above, Sign, NotSign, Parity, NotParity, Less, NotLess, LessOrZero, Greater}
 use Rattle.isa.specs.declared.operation.Looping.TheVariants.{Loopne, Loope, Loop, Jcxz}
-use Rattle.isa.specs.declared.operation.Text.TheVariants.{Movsb, Movsw, Cmpsb, Cmpsw, Stosb, Stosw, Lodsb, Lodsw, Scasb, Scasw}
+use Rattle.isa.specs.declared.operation.Strings.TheVariants.{Movsb, Movsw, Cmpsb, Cmpsw, Stosb, Stosw, Lodsb, Lodsw, Scasb, Scasw}
 use Rattle.isa.specs.declared.operation.Adjust.TheVariants.{Daa, Das, Aaa, Aas, Aam, Aad, Cbw, Cwd}
 use Rattle.isa.specs.declared.operation.Transfer.TheVariants.{Mov, Xchg, Lea, Les, Lds, Push, Pop, Pushf, Popf, Sahf, Lahf, Xlat, In, Out}
 use Rattle.isa.specs.declared.operation.Control.TheVariants.{Jmp, Call, Ret, JmpFar, CallFar, Retf, Int3, Int, Into, Iret}
@@ -57,7 +57,7 @@ signed f = f Add 0 ∷ f Adc 2 ∷ f Sbb 3 ∷ f Sub 5 ∷ f Cmp 7 ∷ []
 abbrev pub shifts : (ShiftType → ℕ → Row) → List Row
 shifts f = f Rol 0 ∷ f Ror 1 ∷ f Rcl 2 ∷ f Rcr 3 ∷ f Shl 4 ∷ f Shr 5 ∷ f Sar 7 ∷ []
 
-abbrev pub conditions : (Condition → ℕ → Row) → List Row
+abbrev pub conditions : (JumpCondition → ℕ → Row) → List Row
 conditions f =
     f Overflow 0 ∷ f NotOverflow 1 ∷ f Below 2 ∷ f NotBelow 3 ∷ f Zero 4 ∷ f NotZero 5 ∷ f BelowOrZero 6 ∷ f Above 7
     ∷ f Sign 8 ∷ f NotSign 9 ∷ f Parity 10 ∷ f NotParity 11 ∷ f Less 12 ∷ f NotLess 13 ∷ f LessOrZero 14 ∷ f Greater 15 ∷ []
@@ -126,16 +126,16 @@ rows =
     row (Transfer Popf) 0x9D Nothing Nothing (Always 8) ∷
     row (Transfer Sahf) 0x9E Nothing Nothing (Always 4) ∷
     row (Transfer Lahf) 0x9F Nothing Nothing (Always 4) ∷
-    row (Text Movsb) 0xA4 Nothing Nothing (Repeated 18 17) ∷
-    row (Text Movsw) 0xA5 Nothing Nothing (Repeated 18 17) ∷
-    row (Text Cmpsb) 0xA6 Nothing Nothing (Repeated 22 22) ∷
-    row (Text Cmpsw) 0xA7 Nothing Nothing (Repeated 22 22) ∷
-    row (Text Stosb) 0xAA Nothing Nothing (Repeated 11 10) ∷
-    row (Text Stosw) 0xAB Nothing Nothing (Repeated 11 10) ∷
-    row (Text Lodsb) 0xAC Nothing Nothing (Repeated 12 13) ∷
-    row (Text Lodsw) 0xAD Nothing Nothing (Repeated 12 13) ∷
-    row (Text Scasb) 0xAE Nothing Nothing (Repeated 15 15) ∷
-    row (Text Scasw) 0xAF Nothing Nothing (Repeated 15 15) ∷
+    row (Strings Movsb) 0xA4 Nothing Nothing (Repeated 18 17) ∷
+    row (Strings Movsw) 0xA5 Nothing Nothing (Repeated 18 17) ∷
+    row (Strings Cmpsb) 0xA6 Nothing Nothing (Repeated 22 22) ∷
+    row (Strings Cmpsw) 0xA7 Nothing Nothing (Repeated 22 22) ∷
+    row (Strings Stosb) 0xAA Nothing Nothing (Repeated 11 10) ∷
+    row (Strings Stosw) 0xAB Nothing Nothing (Repeated 11 10) ∷
+    row (Strings Lodsb) 0xAC Nothing Nothing (Repeated 12 13) ∷
+    row (Strings Lodsw) 0xAD Nothing Nothing (Repeated 12 13) ∷
+    row (Strings Scasb) 0xAE Nothing Nothing (Repeated 15 15) ∷
+    row (Strings Scasw) 0xAF Nothing Nothing (Repeated 15 15) ∷
     row (Arithmetic Test) 0xA8 Al Imm8 (Always 4) ∷
     row (Arithmetic Test) 0xA9 Ax Imm16 (Always 4) ∷
     row/ (Arithmetic Test) 0xF6 0 Rm8 Imm8 (Place 4 10) ∷

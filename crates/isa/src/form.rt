@@ -1,12 +1,23 @@
 //! Instructions: a row of the table with what its operands name, and the numbers in its fields.
 ghost use Rattle.std.specs.Prelude.{◌≡◌, ◌≤◌, ◌+◌, length};
-ghost use Rattle.isa.specs.Encoding.{base_number, displacement_field, form_length, instr_length, mod_of, prefix_byte, rm_of};
+ghost use Rattle.isa.specs.Encoding.{base_number, displacement_field, form_length, instr_length, mod_of, prefix_byte, rm_of, sign_extended};
 ghost use Rattle.isa.specs.Prefixes.{chosen_segment, repeat_of};
 
 use crate::layout::Field;
 use crate::register::SegmentRegister;
 use crate::row::Row;
 use arrayvec::ArrayVec;
+
+/// A byte, extended to a word by its sign.
+pub fn sign_extended(byte: u16) -> u16
+    ensures { result ≡ sign_extended byte }
+{
+    if byte < 128 {
+        byte
+    } else {
+        byte.wrapping_add(0xFF00)
+    }
+}
 
 /// The registers that an address in memory is made of, numbered 0 to 7 in this order as r/m.
 #[derive(Clone, Copy)]

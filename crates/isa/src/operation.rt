@@ -8,9 +8,9 @@ pub enum Operation {
     Shift(Shift),
     Product(Product),
     Unary(Unary),
-    Jump(Condition),
+    Jump(JumpCondition),
     Looping(Looping),
-    Text(Text),
+    Strings(Strings),
     Adjust(Adjust),
     Transfer(Transfer),
     Control(Control),
@@ -63,7 +63,7 @@ pub enum Unary {
 
 /// The conditions of the conditional jumps, in the order of their opcodes from 70h on.
 #[derive(Clone, Copy)]
-pub enum Condition {
+pub enum JumpCondition {
     Overflow,
     NotOverflow,
     Below,
@@ -93,7 +93,7 @@ pub enum Looping {
 
 /// The string instructions, of bytes or of words.
 #[derive(Clone, Copy)]
-pub enum Text {
+pub enum Strings {
     Movsb,
     Movsw,
     Cmpsb,

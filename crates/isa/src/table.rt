@@ -3,15 +3,15 @@ ghost use Rattle.std.specs.Prelude.{◌≡◌};
 ghost use Rattle.isa.specs.Table.{rows};
 
 use crate::operation::{
-    Adjust, Arithmetic, Condition, Control, Looping, Operation, Processor, Product, Shift, Text,
-    Transfer, Unary,
+    Adjust, Arithmetic, Control, JumpCondition, Looping, Operation, Processor, Product, Shift,
+    Strings, Transfer, Unary,
 };
 use crate::row::{Clocks, Kind, Row};
 
 /// A row: its operation, its opcode, and the digit in reg where it has one; its operands; its clocks.
 macro_rules! row {
-    (Condition::$op:ident $opcode:literal, $first:ident $second:ident, $($clocks:tt)+) => {
-        row!(@ Operation::Jump(Condition::$op), $opcode, None, $first, $second, $($clocks)+)
+    (JumpCondition::$op:ident $opcode:literal, $first:ident $second:ident, $($clocks:tt)+) => {
+        row!(@ Operation::Jump(JumpCondition::$op), $opcode, None, $first, $second, $($clocks)+)
     };
     ($group:ident::$op:ident $opcode:literal, $first:ident $second:ident, $($clocks:tt)+) => {
         row!(@ Operation::$group($group::$op), $opcode, None, $first, $second, $($clocks)+)
@@ -111,22 +111,22 @@ static ROWS: [Row; 236] = [
     row!(Unary::Dec 0x48, Code16 Nothing, Always(2)),
     row!(Transfer::Push 0x50, Code16 Nothing, Always(11)),
     row!(Transfer::Pop 0x58, Code16 Nothing, Always(8)),
-    row!(Condition::Overflow 0x70, Rel8 Nothing, Taken(16, 4)),
-    row!(Condition::NotOverflow 0x71, Rel8 Nothing, Taken(16, 4)),
-    row!(Condition::Below 0x72, Rel8 Nothing, Taken(16, 4)),
-    row!(Condition::NotBelow 0x73, Rel8 Nothing, Taken(16, 4)),
-    row!(Condition::Zero 0x74, Rel8 Nothing, Taken(16, 4)),
-    row!(Condition::NotZero 0x75, Rel8 Nothing, Taken(16, 4)),
-    row!(Condition::BelowOrZero 0x76, Rel8 Nothing, Taken(16, 4)),
-    row!(Condition::Above 0x77, Rel8 Nothing, Taken(16, 4)),
-    row!(Condition::Sign 0x78, Rel8 Nothing, Taken(16, 4)),
-    row!(Condition::NotSign 0x79, Rel8 Nothing, Taken(16, 4)),
-    row!(Condition::Parity 0x7A, Rel8 Nothing, Taken(16, 4)),
-    row!(Condition::NotParity 0x7B, Rel8 Nothing, Taken(16, 4)),
-    row!(Condition::Less 0x7C, Rel8 Nothing, Taken(16, 4)),
-    row!(Condition::NotLess 0x7D, Rel8 Nothing, Taken(16, 4)),
-    row!(Condition::LessOrZero 0x7E, Rel8 Nothing, Taken(16, 4)),
-    row!(Condition::Greater 0x7F, Rel8 Nothing, Taken(16, 4)),
+    row!(JumpCondition::Overflow 0x70, Rel8 Nothing, Taken(16, 4)),
+    row!(JumpCondition::NotOverflow 0x71, Rel8 Nothing, Taken(16, 4)),
+    row!(JumpCondition::Below 0x72, Rel8 Nothing, Taken(16, 4)),
+    row!(JumpCondition::NotBelow 0x73, Rel8 Nothing, Taken(16, 4)),
+    row!(JumpCondition::Zero 0x74, Rel8 Nothing, Taken(16, 4)),
+    row!(JumpCondition::NotZero 0x75, Rel8 Nothing, Taken(16, 4)),
+    row!(JumpCondition::BelowOrZero 0x76, Rel8 Nothing, Taken(16, 4)),
+    row!(JumpCondition::Above 0x77, Rel8 Nothing, Taken(16, 4)),
+    row!(JumpCondition::Sign 0x78, Rel8 Nothing, Taken(16, 4)),
+    row!(JumpCondition::NotSign 0x79, Rel8 Nothing, Taken(16, 4)),
+    row!(JumpCondition::Parity 0x7A, Rel8 Nothing, Taken(16, 4)),
+    row!(JumpCondition::NotParity 0x7B, Rel8 Nothing, Taken(16, 4)),
+    row!(JumpCondition::Less 0x7C, Rel8 Nothing, Taken(16, 4)),
+    row!(JumpCondition::NotLess 0x7D, Rel8 Nothing, Taken(16, 4)),
+    row!(JumpCondition::LessOrZero 0x7E, Rel8 Nothing, Taken(16, 4)),
+    row!(JumpCondition::Greater 0x7F, Rel8 Nothing, Taken(16, 4)),
     row!(Arithmetic::Test 0x84, Rm8 Reg8, Place(3, 9)),
     row!(Arithmetic::Test 0x85, Rm16 Reg16, Place(3, 9)),
     row!(Transfer::Xchg 0x90, Ax Code16, Always(3)),
@@ -158,16 +158,16 @@ static ROWS: [Row; 236] = [
     row!(Transfer::Popf 0x9D, Nothing Nothing, Always(8)),
     row!(Transfer::Sahf 0x9E, Nothing Nothing, Always(4)),
     row!(Transfer::Lahf 0x9F, Nothing Nothing, Always(4)),
-    row!(Text::Movsb 0xA4, Nothing Nothing, Repeated(18, 17)),
-    row!(Text::Movsw 0xA5, Nothing Nothing, Repeated(18, 17)),
-    row!(Text::Cmpsb 0xA6, Nothing Nothing, Repeated(22, 22)),
-    row!(Text::Cmpsw 0xA7, Nothing Nothing, Repeated(22, 22)),
-    row!(Text::Stosb 0xAA, Nothing Nothing, Repeated(11, 10)),
-    row!(Text::Stosw 0xAB, Nothing Nothing, Repeated(11, 10)),
-    row!(Text::Lodsb 0xAC, Nothing Nothing, Repeated(12, 13)),
-    row!(Text::Lodsw 0xAD, Nothing Nothing, Repeated(12, 13)),
-    row!(Text::Scasb 0xAE, Nothing Nothing, Repeated(15, 15)),
-    row!(Text::Scasw 0xAF, Nothing Nothing, Repeated(15, 15)),
+    row!(Strings::Movsb 0xA4, Nothing Nothing, Repeated(18, 17)),
+    row!(Strings::Movsw 0xA5, Nothing Nothing, Repeated(18, 17)),
+    row!(Strings::Cmpsb 0xA6, Nothing Nothing, Repeated(22, 22)),
+    row!(Strings::Cmpsw 0xA7, Nothing Nothing, Repeated(22, 22)),
+    row!(Strings::Stosb 0xAA, Nothing Nothing, Repeated(11, 10)),
+    row!(Strings::Stosw 0xAB, Nothing Nothing, Repeated(11, 10)),
+    row!(Strings::Lodsb 0xAC, Nothing Nothing, Repeated(12, 13)),
+    row!(Strings::Lodsw 0xAD, Nothing Nothing, Repeated(12, 13)),
+    row!(Strings::Scasb 0xAE, Nothing Nothing, Repeated(15, 15)),
+    row!(Strings::Scasw 0xAF, Nothing Nothing, Repeated(15, 15)),
     row!(Arithmetic::Test 0xA8, Al Imm8, Always(4)),
     row!(Arithmetic::Test 0xA9, Ax Imm16, Always(4)),
     row!(Arithmetic::Test 0xF6 / 0, Rm8 Imm8, Place(4, 10)),

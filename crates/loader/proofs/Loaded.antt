@@ -12,7 +12,7 @@ use Rattle.loader.specs.declared.hex_record.Extension.{Extension}
 use Rattle.loader.specs.declared.hex_record.Extension.TheVariants.{Segment}
 use Rattle.loader.specs.Laws.{bytes_of, filled_lines, is_end, last_byte, later_or, LoadsRecords}
 use Rattle.loader.specs.Lines.{without_spaces}
-use Rattle.text_lines.specs.Lines.{text_lines}
+use Rattle.board_types.specs.TextLines.{text_lines}
 use Rattle.loader.specs.Reading.{after_end, after_line, after_record, at_extension, image_after, image_of, in_line, is_blank, load_state}
 use Rattle.loader.specs.Records.{◌>>=◌, HexRecord, bytes_at, end_of_file, extension_at, start_at, are_loadable, is_loadable, placed_bytes, record_of, with_bytes}
 use Rattle.loader.proofs.LaterBytes.{later_bytes_win, sorted_with}

@@ -17,7 +17,7 @@ use Rattle.loader.specs.declared.hex_record.Extension.TheVariants.{Segment}
 use Rattle.loader.specs.HexText.{bank_line, checksum, data_line, end_line, hex_text, is_bank, hex_lines, record_line, row_lines, longest_run}
 use Rattle.loader.specs.Laws.{ReadsBack}
 use Rattle.loader.specs.Lines.{unless_last, without_spaces}
-use Rattle.text_lines.specs.Lines.{onto_first, text_lines}
+use Rattle.board_types.specs.TextLines.{onto_first, text_lines}
 use Rattle.loader.specs.Reading.{after_line, after_record, image_after, image_of, load_state}
 use Rattle.loader.specs.Records.{◌>>=◌, HexRecord, address_in, are_loadable, extension_at, bytes_at, is_loadable, placed_bytes, record_in, record_of, record_of_type, with_bytes}
 use Rattle.loader.proofs.Runs.{eq_not, eq_yes, less_is, lt_not, row_lines_at, run_at}

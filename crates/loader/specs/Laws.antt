@@ -10,7 +10,7 @@ use Rattle.loader.specs.HexText.{hex_text}
 use Rattle.loader.specs.declared.hex_record.Extension.{Extension}
 use Rattle.loader.specs.declared.hex_record.Extension.TheVariants.{Segment}
 use Rattle.loader.specs.Lines.{without_spaces}
-use Rattle.text_lines.specs.Lines.{text_lines}
+use Rattle.board_types.specs.TextLines.{text_lines}
 use Rattle.loader.specs.Reading.{image_of, is_blank}
 use Rattle.loader.specs.Records.{HexRecord, bytes_at, end_of_file, extension_at, start_at, are_loadable, placed_bytes, record_of, with_bytes}
 

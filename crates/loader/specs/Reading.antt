@@ -8,7 +8,7 @@ use Rattle.loader.specs.declared.hex_fault.HexFault.TheVariants.{InLine, NoEnd, 
 use Rattle.loader.specs.declared.hex_record.Extension.{Extension}
 use Rattle.loader.specs.declared.hex_record.Extension.TheVariants.{Segment}
 use Rattle.loader.specs.Lines.{without_spaces}
-use Rattle.text_lines.specs.Lines.{text_lines}
+use Rattle.board_types.specs.TextLines.{text_lines}
 use Rattle.loader.specs.Records.{HexRecord, bytes_at, end_of_file, extension_at, start_at, ◌>>=◌, are_loadable, placed_bytes, record_of, with_bytes}
 
 -- where reading stands behind a line: what extends the offsets, or nothing past the end record; and the bytes so far

@@ -5,14 +5,14 @@ ghost use Rattle.loader.specs.RecordViews.{IsSmall, Refuses, RefusesBytes, view_
 ghost use Rattle.loader.specs.Reading.{Fails, after_end, after_line, after_record, image_of, load_state};
 ghost use Rattle.std.specs.BTreeMap.{insert_entry};
 ghost use Rattle.std.specs.Ordering.{nat_cmp};
-ghost use Rattle.text_lines.specs.Lines.{text_lines};
+ghost use Rattle.board_types.specs.TextLines.{text_lines};
 
 use crate::hex_fault::{HexFault, LineFault};
 use crate::hex_record::{Extension, LineError, Record, record_bytes, record_in};
 use crate::spaces::without_spaces;
 use board_types::image::{Image, is_loadable};
+use board_types::text::next_line;
 use std::alloc::Global;
-use text_lines::next_line;
 
 /// The image that a HEX text gives, or its first fault.
 #[tactic(auto, unfolding(crate::specs::Reading::image_of))]

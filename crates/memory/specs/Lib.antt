@@ -1,2 +1,2 @@
-pub mod Kinds
+pub mod Regions
 pub mod Map

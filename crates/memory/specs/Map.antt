@@ -4,11 +4,11 @@
 use Rattle.std.specs.Prelude.{ℕ, ◌≡◌, ◌≢◌, ◌+◌, ◌*◌, ◌%◌, ◌<◌, ◌≤◌, ◌&&◌, Bool, true, false, if◌then◌else◌, nat_lt, List, map, length, slice_index, slice_set, unwrap_or, Option, IsSome}
 use Rattle.std.specs.List.{range_with_len}
 use Rattle.board_types.specs.Image.{image_byte}
-use Rattle.memory.specs.declared.kind.Kind.{Kind}
-use Rattle.memory.specs.declared.kind.Kind.TheVariants.{Ram, Text, Rom, Nothing}
+use Rattle.memory.specs.declared.region.Region.{Region}
+use Rattle.memory.specs.declared.region.Region.TheVariants.{Ram, Text, Rom, Nothing}
 use Rattle.memory.specs.declared.map.MemoryFault.{MemoryFault}
 use Rattle.memory.specs.declared.map.MemoryFault.TheVariants.{RamSize, OutOfMemory}
-use Rattle.memory.specs.Kinds.{kind_of}
+use Rattle.memory.specs.Regions.{region_of}
 
 unfoldable pub address_count : ℕ
 address_count = 1048576
@@ -19,24 +19,24 @@ pub record MemoryMap : Type 0 where
   pub cells : List ℕ
 
 -- FFh is read where nothing answers
-abbrev pub byte_answered : Kind → ℕ → ℕ
+abbrev pub byte_answered : Region → ℕ → ℕ
 byte_answered Ram cell = cell
 byte_answered Text cell = cell
 byte_answered Rom cell = cell
 byte_answered Nothing cell = 0xFF
 
 unfoldable pub byte_at : MemoryMap → ℕ → ℕ
-byte_at memory address = byte_answered (kind_of memory.ram_size address) (slice_index memory.cells address)
+byte_at memory address = byte_answered (region_of memory.ram_size address) (slice_index memory.cells address)
 
 -- RAM alone can be written
-abbrev pub is_ram : Kind → Bool
+abbrev pub is_ram : Region → Bool
 is_ram Ram = true
 is_ram Text = false
 is_ram Rom = false
 is_ram Nothing = false
 
 unfoldable pub is_writable : MemoryMap → ℕ → Bool
-is_writable memory address = is_ram (kind_of memory.ram_size address) && nat_lt address (length memory.cells)
+is_writable memory address = is_ram (region_of memory.ram_size address) && nat_lt address (length memory.cells)
 
 -- a write changes a byte of RAM, and no other
 unfoldable pub with_byte : MemoryMap → ℕ → ℕ → MemoryMap
@@ -49,14 +49,14 @@ pub record IsMap (memory : MemoryMap) : Type 0 where
   pub ram : memory.ram_size ≤ 0xA0000
 
 -- RAM and text memory are 0 and the ROM FFh, but for the image's bytes (this board's choice)
-abbrev pub byte_of_kind : Kind → Option ℕ → ℕ
-byte_of_kind Ram given = unwrap_or given 0
-byte_of_kind Text given = 0
-byte_of_kind Rom given = unwrap_or given 0xFF
-byte_of_kind Nothing given = 0xFF
+abbrev pub byte_of_region : Region → Option ℕ → ℕ
+byte_of_region Ram given = unwrap_or given 0
+byte_of_region Text given = 0
+byte_of_region Rom given = unwrap_or given 0xFF
+byte_of_region Nothing given = 0xFF
 
 abbrev pub power_on_byte : List (ℕ × ℕ) → ℕ → ℕ → ℕ
-power_on_byte image ram_size address = byte_of_kind (kind_of ram_size address) (image_byte image address)
+power_on_byte image ram_size address = byte_of_region (region_of ram_size address) (image_byte image address)
 
 unfoldable pub power_on : List (ℕ × ℕ) → ℕ → MemoryMap
 power_on image ram_size = record {
@@ -91,7 +91,7 @@ WriteChangesRamAlone =
 abbrev pub RamIsWritable : Type 0
 RamIsWritable = (memory : MemoryMap) (address : ℕ) → IsMap memory → address < memory.ram_size → is_writable memory address ≡ true
 
--- at power-on each address has the byte of its kind
+-- at power-on each address has the byte of its region
 abbrev pub PowerOnBytes : Type 0
 PowerOnBytes =
     (image : List (ℕ × ℕ)) (ram_size address : ℕ) → address < address_count →

@@ -2,5 +2,5 @@
 //! elsewhere (IBM PC Technical Reference, "System Memory Map").
 #![tactic(auto)]
 
-pub mod kind;
 pub mod map;
+pub mod region;

@@ -2,10 +2,10 @@
 ghost use Rattle.std.specs.Prelude.{◌≡◌, ◌<◌, ◌*◌, ◌^◌, IfOk, OnOk, IsTrue, ◌↔◌, length, map};
 ghost use Rattle.std.specs.List.{range_with_len};
 ghost use Rattle.std.specs.Result.{IsErrOf};
-ghost use Rattle.memory.specs.Kinds.{IsTextAddress};
+ghost use Rattle.memory.specs.Regions.{IsTextAddress};
 ghost use Rattle.memory.specs.Map.{address_count, byte_at, with_byte, power_on, power_on_byte, memory_fault_number, IsRamSize, FitsRam, IsMap, PowerOnBytes, RamIsWritable, WriteChangesRamAlone};
 
-use crate::kind::{Kind, kind_of};
+use crate::region::{Region, region_of};
 use board_types::address::RAM_LIMIT;
 use board_types::image::Image;
 use std::alloc::{AllocError, Global};
@@ -83,9 +83,9 @@ impl Memory {
         ensures map { IsMap self.now }
     {
         let index = addr as usize;
-        match kind_of(self.ram_size, addr) {
-            Kind::Ram | Kind::Text | Kind::Rom => self.cells[index],
-            Kind::Nothing => 0xFF,
+        match region_of(self.ram_size, addr) {
+            Region::Ram | Region::Text | Region::Rom => self.cells[index],
+            Region::Nothing => 0xFF,
         }
     }
 
@@ -124,7 +124,7 @@ pub fn ram_is_writable()
     ensures { RamIsWritable }
 {}
 
-/// At power-on each address has the byte of its kind.
+/// At power-on each address has the byte of its region.
 pub fn power_on_bytes()
     ensures { PowerOnBytes }
 {}
@@ -179,10 +179,10 @@ fn power_on_byte(image: &Image, ram_size: u32, addr: u32) -> u8
     ensures { result ≡ power_on_byte image.now ram_size addr }
 {
     let given = image.get(addr);
-    match kind_of(ram_size, addr) {
-        Kind::Ram => given.unwrap_or(0),
-        Kind::Text => 0,
-        Kind::Rom => given.unwrap_or(0xFF),
-        Kind::Nothing => 0xFF,
+    match region_of(ram_size, addr) {
+        Region::Ram => given.unwrap_or(0),
+        Region::Text => 0,
+        Region::Rom => given.unwrap_or(0xFF),
+        Region::Nothing => 0xFF,
     }
 }

@@ -2,8 +2,8 @@
 -- To be believed: public contracts say what they say by these definitions.
 use Rattle.std.specs.Prelude.{ℕ, ◌≡◌, ◌+◌, ◌==◌, Bool, true, false, List, [], ◌∷◌, ◌++◌, take, drop, Option, None, Some, IfSome, Ok, Err, position}
 use Rattle.std.specs.Io.KnownBytes.{Appends}
-use Rattle.text_lines.specs.Lines.{text_lines}
-use Rattle.assembler_statement.specs.Values.{Names}
+use Rattle.board_types.specs.TextLines.{text_lines}
+use Rattle.assembler_meaning.specs.Values.{Names}
 use Rattle.assembler.specs.Rows.{Row, names_of}
 use Rattle.assembler.specs.Listing.{listed}
 use Rattle.assembler.specs.Gives.{Gives}

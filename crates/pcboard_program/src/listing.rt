@@ -1,6 +1,6 @@
 //! The listing of a source as one text.
 ghost use Rattle.std.specs.Prelude.{◌≡◌, ◌++◌, [], ◌∷◌, List, length, IfErr, IfOk, OnOk, string_bytes};
-ghost use Rattle.text_lines.specs.Lines.{text_lines};
+ghost use Rattle.board_types.specs.TextLines.{text_lines};
 ghost use Rattle.assembler.specs.Gives.{Gives};
 ghost use Rattle.assembler.specs.Rows.{AreRows, Row, names_of};
 ghost use Rattle.pcboard_program.specs.Answer.{IsListingOf};

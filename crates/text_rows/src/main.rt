@@ -6,7 +6,7 @@
 
 use anyhow::{Context, Result, bail};
 use assembler_lexeme::fault::{LineError, LineFault};
-use assembler_text::read::read_line;
+use assembler_syntax::read::read_line;
 use rows::judge_rows;
 use std::alloc::Global;
 use std::io;

@@ -3,7 +3,7 @@ use Rattle.std.proofs.Common.{◌≡◌, ◌≢◌, ◌<◌, ◌≤◌, ◌+◌,
 use Rattle.std.specs.Prelude.{◌==◌, is_some}
 use Rattle.std.proofs.lemmas.List.{get_or-set_other, length-set}
 use Rattle.std.proofs.Math.ListN.{get_or-map}
-use Rattle.memory.specs.Kinds.{is_text_address}
+use Rattle.memory.specs.Regions.{is_text_address}
 use Rattle.board_types.specs.Lines.{from_bool, is_high}
 use Rattle.keyboard.specs.Keyboard.{KeyboardState}
 use Rattle.pic8259.specs.Levels.{Levels, all_levels, contains}

@@ -3,7 +3,7 @@
 use Rattle.std.specs.Prelude.{◌≡◌, ◌≢◌, ℕ, ◌-◌, Bool, true, false, if◌then◌else◌, nat_lt, List, length, slice_index, slice_set}
 use Rattle.std.proofs.Common.{refl, ap, ◌∙◌, arith}
 use Rattle.std.proofs.lemmas.Grind.{common_steps}
-use Rattle.memory.specs.Kinds.{is_text_address}
+use Rattle.memory.specs.Regions.{is_text_address}
 use Rattle.memory.specs.Map.{MemoryMap}
 use Rattle.memory.specs.Map as map
 use Rattle.memory.proofs.Writes.{write_changes}

@@ -3,7 +3,7 @@
 -- To be believed: public contracts say what they say by these definitions.
 use Rattle.std.specs.Prelude.{ℕ, ◌≡◌, ◌≢◌, ◌-◌, ◌==◌, Bool, true, false, ◌&&◌, ◌||◌, if◌then◌else◌, nat_le, nat_lt, length}
 use Rattle.bus.specs.Bus.{BusMeaning}
-use Rattle.memory.specs.Kinds.{is_text_address}
+use Rattle.memory.specs.Regions.{is_text_address}
 use Rattle.memory.specs.Map as map
 use Rattle.pic8259.specs.Pic as pic
 use Rattle.pit8253.specs.Pit as pit

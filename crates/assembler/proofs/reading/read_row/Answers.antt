@@ -10,5 +10,5 @@ early_fault-requires-clause-short c = is_short c.args.start (length c.args.text.
 
 pub returns-in-Some-clause-err : goal.returns-in-Some-clause-err
 returns-in-Some-clause-err c =
-    row_fault c.args.state.now.symbols.entries c.args.state.now.spot c.args.text.now c.in-Ok.line c.statement_form-form.result c.in-Some.fault
+    row_fault c.args.state.now.symbols.entries c.args.state.now.location c.args.text.now c.in-Ok.line c.statement_form-form.result c.in-Some.fault
     c.in-Ok.ensures.answer c.statement_form-form.ensures.chosen (sym c.early_fault.ensures ∙ c.in-Some.is)

@@ -1,6 +1,7 @@
 use Rattle.std.proofs.Common.{◌≤◌, ◌+◌, ◌*◌, ◌∙◌, ap, arith, get_or}
 use Rattle.std.specs.Prelude.{option_and_then}
-use Rattle.assembler_lexeme.specs.Numbers.{number_to, in_bounds, digit_of}
+use Rattle.assembler_lexeme.specs.Numbers.{number_to, in_bounds}
+use Rattle.board_types.specs.Digits.{digit_of}
 use Rattle.assembler_lexeme.proofs.Wording.{stops_at, large_at}
 use Rattle.assembler_lexeme.proofs.number.number_to.Goals as goal
 

@@ -1,5 +1,5 @@
 use Rattle.std.proofs.Common.{◌≡◌, ◌<◌, drop}
-use Rattle.assembler_lexeme.specs.Numbers.{spelled}
+use Rattle.board_types.specs.Digits.{spelled}
 use Rattle.assembler_lexeme.proofs.number.number_to.Given as goal
 
 abbrev pub invariant-loop-byte : goal.invariant-loop-byte

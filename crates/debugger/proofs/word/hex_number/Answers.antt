@@ -1,6 +1,7 @@
 use Rattle.std.proofs.Common.{◌≡◌, ◌≤◌, ◌<◌, ◌^◌, sym, ◌∙◌, arith, length, Some, rules}
 use Rattle.std.proofs.Math.Nat.{pow-le-pow_right}
-use Rattle.debugger.specs.Words.{spelled, hex_number}
+use Rattle.board_types.specs.Digits.{spelled}
+use Rattle.debugger.specs.Words.{hex_number}
 use Rattle.debugger.proofs.Counting.{hex_below, hex_is}
 use Rattle.debugger.proofs.word.hex_number.Goals as goal
 

@@ -1,5 +1,5 @@
 use Rattle.std.proofs.Common.{◌≡◌, ◌+◌, ◌*◌, ◌∙◌, ◌<◌, ◌-◌, ◌^◌, min, arith, get_or, add-one}
-use Rattle.debugger.specs.Words.{digit_of}
+use Rattle.board_types.specs.Digits.{digit_of}
 use Rattle.debugger.proofs.Counting.{digit_more}
 use Rattle.debugger.proofs.word.number_to.Goals as goal
 

@@ -1,5 +1,6 @@
 use Rattle.std.proofs.Common.{◌≡◌, ◌≤◌, ◌-◌, ◌^◌, drop}
-use Rattle.debugger.specs.Words.{spelled, at_most_greatest}
+use Rattle.board_types.specs.Digits.{spelled}
+use Rattle.debugger.specs.Words.{at_most_greatest}
 use Rattle.debugger.proofs.word.number_to.Given as goal
 
 abbrev pub invariant-loop-byte : goal.invariant-loop-byte

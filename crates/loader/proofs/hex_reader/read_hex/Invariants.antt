@@ -1,5 +1,5 @@
 use Rattle.std.proofs.Common.{◌≡◌, ◌+◌, ◌<◌, ◌^◌, length}
-use Rattle.text_lines.specs.Lines.{text_lines}
+use Rattle.board_types.specs.TextLines.{text_lines}
 use Rattle.loader.specs.Reading.{image_after, image_of}
 use Rattle.loader.proofs.hex_reader.read_hex.Given as goal
 

@@ -1,9 +1,9 @@
 use Rattle.std.proofs.Common.{ℕ, ◌≡◌, ◌∙◌, ◌++◌, [], ◌∷◌, List, string_bytes, sym, ap, arith, Some, option_map, drop}
-use Rattle.text_lines.specs.Lines.{text_lines}
+use Rattle.board_types.specs.TextLines.{text_lines}
 use Rattle.assembler.specs.Listing.{line_at}
 use Rattle.assembler.specs.Rows.{Row, names_of}
 use Rattle.pcboard_program.specs.Answer.{listing_text}
-use Rattle.text_lines.proofs.Counting.{few_lines}
+use Rattle.board_types.proofs.LineCounting.{few_lines}
 use Rattle.pcboard_program.proofs.Listed.{all_shown, holds_none, line_none, shows_all, shows_more}
 use Rattle.pcboard_program.proofs.listing.lines_text.Goals as goal
 use Rattle.pcboard_program.proofs.listing.lines_text.Goals.{else-loop-i-test, then-loop-i-test+in_ok-line+in_default}

@@ -1,5 +1,5 @@
 use Rattle.std.proofs.Common.{◌≡◌, ◌++◌, [], List, string_bytes, drop}
-use Rattle.text_lines.specs.Lines.{text_lines}
+use Rattle.board_types.specs.TextLines.{text_lines}
 use Rattle.assembler.specs.Rows.{AreRows, Row}
 use Rattle.pcboard_program.specs.Answer.{listing_text}
 use Rattle.pcboard_program.proofs.listing.lines_text.Given as goal

@@ -3,7 +3,7 @@ use Rattle.std.specs.Prelude.{slice_get}
 use Rattle.std.specs.Str.{IsAscii}
 use Rattle.std.specs.String.{string_bytes}
 use Rattle.std.proofs.lemmas.Option.{slice_get-get_or, slice_get_past}
-use Rattle.text_lines.specs.Lines.{text_lines}
+use Rattle.board_types.specs.TextLines.{text_lines}
 use Rattle.assembler.specs.declared.row.KeptRow.{KeptRow}
 use Rattle.assembler.specs.Listing.{ListingState, line_at}
 use Rattle.assembler.specs.Rows.{AreRows, Row}

@@ -1,6 +1,6 @@
 use Rattle.std.proofs.Common.{◌≡◌, ◌∙◌, ap₂, subst, None, Some, ℕ, ℤ, List, to_z, of_z, w64, FitsSigned, rules}
 use Rattle.std.proofs.lemmas.Int.{to_z-of_z}
-use Rattle.assembler_statement.specs.Values.{symbol_value}
+use Rattle.assembler_meaning.specs.Values.{symbol_value}
 use Rattle.assembler.specs.Listing.{ListingState, symbol_at}
 use Rattle.assembler.proofs.ListingAscii.{no_symbol, own_symbol, own_letters}
 use Rattle.assembler.proofs.listing.Listing.symbol.Goals as goal

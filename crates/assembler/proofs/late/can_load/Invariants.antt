@@ -1,6 +1,0 @@
-use Rattle.std.proofs.Common.{◌≡◌, ◌<◌, ℕ, true}
-use Rattle.assembler.specs.Placement.{address_behind, is_loadable}
-use Rattle.assembler.proofs.late.can_load.Given as goal
-
-abbrev pub invariant-loop-n : goal.invariant-loop-n
-invariant-loop-n l = (j : ℕ) → j < l.n → is_loadable (address_behind l.spot j) ≡ true

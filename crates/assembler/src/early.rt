@@ -1,0 +1,246 @@
+//! Segments and names: what the lines before a line leave, and the faults of a line in that light.
+ghost use Rattle.std.specs.Prelude.{◌≡◌, ◌≤◌, ◌<◌, ◌+◌, ◌^◌, false, true, pos, IfSome};
+ghost use Rattle.std.specs.Option.{option_map, option_map_or};
+ghost use Rattle.isa.specs.Encoding.{IsForm};
+ghost use Rattle.assembler_meaning.specs.Data.{natural};
+ghost use Rattle.assembler.specs.FirstPass.{offset_of, size_limit};
+ghost use Rattle.assembler.specs.Rows.{IsFormOf, defines_again, early_fault, has_unknown_constant, has_wrong_constant, is_same, lacks_form, opens_within, size_of, location_after, stands_outside, statement_name, wants_segment};
+ghost use Rattle.assembler_meaning.specs.Values.{is_defined};
+ghost use Rattle.assembler_meaning.specs.Data.{is_other};
+ghost use Rattle.assembler_meaning.specs.Values.{AreSmall, IsShort, constant_of, term_limit};
+ghost use Rattle.assembler_syntax.specs.Weights.{are_terms_within, statement_weight};
+
+use crate::fault::SourceFault;
+use assembler_lexeme::name::Name;
+use assembler_meaning::constant::{constant_of, is_out_of_bounds};
+use assembler_meaning::data::{data_size, has_unknown_count, has_wrong_count};
+use assembler_meaning::instruction::{form_of, instruction_size};
+use assembler_meaning::symbol::{Location, Symbols, is_defined};
+use assembler_syntax::expression::Expression;
+use assembler_syntax::statement::{Line, Statement};
+use isa::form::Form;
+
+/// A paragraph, and a location that ORG sets, is at most this.
+const WORD_LIMIT: i64 = 65_535;
+
+/// The least number that EQU takes.
+const EQU_LEAST: i64 = -2_147_483_648;
+
+/// The greatest number that EQU takes.
+const EQU_GREATEST: i64 = 4_294_967_295;
+
+/// What the lines before a line leave.
+#[derive(Drop)]
+pub(crate) struct State {
+    /// Where the next byte goes, if a segment is open.
+    pub(crate) location: Option<Location>,
+    pub(crate) symbols: Symbols,
+}
+
+/// The fault of a line in the light of the lines before it: of its faults the one with the least number. `form` is the
+/// one that the table gives its instruction.
+#[tactic(auto, unfolding(crate::specs::Rows::early_fault))]
+pub(crate) fn early_fault(state: &State, line: &Line, form: Option<Form>) -> Option<SourceFault>
+    requires small { AreSmall state.now.symbols.entries }
+    requires short { are_terms_within term_limit line.now.statement ≡ true }
+    ensures { result ≡ early_fault state.now.symbols.entries state.now.location line.now form }
+{
+    if opens_within(state.location, &line.statement)
+        || has_wrong_constant(&state.symbols, &line.statement)
+    {
+        return Some(SourceFault::BadLine);
+    }
+    if has_unknown_constant(&state.symbols, &line.statement) {
+        return Some(SourceFault::UnknownName);
+    }
+    if lacks_form(&line.statement, form) {
+        return Some(SourceFault::BadForm);
+    }
+    if defines_again(&state.symbols, line) {
+        return Some(SourceFault::TwiceDefined);
+    }
+    if stands_outside(state.location, line) {
+        return Some(SourceFault::NoSegment);
+    }
+    None
+}
+
+/// A SEGMENT within an open segment.
+fn opens_within(location: Option<Location>, statement: &Statement) -> bool
+    ensures { result ≡ opens_within location statement.now }
+{
+    location.is_some() && matches!(statement, Statement::Segment(_, _))
+}
+
+/// Whether a constant of the statement is out of its range.
+fn has_wrong_constant(symbols: &Symbols, statement: &Statement) -> bool
+    requires small { AreSmall symbols.now.entries }
+    requires short { are_terms_within term_limit statement.now ≡ true }
+    ensures { result ≡ has_wrong_constant symbols.now.entries statement.now }
+{
+    match statement {
+        Statement::Segment(_, n) | Statement::Org(n) => is_out_of_bounds(symbols, n, 0, WORD_LIMIT),
+        Statement::Equ(_, n) => is_out_of_bounds(symbols, n, EQU_LEAST, EQU_GREATEST),
+        Statement::Data(_, items) => has_wrong_count(symbols, items.as_slice()),
+        Statement::Empty | Statement::Ends | Statement::Instruction(_) => false,
+    }
+}
+
+/// Whether a constant of the statement has a name that is no constant.
+fn has_unknown_constant(symbols: &Symbols, statement: &Statement) -> bool
+    requires small { AreSmall symbols.now.entries }
+    requires short { are_terms_within term_limit statement.now ≡ true }
+    ensures { result ≡ has_unknown_constant symbols.now.entries statement.now }
+{
+    match statement {
+        Statement::Segment(_, n) | Statement::Org(n) | Statement::Equ(_, n) => {
+            constant_of(symbols, n).is_none()
+        }
+        Statement::Data(_, items) => has_unknown_count(symbols, items.as_slice()),
+        Statement::Empty | Statement::Ends | Statement::Instruction(_) => false,
+    }
+}
+
+/// An instruction that no row of the table takes.
+fn lacks_form(statement: &Statement, form: Option<Form>) -> bool
+    ensures { result ≡ lacks_form statement.now form }
+{
+    matches!(statement, Statement::Instruction(_)) && form.is_none()
+}
+
+/// The name that the statement defines.
+fn statement_name(statement: &Statement) -> Option<Name>
+    ensures { result ≡ statement_name statement.now }
+{
+    match statement {
+        Statement::Segment(name, _) | Statement::Equ(name, _) => Some(*name),
+        Statement::Empty
+        | Statement::Ends
+        | Statement::Org(_)
+        | Statement::Data(_, _)
+        | Statement::Instruction(_) => None,
+    }
+}
+
+/// Whether the line defines a name that an earlier line defines, or its label again.
+fn defines_again(symbols: &Symbols, line: &Line) -> bool
+    ensures { result ≡ defines_again symbols.now.entries line.now }
+{
+    let name = statement_name(&line.statement);
+    is_taken(symbols, line.label) || is_taken(symbols, name) || is_same(line.label, name)
+}
+
+/// Whether an earlier line defines the name.
+fn is_taken(symbols: &Symbols, name: Option<Name>) -> bool
+    ensures { result ≡ option_map_or (is_defined symbols.now.entries) name false }
+{
+    match name {
+        Some(name) => is_defined(symbols, name),
+        None => false,
+    }
+}
+
+fn is_same(label: Option<Name>, name: Option<Name>) -> bool
+    ensures { result ≡ is_same label name }
+{
+    match (label, name) {
+        (Some(label), Some(name)) => label == name,
+        _ => false,
+    }
+}
+
+/// A line that may stand in a segment only, where none is open.
+fn stands_outside(location: Option<Location>, line: &Line) -> bool
+    ensures { result ≡ stands_outside location line.now }
+{
+    location.is_none() && (line.label.is_some() || wants_segment(&line.statement))
+}
+
+/// Whether the statement may stand in a segment only.
+fn wants_segment(statement: &Statement) -> bool
+    ensures { result ≡ wants_segment statement.now }
+{
+    matches!(
+        statement,
+        Statement::Ends | Statement::Org(_) | Statement::Data(_, _) | Statement::Instruction(_)
+    )
+}
+
+/// How many bytes the line places.
+pub(crate) fn size_of(symbols: &Symbols, statement: &Statement, form: Option<Form>) -> u64
+    requires small { AreSmall symbols.now.entries }
+    requires short { are_terms_within term_limit statement.now ≡ true }
+    requires constants { has_wrong_constant symbols.now.entries statement.now ≡ false }
+    requires light { statement_weight statement.now ≤ term_limit }
+    requires chosen { IsFormOf symbols.now.entries statement.now form }
+    ensures value { result ≡ size_of symbols.now.entries statement.now form }
+    ensures bound { result ≤ size_limit (statement_weight statement.now) }
+{
+    match (statement, form) {
+        (Statement::Data(width, items), _) => data_size(symbols, *width, items.as_slice()),
+        (Statement::Instruction(instruction), Some(form)) => instruction_size(form, instruction),
+        _ => 0,
+    }
+}
+
+/// The form that the table gives the statement, if it is an instruction.
+pub(crate) fn statement_form(symbols: &Symbols, statement: &Statement) -> Option<Form>
+    requires small { AreSmall symbols.now.entries }
+    requires short { are_terms_within term_limit statement.now ≡ true }
+    ensures chosen { IsFormOf symbols.now.entries statement.now result }
+    ensures form { IfSome result IsForm }
+{
+    match statement {
+        Statement::Instruction(instruction) => form_of(symbols, instruction),
+        _ => None,
+    }
+}
+
+/// A constant that is a word.
+fn word_of(symbols: &Symbols, expression: &Expression) -> Option<u16>
+    requires small { AreSmall symbols.now.entries }
+    requires short { IsShort expression.now }
+    requires word { is_other (pos 0) (pos 65535) (constant_of symbols.now.entries expression.now) ≡ false }
+    ensures { result ≡ option_map natural (constant_of symbols.now.entries expression.now) }
+{
+    match constant_of(symbols, expression) {
+        Some(number) => Some(number as u16),
+        None => None,
+    }
+}
+
+/// Where the next byte goes behind the statement.
+pub(crate) fn location_after(state: &State, statement: &Statement, size: u64) -> Option<Location>
+    requires small { AreSmall state.now.symbols.entries }
+    requires short { are_terms_within term_limit statement.now ≡ true }
+    requires constants { has_wrong_constant state.now.symbols.entries statement.now ≡ false }
+    requires room { offset_of state.now.location + size < 2 ^ 64 }
+    ensures value { result ≡ location_after state.now.symbols.entries state.now.location statement.now size }
+    ensures grows { offset_of result ≤ offset_of state.now.location + size + 65535 }
+{
+    match statement {
+        Statement::Segment(_, n) => Some(Location {
+            segment: word_of(&state.symbols, n)?,
+            offset: 0,
+        }),
+        Statement::Ends => None,
+        Statement::Org(n) => {
+            let offset = word_of(&state.symbols, n)?;
+            let location = state.location?;
+            Some(Location {
+                segment: location.segment,
+                offset: u64::from(offset),
+            })
+        }
+        Statement::Empty
+        | Statement::Equ(_, _)
+        | Statement::Data(_, _)
+        | Statement::Instruction(_) => {
+            let location = state.location?;
+            Some(Location {
+                segment: location.segment,
+                offset: location.offset + size,
+            })
+        }
+    }
+}

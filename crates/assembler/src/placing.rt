@@ -1,0 +1,289 @@
+//! The second pass: the bytes of the lines at their addresses.
+ghost use Rattle.std.specs.Prelude.{◌≡◌, ◌≤◌, ◌<◌, ◌+◌, ◌^◌, true, length, None, Some, IfOk, IfErr, OnOk};
+ghost use Rattle.std.specs.List.{list_all, list_any};
+ghost use Rattle.isa.specs.Encoding.{FitsForm};
+ghost use Rattle.board_types.specs.Image.{IsImage};
+ghost use Rattle.assembler.specs.declared.row.Content.TheVariants.{Code};
+ghost use Rattle.assembler_syntax.specs.Weights.{is_item_within, is_operand_within};
+ghost use Rattle.assembler.specs.FirstFault.{IsFirst};
+ghost use Rattle.assembler.specs.Gives.{Gives};
+ghost use Rattle.assembler.specs.Kept.{IsContent, IsSteady, Reads};
+ghost use Rattle.assembler.specs.Placement.{address_behind, addresses_from, bytes_by, bytes_from, fields_of, is_loadable, is_past_end};
+ghost use Rattle.assembler.specs.SecondPass.{KeepsSize, StopsAt, content_fault, data_fault, entries_by, has_byte, kept_fault, placing_fault, with_entries};
+ghost use Rattle.assembler_meaning.specs.Values.{AreSmall, term_limit};
+
+use crate::fault::{AsmFault, SourceFault};
+use crate::reading::Reading;
+use crate::row::{Content, KeptRow};
+use assembler_meaning::bytes::{data_bytes, instruction_bytes};
+use assembler_meaning::data::{are_items_known, do_items_fit};
+use assembler_meaning::fields::values_of;
+use assembler_meaning::instruction::numbers_of;
+use assembler_meaning::symbol::{Location, Symbols};
+use assembler_syntax::statement::{DataWidth, Instruction, Item};
+use board_types::address::physical;
+use board_types::image::{Image, is_loadable};
+use isa::form::{Form, Values};
+use std::alloc::{AllocError, Global};
+
+/// How many offsets a segment has.
+const SEGMENT_SIZE: u64 = 65_536;
+
+/// The image that a source's lines make, or the fault of the first that can't be placed.
+pub(crate) fn place_rows(alloc: Global, reading: &Reading) -> Result<Image, AsmFault>
+    requires reads { Reads reading.now.source.items reading.now.symbols.entries reading.now.rows.items }
+    ensures gives { IfOk result (Gives reading.now.source.items) }
+    ensures fault { IfErr result (IsFirst reading.now.source.items) }
+{
+    let mut image = Image::new(alloc);
+    let mut number = 0;
+    for row in reading.rows.as_slice() {
+        number += 1;
+        place_row(alloc, &mut image, &reading.symbols, row, number)?;
+    }
+    Ok(image)
+}
+
+/// Places the bytes of the line with this number, if it can be placed.
+fn place_row(
+    alloc: Global,
+    image: &mut Image,
+    symbols: &Symbols,
+    row: &KeptRow,
+    number: u32,
+) -> Result<(), AsmFault>
+    requires small { AreSmall symbols.now.entries }
+    requires steady { IsSteady row.now }
+    requires size { KeepsSize symbols.now.entries row.now }
+    requires image { IsImage image.old }
+    ensures free { OnOk result (kept_fault symbols.now.entries (has_byte image.old) row.now ≡ None) }
+    ensures image { OnOk result (image.new ≡ with_entries image.old (entries_by symbols.now.entries row.now)) }
+    ensures is_image { OnOk result (IsImage image.new) }
+    ensures fault { IfErr result (StopsAt number (kept_fault symbols.now.entries (has_byte image.old) row.now)) }
+{
+    if let Some(fault) = late_fault(image, symbols, row) {
+        return Err(AsmFault::InLine(fault, number));
+    }
+    match put_row(alloc, image, symbols, row) {
+        Ok(()) => Ok(()),
+        Err(_) => Err(AsmFault::Memory),
+    }
+}
+
+/// The fault of a line in the light of all names and of the bytes placed so far: of its faults the one with the least
+/// number.
+#[tactic(auto, unfolding(crate::specs::Placement::late_fault))]
+fn late_fault(image: &Image, symbols: &Symbols, row: &KeptRow) -> Option<SourceFault>
+    requires small { AreSmall symbols.now.entries }
+    requires steady { IsSteady row.now }
+    ensures { result ≡ kept_fault symbols.now.entries (has_byte image.now) row.now }
+{
+    let location = row.location?;
+    if let Some(content) = &row.content
+        && let Some(fault) = content_fault(symbols, location, row.size, &**content)
+    {
+        return Some(fault);
+    }
+    placing_fault(image, location, row.size, row.has_label)
+}
+
+/// The fault of the names and numbers of what stands there.
+fn content_fault(
+    symbols: &Symbols,
+    location: Location,
+    size: u64,
+    content: &Content,
+) -> Option<SourceFault>
+    requires small { AreSmall symbols.now.entries }
+    requires ends { location.offset + size ≤ 2 ^ 40 }
+    requires content { IsContent (Some content.now) }
+    ensures { result ≡ content_fault symbols.now.entries location size (Some content.now) }
+{
+    match content {
+        Content::Data(width, items) => data_fault(symbols, location, *width, items.as_slice()),
+        Content::Code(form, instruction) => {
+            match code_values(symbols, location, size, form, instruction) {
+                Ok(_) => None,
+                Err(fault) => Some(fault),
+            }
+        }
+    }
+}
+
+fn data_fault(
+    symbols: &Symbols,
+    location: Location,
+    width: DataWidth,
+    items: &[Item],
+) -> Option<SourceFault>
+    requires small { AreSmall symbols.now.entries }
+    requires here { location.offset ≤ 2 ^ 40 }
+    requires short { list_all (is_item_within term_limit) items.now ≡ true }
+    ensures { result ≡ data_fault symbols.now.entries location width items.now }
+{
+    if !are_items_known(symbols, location.offset, items) {
+        return Some(SourceFault::Undefined);
+    }
+    if do_items_fit(symbols, location.offset, width, items) {
+        None
+    } else {
+        Some(SourceFault::OutOfRange)
+    }
+}
+
+/// The numbers in the fields of an instruction that stands there.
+fn code_values(
+    symbols: &Symbols,
+    location: Location,
+    size: u64,
+    form: &Form,
+    instruction: &Instruction,
+) -> Result<Values, SourceFault>
+    requires small { AreSmall symbols.now.entries }
+    requires ends { location.offset + size ≤ 2 ^ 40 }
+    requires short { list_all (is_operand_within term_limit) instruction.now.operands ≡ true }
+    ensures values { IfOk result (λ values. fields_of symbols.now.entries location size form.now instruction.now ≡ Some values) }
+    ensures free { OnOk result (content_fault symbols.now.entries location size (Some (Code form.now instruction.now)) ≡ None) }
+    ensures fits { IfOk result (FitsForm form.now) }
+    ensures fault { IfErr result (λ fault. content_fault symbols.now.entries location size (Some (Code form.now instruction.now)) ≡ Some fault) }
+{
+    let Some(numbers) = numbers_of(symbols, location.offset, instruction) else {
+        return Err(SourceFault::Undefined);
+    };
+    match values_of(form, (location.offset + size) as i64, &numbers) {
+        Some(values) => Ok(values),
+        None => Err(SourceFault::OutOfRange),
+    }
+}
+
+/// The fault of placing so many bytes there.
+fn placing_fault(
+    image: &Image,
+    location: Location,
+    size: u64,
+    has_label: bool,
+) -> Option<SourceFault>
+    requires ends { location.offset + size ≤ 2 ^ 40 }
+    ensures { result ≡ placing_fault (has_byte image.now) has_label location size }
+{
+    if is_past_end(location, size, has_label) {
+        return Some(SourceFault::OutOfSegment);
+    }
+    if overlaps(image, location, size) {
+        return Some(SourceFault::Overlap);
+    }
+    if can_load(location, size) {
+        None
+    } else {
+        Some(SourceFault::NotLoadable)
+    }
+}
+
+/// Whether a byte or the label lies past offset FFFFh.
+fn is_past_end(location: Location, size: u64, has_label: bool) -> bool
+    requires ends { location.offset + size ≤ 2 ^ 40 }
+    ensures { result ≡ is_past_end location size has_label }
+{
+    (size > 0 && location.offset + size > SEGMENT_SIZE)
+        || (has_label && location.offset >= SEGMENT_SIZE)
+}
+
+/// Whether the image has a byte where one of these would stand.
+fn overlaps(image: &Image, location: Location, size: u64) -> bool
+    requires within { 0 < size → location.offset + size ≤ 65536 }
+    ensures { result ≡ list_any (has_byte image.now) (addresses_from location 0 size) }
+{
+    for n in 0..size {
+        if image.get(address_at(location, n)).is_some() {
+            return true;
+        }
+    }
+    false
+}
+
+fn can_load(location: Location, size: u64) -> bool
+    requires within { 0 < size → location.offset + size ≤ 65536 }
+    ensures { result ≡ list_all is_loadable (addresses_from location 0 size) }
+{
+    for n in 0..size {
+        if !is_loadable(address_at(location, n)) {
+            return false;
+        }
+    }
+    true
+}
+
+/// The address of the byte that stands so far behind the location, within its segment.
+pub(crate) fn address_at(location: Location, n: u64) -> u32
+    requires within { location.offset + n < 65536 }
+    ensures { result ≡ address_behind location n }
+{
+    physical(location.segment, (location.offset + n) as u16)
+}
+
+/// Puts the bytes of a line that has no fault into the image.
+fn put_row(
+    alloc: Global,
+    image: &mut Image,
+    symbols: &Symbols,
+    row: &KeptRow,
+) -> Result<(), AllocError>
+    requires small { AreSmall symbols.now.entries }
+    requires steady { IsSteady row.now }
+    requires size { KeepsSize symbols.now.entries row.now }
+    requires image { IsImage image.old }
+    requires free { kept_fault symbols.now.entries (has_byte image.old) row.now ≡ None }
+    ensures image { OnOk result (image.new ≡ with_entries image.old (entries_by symbols.now.entries row.now)) }
+    ensures is_image { OnOk result (IsImage image.new) }
+{
+    let Some(location) = row.location else {
+        return Ok(());
+    };
+    let Some(content) = &row.content else {
+        return Ok(());
+    };
+    let bytes = content_bytes(alloc, symbols, location, row.size, &**content)?;
+    put_bytes(image, location, bytes.as_slice())
+}
+
+/// The bytes of what stands there, if it has no fault.
+fn content_bytes(
+    alloc: Global,
+    symbols: &Symbols,
+    location: Location,
+    size: u64,
+    content: &Content,
+) -> Result<Vec<u8>, AllocError>
+    requires small { AreSmall symbols.now.entries }
+    requires ends { location.offset + size ≤ 2 ^ 40 }
+    requires content { IsContent (Some content.now) }
+    requires free { content_fault symbols.now.entries location size (Some content.now) ≡ None }
+    ensures { IfOk result (λ bytes. bytes.items ≡ bytes_by symbols.now.entries location size (Some content.now)) }
+{
+    match content {
+        Content::Data(width, items) => {
+            data_bytes(alloc, symbols, location.offset, *width, items.as_slice())
+        }
+        Content::Code(form, instruction) => {
+            match code_values(symbols, location, size, form, instruction) {
+                Ok(values) => instruction_bytes(alloc, form, values, instruction),
+                Err(_) => Ok(Vec::new(alloc)),
+            }
+        }
+    }
+}
+
+fn put_bytes(image: &mut Image, location: Location, bytes: &[u8]) -> Result<(), AllocError>
+    requires image { IsImage image.old }
+    requires within { 0 < length bytes.now → location.offset + length bytes.now ≤ 65536 }
+    requires loadable { list_all is_loadable (addresses_from location 0 (length bytes.now)) ≡ true }
+    ensures image { OnOk result (image.new ≡ with_entries image.old (bytes_from location 0 bytes.now)) }
+    ensures is_image { OnOk result (IsImage image.new) }
+{
+    let mut at = 0;
+    for byte in bytes {
+        image.put(address_at(location, at), *byte)?;
+        at += 1;
+    }
+    Ok(())
+}

@@ -1,3 +1,0 @@
-pub mod First
-pub mod Shapes
-pub mod Fields

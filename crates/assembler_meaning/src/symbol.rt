@@ -1,0 +1,72 @@
+//! What the names of a source stand for.
+ghost use Rattle.std.specs.Prelude.{◌≡◌};
+ghost use Rattle.assembler_meaning.specs.Values.{is_defined};
+ghost use Rattle.assembler_meaning.specs.Values.{IsSmall, is_constant_symbol, label_of, meaning, symbol_value};
+
+use assembler_lexeme::name::Name;
+use indexmap::IndexMap;
+
+/// A place in a segment. The offset is a whole number: it may lie past the segment's end until the source is refused
+/// for that.
+#[derive(Clone, Copy)]
+pub struct Location {
+    /// The segment's paragraph.
+    pub segment: u16,
+    pub offset: u64,
+}
+
+/// What a name stands for.
+#[derive(Clone, Copy)]
+pub enum Symbol {
+    /// A label, at the place of the byte behind it.
+    Label(Location),
+    /// The name of an EQU or of a segment, with its number or paragraph.
+    Constant(i64),
+}
+
+impl Symbol {
+    /// A constant's number, or a label's offset.
+    pub fn value(self) -> i64
+        requires { IsSmall self }
+        ensures { result ≡ symbol_value self }
+    {
+        match self {
+            Symbol::Label(place) => place.offset as i64,
+            Symbol::Constant(number) => number,
+        }
+    }
+}
+
+/// The names that were defined, in their order, with what they stand for.
+pub type Symbols = IndexMap<Name, Symbol>;
+
+/// What the name stands for.
+pub fn meaning(symbols: &Symbols, name: Name) -> Option<Symbol>
+    ensures { result ≡ meaning symbols.now.entries name }
+{
+    symbols.get(&name).copied()
+}
+
+/// Whether some line before has defined the name.
+pub fn is_defined(symbols: &Symbols, name: Name) -> bool
+    ensures { result ≡ is_defined symbols.now.entries name }
+{
+    meaning(symbols, name).is_some()
+}
+
+/// The place of the name, if it is a label.
+pub fn label(symbols: &Symbols, name: Name) -> Option<Location>
+    ensures { result ≡ label_of symbols.now.entries name }
+{
+    match meaning(symbols, name) {
+        Some(Symbol::Label(place)) => Some(place),
+        Some(Symbol::Constant(_)) | None => None,
+    }
+}
+
+/// Whether the name is a constant.
+pub fn is_constant_name(symbols: &Symbols, name: Name) -> bool
+    ensures { result ≡ is_constant_symbol (meaning symbols.now.entries name) }
+{
+    matches!(meaning(symbols, name), Some(Symbol::Constant(_)))
+}

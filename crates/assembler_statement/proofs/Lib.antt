@@ -1,4 +1,0 @@
-pub mod LeavesLength
-pub mod LeavesValues
-pub mod LeavesSizes
-pub mod LeavesBytes

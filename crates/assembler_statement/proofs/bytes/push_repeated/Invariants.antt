@@ -1,6 +1,0 @@
-use Rattle.std.proofs.Common.{◌≡◌, ◌++◌}
-use Rattle.assembler_statement.specs.Data.{repeated}
-use Rattle.assembler_statement.proofs.bytes.push_repeated.Given as goal
-
-abbrev pub invariant-loop : goal.invariant-loop
-invariant-loop l = l.bytes.items ≡ l.fn.bytes.items ++ repeated l.counter l.once

@@ -1,0 +1,11 @@
+use Rattle.std.proofs.Common.{◌≡◌, length}
+use Rattle.assembler_lexeme.specs.Faults.{all_of, with_front}
+use Rattle.assembler_syntax.specs.Parts.{parts}
+use Rattle.assembler_syntax.specs.Items.{piece_of}
+use Rattle.assembler_syntax.proofs.read.item.read_pieces.Given as goal
+
+abbrev pub invariant-loop-part : goal.invariant-loop-part
+invariant-loop-part l = with_front l.pieces (all_of (piece_of l.fn.width) l.parts) ≡ all_of (piece_of l.fn.width) (parts l.fn.tokens)
+
+abbrev pub decreases-loop-part : goal.decreases-loop-part
+decreases-loop-part l = length l.parts

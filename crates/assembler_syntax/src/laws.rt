@@ -1,0 +1,12 @@
+//! The laws of lines.
+ghost use Rattle.assembler_syntax.specs.Laws.{CaseDoesNotCount, EachLineIsRead};
+
+/// Lines whose lexemes differ in case outside quotes alone say the same.
+pub fn case_does_not_count()
+    ensures { CaseDoesNotCount }
+{}
+
+/// Each line that the dialect has is read from its spelling.
+pub fn each_line_is_read()
+    ensures { EachLineIsRead }
+{}

@@ -1,0 +1,75 @@
+//! Reading a line.
+ghost use Rattle.std.specs.Prelude.{◌≡◌, ◌∷◌, length, IfOk};
+ghost use Rattle.std.specs.List.{list_all};
+ghost use Rattle.assembler_lexeme.specs.Lexemes.{is_character};
+ghost use Rattle.assembler_lexeme.specs.Faults.{Gives};
+ghost use Rattle.assembler_syntax.specs.Lines.{labelled, line_of, read_line, with_label};
+ghost use Rattle.assembler_syntax.specs.Weights.{IsWithin};
+
+mod expression;
+mod item;
+mod operand;
+mod statement;
+
+use crate::statement::Line;
+use assembler_lexeme::fault::{LineError, LineFault};
+use assembler_lexeme::lexeme::is_character;
+use assembler_lexeme::name::Name;
+use assembler_lexeme::token::{Mark, Token, read_tokens};
+use statement::read_statement;
+use std::alloc::Global;
+
+/// What a line of a source says by itself, or why it is no line of the dialect: a fault of its characters comes
+/// first, then one of its words, then one of its grammar.
+/// What it holds is no longer than the text: no expression has more terms than the text has bytes, nor has a data
+/// line more values and characters.
+#[tactic(auto, using(crate::proofs::Weights::line_within), unfolding(crate::specs::Lines::read_line))]
+pub fn read_line(alloc: Global, text: &[u8]) -> Result<Line, LineError>
+    ensures answer { Gives result (read_line text.now) }
+    ensures weight { IfOk result (λ line. IsWithin (length text.now) line.statement) }
+{
+    if !are_characters(text) {
+        return Err(LineError::Fault(LineFault::BadCharacter));
+    }
+    let tokens = read_tokens(alloc, text)?;
+    labelled_line(alloc, tokens.as_slice())
+}
+
+fn are_characters(text: &[u8]) -> bool
+    ensures { result ≡ list_all is_character text.now }
+{
+    text.iter().all(|byte| is_character(*byte))
+}
+
+#[tactic(auto, unfolding(crate::specs::Lines::line_of))]
+fn labelled_line(alloc: Global, tokens: &[Token]) -> Result<Line, LineError>
+    ensures { Gives result (line_of tokens.now) }
+{
+    match tokens {
+        [first, second, rest @ ..] => labelled(alloc, first, second, rest, tokens),
+        _ => line_with(alloc, None, tokens),
+    }
+}
+
+fn labelled(
+    alloc: Global,
+    first: &Token,
+    second: &Token,
+    rest: &[Token],
+    tokens: &[Token],
+) -> Result<Line, LineError>
+    requires { tokens.now ≡ first.now ∷ second.now ∷ rest.now }
+    ensures { Gives result (labelled first.now second.now rest.now) }
+{
+    match (first, second) {
+        (Token::Named(label), Token::Mark(Mark::Colon)) => line_with(alloc, Some(*label), rest),
+        _ => line_with(alloc, None, tokens),
+    }
+}
+
+fn line_with(alloc: Global, label: Option<Name>, tokens: &[Token]) -> Result<Line, LineError>
+    ensures { Gives result (with_label label tokens.now) }
+{
+    let statement = read_statement(alloc, tokens)?;
+    Ok(Line { label, statement })
+}

@@ -1,0 +1,117 @@
+//! Expressions.
+ghost use Rattle.std.specs.Prelude.{◌≡◌, [], ◌∷◌};
+ghost use Rattle.std.specs.List.{list_all};
+ghost use Rattle.assembler_lexeme.specs.Faults.{all_of, with_front, Gives};
+ghost use Rattle.assembler_syntax.specs.Parts.{signed_part};
+ghost use Rattle.assembler_syntax.specs.Expressions.{atom_of, constant_of, expression_of, is_constant, is_constant_atom, segment_atom, single_atom, term_of};
+
+use crate::expression::{Atom, Expression, Term};
+use crate::part::SignedParts;
+use assembler_lexeme::fault::{LineError, LineFault};
+use assembler_lexeme::token::{Mark, Token};
+use dialect::keyword::Keyword;
+use dialect::meaning::Meaning;
+use std::alloc::Global;
+
+fn single_atom(token: &Token) -> Result<Atom, LineError>
+    ensures { Gives result (single_atom token.now) }
+{
+    match token {
+        Token::One => Ok(Atom::Number(1)),
+        Token::Number(number) => Ok(Atom::Number(*number)),
+        Token::Named(name) => Ok(Atom::Named(*name)),
+        Token::Mark(Mark::Dollar) => Ok(Atom::Here),
+        _ => Err(LineError::Fault(LineFault::BadLine)),
+    }
+}
+
+fn segment_atom(first: &Token, second: &Token) -> Result<Atom, LineError>
+    ensures { Gives result (segment_atom first.now second.now) }
+{
+    match (first, second) {
+        (Token::Word(Meaning::Keyword(Keyword::Seg)), Token::Named(name)) => {
+            Ok(Atom::SegmentOf(*name))
+        }
+        _ => Err(LineError::Fault(LineFault::BadLine)),
+    }
+}
+
+#[tactic(auto, unfolding(crate::specs::Expressions::atom_of))]
+fn atom_of(tokens: &[Token]) -> Result<Atom, LineError>
+    ensures { Gives result (atom_of tokens.now) }
+{
+    match tokens {
+        [token] => single_atom(token),
+        [first, second] => segment_atom(first, second),
+        _ => Err(LineError::Fault(LineFault::BadLine)),
+    }
+}
+
+/// A term behind a sign.
+pub(crate) fn read_term(is_negative: bool, tokens: &[Token]) -> Result<Term, LineError>
+    ensures { Gives result (term_of (signed_part is_negative tokens.now)) }
+{
+    let atom = atom_of(tokens)?;
+    Ok(Term { is_negative, atom })
+}
+
+/// An expression.
+#[tactic(auto, unfolding(crate::specs::Expressions::expression_of))]
+pub(crate) fn read_expression(alloc: Global, tokens: &[Token]) -> Result<Expression, LineError>
+    ensures { Gives result (expression_of tokens.now) }
+{
+    let mut parts = SignedParts::of(tokens);
+    let Some((is_negative, part)) = parts.next() else {
+        return Err(LineError::Fault(LineFault::BadLine));
+    };
+    let first = read_term(is_negative, part)?;
+    read_terms(alloc, first, parts)
+}
+
+/// A term and those behind it.
+#[tactic(auto, using(crate::proofs::Gathering::term_behind))]
+fn read_terms(alloc: Global, first: Term, parts: SignedParts) -> Result<Expression, LineError>
+    ensures { Gives result (with_front (first ∷ []) (all_of term_of parts.entry)) }
+{
+    let mut parts = parts;
+    let mut expression = Expression::new(alloc, first);
+    while let Some((is_negative, part)) = parts.next() {
+        let term = read_term(is_negative, part)?;
+        expression.push(term)?;
+    }
+    Ok(expression)
+}
+
+/// An expression that must be a constant: it holds neither `$` nor SEG.
+#[tactic(auto, unfolding(crate::specs::Expressions::constant_of))]
+pub(crate) fn read_constant(alloc: Global, tokens: &[Token]) -> Result<Expression, LineError>
+    ensures { Gives result (constant_of tokens.now) }
+{
+    let expression = read_expression(alloc, tokens)?;
+    if are_constant(&expression) {
+        Ok(expression)
+    } else {
+        Err(LineError::Fault(LineFault::BadLine))
+    }
+}
+
+fn are_constant(expression: &Expression) -> bool
+    ensures { result ≡ list_all is_constant expression.now }
+{
+    let (first, rest) = expression.terms();
+    first.atom.is_constant() && are_all_constant(rest)
+}
+
+fn are_all_constant(terms: &[Term]) -> bool
+    ensures { result ≡ list_all is_constant terms.now }
+{
+    terms.iter().all(|term| term.atom.is_constant())
+}
+
+impl Atom {
+    fn is_constant(self) -> bool
+        ensures { result ≡ is_constant_atom self }
+    {
+        matches!(self, Atom::Number(_) | Atom::Named(_))
+    }
+}

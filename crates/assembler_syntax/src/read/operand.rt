@@ -1,0 +1,324 @@
+//! Operands of instructions.
+ghost use Rattle.std.specs.Prelude.{◌≡◌, [], ◌∷◌};
+ghost use Rattle.std.specs.Option.{option_map};
+ghost use Rattle.assembler_lexeme.specs.Faults.{all_of, Gives};
+ghost use Rattle.assembler_syntax.specs.Parts.{parts, signed_part, signed_parts};
+ghost use Rattle.assembler_syntax.specs.Operands.{base_with, behind_segment, brackets_by, brackets_of, brackets_view, empty_address, far_label, far_of, far_pointer, far_target, led_operand, memory_in, memory_of, operand_of, operands_of, place_or_value, register_of, short_of, single_label, single_operand, single_register, terms_with, value_of, with_part, with_parts, with_register, with_term};
+
+use crate::expression::{Expression, Term};
+use crate::operand::{Address, Operand, Size};
+use crate::part::{
+    Parts, SignedParts, around, before_last, close_bracket_place, colon_place, is_colon,
+    is_open_bracket,
+};
+use crate::read::expression::{read_expression, read_term};
+use assembler_lexeme::fault::{LineError, LineFault};
+use assembler_lexeme::sequence::Sequence;
+use assembler_lexeme::token::{Mark, Token};
+use dialect::keyword::Keyword;
+use dialect::meaning::Meaning;
+use dialect::register::Register;
+use isa::form::Base;
+use isa::register::{SegmentRegister, WordRegister};
+use std::alloc::Global;
+
+/// What stands behind the open bracket of a place in memory, and the segment register before it.
+type Brackets<'a, 'b> = (Option<SegmentRegister>, &'a [Token<'b>]);
+
+/// The operands of an instruction: none, or some with commas between them.
+#[tactic(auto, unfolding(crate::specs::Operands::operands_of))]
+pub(crate) fn read_operands(alloc: Global, tokens: &[Token]) -> Result<Sequence<Operand>, LineError>
+    ensures { Gives result (operands_of tokens.now) }
+{
+    if tokens.is_empty() {
+        Ok(Sequence::new(alloc))
+    } else {
+        read_parts(alloc, Parts::of(tokens))
+    }
+}
+
+fn read_parts(alloc: Global, parts: Parts) -> Result<Sequence<Operand>, LineError>
+    ensures { Gives result (all_of operand_of parts.entry) }
+{
+    let mut parts = parts;
+    let mut operands = Sequence::new(alloc);
+    while let Some(part) = parts.next() {
+        let operand = read_operand(alloc, part)?;
+        operands.push(operand)?;
+    }
+    Ok(operands)
+}
+
+#[tactic(auto, unfolding(crate::specs::Operands::operand_of))]
+fn read_operand(alloc: Global, tokens: &[Token]) -> Result<Operand, LineError>
+    ensures { Gives result (operand_of tokens.now) }
+{
+    match tokens {
+        [] => Err(LineError::Fault(LineFault::BadLine)),
+        [token] => single_operand(alloc, token, tokens),
+        [first, rest @ ..] => led_operand(alloc, first, rest, tokens),
+    }
+}
+
+fn single_operand(alloc: Global, token: &Token, tokens: &[Token]) -> Result<Operand, LineError>
+    requires { tokens.now ≡ token.now ∷ [] }
+    ensures { Gives result (single_operand token.now) }
+{
+    match token {
+        Token::Word(Meaning::Register(register)) => Ok(Operand::Register(*register)),
+        Token::One => Ok(Operand::One),
+        _ => read_value(alloc, tokens),
+    }
+}
+
+fn led_operand(
+    alloc: Global,
+    first: &Token,
+    rest: &[Token],
+    tokens: &[Token],
+) -> Result<Operand, LineError>
+    requires { tokens.now ≡ first.now ∷ rest.now }
+    ensures { Gives result (led_operand first.now rest.now) }
+{
+    match first {
+        Token::Word(Meaning::Keyword(Keyword::Short)) => {
+            Ok(Operand::Short(read_expression(alloc, rest)?))
+        }
+        Token::Word(Meaning::Keyword(Keyword::Byte)) => memory_in(alloc, Size::Byte, rest),
+        Token::Word(Meaning::Keyword(Keyword::Word)) => memory_in(alloc, Size::Word, rest),
+        Token::Word(Meaning::Keyword(Keyword::Far)) => read_far(alloc, rest),
+        _ => place_or_value(alloc, tokens),
+    }
+}
+
+/// Memory behind a size word.
+fn memory_in(alloc: Global, size: Size, tokens: &[Token]) -> Result<Operand, LineError>
+    ensures { Gives result (memory_in (Some size) (brackets_of tokens.now)) }
+{
+    match brackets_of(tokens) {
+        Some((segment, inner)) => read_memory(alloc, Some(size), segment, inner),
+        None => Err(LineError::Fault(LineFault::BadLine)),
+    }
+}
+
+fn place_or_value(alloc: Global, tokens: &[Token]) -> Result<Operand, LineError>
+    ensures { Gives result (place_or_value (brackets_of tokens.now) tokens.now) }
+{
+    match brackets_of(tokens) {
+        Some((segment, inner)) => read_memory(alloc, None, segment, inner),
+        None => read_value(alloc, tokens),
+    }
+}
+
+#[tactic(auto, unfolding(crate::specs::Operands::value_of))]
+fn read_value(alloc: Global, tokens: &[Token]) -> Result<Operand, LineError>
+    ensures { Gives result (value_of tokens.now) }
+{
+    Ok(Operand::Value(read_expression(alloc, tokens)?))
+}
+
+/// FAR and memory, a label, or a segment and an offset.
+#[tactic(auto, unfolding(crate::specs::Operands::far_of))]
+fn read_far(alloc: Global, tokens: &[Token]) -> Result<Operand, LineError>
+    ensures { Gives result (far_of tokens.now) }
+{
+    if let Some((segment, inner)) = brackets_of(tokens) {
+        return read_memory(alloc, Some(Size::Far), segment, inner);
+    }
+    match around(tokens, colon_place(tokens)) {
+        Some((segment, offset)) => far_pointer(alloc, segment, offset),
+        None => far_label(tokens),
+    }
+}
+
+fn far_pointer(alloc: Global, segment: &[Token], offset: &[Token]) -> Result<Operand, LineError>
+    ensures { Gives result (far_pointer segment.now offset.now) }
+{
+    let segment = read_expression(alloc, segment)?;
+    let offset = read_expression(alloc, offset)?;
+    Ok(Operand::FarPointer(segment, offset))
+}
+
+fn far_label(tokens: &[Token]) -> Result<Operand, LineError>
+    ensures { Gives result (far_label tokens.now) }
+{
+    match tokens {
+        [token] => single_label(token),
+        _ => Err(LineError::Fault(LineFault::BadLine)),
+    }
+}
+
+fn single_label(token: &Token) -> Result<Operand, LineError>
+    ensures { Gives result (single_label token.now) }
+{
+    match token {
+        Token::Named(label) => Ok(Operand::FarLabel(*label)),
+        _ => Err(LineError::Fault(LineFault::BadLine)),
+    }
+}
+
+/// The segment register before an open bracket, if there is one, and what stands behind the bracket.
+#[tactic(auto, unfolding(crate::specs::Operands::brackets_of))]
+fn brackets_of<'a, 'b>(tokens: &'a [Token<'b>]) -> Option<Brackets<'a, 'b>>
+    ensures { brackets_view result ≡ brackets_of tokens.now }
+{
+    match tokens {
+        [] => None,
+        [first, rest @ ..] => brackets_by(first, rest),
+    }
+}
+
+fn brackets_by<'a, 'b>(first: &Token, rest: &'a [Token<'b>]) -> Option<Brackets<'a, 'b>>
+    ensures { brackets_view result ≡ brackets_by first.now rest.now }
+{
+    match first {
+        Token::Mark(Mark::OpenBracket) => Some((None, rest)),
+        Token::Word(Meaning::Register(register)) => behind_segment(*register, rest),
+        _ => None,
+    }
+}
+
+fn behind_segment<'a, 'b>(register: Register, rest: &'a [Token<'b>]) -> Option<Brackets<'a, 'b>>
+    ensures { brackets_view result ≡ behind_segment register rest.now }
+{
+    match (register, rest) {
+        (Register::Segment(segment), [colon, bracket, inner @ ..])
+            if is_colon(colon) && is_open_bracket(bracket) => { Some((Some(segment), inner)) }
+        _ => None,
+    }
+}
+
+/// Memory: the parts behind an open bracket, and the other bracket.
+#[tactic(auto, unfolding(crate::specs::Operands::memory_of))]
+fn read_memory(
+    alloc: Global,
+    size: Option<Size>,
+    segment: Option<SegmentRegister>,
+    tokens: &[Token],
+) -> Result<Operand, LineError>
+    ensures { Gives result (memory_of size segment tokens.now) }
+{
+    let Some(inner) = before_last(tokens, close_bracket_place(tokens)) else {
+        return Err(LineError::Fault(LineFault::BadLine));
+    };
+    let address = Address {
+        size,
+        segment,
+        base: None,
+        displacement: None,
+    };
+    let address = with_parts(alloc, address, SignedParts::of(inner))?;
+    Ok(Operand::Memory(address))
+}
+
+fn with_parts(alloc: Global, address: Address, parts: SignedParts) -> Result<Address, LineError>
+    ensures { Gives result (with_parts address parts.entry) }
+{
+    let mut parts = parts;
+    let mut address = address;
+    while let Some((is_negative, part)) = parts.next() {
+        address = with_part(alloc, address, is_negative, part)?;
+    }
+    Ok(address)
+}
+
+#[tactic(auto, unfolding(crate::specs::Operands::with_part))]
+fn with_part(
+    alloc: Global,
+    address: Address,
+    is_negative: bool,
+    part: &[Token],
+) -> Result<Address, LineError>
+    ensures { Gives result (with_part address (signed_part is_negative part.now)) }
+{
+    match register_of(part) {
+        Some(_) if is_negative => Err(LineError::Fault(LineFault::BadLine)),
+        Some(register) => with_register(address, register),
+        None => with_term(alloc, address, read_term(is_negative, part)?),
+    }
+}
+
+/// The register that the part is.
+fn register_of(part: &[Token]) -> Option<Register>
+    ensures { result ≡ register_of part.now }
+{
+    match part {
+        [token] => single_register(token),
+        _ => None,
+    }
+}
+
+fn single_register(token: &Token) -> Option<Register>
+    ensures { result ≡ single_register token.now }
+{
+    match token {
+        Token::Word(Meaning::Register(register)) => Some(*register),
+        _ => None,
+    }
+}
+
+fn with_register(address: Address, register: Register) -> Result<Address, LineError>
+    ensures { Gives result (with_register address register) }
+{
+    let Register::Word(register) = register else {
+        return Err(LineError::Fault(LineFault::BadLine));
+    };
+    let Some(base) = base_with(address.base, register) else {
+        return Err(LineError::Fault(LineFault::BadLine));
+    };
+    Ok(Address {
+        base: Some(base),
+        ..address
+    })
+}
+
+/// The base with another register: one of BX and BP, and one of SI and DI.
+fn base_with(base: Option<Base>, register: WordRegister) -> Option<Base>
+    ensures { result ≡ base_with base register }
+{
+    match (base, register) {
+        (None, WordRegister::Bx) => Some(Base::Bx),
+        (None, WordRegister::Bp) => Some(Base::Bp),
+        (None, WordRegister::Si) => Some(Base::Si),
+        (None, WordRegister::Di) => Some(Base::Di),
+        (Some(Base::Bx), WordRegister::Si) => Some(Base::BxSi),
+        (Some(Base::Bx), WordRegister::Di) => Some(Base::BxDi),
+        (Some(Base::Bp), WordRegister::Si) => Some(Base::BpSi),
+        (Some(Base::Bp), WordRegister::Di) => Some(Base::BpDi),
+        (Some(Base::Si), WordRegister::Bx) => Some(Base::BxSi),
+        (Some(Base::Si), WordRegister::Bp) => Some(Base::BpSi),
+        (Some(Base::Di), WordRegister::Bx) => Some(Base::BxDi),
+        (Some(Base::Di), WordRegister::Bp) => Some(Base::BpDi),
+        _ => None,
+    }
+}
+
+fn with_term(alloc: Global, address: Address, term: Term) -> Result<Address, LineError>
+    ensures { Gives result (Ok (with_term address term)) }
+{
+    let Address {
+        size,
+        segment,
+        base,
+        displacement,
+    } = address;
+    let displacement = Some(terms_with(alloc, displacement, term)?);
+    Ok(Address {
+        size,
+        segment,
+        base,
+        displacement,
+    })
+}
+
+fn terms_with(alloc: Global, terms: Option<Expression>, term: Term) -> Result<Expression, LineError>
+    ensures { Gives result (Ok (terms_with terms term)) }
+{
+    match terms {
+        None => Ok(Expression::new(alloc, term)),
+        Some(mut terms) => {
+            terms.push(term)?;
+            Ok(terms)
+        }
+    }
+}

@@ -1,0 +1,233 @@
+//! Statements.
+ghost use Rattle.std.specs.Prelude.{◌≡◌, ◌+◌, ◌<◌, ◌≤◌, [], ◌∷◌, drop, length, IfSome, IfNone};
+ghost use Rattle.assembler_lexeme.specs.Faults.{Gives};
+ghost use Rattle.assembler_syntax.specs.Statements.{data_of, directive_of, ends_of, equ_of, instruction_of, is_at, is_directive, is_equ, keyword_statement, led_statement, onto_prefixes, org_of, prefixed_statement, prefixes_of, segment_at, segment_by, segment_of, segment_token, statement_behind, statement_of, word_statement};
+
+use crate::part::{is_colon, split};
+use crate::read::expression::read_constant;
+use crate::read::item::read_items;
+use crate::read::operand::read_operands;
+use crate::statement::{DataWidth, Instruction, Statement};
+use assembler_lexeme::fault::{LineError, LineFault};
+use assembler_lexeme::name::Name;
+use assembler_lexeme::sequence::Sequence;
+use assembler_lexeme::token::Token;
+use dialect::keyword::Keyword;
+use dialect::meaning::Meaning;
+use dialect::mnemonic::Mnemonic;
+use dialect::register::Register;
+use isa::form::Prefix;
+use isa::register::SegmentRegister;
+use std::alloc::Global;
+
+/// What a line says behind its label.
+#[tactic(auto, unfolding(crate::specs::Statements::statement_of))]
+pub(crate) fn read_statement(alloc: Global, tokens: &[Token]) -> Result<Statement, LineError>
+    ensures { Gives result (statement_of tokens.now) }
+{
+    match tokens {
+        [] => Ok(Statement::Empty),
+        [first, second, rest @ ..] if is_equ(second) => read_equ(alloc, first, rest),
+        _ => prefixed_statement(alloc, tokens),
+    }
+}
+
+fn is_at(token: &Token) -> bool
+    ensures { result ≡ is_at token.now }
+{
+    matches!(token, Token::Word(Meaning::Keyword(Keyword::At)))
+}
+
+fn is_equ(token: &Token) -> bool
+    ensures { result ≡ is_equ token.now }
+{
+    matches!(token, Token::Word(Meaning::Keyword(Keyword::Equ)))
+}
+
+#[tactic(auto, unfolding(crate::specs::Statements::equ_of))]
+fn read_equ(alloc: Global, first: &Token, value: &[Token]) -> Result<Statement, LineError>
+    ensures { Gives result (equ_of first.now value.now) }
+{
+    match first {
+        Token::Named(name) => Ok(Statement::Equ(*name, read_constant(alloc, value)?)),
+        _ => Err(LineError::Fault(LineFault::BadLine)),
+    }
+}
+
+/// Prefixes, if there are any, and what stands behind them.
+#[tactic(auto, unfolding(crate::specs::Statements::prefixed_statement))]
+fn prefixed_statement(alloc: Global, tokens: &[Token]) -> Result<Statement, LineError>
+    ensures { Gives result (prefixed_statement tokens.now) }
+{
+    let mut prefixes = Sequence::new(alloc);
+    let mut rest = tokens;
+    while let Some((prefix, size)) = prefix_of(rest) {
+        prefixes.push(prefix)?;
+        rest = &rest[size..];
+    }
+    statement_behind(alloc, prefixes, rest)
+}
+
+/// The prefix at the front, and how many tokens it has.
+fn prefix_of(tokens: &[Token]) -> Option<(Prefix, usize)>
+    ensures some { IfSome result (λ p. prefixes_of tokens.now ≡ onto_prefixes p.0 (prefixes_of (drop p.1 tokens.now))) }
+    ensures size { IfSome result (λ p. 0 < p.1) }
+    ensures within { IfSome result (λ p. p.1 ≤ length tokens.now) }
+    ensures none { IfNone result (prefixes_of tokens.now ≡ ([], tokens.now)) }
+{
+    match tokens {
+        [] => None,
+        [first, rest @ ..] => prefix_by(first, rest),
+    }
+}
+
+fn prefix_by(first: &Token, rest: &[Token]) -> Option<(Prefix, usize)>
+    ensures some { IfSome result (λ p. prefixes_of (first.now ∷ rest.now) ≡ onto_prefixes p.0 (prefixes_of (drop p.1 (first.now ∷ rest.now)))) }
+    ensures size { IfSome result (λ p. 0 < p.1) }
+    ensures within { IfSome result (λ p. p.1 ≤ 1 + length rest.now) }
+    ensures none { IfNone result (prefixes_of (first.now ∷ rest.now) ≡ ([], first.now ∷ rest.now)) }
+{
+    match first {
+        Token::Word(Meaning::Prefix(prefix)) => Some((*prefix, 1)),
+        Token::Word(Meaning::Register(Register::Segment(segment))) => override_by(*segment, rest),
+        _ => None,
+    }
+}
+
+/// The override whose register stands before these tokens, and how many tokens it has.
+fn override_by(segment: SegmentRegister, rest: &[Token]) -> Option<(Prefix, usize)>
+    ensures some { IfSome result (λ p. prefixes_of (segment_token segment ∷ rest.now) ≡ onto_prefixes p.0 (prefixes_of (drop p.1 (segment_token segment ∷ rest.now)))) }
+    ensures size { IfSome result (λ p. 0 < p.1) }
+    ensures within { IfSome result (λ p. p.1 ≤ 1 + length rest.now) }
+    ensures none { IfNone result (prefixes_of (segment_token segment ∷ rest.now) ≡ ([], segment_token segment ∷ rest.now)) }
+{
+    match rest {
+        [colon, ..] if is_colon(colon) => Some((Prefix::Segment(segment), 2)),
+        _ => None,
+    }
+}
+
+/// The statement behind these prefixes.
+#[tactic(auto, unfolding(crate::specs::Statements::statement_behind))]
+fn statement_behind(
+    alloc: Global,
+    prefixes: Sequence<Prefix>,
+    tokens: &[Token],
+) -> Result<Statement, LineError>
+    ensures { Gives result (statement_behind prefixes tokens.now) }
+{
+    match split(tokens) {
+        Some((Token::Word(meaning), rest)) => word_statement(alloc, prefixes, *meaning, rest),
+        Some((Token::Named(_), _)) => Err(LineError::Fault(LineFault::UnknownName)),
+        _ => Err(LineError::Fault(LineFault::BadLine)),
+    }
+}
+
+fn word_statement(
+    alloc: Global,
+    prefixes: Sequence<Prefix>,
+    meaning: Meaning,
+    rest: &[Token],
+) -> Result<Statement, LineError>
+    ensures { Gives result (word_statement prefixes meaning rest.now) }
+{
+    match meaning {
+        Meaning::Mnemonic(mnemonic) => read_instruction(alloc, prefixes, mnemonic, rest),
+        Meaning::Keyword(keyword) if prefixes.is_empty() => read_directive(alloc, keyword, rest),
+        Meaning::Keyword(keyword) if is_directive(keyword) => {
+            Err(LineError::Fault(LineFault::BadLine))
+        }
+        _ => Err(LineError::Fault(LineFault::UnknownName)),
+    }
+}
+
+/// Whether the keyword begins a statement.
+fn is_directive(keyword: Keyword) -> bool
+    ensures { result ≡ is_directive keyword }
+{
+    matches!(
+        keyword,
+        Keyword::Segment | Keyword::Ends | Keyword::Org | Keyword::Db | Keyword::Dw | Keyword::Dd
+    )
+}
+
+#[tactic(auto, unfolding(crate::specs::Statements::instruction_of))]
+fn read_instruction(
+    alloc: Global,
+    prefixes: Sequence<Prefix>,
+    mnemonic: Mnemonic,
+    tokens: &[Token],
+) -> Result<Statement, LineError>
+    ensures { Gives result (instruction_of prefixes mnemonic tokens.now) }
+{
+    let operands = read_operands(alloc, tokens)?;
+    Ok(Statement::Instruction(Instruction {
+        prefixes,
+        mnemonic,
+        operands,
+    }))
+}
+
+#[tactic(auto, unfolding(crate::specs::Statements::directive_of))]
+fn read_directive(alloc: Global, keyword: Keyword, tokens: &[Token]) -> Result<Statement, LineError>
+    ensures { Gives result (directive_of keyword tokens.now) }
+{
+    match keyword {
+        Keyword::Segment => read_segment(alloc, tokens),
+        Keyword::Ends => read_ends(tokens),
+        Keyword::Org => read_org(alloc, tokens),
+        Keyword::Db => read_data(alloc, DataWidth::Byte, tokens),
+        Keyword::Dw => read_data(alloc, DataWidth::Word, tokens),
+        Keyword::Dd => read_data(alloc, DataWidth::Double, tokens),
+        _ => Err(LineError::Fault(LineFault::UnknownName)),
+    }
+}
+
+#[tactic(auto, unfolding(crate::specs::Statements::segment_of))]
+fn read_segment(alloc: Global, tokens: &[Token]) -> Result<Statement, LineError>
+    ensures { Gives result (segment_of tokens.now) }
+{
+    match tokens {
+        [name, at, paragraph @ ..] if is_at(at) => segment_by(alloc, name, paragraph),
+        _ => Err(LineError::Fault(LineFault::BadLine)),
+    }
+}
+
+fn segment_by(alloc: Global, name: &Token, paragraph: &[Token]) -> Result<Statement, LineError>
+    ensures { Gives result (segment_by name.now paragraph.now) }
+{
+    match name {
+        Token::Named(name) => segment_at(alloc, *name, paragraph),
+        _ => Err(LineError::Fault(LineFault::BadLine)),
+    }
+}
+
+fn segment_at(alloc: Global, name: Name, paragraph: &[Token]) -> Result<Statement, LineError>
+    ensures { Gives result (segment_at name paragraph.now) }
+{
+    Ok(Statement::Segment(name, read_constant(alloc, paragraph)?))
+}
+
+#[tactic(auto, unfolding(crate::specs::Statements::ends_of))]
+fn read_ends(tokens: &[Token]) -> Result<Statement, LineError>
+    ensures { Gives result (ends_of tokens.now) }
+{
+    match tokens {
+        [] => Ok(Statement::Ends),
+        _ => Err(LineError::Fault(LineFault::BadLine)),
+    }
+}
+
+#[tactic(auto, unfolding(crate::specs::Statements::org_of))]
+fn read_org(alloc: Global, tokens: &[Token]) -> Result<Statement, LineError>
+    ensures { Gives result (org_of tokens.now) }
+{
+    Ok(Statement::Org(read_constant(alloc, tokens)?))
+}
+
+#[tactic(auto, unfolding(crate::specs::Statements::data_of))]
+fn read_data(alloc: Global, width: DataWidth, tokens: &[Token]) -> Result<Statement, LineError>
+    ensures { Gives result (data_of width tokens.now) }
+{
+    Ok(Statement::Data(width, read_items(alloc, width, tokens)?))
+}

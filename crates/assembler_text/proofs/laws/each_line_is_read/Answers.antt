@@ -1,5 +1,0 @@
-use Rattle.assembler_text.proofs.SpelledLines.{each_line_read}
-use Rattle.assembler_text.proofs.laws.each_line_is_read.Goals as goal
-
-pub returns : goal.returns
-returns c = each_line_read

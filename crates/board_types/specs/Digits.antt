@@ -1,0 +1,15 @@
+-- Numbers as digits spell them.
+-- To be believed: public contracts say what they say by these definitions.
+use Rattle.std.specs.Prelude.{ℕ, ◌+◌, ◌*◌, ◌-◌, ◌&&◌, nat_le, nat_lt, if◌then◌else◌, List, [], ◌∷◌, Option, None, Some}
+
+-- the value of a digit or of a letter as a digit, A to F in any case being 10 to 15; 255 is none
+abbrev pub digit_of : ℕ → ℕ
+digit_of b =
+    if nat_le 48 b && nat_le b 57 then b - 48 else (
+    if nat_le 65 b && nat_le b 70 then b - 55 else (
+    if nat_le 97 b && nat_le b 102 then b - 87 else 255))
+
+-- the number that these digits to a base spell behind a number, the highest digit first
+abbrev pub spelled : ℕ → ℕ → List ℕ → Option ℕ
+spelled base front [] = Some front
+spelled base front (b ∷ bs) = if nat_lt (digit_of b) base then spelled base (front * base + digit_of b) bs else None

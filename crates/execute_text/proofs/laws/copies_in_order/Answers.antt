@@ -1,5 +1,0 @@
-use Rattle.execute_text.proofs.Copies.{copies_in_order}
-use Rattle.execute_text.proofs.laws.copies_in_order.Goals as goal
-
-pub returns : goal.returns
-returns g c = copies_in_order g.B.Bus.meaning g.met.B.Bus.keeps_bytes

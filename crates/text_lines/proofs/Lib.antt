@@ -1,3 +1,0 @@
-mod Scanning
-mod Ending
-pub mod Counting
