@@ -3,7 +3,8 @@ ghost use Rattle.std.specs.Prelude.{ℤ, ◌≡◌, ◌↔◌, IsTrue};
 ghost use Rattle.assembler_meaning.specs.Takes.{is_al, is_byte_memory, is_byte_register, is_byte_size, is_cl, is_constant_within, is_direct, is_dx, is_far_memory, is_near, is_number, is_of, is_pointer, is_segment_not_cs, is_segment_register, is_ax, is_within, is_word_memory, is_word_register, is_word_size, Takes};
 
 use crate::asked::Asked;
-use crate::operand::{KnownMemory, KnownOperand, Number, Size};
+use crate::operand::{KnownMemory, KnownOperand, Number};
+use assembler_syntax::operand::Size;
 use dialect::register::Register;
 use isa::operation::{Control, Operation};
 use isa::register::{ByteRegister, SegmentRegister, WordRegister};
