@@ -1,6 +1,6 @@
 -- A source that gives an image has no fault.
 use Rattle.std.proofs.Common.{◌≡◌, ℕ, List, [], ◌∷◌, ◌++◌, refl, subst, arith, Option, None, Some, Ok, Err, inl, inr}
-use Rattle.assembler_lexeme.specs.declared.fault.LineFault.{LineFault}
+use Rattle.assembler_lexeme.specs.declared.fault.SyntaxFault.{SyntaxFault}
 use Rattle.assembler_syntax.specs.declared.statement.Line.{Line}
 use Rattle.board_types.specs.TextLines.{text_lines}
 use Rattle.assembler_syntax.specs.Lines.{read_line}
@@ -14,7 +14,7 @@ use Rattle.assembler.proofs.AnsweringRows.{one_row, one_rows, rows_up_to, RowsUp
 use Rattle.assembler.specs.Placement.{row_fault}
 use Rattle.assembler.proofs.AnsweringPlaces.{no_row_fault}
 
-not_read : (text : List ℕ) (line : Line) (found : LineFault) → read_line text ≡ Ok line → read_line text ≡ Err found → ⊥
+not_read : (text : List ℕ) (line : Line) (found : SyntaxFault) → read_line text ≡ Ok line → read_line text ≡ Err found → ⊥
 not_read text line found is also = cc
 
 not_found : (o : Option SourceFault) (fault : SourceFault) → o ≡ None → o ≡ Some fault → ⊥

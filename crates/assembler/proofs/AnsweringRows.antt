@@ -5,7 +5,7 @@ use Rattle.std.proofs.lemmas.Option.{get_or_from_slice_get, slice_get_within}
 use Rattle.isa.specs.declared.form.Form.{Form}
 use Rattle.isa.specs.declared.row.Row.{Row as TableRow}
 use Rattle.isa.specs.Table.{rows as table_rows}
-use Rattle.assembler_lexeme.specs.declared.fault.LineFault.{LineFault}
+use Rattle.assembler_lexeme.specs.declared.fault.SyntaxFault.{SyntaxFault}
 use Rattle.assembler_syntax.specs.declared.statement.Line.{Line}
 use Rattle.assembler_syntax.specs.declared.statement.Statement.{Statement}
 use Rattle.assembler_syntax.specs.declared.statement.Statement.TheVariants.{Empty, Segment, Ends, Equ, Org, Data, Instruction}
@@ -43,7 +43,7 @@ one_form_of names (Org n) f g is also = is ∙ sym also
 one_form_of names (Data width items) f g is also = is ∙ sym also
 one_form_of names (Instruction i) f g is also = one_form_for (instruction_asked names i) f g is also
 
-abbrev read : Line → Result Line LineFault
+abbrev read : Line → Result Line SyntaxFault
 read line = Ok line
 
 read_same : (a b : Line) → read a ≡ read b → a ≡ b

@@ -1,6 +1,6 @@
 -- The names of a source are ASCII.
 use Rattle.std.proofs.Common.{◌≡◌, ℕ, zero, suc, ◌-◌, ◌<◌, ◌==◌, List, [], ◌∷◌, ◌++◌, length, map, take, replicate, refl, sym, ap, subst, arith, Bool, true, false, ◌&&◌, Option, None, Some, Result, Ok, Err, nat_le, nat_lt, if◌then◌else◌}
-use Rattle.std.specs.Prelude.{slice_get, codes}
+use Rattle.std.specs.Prelude.{slice_get, codes, ℤ}
 use Rattle.std.specs.List.{AllByRecursion, list_all}
 use Rattle.std.specs.Char.{to_ascii_uppercase}
 use Rattle.std.specs.Option.{option_map, option_map_or}
@@ -14,8 +14,8 @@ use Rattle.dialect.specs.declared.register.Register.TheVariants as registers
 use Rattle.dialect.specs.declared.keyword.Keyword.{Keyword as KeywordType}
 use Rattle.dialect.specs.declared.keyword.Keyword.TheVariants as keywords
 use Rattle.dialect.specs.Words.{meaning_of}
-use Rattle.assembler_lexeme.specs.declared.fault.LineFault.{LineFault}
-use Rattle.assembler_lexeme.specs.declared.fault.LineFault.TheVariants.{BadCharacter, BadLine}
+use Rattle.assembler_lexeme.specs.declared.fault.SyntaxFault.{SyntaxFault}
+use Rattle.assembler_lexeme.specs.declared.fault.SyntaxFault.TheVariants.{BadCharacter, BadLine}
 use Rattle.assembler_lexeme.specs.declared.name.Name.{Name}
 use Rattle.assembler_syntax.specs.declared.expression.Term.{Term}
 use Rattle.assembler_syntax.specs.declared.operand.Operand.{Operand}
@@ -47,7 +47,6 @@ use Rattle.assembler.specs.Kept.{Reads}
 use Rattle.assembler.specs.Listing.{letters_of, symbol_at}
 use Rattle.assembler.specs.Rows.{AreRows, Row, constant_definition, label_definition, names_of, statement_definition, statement_name}
 use Rattle.assembler.proofs.ListingTexts.{character_below}
-use Rattle.std.specs.Prelude.{ℤ}
 
 nil_ascii : IsAscii []
 nil_ascii i = omega arith
@@ -166,11 +165,11 @@ token_ascii lexeme ascii =
 abbrev AllAscii : List Token → Type 0
 AllAscii ts = AllByRecursion IsAsciiToken ts
 
-abbrev AsciiTokens : Result (List Token) LineFault → Type 0
+abbrev AsciiTokens : Result (List Token) SyntaxFault → Type 0
 AsciiTokens (Ok ts) = AllAscii ts
 AsciiTokens (Err fault) = Unit {0}
 
-onto_tokens : (o : Option Token) (r : Result (List Token) LineFault) → AsciiIfSome o → AsciiTokens r → AsciiTokens (wanted o >>= (λ t. r >>= (λ ts. Ok (t ∷ ts))))
+onto_tokens : (o : Option Token) (r : Result (List Token) SyntaxFault) → AsciiIfSome o → AsciiTokens r → AsciiTokens (wanted o >>= (λ t. r >>= (λ ts. Ok (t ∷ ts))))
 onto_tokens None r first rest = tt
 onto_tokens (Some t) (Ok ts) first rest = (first, rest)
 onto_tokens (Some t) (Err fault) first rest = tt
@@ -188,27 +187,27 @@ abbrev AsciiName : Option Name → Type 0
 AsciiName None = Unit {0}
 AsciiName (Some name) = IsAsciiName name
 
-abbrev AsciiStatement : Result Statement LineFault → Type 0
+abbrev AsciiStatement : Result Statement SyntaxFault → Type 0
 AsciiStatement (Ok s) = AsciiName (statement_name s)
 AsciiStatement (Err fault) = Unit {0}
 
-equ_with : (name : Name) (r : Result (List Term) LineFault) → IsAsciiName name → AsciiStatement (r >>= (λ value. Ok (statements.Equ name value)))
+equ_with : (name : Name) (r : Result (List Term) SyntaxFault) → IsAsciiName name → AsciiStatement (r >>= (λ value. Ok (statements.Equ name value)))
 equ_with name (Ok value) ascii = ascii
 equ_with name (Err fault) ascii = tt
 
-segment_with : (name : Name) (r : Result (List Term) LineFault) → IsAsciiName name → AsciiStatement (r >>= (λ value. Ok (statements.Segment name value)))
+segment_with : (name : Name) (r : Result (List Term) SyntaxFault) → IsAsciiName name → AsciiStatement (r >>= (λ value. Ok (statements.Segment name value)))
 segment_with name (Ok value) ascii = ascii
 segment_with name (Err fault) ascii = tt
 
-org_with : (r : Result (List Term) LineFault) → AsciiStatement (r >>= (λ value. Ok (statements.Org value)))
+org_with : (r : Result (List Term) SyntaxFault) → AsciiStatement (r >>= (λ value. Ok (statements.Org value)))
 org_with (Ok value) = tt
 org_with (Err fault) = tt
 
-data_with : (width : DataWidth) (r : Result (List Item) LineFault) → AsciiStatement (r >>= (λ items. Ok (statements.Data width items)))
+data_with : (width : DataWidth) (r : Result (List Item) SyntaxFault) → AsciiStatement (r >>= (λ items. Ok (statements.Data width items)))
 data_with width (Ok items) = tt
 data_with width (Err fault) = tt
 
-instruction_with : (ps : List PrefixType) (m : MnemonicType) (r : Result (List Operand) LineFault)
+instruction_with : (ps : List PrefixType) (m : MnemonicType) (r : Result (List Operand) SyntaxFault)
     → AsciiStatement (r >>= (λ operands. Ok (statements.Instruction (record { prefixes = ps; mnemonic = m; operands = operands }))))
 instruction_with ps m (Ok operands) = tt
 instruction_with ps m (Err fault) = tt
@@ -299,11 +298,11 @@ pub record AsciiLine (line : Line) : Type 0 where
   pub label : AsciiName line.label
   pub statement : AsciiName (statement_name line.statement)
 
-abbrev AsciiRead : Result Line LineFault → Type 0
+abbrev AsciiRead : Result Line SyntaxFault → Type 0
 AsciiRead (Ok line) = AsciiLine line
 AsciiRead (Err fault) = Unit {0}
 
-label_with : (label : Option Name) (r : Result Statement LineFault) → AsciiName label → AsciiStatement r → AsciiRead (r >>= (λ s. Ok (record { label = label; statement = s })))
+label_with : (label : Option Name) (r : Result Statement SyntaxFault) → AsciiName label → AsciiStatement r → AsciiRead (r >>= (λ s. Ok (record { label = label; statement = s })))
 label_with label (Ok s) ascii names = record { label = ascii; statement = names }
 label_with label (Err fault) ascii names = tt
 
@@ -320,11 +319,11 @@ line_ascii [] all = with_label_ascii None [] tt all
 line_ascii (t ∷ []) all = with_label_ascii None (t ∷ []) tt all
 line_ascii (t ∷ u ∷ ts) all = labelled_ascii t u ts all
 
-lines_with : (r : Result (List Token) LineFault) → AsciiTokens r → AsciiRead (r >>= line_of)
+lines_with : (r : Result (List Token) SyntaxFault) → AsciiTokens r → AsciiRead (r >>= line_of)
 lines_with (Ok ts) all = line_ascii ts all
 lines_with (Err fault) all = tt
 
-where_true : (b : Bool) (r : Result Line LineFault) → (b ≡ true → AsciiRead r) → AsciiRead (if b then r else Err BadCharacter)
+where_true : (b : Bool) (r : Result Line SyntaxFault) → (b ≡ true → AsciiRead r) → AsciiRead (if b then r else Err BadCharacter)
 where_true true r there = there refl
 where_true false r there = tt
 

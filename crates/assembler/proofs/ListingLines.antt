@@ -16,7 +16,8 @@ use Rattle.assembler_meaning.specs.declared.symbol.Location.{Location}
 use Rattle.assembler_meaning.specs.Values.{Names}
 use Rattle.assembler.specs.Gives.{ArePlaced, Fits, Gives}
 use Rattle.assembler.specs.Kept.{AreKept, EndsBy, Keeps, Reads}
-use Rattle.assembler.specs.Listing.{bytes_part, first_bytes, hex_byte_text, hex_word, line_at, listed, more_mark, place_part, row_bytes, spaces}
+use Rattle.board_types.specs.Digits.{hex_byte_text, hex_word}
+use Rattle.assembler.specs.Listing.{bytes_part, first_bytes, line_at, listed, more_mark, place_part, row_bytes, spaces}
 use Rattle.assembler.specs.Placement.{address_behind, bytes_by, bytes_from, content_of, is_past_end, placed_by, placed_by_all}
 use Rattle.assembler.specs.Rows.{AreRows, IsCleanRow, Row, names_of}
 use Rattle.assembler.specs.Shown.{said_by, shown_at, shown_byte, shown_count, shown_digits, shown_line, shown_place, shown_location, location_by_size}

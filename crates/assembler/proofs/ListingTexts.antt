@@ -6,8 +6,8 @@ use Rattle.std.specs.Result.{result_unwrap_or}
 use Rattle.std.specs.Str.{IsAscii, IsUtf8}
 use Rattle.std.proofs.lemmas.Bool.Decides.{nat_tests}
 use Rattle.std.proofs.lemmas.Str.{IsUtf8-from_ascii}
-use Rattle.assembler_lexeme.specs.declared.fault.LineFault.{LineFault}
-use Rattle.assembler_lexeme.specs.declared.fault.LineFault.TheVariants.{BadCharacter}
+use Rattle.assembler_lexeme.specs.declared.fault.SyntaxFault.{SyntaxFault}
+use Rattle.assembler_lexeme.specs.declared.fault.SyntaxFault.TheVariants.{BadCharacter}
 use Rattle.assembler_syntax.specs.declared.statement.Line.{Line}
 use Rattle.assembler_lexeme.specs.Lexemes.{is_character, lexemes}
 use Rattle.assembler_lexeme.specs.Tokens.{tokens_of}
@@ -33,7 +33,7 @@ ascii_of [] all i = omega arith
 ascii_of (b ∷ bs) all zero = character_below b (both_of (is_character b) (list_all is_character bs) all).0
 ascii_of (b ∷ bs) all (suc i) = ascii_of bs (both_of (is_character b) (list_all is_character bs) all).1 i
 
-all_passed : (b : Bool) (r : Result Line LineFault) (line : Line) → (if b then r else Err BadCharacter) ≡ Ok line → b ≡ true
+all_passed : (b : Bool) (r : Result Line SyntaxFault) (line : Line) → (if b then r else Err BadCharacter) ≡ Ok line → b ≡ true
 all_passed true r line is = refl
 all_passed false r line is = absurd (let never : Err BadCharacter ≡ Ok line = is in cc)
 

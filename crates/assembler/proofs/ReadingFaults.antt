@@ -2,7 +2,7 @@
 use Rattle.std.proofs.Common.{◌≡◌, ℕ, ◌+◌, ◌^◌, ◌≤◌, refl, sym, ap, ◌∙◌, subst, arith, Bool, true, false, ◌||◌, if◌then◌else◌, List, ◌++◌, Option, None, Some, Ok, Err, IfSome, append_assoc, inl, inr, length}
 use Rattle.isa.specs.Encoding.{IsForm}
 use Rattle.isa.specs.declared.form.Form.{Form}
-use Rattle.assembler_lexeme.specs.declared.fault.LineFault.{LineFault}
+use Rattle.assembler_lexeme.specs.declared.fault.SyntaxFault.{SyntaxFault}
 use Rattle.assembler_syntax.specs.declared.statement.Line.{Line}
 use Rattle.assembler_syntax.specs.declared.statement.Statement.{Statement}
 use Rattle.assembler_syntax.specs.declared.statement.Statement.TheVariants.{Empty, Segment, Ends, Equ, Org, Data, Instruction}
@@ -11,7 +11,7 @@ use Rattle.assembler.specs.declared.fault.SourceFault.{SourceFault}
 use Rattle.assembler.specs.declared.fault.SourceFault.TheVariants.{BadLine, UnknownName, BadForm, TwiceDefined, NoSegment}
 use Rattle.assembler.specs.declared.row.KeptRow.{KeptRow}
 use Rattle.assembler.specs.declared.row.Content.{Content}
-use Rattle.assembler.specs.declared.early.State.{State}
+use Rattle.assembler.specs.declared.early.Before.{Before}
 use Rattle.assembler_meaning.specs.declared.symbol.Location.{Location}
 use Rattle.assembler_meaning.specs.Values.{Names, AreSmall, term_limit}
 use Rattle.assembler.specs.Rows.{IsFormOf, IsRow, defines_again, early_fault, has_unknown_constant, has_wrong_constant, label_definition, lacks_form, opens_within, size_of, stands_outside, statement_definition}
@@ -57,7 +57,7 @@ pub is_row : (names : Names) (location : Option Location) (text : List ℕ) (lin
     → IsRow names location text (row_of names location line form)
 is_row names location text line form reads chosen = record { reads = reads; form = chosen; size = refl; location = refl; next = refl; names = refl }
 
-pub read_fault : (names : Names) (location : Option Location) (text : List ℕ) (found : LineFault) → read_line text ≡ Err found → IsTextFault names location text (fault_of_line found)
+pub read_fault : (names : Names) (location : Option Location) (text : List ℕ) (found : SyntaxFault) → read_line text ≡ Err found → IsTextFault names location text (fault_of_line found)
 read_fault names location text found reads = inl (found, reads, refl)
 
 pub row_fault : (names : Names) (location : Option Location) (text : List ℕ) (line : Line) (form : Option Form) (fault : SourceFault) → read_line text ≡ Ok line → IsFormOf names line.statement form
@@ -98,7 +98,7 @@ longer : (a b size n : ℕ) → size ≤ size_limit n → b ≤ a + size + 65535
 longer a b size n bound grows = omega arith
 
 -- what the state and the kept row are behind a line without a fault
-pub adds_row : (old new : State) (start length : ℕ) (line : Line) (form : Option Form) (kept : KeptRow)
+pub adds_row : (old new : Before) (start length : ℕ) (line : Line) (form : Option Form) (kept : KeptRow)
     → AreSmall old.symbols.entries → offset_of old.location + size_limit length ≤ 2 ^ 40 → are_terms_within term_limit line.statement ≡ true → statement_weight line.statement ≤ length
     → IfSome form IsForm → IsClean old.symbols.entries line
     → size_of old.symbols.entries line.statement form ≤ size_limit (statement_weight line.statement)

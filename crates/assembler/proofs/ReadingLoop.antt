@@ -6,7 +6,7 @@ use Rattle.assembler.specs.declared.fault.AsmFault.{AsmFault}
 use Rattle.assembler.specs.declared.fault.AsmFault.TheVariants.{SourceTooLong, InLine, Memory}
 use Rattle.assembler.specs.declared.fault.SourceFault.{SourceFault}
 use Rattle.assembler.specs.declared.row.KeptRow.{KeptRow}
-use Rattle.assembler.specs.declared.early.State.{State}
+use Rattle.assembler.specs.declared.early.Before.{Before}
 use Rattle.assembler_meaning.specs.declared.symbol.Location.{Location}
 use Rattle.assembler_meaning.specs.Values.{AreSmall, Names}
 use Rattle.assembler.specs.Rows.{Row, AreRows, IsCleanRow, IsRow, early_fault, names_of, location_behind}
@@ -63,7 +63,7 @@ keeps_it source text start kept row inside stands keeps = record {
 }
 
 -- a row that is clean in the light of a state is clean behind the rows that left the state
-clean_in : (state : State) (rows : List Row) (text : List ℕ) (row : Row) → state.symbols.entries ≡ names_of rows → state.location ≡ location_behind rows
+clean_in : (state : Before) (rows : List Row) (text : List ℕ) (row : Row) → state.symbols.entries ≡ names_of rows → state.location ≡ location_behind rows
     → IsRow state.symbols.entries state.location text row → early_fault state.symbols.entries row.location row.line row.form ≡ None → IsCleanRow rows text row
 clean_in state rows text row names location is clean = record {
   is_row = subst (λ (n : Names). IsRow n (location_behind rows) text row) names (subst (λ (o : Option Location). IsRow state.symbols.entries o text row) location is);
@@ -73,7 +73,7 @@ clean_in state rows text row names location is clean = record {
 room_left : (a b n p q : ℕ) → a ≤ 2 ^ 20 * p → b ≤ a + size_limit n + 65535 → n ≤ q → 0 < q → b ≤ 2 ^ 20 * (p + q)
 room_left a b n p q room grows fits some = omega arith
 
-pub reads_more : (source rest text after : List ℕ) (number start : ℕ) (old new : State) (kept more : List KeptRow)
+pub reads_more : (source rest text after : List ℕ) (number start : ℕ) (old new : Before) (kept more : List KeptRow)
     → HasRead source rest number old kept → IsLine rest text after → start ≡ length source - length rest → KeepsText old new start text kept more
     → HasRead source after (number + 1) new more
 reads_more source rest text after number start old new kept more read line starts keeps =
@@ -103,7 +103,7 @@ reads_more source rest text after number start old new kept more read line start
     }
 
 -- where no line is left the source is read
-pub reads_all : (source rest : List ℕ) (number : ℕ) (state : State) (kept : List KeptRow) → HasRead source rest number state kept → text_lines rest ≡ [] → length source ≤ source_limit
+pub reads_all : (source rest : List ℕ) (number : ℕ) (state : Before) (kept : List KeptRow) → HasRead source rest number state kept → text_lines rest ≡ [] → length source ≤ source_limit
     → Reads source state.symbols.entries kept
 reads_all source rest number state kept read none within =
     let all : text_lines source ≡ read.front = read.texts ∙ ap (λ (ls : List (List ℕ)). read.front ++ ls) none ∙ no_more read.front in
@@ -117,13 +117,13 @@ reads_all source rest number state kept read none within =
       steady = read.steady;
     }
 
-fault_behind : (state : State) (rows : List Row) (text : List ℕ) (fault : SourceFault) → state.symbols.entries ≡ names_of rows → state.location ≡ location_behind rows
+fault_behind : (state : Before) (rows : List Row) (text : List ℕ) (fault : SourceFault) → state.symbols.entries ≡ names_of rows → state.location ≡ location_behind rows
     → IsTextFault state.symbols.entries state.location text fault → IsTextFault (names_of rows) (location_behind rows) text fault
 fault_behind state rows text fault names location found =
     subst (λ (n : Names). IsTextFault n (location_behind rows) text fault) names (subst (λ (o : Option Location). IsTextFault state.symbols.entries o text fault) location found)
 
 -- the fault of the next line is the source's first
-pub stops_first : (source rest text after : List ℕ) (number : ℕ) (state : State) (kept : List KeptRow) (fault : AsmFault)
+pub stops_first : (source rest text after : List ℕ) (number : ℕ) (state : Before) (kept : List KeptRow) (fault : AsmFault)
     → HasRead source rest number state kept → IsLine rest text after → length source ≤ source_limit → StopsAt state text (number + 1) fault → IsFirst source fault
 stops_first source rest text after number state kept SourceTooLong read line within stops = absurd stops
 stops_first source rest text after number state kept Memory read line within stops = tt
@@ -142,7 +142,7 @@ stops_first source rest text after number state kept (InLine fault at) read line
 )
 
 -- nothing is read yet
-pub starts : (source : List ℕ) (state : State) (kept : List KeptRow) → state.symbols.entries ≡ [] → state.location ≡ None → kept ≡ [] → HasRead source source 0 state kept
+pub starts : (source : List ℕ) (state : Before) (kept : List KeptRow) → state.symbols.entries ≡ [] → state.location ≡ None → kept ≡ [] → HasRead source source 0 state kept
 starts source state kept names location none = record {
   front = [];
   rows = [];

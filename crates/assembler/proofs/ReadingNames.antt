@@ -12,9 +12,8 @@ use Rattle.assembler_syntax.specs.declared.statement.Statement.TheVariants.{Empt
 use Rattle.assembler_meaning.specs.declared.symbol.Location.{Location}
 use Rattle.assembler_meaning.specs.declared.symbol.Symbol.{Symbol}
 use Rattle.assembler_meaning.specs.declared.symbol.Symbol.TheVariants.{Label, Constant}
-use Rattle.assembler_meaning.specs.Values.{Names, AreSmall, IsSmall, IsSmallNumber, constant_of, meaning, same_name}
+use Rattle.assembler_meaning.specs.Values.{Names, AreSmall, IsSmall, IsSmallNumber, constant_of, meaning, same_name, is_defined}
 use Rattle.assembler.specs.Rows.{constant_definition, defines_again, has_wrong_constant, is_same, label_definition, statement_definition, statement_name}
-use Rattle.assembler_meaning.specs.Values.{is_defined}
 use Rattle.assembler_meaning.specs.Data.{is_other}
 use Rattle.assembler.specs.FirstPass.{IsNewDefinition, definition_names, offset_of}
 

@@ -11,11 +11,10 @@ use Rattle.assembler.specs.declared.fault.SourceFault.{SourceFault}
 use Rattle.assembler.specs.declared.fault.SourceFault.TheVariants as faults
 use Rattle.assembler_meaning.specs.declared.symbol.Location.{Location}
 use Rattle.assembler_meaning.specs.Values.{Names}
-use Rattle.assembler_meaning.specs.Instructions.{instruction_size}
+use Rattle.assembler_meaning.specs.Instructions.{instruction_size, code_bytes}
 use Rattle.assembler_meaning.specs.Data.{are_items_known}
 use Rattle.assembler.specs.Rows.{early_fault, has_unknown_constant, has_wrong_constant, opens_within, size_of}
 use Rattle.assembler.specs.Placement.{content_of, fields_of}
-use Rattle.assembler_meaning.specs.Instructions.{code_bytes}
 use Rattle.assembler.specs.SecondPass.{HasSizeAt}
 use Rattle.assembler_meaning.proofs.LeavesLength.{code_length, data_length, keeps_behind}
 

@@ -1,8 +1,8 @@
 -- The first fault of a source.
 -- To be believed: public contracts say what they say by these definitions.
 use Rattle.std.specs.Prelude.{ℕ, ◌≡◌, ◌≤◌, ◌<◌, ◌+◌, ◌⊎◌, codes, List, [], ◌∷◌, ◌++◌, length, Option, None, Some, Err}
-use Rattle.assembler_lexeme.specs.declared.fault.LineFault.{LineFault}
-use Rattle.assembler_lexeme.specs.declared.fault.LineFault.TheVariants as line_faults
+use Rattle.assembler_lexeme.specs.declared.fault.SyntaxFault.{SyntaxFault}
+use Rattle.assembler_lexeme.specs.declared.fault.SyntaxFault.TheVariants as line_faults
 use Rattle.board_types.specs.TextLines.{text_lines}
 use Rattle.assembler_syntax.specs.Lines.{read_line}
 use Rattle.assembler.specs.declared.fault.SourceFault.{SourceFault}
@@ -15,14 +15,14 @@ use Rattle.assembler.specs.Rows.{Row, IsRow, AreRows, early_fault, names_of, loc
 use Rattle.assembler.specs.Placement.{row_fault}
 use Rattle.assembler.specs.Gives.{source_limit}
 
-abbrev pub fault_of_line : LineFault → SourceFault
+abbrev pub fault_of_line : SyntaxFault → SourceFault
 fault_of_line line_faults.BadCharacter = BadCharacter
 fault_of_line line_faults.BadLine = BadLine
 fault_of_line line_faults.UnknownName = UnknownName
 
 -- a text that doesn't read has that fault, and one that does has the fault of its row in the light of the lines before
 abbrev pub IsReadFault : List ℕ → SourceFault → Type 0
-IsReadFault text fault = (found : LineFault) × (read_line text ≡ Err found) × (fault ≡ fault_of_line found)
+IsReadFault text fault = (found : SyntaxFault) × (read_line text ≡ Err found) × (fault ≡ fault_of_line found)
 
 abbrev pub IsRowFault : Names → Option Location → List ℕ → SourceFault → Type 0
 IsRowFault names location text fault = (row : Row) × IsRow names location text row × (early_fault names row.location row.line row.form ≡ Some fault)

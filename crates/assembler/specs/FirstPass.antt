@@ -11,12 +11,11 @@ use Rattle.assembler.specs.declared.fault.AsmFault.TheVariants.{SourceTooLong, I
 use Rattle.assembler.specs.declared.fault.LineStop.{LineStop}
 use Rattle.assembler.specs.declared.fault.LineStop.TheVariants as stops
 use Rattle.assembler.specs.declared.row.KeptRow.{KeptRow}
-use Rattle.assembler.specs.declared.early.State.{State}
+use Rattle.assembler.specs.declared.early.Before.{Before}
 use Rattle.assembler_meaning.specs.declared.symbol.Location.{Location}
 use Rattle.assembler_meaning.specs.declared.symbol.Symbol.{Symbol}
-use Rattle.assembler_meaning.specs.Values.{Names, AreSmall}
+use Rattle.assembler_meaning.specs.Values.{Names, AreSmall, is_defined}
 use Rattle.assembler.specs.Rows.{Row, IsRow, AreRows, early_fault, label_definition, names_of, size_of, location_after, location_behind, statement_definition}
-use Rattle.assembler_meaning.specs.Values.{is_defined}
 use Rattle.assembler.specs.Placement.{content_of}
 use Rattle.assembler.specs.FirstFault.{IsTextFault}
 use Rattle.assembler.specs.Kept.{AreKept, IsSteady, content_in}
@@ -60,7 +59,7 @@ pub record KeepsRow (start length : ℕ) (kept : KeptRow) (row : Row) : Type 0 w
   pub content : content_in kept ≡ content_of row.line.statement row.form
 
 -- a row was added behind the lines before it
-pub record AddsRow (old new : State) (start length : ℕ) (row : Row) (kept : KeptRow) : Type 0 where
+pub record AddsRow (old new : Before) (start length : ℕ) (row : Row) (kept : KeptRow) : Type 0 where
   pub location : new.location ≡ row.next
   pub names : new.symbols.entries ≡ old.symbols.entries ++ row.names
   pub keeps : KeepsRow start length kept row
@@ -69,30 +68,30 @@ pub record AddsRow (old new : State) (start length : ℕ) (row : Row) (kept : Ke
   pub grows : offset_of new.location ≤ offset_of old.location + size_limit length + 65535
 
 -- a text was read, and its row added
-pub record AddsText (old new : State) (start : ℕ) (text : List ℕ) (kept : KeptRow) : Type 0 where
+pub record AddsText (old new : Before) (start : ℕ) (text : List ℕ) (kept : KeptRow) : Type 0 where
   pub row : Row
   pub is_row : IsRow old.symbols.entries old.location text row
   pub clean : early_fault old.symbols.entries row.location row.line row.form ≡ None
   pub adds : AddsRow old new start (length text) row kept
 
 -- a text was read, and what its row keeps added to what is kept
-pub record KeepsText (old new : State) (start : ℕ) (text : List ℕ) (before after : List KeptRow) : Type 0 where
+pub record KeepsText (old new : Before) (start : ℕ) (text : List ℕ) (before after : List KeptRow) : Type 0 where
   pub kept : KeptRow
   pub kept_last : after ≡ before ++ kept ∷ []
   pub adds : AddsText old new start text kept
 
 -- why a text isn't added
-abbrev pub StopsText : State → List ℕ → LineStop → Type 0
+abbrev pub StopsText : Before → List ℕ → LineStop → Type 0
 StopsText old text (stops.Fault fault) = IsTextFault old.symbols.entries old.location text fault
 StopsText old text stops.Memory = Unit {0}
 
-abbrev pub StopsAt : State → List ℕ → ℕ → AsmFault → Type 0
+abbrev pub StopsAt : Before → List ℕ → ℕ → AsmFault → Type 0
 StopsAt old text number (InLine fault at) = (at ≡ number) × IsTextFault old.symbols.entries old.location text fault
 StopsAt old text number SourceTooLong = ⊥
 StopsAt old text number Memory = Unit {0}
 
 -- the source's lines up to a rest of it are read: they make these rows, which are kept
-pub record HasRead (source rest : List ℕ) (number : ℕ) (state : State) (kept : List KeptRow) : Type 0 where
+pub record HasRead (source rest : List ℕ) (number : ℕ) (state : Before) (kept : List KeptRow) : Type 0 where
   pub front : List (List ℕ)
   pub rows : List Row
   pub passed : List ℕ

@@ -1,9 +1,9 @@
 -- The listing: for each line where its bytes stand, the first eight of them, and the line; and the names of a source.
 -- To be believed: public contracts say what they say by these definitions.
-use Rattle.std.specs.Prelude.{ℕ, ℤ, ◌-◌, ◌*◌, ◌/◌, ◌%◌, true, nat_lt, if◌then◌else◌, List, [], ◌∷◌, ◌++◌, length, take, replicate, Option, None, Some, zip}
+use Rattle.std.specs.Prelude.{ℕ, ℤ, ◌-◌, ◌*◌, nat_lt, if◌then◌else◌, List, [], ◌∷◌, ◌++◌, length, take, replicate, Option, None, Some, zip}
 use Rattle.std.specs.Option.{option_map}
 use Rattle.std.specs.List.{flat_map, slice_get, take_while}
-use Rattle.std.specs.Fmt.{digit_glyph}
+use Rattle.board_types.specs.Digits.{hex_byte_text, hex_word}
 use Rattle.assembler_lexeme.specs.declared.name.Name.{Name}
 use Rattle.assembler_meaning.specs.declared.symbol.Location.{Location}
 use Rattle.assembler_meaning.specs.Values.{Names, symbol_value}
@@ -15,13 +15,6 @@ pub record ListingState : Type 0 where
   pub source : List ℕ
   pub names : Names
   pub image : List (ℕ × ℕ)
-
--- two and four hexadecimal digits, in upper case
-abbrev pub hex_byte_text : ℕ → List ℕ
-hex_byte_text byte = digit_glyph true (byte / 16) ∷ digit_glyph true (byte % 16) ∷ []
-
-abbrev pub hex_word : ℕ → List ℕ
-hex_word word = hex_byte_text (word / 256) ++ hex_byte_text (word % 256)
 
 abbrev pub spaces : ℕ → List ℕ
 spaces n = replicate n 32

@@ -17,10 +17,9 @@ use Rattle.assembler.specs.declared.row.Content.{Content}
 use Rattle.assembler.specs.declared.row.Content.TheVariants.{Data, Code}
 use Rattle.assembler_meaning.specs.declared.symbol.Location.{Location}
 use Rattle.assembler_meaning.specs.Values.{Names}
-use Rattle.assembler_meaning.specs.Instructions.{numbers_of}
+use Rattle.assembler_meaning.specs.Instructions.{numbers_of, code_bytes}
 use Rattle.assembler_meaning.specs.Data.{are_items_known, do_items_fit, data_bytes}
 use Rattle.assembler.specs.Rows.{Row}
-use Rattle.assembler_meaning.specs.Instructions.{code_bytes}
 
 -- what a line places: data, or an instruction in its form
 abbrev pub content_of : Statement → Option Form → Option Content

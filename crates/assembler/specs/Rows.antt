@@ -13,13 +13,9 @@ use Rattle.assembler.specs.declared.fault.SourceFault.{SourceFault}
 use Rattle.assembler.specs.declared.fault.SourceFault.TheVariants.{BadLine, UnknownName, BadForm, TwiceDefined, NoSegment}
 use Rattle.assembler_meaning.specs.declared.symbol.Location.{Location}
 use Rattle.assembler_meaning.specs.declared.symbol.Symbol.TheVariants.{Label, Constant}
-use Rattle.assembler_meaning.specs.Values.{Names, same_name, constant_of}
+use Rattle.assembler_meaning.specs.Values.{Names, same_name, constant_of, is_defined}
 use Rattle.assembler_meaning.specs.Instructions.{instruction_asked, instruction_size, IsFormFor}
-use Rattle.assembler_meaning.specs.Data.{counts_of, data_size, natural}
-use Rattle.assembler_meaning.specs.Data.{is_other}
-use Rattle.assembler_meaning.specs.Data.{is_wrong_count}
-use Rattle.assembler_meaning.specs.Data.{is_unknown}
-use Rattle.assembler_meaning.specs.Values.{is_defined}
+use Rattle.assembler_meaning.specs.Data.{counts_of, data_size, natural, is_other, is_wrong_count, is_unknown}
 
 -- a line of a source, with the form that its instruction has, how many bytes it places, where the first of them goes,
 -- where the next byte goes behind it, and the names that it defines, its label first

@@ -6,7 +6,8 @@ use Rattle.board_types.specs.Image.{image_byte}
 use Rattle.assembler.specs.declared.row.KeptRow.{KeptRow}
 use Rattle.assembler_meaning.specs.declared.symbol.Location.{Location}
 use Rattle.assembler.specs.Placement.{address_behind}
-use Rattle.assembler.specs.Listing.{hex_byte_text, hex_word, spaces}
+use Rattle.board_types.specs.Digits.{hex_byte_text, hex_word}
+use Rattle.assembler.specs.Listing.{spaces}
 
 -- the byte that the image has so far behind a location
 abbrev pub shown_byte : List (ℕ × ℕ) → Location → ℕ → ℕ

@@ -2,12 +2,10 @@
 ghost use Rattle.std.specs.Prelude.{◌≡◌, ◌≤◌, ◌<◌, ◌+◌, ◌^◌, false, true, pos, IfSome};
 ghost use Rattle.std.specs.Option.{option_map, option_map_or};
 ghost use Rattle.isa.specs.Encoding.{IsForm};
-ghost use Rattle.assembler_meaning.specs.Data.{natural};
+ghost use Rattle.assembler_meaning.specs.Data.{natural, is_other};
 ghost use Rattle.assembler.specs.FirstPass.{offset_of, size_limit};
 ghost use Rattle.assembler.specs.Rows.{IsFormOf, defines_again, early_fault, has_unknown_constant, has_wrong_constant, is_same, lacks_form, opens_within, size_of, location_after, stands_outside, statement_name, wants_segment};
-ghost use Rattle.assembler_meaning.specs.Values.{is_defined};
-ghost use Rattle.assembler_meaning.specs.Data.{is_other};
-ghost use Rattle.assembler_meaning.specs.Values.{AreSmall, IsShort, constant_of, term_limit};
+ghost use Rattle.assembler_meaning.specs.Values.{is_defined, AreSmall, IsShort, constant_of, term_limit};
 ghost use Rattle.assembler_syntax.specs.Weights.{are_terms_within, statement_weight};
 
 use crate::fault::SourceFault;
@@ -31,7 +29,7 @@ const EQU_GREATEST: i64 = 4_294_967_295;
 
 /// What the lines before a line leave.
 #[derive(Drop)]
-pub(crate) struct State {
+pub(crate) struct Before {
     /// Where the next byte goes, if a segment is open.
     pub(crate) location: Option<Location>,
     pub(crate) symbols: Symbols,
@@ -40,7 +38,7 @@ pub(crate) struct State {
 /// The fault of a line in the light of the lines before it: of its faults the one with the least number. `form` is the
 /// one that the table gives its instruction.
 #[tactic(auto, unfolding(crate::specs::Rows::early_fault))]
-pub(crate) fn early_fault(state: &State, line: &Line, form: Option<Form>) -> Option<SourceFault>
+pub(crate) fn early_fault(state: &Before, line: &Line, form: Option<Form>) -> Option<SourceFault>
     requires small { AreSmall state.now.symbols.entries }
     requires short { are_terms_within term_limit line.now.statement ≡ true }
     ensures { result ≡ early_fault state.now.symbols.entries state.now.location line.now form }
@@ -210,7 +208,7 @@ fn word_of(symbols: &Symbols, expression: &Expression) -> Option<u16>
 }
 
 /// Where the next byte goes behind the statement.
-pub(crate) fn location_after(state: &State, statement: &Statement, size: u64) -> Option<Location>
+pub(crate) fn location_after(state: &Before, statement: &Statement, size: u64) -> Option<Location>
     requires small { AreSmall state.now.symbols.entries }
     requires short { are_terms_within term_limit statement.now ≡ true }
     requires constants { has_wrong_constant state.now.symbols.entries statement.now ≡ false }

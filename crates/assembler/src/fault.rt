@@ -2,7 +2,7 @@
 ghost use Rattle.std.specs.Prelude.{◌≡◌};
 ghost use Rattle.assembler.specs.FirstFault.{fault_line, fault_name, fault_number, fault_of_line, source_fault_name, source_fault_number};
 
-use assembler_lexeme::fault::LineFault;
+use assembler_lexeme::fault::SyntaxFault;
 use thiserror::Error;
 
 /// Why a line of a source is refused.
@@ -72,13 +72,13 @@ impl SourceFault {
     }
 
     /// The fault that a line has whatever the other lines are.
-    pub(crate) fn of_line(fault: LineFault) -> SourceFault
+    pub(crate) fn of_line(fault: SyntaxFault) -> SourceFault
         ensures { result ≡ fault_of_line fault }
     {
         match fault {
-            LineFault::BadCharacter => SourceFault::BadCharacter,
-            LineFault::BadLine => SourceFault::BadLine,
-            LineFault::UnknownName => SourceFault::UnknownName,
+            SyntaxFault::BadCharacter => SourceFault::BadCharacter,
+            SyntaxFault::BadLine => SourceFault::BadLine,
+            SyntaxFault::UnknownName => SourceFault::UnknownName,
         }
     }
 }

@@ -7,7 +7,7 @@ ghost use Rattle.std.specs.String.{string_bytes};
 ghost use Rattle.board_types.specs.TextLines.{text_lines};
 ghost use Rattle.assembler.specs.declared.fault.AsmFault.TheVariants.{Memory};
 ghost use Rattle.assembler.specs.Kept.{EndsBy};
-ghost use Rattle.assembler.specs.Listing.{hex_byte_text, hex_word, letters_of, line_at, spaces, symbol_at};
+ghost use Rattle.assembler.specs.Listing.{letters_of, line_at, spaces, symbol_at};
 ghost use Rattle.assembler.specs.Rows.{AreRows, Row};
 ghost use Rattle.assembler.specs.Shown.{said_by, shown_digits, shown_line, shown_place, shown_location};
 
@@ -17,9 +17,9 @@ use crate::reading::Reading;
 use crate::row::KeptRow;
 use assembler_lexeme::name::Name;
 use assembler_meaning::symbol::Location;
+use board_types::digits::{HexByte, HexWord};
 use board_types::image::Image;
 use std::alloc::{AllocError, Global};
-use std::fmt;
 use std::marker::Model;
 
 /// How many of a line's bytes the listing shows.
@@ -42,21 +42,6 @@ impl Model for Listing {
     ghost view = { λ l. record { source = l.reading.source.items; names = l.reading.symbols.entries; image = l.image } };
 
     ghost invariant = { λ l. Reads l.reading.source.items l.reading.symbols.entries l.reading.rows.items × Gives l.reading.source.items l.image };
-}
-
-/// A word that is shown as four hexadecimal digits.
-#[derive(Clone, Copy)]
-struct HexWord(u16);
-
-impl fmt::Display for HexWord {
-    ghost output = { λ w. Some (hex_word w.0) };
-
-    #[tactic(auto, using(std::proofs::lemmas::Fmt::hex_byte))]
-    fn fmt<W: fmt::Write>(&self, f: &mut fmt::Formatter<W>) -> fmt::Result {
-        let high = (self.0 / 256) as u8;
-        let low = (self.0 % 256) as u8;
-        write!(f, "{high:02X}{low:02X}")
-    }
 }
 
 impl Listing {
@@ -158,18 +143,11 @@ fn push_bytes(
     ensures { OnOk result (string_bytes text.new ≡ string_bytes text.old ++ shown_digits image.now location count) }
 {
     for n in 0..count {
-        let byte = image.get(address_at(location, n)).unwrap_or(0);
-        let digits = byte_text(alloc, byte)?;
+        let byte = HexByte(image.get(address_at(location, n)).unwrap_or(0));
+        let digits = format!(in alloc; "{byte}")?;
         text.push_str(digits.as_str())?;
     }
     Ok(())
-}
-
-#[tactic(auto, using(std::proofs::lemmas::Fmt::hex_byte))]
-fn byte_text(alloc: Global, byte: u8) -> Result<String, AllocError>
-    ensures { IfOk result (λ text. string_bytes text ≡ hex_byte_text byte) }
-{
-    format!(in alloc; "{byte:02X}")
 }
 
 fn push_spaces(text: &mut String, count: u64) -> Result<(), AllocError>

@@ -13,10 +13,10 @@ ghost use Rattle.assembler.specs.Rows.{IsFormOf, early_fault, label_definition, 
 ghost use Rattle.assembler_meaning.specs.Values.{AreSmall, term_limit};
 ghost use Rattle.assembler_syntax.specs.Weights.{IsWithin, are_terms_within};
 
-use crate::early::{State, early_fault, location_after, size_of, statement_form};
+use crate::early::{Before, early_fault, location_after, size_of, statement_form};
 use crate::fault::{AsmFault, LineStop, SourceFault};
 use crate::row::{Content, KeptRow};
-use assembler_lexeme::fault::LineError;
+use assembler_lexeme::fault::SyntaxError;
 use assembler_lexeme::name::Name;
 use assembler_meaning::constant::constant_of;
 use assembler_meaning::symbol::{Location, Symbol, Symbols};
@@ -47,7 +47,7 @@ pub(crate) fn read_source(alloc: Global, source: &[u8]) -> Result<Reading, AsmFa
         return Err(AsmFault::Memory);
     };
     let mut rows = Vec::new(alloc);
-    let mut state = State {
+    let mut state = Before {
         location: None,
         symbols: IndexMap::new(alloc),
     };
@@ -69,7 +69,7 @@ pub(crate) fn read_source(alloc: Global, source: &[u8]) -> Result<Reading, AsmFa
 /// Reads the line with this number, whose text begins here in the source, and keeps its row.
 fn add_text(
     alloc: Global,
-    state: &mut State,
+    state: &mut Before,
     rows: &mut Vec<KeptRow>,
     start: usize,
     text: &[u8],
@@ -101,7 +101,7 @@ fn push_row(rows: &mut Vec<KeptRow>, row: KeptRow) -> Result<(), AsmFault>
 /// What a line is, and what is left behind it.
 fn read_row(
     alloc: Global,
-    state: &mut State,
+    state: &mut Before,
     start: usize,
     text: &[u8],
 ) -> Result<KeptRow, LineStop>
@@ -113,8 +113,8 @@ fn read_row(
 {
     let line = match read_line(alloc, text) {
         Ok(line) => line,
-        Err(LineError::Fault(fault)) => return Err(LineStop::Fault(SourceFault::of_line(fault))),
-        Err(LineError::Memory) => return Err(LineStop::Memory),
+        Err(SyntaxError::Fault(fault)) => return Err(LineStop::Fault(SourceFault::of_line(fault))),
+        Err(SyntaxError::Memory) => return Err(LineStop::Memory),
     };
     let form = statement_form(&state.symbols, &line.statement);
     if let Some(fault) = early_fault(state, &line, form) {
@@ -130,7 +130,7 @@ fn read_row(
 /// the source and has this length.
 fn add_line(
     alloc: Global,
-    state: &mut State,
+    state: &mut Before,
     start: usize,
     length: usize,
     line: Line,

@@ -2,8 +2,8 @@
 use Rattle.std.proofs.Common.{◌≡◌, ◌∙◌, ℕ, ◌≤◌, ◌||◌, List, refl, ap, subst, arith, inl, inr, Bool, true, false, Option, None, Some, is_some, if◌then◌else◌}
 use Rattle.std.specs.List.{list_all, list_any}
 use Rattle.isa.specs.declared.form.Form.{Form}
-use Rattle.assembler_lexeme.specs.declared.fault.LineFault.{LineFault}
-use Rattle.assembler_lexeme.specs.declared.fault.LineFault.TheVariants as line_faults
+use Rattle.assembler_lexeme.specs.declared.fault.SyntaxFault.{SyntaxFault}
+use Rattle.assembler_lexeme.specs.declared.fault.SyntaxFault.TheVariants as line_faults
 use Rattle.assembler_syntax.specs.declared.statement.Line.{Line}
 use Rattle.assembler_meaning.specs.declared.symbol.Location.{Location}
 use Rattle.assembler_meaning.specs.Values.{Names}
@@ -243,7 +243,7 @@ of_second_pass a b c d e Overlap is = refl
 of_second_pass a b c d e NotLoadable is = refl
 of_second_pass a b c d e fault is = absurd is
 
-of_reading : (found : LineFault) → is_early (fault_of_line found) ≡ true
+of_reading : (found : SyntaxFault) → is_early (fault_of_line found) ≡ true
 of_reading line_faults.BadCharacter = refl
 of_reading line_faults.BadLine = refl
 of_reading line_faults.UnknownName = refl

@@ -10,7 +10,7 @@ use Rattle.assembler_meaning.specs.declared.asked.Asked.{Asked}
 use Rattle.assembler_meaning.specs.Choice.{IsFirst as IsFirstRow, NoneTakes}
 use Rattle.assembler_meaning.specs.Parts.{form_with}
 use Rattle.assembler_meaning.specs.Takes.{is_of, Takes}
-use Rattle.assembler_lexeme.specs.declared.fault.LineFault.{LineFault}
+use Rattle.assembler_lexeme.specs.declared.fault.SyntaxFault.{SyntaxFault}
 use Rattle.assembler_syntax.specs.declared.statement.Line.{Line}
 use Rattle.assembler_syntax.specs.declared.statement.Statement.{Statement}
 use Rattle.assembler_syntax.specs.declared.statement.Statement.TheVariants.{Empty, Segment, Ends, Equ, Org, Data, Instruction}
@@ -113,7 +113,7 @@ row_outcome : (before : List Row) (text : List ℕ) (row : Row) → IsRow (names
 row_outcome before text row is None at = inl (row, record { is_row = is; clean = at })
 row_outcome before text row is (Some fault) at = inr (fault, inr (row, is, at))
 
-read_outcome : (before : List Row) (text : List ℕ) (r : Result Line LineFault) → read_line text ≡ r → HasOutcome before text
+read_outcome : (before : List Row) (text : List ℕ) (r : Result Line SyntaxFault) → read_line text ≡ r → HasOutcome before text
 read_outcome before text (Ok line) reads =
     let form = form_of (names_of before) line.statement in
     let row : Row = row_of (names_of before) (location_behind before) line form.0 in

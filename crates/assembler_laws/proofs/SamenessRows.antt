@@ -1,7 +1,7 @@
 -- Lines that say the same but for their names make the same rows but for them.
 use Rattle.std.proofs.Common.{◌≡◌, ◌∙◌, ℕ, List, [], ◌∷◌, ◌++◌, map, Option, None, Result, Ok, refl, sym, ap, ap₂, subst}
 use Rattle.std.specs.Prelude.{fold}
-use Rattle.assembler_lexeme.specs.declared.fault.LineFault.{LineFault}
+use Rattle.assembler_lexeme.specs.declared.fault.SyntaxFault.{SyntaxFault}
 use Rattle.assembler_lexeme.specs.declared.name.Name.{Name}
 use Rattle.assembler_syntax.specs.declared.statement.Line.{Line}
 use Rattle.assembler_meaning.specs.declared.symbol.Location.{Location}
@@ -14,7 +14,7 @@ use Rattle.assembler_laws.proofs.SamenessStatements.{same_form, same_size, same_
 abbrev pub renamed_row : (Name → Name) → Row → Row
 renamed_row rename row = record row { line = renamed_line rename row.line; names = renamed_names rename row.names }
 
-abbrev read : Line → Result Line LineFault
+abbrev read : Line → Result Line SyntaxFault
 read line = Ok line
 
 read_same : (a b : Line) → read a ≡ read b → a ≡ b

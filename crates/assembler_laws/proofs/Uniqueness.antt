@@ -2,7 +2,7 @@
 use Rattle.std.proofs.Common.{◌≡◌, ◌∙◌, ℕ, zero, suc, ◌+◌, List, [], ◌∷◌, ◌++◌, length, take, drop, refl, sym, ap, ap₂, subst, arith, inl, inr, Option, None, Some, Ok, Err, append_assoc, append-nil}
 use Rattle.std.specs.Prelude.{◌⊎◌}
 use Rattle.std.proofs.lemmas.List.{take-append-drop}
-use Rattle.assembler_lexeme.specs.declared.fault.LineFault.{LineFault}
+use Rattle.assembler_lexeme.specs.declared.fault.SyntaxFault.{SyntaxFault}
 use Rattle.assembler_syntax.specs.declared.statement.Line.{Line}
 use Rattle.board_types.specs.TextLines.{text_lines}
 use Rattle.assembler_syntax.specs.Lines.{read_line}
@@ -47,10 +47,10 @@ parted (k ∷ f) x b (l ∷ g) y c is =
     same_by k l f g x y (heads k l (f ++ x ∷ b) (g ++ y ∷ c) is) (parted f x b g y c (tails k l (f ++ x ∷ b) (g ++ y ∷ c) is))
 
 -- ---- a text has one fault
-not_read : (text : List ℕ) (line : Line) (found : LineFault) → read_line text ≡ Ok line → read_line text ≡ Err found → ⊥
+not_read : (text : List ℕ) (line : Line) (found : SyntaxFault) → read_line text ≡ Ok line → read_line text ≡ Err found → ⊥
 not_read text line found is also = cc
 
-read_once : (text : List ℕ) (a b : LineFault) → read_line text ≡ Err a → read_line text ≡ Err b → a ≡ b
+read_once : (text : List ℕ) (a b : SyntaxFault) → read_line text ≡ Err a → read_line text ≡ Err b → a ≡ b
 read_once text a b is also = cc
 
 some_once : (o : Option SourceFault) (a b : SourceFault) → o ≡ Some a → o ≡ Some b → a ≡ b

@@ -9,7 +9,7 @@ use Rattle.std.proofs.lemmas.List.{length-take}
 use Rattle.std.proofs.lemmas.List.Sums.{sum_by-cons}
 use Rattle.dialect.specs.declared.meaning.Meaning.{Meaning}
 use Rattle.dialect.specs.Words.{meaning_of}
-use Rattle.assembler_lexeme.specs.declared.fault.LineFault.{LineFault}
+use Rattle.assembler_lexeme.specs.declared.fault.SyntaxFault.{SyntaxFault}
 use Rattle.assembler_lexeme.specs.declared.name.Name.{Name}
 use Rattle.assembler_lexeme.specs.declared.token.Token.{Token}
 use Rattle.assembler_lexeme.specs.declared.token.Token.TheVariants.{One, Number, Named, Quoted, Word, Mark}
@@ -45,7 +45,7 @@ total_around f zero (x ∷ xs) = omega arith
 total_around f (suc k) (x ∷ xs) = let rest = total_around f k xs in omega arith
 
 -- a reader whose parts are each no heavier than what they are read from
-all_by : {B : Type 0} (v : B → ℕ) (r : Result B LineFault) (rs : Result (List B) LineFault) (zs : List B) (a b : ℕ)
+all_by : {B : Type 0} (v : B → ℕ) (r : Result B SyntaxFault) (rs : Result (List B) SyntaxFault) (zs : List B) (a b : ℕ)
     → ((y : B) → r ≡ Ok y → v y ≤ a) → ((ys : List B) → rs ≡ Ok ys → total v ys ≤ b)
     → (r >>= λ y. rs >>= λ ys. Ok (y ∷ ys)) ≡ Ok zs → total v zs ≤ a + b
 all_by v (Ok y) (Ok ys) zs a b first rest is =
@@ -56,12 +56,12 @@ all_by v (Ok y) (Ok ys) zs a b first rest is =
 all_by v (Ok y) (Err fault) zs a b first rest is = absurd (cc)
 all_by v (Err fault) rs zs a b first rest is = absurd (cc)
 
-pub all_weight : {A B : Type 0} (f : A → Result B LineFault) (u : A → ℕ) (v : B → ℕ) → ((x : A) (y : B) → f x ≡ Ok y → v y ≤ u x)
+pub all_weight : {A B : Type 0} (f : A → Result B SyntaxFault) (u : A → ℕ) (v : B → ℕ) → ((x : A) (y : B) → f x ≡ Ok y → v y ≤ u x)
     → (xs : List A) (ys : List B) → all_of f xs ≡ Ok ys → total v ys ≤ total u xs
 all_weight f u v each [] ys is = let same : [] ≡ ys = cc in rw (← same) (omega arith)
 all_weight f u v each (x ∷ xs) ys is = all_by v (f x) (all_of f xs) ys (u x) (total u xs) (each x) (all_weight f u v each xs) is
 
-pass_by : {B : Type 0} (p : B → Bool) (r : Result B LineFault) (rs : Result (List B) LineFault) (zs : List B)
+pass_by : {B : Type 0} (p : B → Bool) (r : Result B SyntaxFault) (rs : Result (List B) SyntaxFault) (zs : List B)
     → ((y : B) → r ≡ Ok y → p y ≡ true) → ((ys : List B) → rs ≡ Ok ys → list_all p ys ≡ true)
     → (r >>= λ y. rs >>= λ ys. Ok (y ∷ ys)) ≡ Ok zs → list_all p zs ≡ true
 pass_by p (Ok y) (Ok ys) zs first rest is =
@@ -71,7 +71,7 @@ pass_by p (Ok y) (Err fault) zs first rest is = absurd (cc)
 pass_by p (Err fault) rs zs first rest is = absurd (cc)
 
 -- each part that is read of one of weight at most n passes
-pub all_pass : {A B : Type 0} (f : A → Result B LineFault) (u : A → ℕ) (p : B → Bool) (n : ℕ) → ((x : A) (y : B) → u x ≤ n → f x ≡ Ok y → p y ≡ true)
+pub all_pass : {A B : Type 0} (f : A → Result B SyntaxFault) (u : A → ℕ) (p : B → Bool) (n : ℕ) → ((x : A) (y : B) → u x ≤ n → f x ≡ Ok y → p y ≡ true)
     → (xs : List A) (ys : List B) → total u xs ≤ n → all_of f xs ≡ Ok ys → list_all p ys ≡ true
 all_pass f u p n each [] ys le is = let same : [] ≡ ys = cc in rw (← same) refl
 all_pass f u p n each (x ∷ xs) ys le is =

@@ -1,23 +1,23 @@
 -- How readers answer: with what is read, or with the fault; want of memory may come in place of either.
 -- To be believed: public contracts say what they say by these definitions.
 use Rattle.std.specs.Prelude.{◌≡◌, List, [], ◌∷◌, ◌++◌, Option, None, Some, Result, Ok, Err}
-use Rattle.assembler_lexeme.specs.declared.fault.LineFault.{LineFault}
-use Rattle.assembler_lexeme.specs.declared.fault.LineFault.TheVariants.{BadLine}
-use Rattle.assembler_lexeme.specs.declared.fault.LineError.{LineError}
-use Rattle.assembler_lexeme.specs.declared.fault.LineError.TheVariants.{Fault, Memory}
+use Rattle.assembler_lexeme.specs.declared.fault.SyntaxFault.{SyntaxFault}
+use Rattle.assembler_lexeme.specs.declared.fault.SyntaxFault.TheVariants.{BadLine}
+use Rattle.assembler_lexeme.specs.declared.fault.SyntaxError.{SyntaxError}
+use Rattle.assembler_lexeme.specs.declared.fault.SyntaxError.TheVariants.{Fault, Memory}
 
 infixl 10 ◌>>=◌
-abbrev pub ◌>>=◌ : {A B : Type 0} → Result A LineFault → (A → Result B LineFault) → Result B LineFault
+abbrev pub ◌>>=◌ : {A B : Type 0} → Result A SyntaxFault → (A → Result B SyntaxFault) → Result B SyntaxFault
 (Ok x) >>= f = f x
 (Err fault) >>= f = Err fault
 
 -- what must be there, else the line isn't in the grammar
-abbrev pub wanted : {A : Type 0} → Option A → Result A LineFault
+abbrev pub wanted : {A : Type 0} → Option A → Result A SyntaxFault
 wanted (Some x) = Ok x
 wanted None = Err BadLine
 
 -- what each element gives, or the first fault
-abbrev pub all_of : {A B : Type 0} → (A → Result B LineFault) → List A → Result (List B) LineFault
+abbrev pub all_of : {A B : Type 0} → (A → Result B SyntaxFault) → List A → Result (List B) SyntaxFault
 all_of f [] = Ok []
 all_of f (x ∷ xs) = do
   y ← f x
@@ -25,17 +25,17 @@ all_of f (x ∷ xs) = do
   Ok (y ∷ ys)
 
 -- with these in front
-abbrev pub with_front : {A : Type 0} → List A → Result (List A) LineFault → Result (List A) LineFault
+abbrev pub with_front : {A : Type 0} → List A → Result (List A) SyntaxFault → Result (List A) SyntaxFault
 with_front front read = do
   back ← read
   Ok (front ++ back)
 
 -- an error of reading
-abbrev pub Fails : {A : Type 0} → LineError → Result A LineFault → Type 0
+abbrev pub Fails : {A : Type 0} → SyntaxError → Result A SyntaxFault → Type 0
 Fails (Fault fault) read = read ≡ Err fault
 Fails Memory read = Unit {0}
 
 -- an answer of reading
-abbrev pub Gives : {A : Type 0} → Result A LineError → Result A LineFault → Type 0
+abbrev pub Gives : {A : Type 0} → Result A SyntaxError → Result A SyntaxFault → Type 0
 Gives (Ok x) read = read ≡ Ok x
 Gives (Err error) read = Fails error read

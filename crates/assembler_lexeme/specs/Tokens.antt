@@ -5,7 +5,7 @@ use Rattle.std.specs.Option.{option_map, option_map_or}
 use Rattle.std.specs.Char.{to_ascii_uppercase}
 use Rattle.std.specs.Str.{bytes_eq}
 use Rattle.dialect.specs.Words.{meaning_of}
-use Rattle.assembler_lexeme.specs.declared.fault.LineFault.{LineFault}
+use Rattle.assembler_lexeme.specs.declared.fault.SyntaxFault.{SyntaxFault}
 use Rattle.assembler_lexeme.specs.declared.name.Name.{Name}
 use Rattle.assembler_lexeme.specs.declared.token.Token.{Token}
 use Rattle.assembler_lexeme.specs.declared.token.Token.TheVariants.{One, Number, Named, Quoted, Word}
@@ -67,5 +67,5 @@ token_of lexeme =
     if begins_with (λ b. b == 39) lexeme then quoted_token lexeme else
     mark_token lexeme))
 
-unfoldable pub tokens_of : List (List ℕ) → Result (List Token) LineFault
+unfoldable pub tokens_of : List (List ℕ) → Result (List Token) SyntaxFault
 tokens_of lexemes = all_of (λ lexeme. wanted (token_of lexeme)) lexemes

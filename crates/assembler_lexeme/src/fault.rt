@@ -1,12 +1,12 @@
 //! Why a line is refused, whatever the other lines are.
 ghost use Rattle.std.specs.Prelude.{◌≡◌};
-ghost use Rattle.assembler_lexeme.specs.declared.fault.LineError.TheVariants.{Memory};
+ghost use Rattle.assembler_lexeme.specs.declared.fault.SyntaxError.TheVariants.{Memory};
 
 use std::alloc::AllocError;
 
 /// Why a line isn't one of the dialect's, whatever the other lines are.
 #[derive(Clone, Copy, Drop)]
-pub enum LineFault {
+pub enum SyntaxFault {
     /// A character that is neither printable ASCII nor a tabulator.
     BadCharacter,
     /// The line isn't in the grammar.
@@ -17,16 +17,16 @@ pub enum LineFault {
 
 /// Why a line isn't read.
 #[derive(Clone, Copy, Drop)]
-pub enum LineError {
-    Fault(LineFault),
+pub enum SyntaxError {
+    Fault(SyntaxFault),
     /// There is no memory for what the line says.
     Memory,
 }
 
-impl From<AllocError> for LineError {
+impl From<AllocError> for SyntaxError {
     ghost from_gives = { λ _ e. e ≡ Memory };
 
-    fn from(_error: AllocError) -> LineError {
-        LineError::Memory
+    fn from(_error: AllocError) -> SyntaxError {
+        SyntaxError::Memory
     }
 }

@@ -5,7 +5,7 @@ ghost use Rattle.board_types.specs.TextLines.{begins_with};
 ghost use Rattle.assembler_lexeme.specs.Faults.{Gives};
 ghost use Rattle.assembler_lexeme.specs.Tokens.{mark_of, mark_token, number_token, quoted_token, text_token, token_of, tokens_of, word_token};
 
-use crate::fault::{LineError, LineFault};
+use crate::fault::{SyntaxError, SyntaxFault};
 use crate::lexeme::{begins_with_digit, begins_with_letter, next_lexeme};
 use crate::name::{Name, name_of};
 use crate::number::number_of;
@@ -68,14 +68,14 @@ pub enum Token<'a> {
 
 /// The tokens of a line, or BadLine where a lexeme is none.
 #[tactic(auto, unfolding(crate::specs::Tokens::tokens_of))]
-pub fn read_tokens<'a>(alloc: Global, text: &'a [u8]) -> Result<Sequence<Token<'a>>, LineError>
+pub fn read_tokens<'a>(alloc: Global, text: &'a [u8]) -> Result<Sequence<Token<'a>>, SyntaxError>
     ensures { Gives result (tokens_of (lexemes text.now)) }
 {
     let mut tokens = Sequence::new(alloc);
     let mut rest = text;
     while let Some((lexeme, after)) = next_lexeme(rest) {
         let Some(token) = token_of(lexeme) else {
-            return Err(LineError::Fault(LineFault::BadLine));
+            return Err(SyntaxError::Fault(SyntaxFault::BadLine));
         };
         tokens.push(token)?;
         rest = after;

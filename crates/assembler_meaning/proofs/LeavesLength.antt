@@ -26,10 +26,8 @@ use Rattle.assembler_syntax.specs.declared.statement.Piece.TheVariants.{Value, T
 use Rattle.assembler_syntax.specs.declared.statement.Item.{Item}
 use Rattle.assembler_syntax.specs.declared.statement.Item.TheVariants.{Once, Repeated}
 use Rattle.assembler_meaning.specs.declared.symbol.Symbol.{Symbol}
-use Rattle.assembler_meaning.specs.Data.{are_items_known, counts_of, data_bytes, data_size, is_piece_known, item_bytes, item_counts, natural, number_bytes, piece_bytes, piece_size, pieces_of, pieces_size, repeated, times_of, width_size}
-use Rattle.assembler_meaning.specs.Instructions.{instruction_size, prefixes_of}
-use Rattle.assembler_meaning.specs.Instructions.{code_bytes}
-use Rattle.assembler_meaning.specs.Data.{is_unknown}
+use Rattle.assembler_meaning.specs.Data.{are_items_known, counts_of, data_bytes, data_size, is_piece_known, item_bytes, item_counts, natural, number_bytes, piece_bytes, piece_size, pieces_of, pieces_size, repeated, times_of, width_size, is_unknown}
+use Rattle.assembler_meaning.specs.Instructions.{instruction_size, prefixes_of, code_bytes}
 use Rattle.assembler_meaning.specs.Values.{Names, added, atom_value, constant_of, is_constant_atom, is_constant_symbol, meaning, same_name, signed, symbol_value, term_value, value_of}
 
 -- names that keep what these stand for

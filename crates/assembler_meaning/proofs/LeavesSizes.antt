@@ -11,9 +11,7 @@ use Rattle.assembler_syntax.specs.declared.statement.DataWidth.{DataWidth}
 use Rattle.assembler_syntax.specs.declared.statement.Item.{Item}
 use Rattle.assembler_syntax.specs.declared.statement.Item.TheVariants.{Once, Repeated}
 use Rattle.assembler_syntax.specs.Weights.{is_item_within, item_weight, items_weight, pieces_weight}
-use Rattle.assembler_meaning.specs.Data.{counts_of, data_size, item_counts, natural, pieces_of, pieces_size, times_of}
-use Rattle.assembler_meaning.specs.Data.{is_other}
-use Rattle.assembler_meaning.specs.Data.{is_wrong_count}
+use Rattle.assembler_meaning.specs.Data.{counts_of, data_size, item_counts, natural, pieces_of, pieces_size, times_of, is_other, is_wrong_count}
 use Rattle.assembler_meaning.specs.Values.{Names, constant_of, term_limit}
 
 natural_within : (o : Option ℤ) → (is_other (pos 1) (pos 65535) o || false) ≡ false → option_map_or natural o 0 ≤ 65535

@@ -1,7 +1,6 @@
 -- What a row takes fits its parts. That no row has two operands in one part is computed from a test of one row.
 use Rattle.std.proofs.Common.{ℕ, ◌≡◌, ◌≢◌, ◌+◌, ◌<◌, Bool, true, false, not, ◌&&◌, ◌||◌, cond, List, Contains, refl, sym, subst, ap, arith, rules, lit<, Option, Some, None}
-use Rattle.std.specs.Prelude.{IsTrue, pos, negsuc}
-use Rattle.std.specs.Prelude.{slice_get}
+use Rattle.std.specs.Prelude.{IsTrue, pos, negsuc, slice_get}
 use Rattle.std.proofs.lemmas.Bool.Decides.{nat_tests}
 use Rattle.std.proofs.lemmas.Option.{get_or_from_slice_get, slice_get_within}
 use Rattle.std.specs.List.{list_all}

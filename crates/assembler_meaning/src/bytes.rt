@@ -4,8 +4,7 @@ ghost use Rattle.std.specs.List.{flat_map, list_all};
 ghost use Rattle.isa.specs.Encoding.{FitsForm, IsForm, prefix_byte};
 ghost use Rattle.assembler_syntax.specs.Weights.{is_item_within, is_piece_within};
 ghost use Rattle.assembler_meaning.specs.Data.{data_bytes, number_bytes, piece_bytes, repeated};
-ghost use Rattle.assembler_meaning.specs.Instructions.{override_prefix, prefixes_of};
-ghost use Rattle.assembler_meaning.specs.Instructions.{code_bytes};
+ghost use Rattle.assembler_meaning.specs.Instructions.{override_prefix, prefixes_of, code_bytes};
 ghost use Rattle.assembler_meaning.specs.Values.{AreSmall, term_limit};
 
 use crate::data::{item_count, item_pieces};

@@ -2,9 +2,7 @@
 ghost use Rattle.std.specs.Prelude.{◌≡◌, ◌≤◌, ◌*◌, ◌^◌, true, false};
 ghost use Rattle.std.specs.List.{list_all, list_any};
 ghost use Rattle.assembler_syntax.specs.Weights.{is_item_within, is_piece_within, items_weight, piece_weight, pieces_weight};
-ghost use Rattle.assembler_meaning.specs.Data.{are_items_known, counts_of, data_size, do_items_fit, does_piece_fit, fits_width, is_piece_known, piece_size, pieces_of, pieces_size, times_of, width_size};
-ghost use Rattle.assembler_meaning.specs.Data.{is_unknown};
-ghost use Rattle.assembler_meaning.specs.Data.{is_wrong_count};
+ghost use Rattle.assembler_meaning.specs.Data.{are_items_known, counts_of, data_size, do_items_fit, does_piece_fit, fits_width, is_piece_known, piece_size, pieces_of, pieces_size, times_of, width_size, is_unknown, is_wrong_count};
 ghost use Rattle.assembler_meaning.specs.Values.{AreSmall, term_limit};
 
 use crate::constant::{constant_of, is_out_of_bounds};

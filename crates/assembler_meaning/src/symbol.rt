@@ -1,7 +1,6 @@
 //! What the names of a source stand for.
 ghost use Rattle.std.specs.Prelude.{◌≡◌};
-ghost use Rattle.assembler_meaning.specs.Values.{is_defined};
-ghost use Rattle.assembler_meaning.specs.Values.{IsSmall, is_constant_symbol, label_of, meaning, symbol_value};
+ghost use Rattle.assembler_meaning.specs.Values.{is_defined, IsSmall, is_constant_symbol, label_of, meaning, symbol_value};
 
 use assembler_lexeme::name::Name;
 use indexmap::IndexMap;

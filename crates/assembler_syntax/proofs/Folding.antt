@@ -1,8 +1,8 @@
 -- Case outside quotes doesn't count in lines.
 use Rattle.std.proofs.Common.{Bool, List, if◌then◌else◌, ap, ◌∙◌, Result, Err}
 use Rattle.std.specs.List.{list_all}
-use Rattle.assembler_lexeme.specs.declared.fault.LineFault.{LineFault}
-use Rattle.assembler_lexeme.specs.declared.fault.LineFault.TheVariants.{BadCharacter}
+use Rattle.assembler_lexeme.specs.declared.fault.SyntaxFault.{SyntaxFault}
+use Rattle.assembler_lexeme.specs.declared.fault.SyntaxFault.TheVariants.{BadCharacter}
 use Rattle.assembler_lexeme.specs.declared.token.Token.{Token}
 use Rattle.assembler_lexeme.specs.Lexemes.{is_character, lexemes}
 use Rattle.assembler_lexeme.specs.Faults.{◌>>=◌}
@@ -15,4 +15,4 @@ pub case_is_nothing_in_lines : CaseDoesNotCount
 unfolding read_line
 case_is_nothing_in_lines s t characters same =
     ap (λ (b : Bool). if b then (tokens_of (lexemes s) >>= line_of) else Err BadCharacter) characters
-    ∙ ap (λ (r : Result (List Token) LineFault). if list_all is_character t then (r >>= line_of) else Err BadCharacter) (tokens_alike (lexemes s) (lexemes t) same)
+    ∙ ap (λ (r : Result (List Token) SyntaxFault). if list_all is_character t then (r >>= line_of) else Err BadCharacter) (tokens_alike (lexemes s) (lexemes t) same)

@@ -1,7 +1,7 @@
 mod Parting
 mod Gathering
 mod Folding
-mod Weights
+pub mod Weights
 mod SpelledTerms
 mod SpelledOperands
 mod SpelledLists

@@ -13,8 +13,8 @@ use Rattle.dialect.specs.declared.mnemonic.Mnemonic.{Mnemonic}
 use Rattle.dialect.specs.declared.mnemonic.Mnemonic.TheVariants as mnemonics
 use Rattle.dialect.specs.declared.register.Register.TheVariants as registers
 use Rattle.dialect.specs.Words.{words, spells, meaning_of}
-use Rattle.assembler_lexeme.specs.declared.fault.LineFault.{LineFault}
-use Rattle.assembler_lexeme.specs.declared.fault.LineFault.TheVariants.{BadCharacter, BadLine, UnknownName}
+use Rattle.assembler_lexeme.specs.declared.fault.SyntaxFault.{SyntaxFault}
+use Rattle.assembler_lexeme.specs.declared.fault.SyntaxFault.TheVariants.{BadCharacter, BadLine, UnknownName}
 use Rattle.assembler_syntax.specs.declared.expression.Atom.{Atom}
 use Rattle.assembler_syntax.specs.declared.expression.Atom.TheVariants as atoms
 use Rattle.assembler_syntax.specs.declared.expression.Term.{Term}
@@ -51,10 +51,10 @@ minus atom = record { is_negative = true; atom = atom }
 abbrev number : ℕ → Term
 number n = plus (atoms.Number n)
 
-abbrev says : Statement → Result Line LineFault
+abbrev says : Statement → Result Line SyntaxFault
 says statement = Ok (record { label = None; statement = statement })
 
-abbrev does : Mnemonic → List Operand → Result Line LineFault
+abbrev does : Mnemonic → List Operand → Result Line SyntaxFault
 does mnemonic ops = says (statements.Instruction (record { prefixes = []; mnemonic = mnemonic; operands = ops }))
 
 abbrev mov : Mnemonic

@@ -10,7 +10,7 @@ use Rattle.dialect.specs.declared.meaning.Meaning.TheVariants as meanings
 use Rattle.dialect.specs.declared.mnemonic.Mnemonic.{Mnemonic}
 use Rattle.dialect.specs.declared.keyword.Keyword.{Keyword}
 use Rattle.dialect.specs.declared.keyword.Keyword.TheVariants as keywords
-use Rattle.assembler_lexeme.specs.declared.fault.LineFault.{LineFault}
+use Rattle.assembler_lexeme.specs.declared.fault.SyntaxFault.{SyntaxFault}
 use Rattle.assembler_lexeme.specs.declared.name.Name.{Name}
 use Rattle.assembler_syntax.specs.declared.expression.Term.{Term}
 use Rattle.assembler_syntax.specs.declared.operand.Operand.{Operand}
@@ -53,17 +53,17 @@ segment_read : (name : Name) (paragraph : List Term) → IsConstant paragraph �
 unfolding directive_of segment_of
 segment_read name paragraph is =
     directive_read keywords.Segment (Named name ∷ keyword keywords.At ∷ expression_tokens paragraph) (expression_no_equ paragraph)
-    ∙ ap (λ (r : Result (List Term) LineFault). r >>= λ p. Ok (statements.Segment name p)) (constant_read paragraph is)
+    ∙ ap (λ (r : Result (List Term) SyntaxFault). r >>= λ p. Ok (statements.Segment name p)) (constant_read paragraph is)
 
 org_read : (location : List Term) → IsConstant location → statement_of (statement_tokens (statements.Org location)) ≡ Ok (statements.Org location)
 unfolding directive_of org_of
 org_read location is =
     directive_read keywords.Org (expression_tokens location) (expression_no_equ location)
-    ∙ ap (λ (r : Result (List Term) LineFault). r >>= λ l. Ok (statements.Org l)) (constant_read location is)
+    ∙ ap (λ (r : Result (List Term) SyntaxFault). r >>= λ l. Ok (statements.Org l)) (constant_read location is)
 
 equ_read : (name : Name) (value : List Term) → IsConstant value → statement_of (statement_tokens (statements.Equ name value)) ≡ Ok (statements.Equ name value)
 unfolding statement_of equ_of
-equ_read name value is = ap (λ (r : Result (List Term) LineFault). r >>= λ v. Ok (statements.Equ name v)) (constant_read value is)
+equ_read name value is = ap (λ (r : Result (List Term) SyntaxFault). r >>= λ v. Ok (statements.Equ name v)) (constant_read value is)
 
 data_by : (width : DataWidth) (ts : List Token) → directive_of (width_keyword width) ts ≡ data_of width ts
 unfolding directive_of
@@ -73,7 +73,7 @@ data_by widths.Double ts = refl
 
 data_is : (width : DataWidth) (its : List Item) → SomeAre (IsItem width) its → data_of width (with_commas (map item_tokens its)) ≡ Ok (statements.Data width its)
 unfolding data_of
-data_is width its all = ap (λ (r : Result (List Item) LineFault). r >>= λ its. Ok (statements.Data width its)) (items_read width its all)
+data_is width its all = ap (λ (r : Result (List Item) SyntaxFault). r >>= λ its. Ok (statements.Data width its)) (items_read width its all)
 
 data_read : (width : DataWidth) (its : List Item) → SomeAre (IsItem width) its → statement_of (statement_tokens (statements.Data width its)) ≡ Ok (statements.Data width its)
 data_read width its all =
@@ -132,7 +132,7 @@ instruction_is : (ps : List PrefixType) (m : Mnemonic) (ops : List Operand) → 
     → instruction_of ps m (with_commas (map operand_tokens ops)) ≡ Ok (statements.Instruction (record { prefixes = ps; mnemonic = m; operands = ops }))
 unfolding instruction_of
 instruction_is ps m ops all =
-    ap (λ (r : Result (List Operand) LineFault). r >>= λ ops. Ok (statements.Instruction (record { prefixes = ps; mnemonic = m; operands = ops }))) (operands_read ops all)
+    ap (λ (r : Result (List Operand) SyntaxFault). r >>= λ ops. Ok (statements.Instruction (record { prefixes = ps; mnemonic = m; operands = ops }))) (operands_read ops all)
 
 instruction_read : (ps : List PrefixType) (m : Mnemonic) (ops : List Operand) → AllByRecursion IsOperand ops
     → statement_of (flat_map prefix_tokens ps ++ mnemonic m ∷ with_commas (map operand_tokens ops)) ≡ Ok (statements.Instruction (record { prefixes = ps; mnemonic = m; operands = ops }))
@@ -191,4 +191,4 @@ line_by (Some name) s = label_is name (statement_tokens s)
 pub each_line_read : EachLineIsRead
 each_line_read l is =
     line_by l.label l.statement
-    ∙ ap (λ (r : Result Statement LineFault). r >>= λ s. Ok (record { label = l.label; statement = s })) (statement_read l.statement is)
+    ∙ ap (λ (r : Result Statement SyntaxFault). r >>= λ s. Ok (record { label = l.label; statement = s })) (statement_read l.statement is)

@@ -9,7 +9,7 @@ use Rattle.isa.specs.declared.form.Base.TheVariants as bases
 use Rattle.isa.specs.declared.register.SegmentRegister.{SegmentRegister}
 use Rattle.dialect.specs.declared.meaning.Meaning.TheVariants as meanings
 use Rattle.dialect.specs.declared.keyword.Keyword.TheVariants as keywords
-use Rattle.assembler_lexeme.specs.declared.fault.LineFault.{LineFault}
+use Rattle.assembler_lexeme.specs.declared.fault.SyntaxFault.{SyntaxFault}
 use Rattle.assembler_syntax.specs.declared.expression.Atom.{Atom}
 use Rattle.assembler_syntax.specs.declared.expression.Atom.TheVariants as atoms
 use Rattle.assembler_syntax.specs.declared.expression.Term.{Term}
@@ -101,12 +101,12 @@ parts_read ts (us ∷ uss) whole all =
     ∙ onto_empty ts (parts_from false (with_commas (us ∷ uss)))
     ∙ ap (λ (ps : List (List Token)). ts ∷ ps) (parts_read us uss all.0 all.1)
 
-pub each_read : {A : Type 0} (tokens : A → List Token) (read : List Token → Result A LineFault) (Is : A → Type 0) → ((x : A) → Is x → read (tokens x) ≡ Ok x)
+pub each_read : {A : Type 0} (tokens : A → List Token) (read : List Token → Result A SyntaxFault) (Is : A → Type 0) → ((x : A) → Is x → read (tokens x) ≡ Ok x)
     → (xs : List A) → AllByRecursion Is xs → all_of read (map tokens xs) ≡ Ok xs
 each_read tokens read Is one [] all = refl
 each_read {A = A} tokens read Is one (x ∷ xs) all =
-    ap (λ (r : Result A LineFault). r >>= λ y. all_of read (map tokens xs) >>= λ ys. Ok (y ∷ ys)) (one x all.0)
-    ∙ ap (λ (r : Result (List A) LineFault). r >>= λ ys. Ok (x ∷ ys)) (each_read tokens read Is one xs all.1)
+    ap (λ (r : Result A SyntaxFault). r >>= λ y. all_of read (map tokens xs) >>= λ ys. Ok (y ∷ ys)) (one x all.0)
+    ∙ ap (λ (r : Result (List A) SyntaxFault). r >>= λ ys. Ok (x ∷ ys)) (each_read tokens read Is one xs all.1)
 
 pub each_whole : {A : Type 0} (tokens : A → List Token) (Is : A → Type 0) → ((x : A) → Is x → Whole (tokens x)) → (xs : List A) → AllByRecursion Is xs → AllByRecursion Whole (map tokens xs)
 each_whole tokens Is one [] all = tt
@@ -231,7 +231,7 @@ value_read : (width : DataWidth) (ts : List Term) → IsExpression ts → piece_
 value_read width [] is = absurd is
 value_read width (t ∷ ts) is =
     piece_by width t.is_negative t.atom ts
-    ∙ ap (λ (r : Result (List Term) LineFault). r >>= λ e. Ok (pieces.Value e)) (expression_read (t ∷ ts) is)
+    ∙ ap (λ (r : Result (List Term) SyntaxFault). r >>= λ e. Ok (pieces.Value e)) (expression_read (t ∷ ts) is)
 
 piece_read : (width : DataWidth) (piece : Piece) → IsPiece width piece → piece_of width (piece_tokens piece) ≡ Ok piece
 unfolding piece_of
@@ -315,7 +315,7 @@ once_read : (width : DataWidth) (piece : Piece) → IsPiece width piece → item
 unfolding item_of
 once_read width piece is =
     ap (λ (found : Option (List Token × List Token)). item_by found width (piece_tokens piece)) (around_none is_dup (piece_tokens piece) (each_piece (fails is_dup) no_dup_passes (λ text. refl) piece))
-    ∙ ap (λ (r : Result Piece LineFault). r >>= λ p. Ok (items.Once p)) (piece_read width piece is)
+    ∙ ap (λ (r : Result Piece SyntaxFault). r >>= λ p. Ok (items.Once p)) (piece_read width piece is)
 
 abbrev body_tokens : List Piece → List Token
 body_tokens each = Mark OpenParenthesis ∷ (with_commas (map piece_tokens each) ++ Mark CloseParenthesis ∷ [])
@@ -328,9 +328,9 @@ repeated_read : (width : DataWidth) (count : List Term) (each : List Piece) → 
     → repeated width (expression_tokens count) (body_tokens each) ≡ Ok (items.Repeated count each)
 unfolding repeated
 repeated_read width count each is all =
-    ap (λ (r : Result (List Term) LineFault). r >>= λ c. in_parentheses (body_tokens each) >>= λ inner. pieces_of width inner >>= λ ps. Ok (items.Repeated c ps)) (constant_read count is)
-    ∙ ap (λ (r : Result (List Token) LineFault). r >>= λ inner. pieces_of width inner >>= λ ps. Ok (items.Repeated count ps)) (body_read each)
-    ∙ ap (λ (r : Result (List Piece) LineFault). r >>= λ ps. Ok (items.Repeated count ps)) (pieces_read width each all)
+    ap (λ (r : Result (List Term) SyntaxFault). r >>= λ c. in_parentheses (body_tokens each) >>= λ inner. pieces_of width inner >>= λ ps. Ok (items.Repeated c ps)) (constant_read count is)
+    ∙ ap (λ (r : Result (List Token) SyntaxFault). r >>= λ inner. pieces_of width inner >>= λ ps. Ok (items.Repeated count ps)) (body_read each)
+    ∙ ap (λ (r : Result (List Piece) SyntaxFault). r >>= λ ps. Ok (items.Repeated count ps)) (pieces_read width each all)
 
 dup_read : (width : DataWidth) (count : List Term) (each : List Piece) → item_of width (item_tokens (items.Repeated count each)) ≡ repeated width (expression_tokens count) (body_tokens each)
 unfolding item_of

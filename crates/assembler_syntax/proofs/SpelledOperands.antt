@@ -8,7 +8,7 @@ use Rattle.isa.specs.declared.register.SegmentRegister.{SegmentRegister}
 use Rattle.isa.specs.declared.register.WordRegister.TheVariants.{Bx, Bp, Si, Di}
 use Rattle.dialect.specs.declared.keyword.Keyword.TheVariants as keywords
 use Rattle.dialect.specs.declared.register.Register.TheVariants as registers
-use Rattle.assembler_lexeme.specs.declared.fault.LineFault.{LineFault}
+use Rattle.assembler_lexeme.specs.declared.fault.SyntaxFault.{SyntaxFault}
 use Rattle.assembler_syntax.specs.declared.expression.Atom.{Atom}
 use Rattle.assembler_syntax.specs.declared.expression.Atom.TheVariants as atoms
 use Rattle.assembler_syntax.specs.declared.expression.Term.{Term}
@@ -38,7 +38,7 @@ no_register a n (atoms.SegmentOf name) = refl
 term_put : (a : Address) (t : Term) → with_part a (signed_term t) ≡ Ok (with_term a t)
 term_put a t =
     no_register a t.is_negative t.atom
-    ∙ ap (λ (r : Result Term LineFault). r >>= λ t. Ok (with_term a t)) (term_read t)
+    ∙ ap (λ (r : Result Term SyntaxFault). r >>= λ t. Ok (with_term a t)) (term_read t)
 
 abbrev with_displacement : Address → Option (List Term) → Address
 with_displacement a d = record a { displacement = d }
@@ -46,14 +46,14 @@ with_displacement a d = record a { displacement = d }
 more_put : (a : Address) (front ts : List Term) → with_parts (with_displacement a (Some front)) (map signed_term ts) ≡ Ok (with_displacement a (Some (front ++ ts)))
 more_put a front [] = ap (λ (ts : List Term). Ok (with_displacement a (Some ts))) (sym (append-nil front))
 more_put a front (t ∷ ts) =
-    ap (λ (r : Result Address LineFault). r >>= λ b. with_parts b (map signed_term ts)) (term_put (with_displacement a (Some front)) t)
+    ap (λ (r : Result Address SyntaxFault). r >>= λ b. with_parts b (map signed_term ts)) (term_put (with_displacement a (Some front)) t)
     ∙ more_put a (front ++ t ∷ []) ts
     ∙ ap (λ (ts : List Term). Ok (with_displacement a (Some ts))) (append_assoc front (t ∷ []) ts)
 
 pub terms_put : (a : Address) (ts : List Term) → IsExpression ts → with_parts (with_displacement a None) (map signed_term ts) ≡ Ok (with_displacement a (Some ts))
 terms_put a [] is = absurd is
 terms_put a (t ∷ ts) is =
-    ap (λ (r : Result Address LineFault). r >>= λ b. with_parts b (map signed_term ts)) (term_put (with_displacement a None) t)
+    ap (λ (r : Result Address SyntaxFault). r >>= λ b. with_parts b (map signed_term ts)) (term_put (with_displacement a None) t)
     ∙ more_put a (t ∷ []) ts
 
 -- base registers, and the terms behind them
@@ -139,7 +139,7 @@ unfolding memory_of
 memory_read size segment base displacement is =
     ap (λ (found : Option (List Token × List Token)). closed found >>= λ inner. with_parts (empty_address size segment) (signed_parts inner) >>= λ a. Ok (operands.Memory a))
     (around_one is_close_bracket (inner_tokens base displacement) (Mark CloseBracket) [] (open_inner base displacement) refl)
-    ∙ ap (λ (r : Result Address LineFault). r >>= λ a. Ok (operands.Memory a)) (inner_put size segment base displacement is)
+    ∙ ap (λ (r : Result Address SyntaxFault). r >>= λ a. Ok (operands.Memory a)) (inner_put size segment base displacement is)
 
 -- an operand by the tokens that it begins with
 abbrev Some_tokens : List Token → Type 0
@@ -204,7 +204,7 @@ value_by true (atoms.SegmentOf name) (t ∷ ts) = refl
 
 value_is : (ts : List Term) → IsExpression ts → value_of (expression_tokens ts) ≡ Ok (operands.Value ts)
 unfolding value_of
-value_is ts is = ap (λ (r : Result (List Term) LineFault). r >>= λ e. Ok (operands.Value e)) (expression_read ts is)
+value_is ts is = ap (λ (r : Result (List Term) SyntaxFault). r >>= λ e. Ok (operands.Value e)) (expression_read ts is)
 
 value_read : (ts : List Term) → IsExpression ts → operand_of (expression_tokens ts) ≡ Ok (operands.Value ts)
 value_read [] is = absurd is
@@ -231,7 +231,7 @@ short_by (t ∷ ts) some = refl
 short_read : (ts : List Term) → IsExpression ts → operand_of (keyword keywords.Short ∷ expression_tokens ts) ≡ Ok (operands.Short ts)
 short_read ts is =
     short_by (expression_tokens ts) (λ none. some_expression ts [] is (append-nil (expression_tokens ts) ∙ none))
-    ∙ ap (λ (r : Result (List Term) LineFault). r >>= λ e. Ok (operands.Short e)) (expression_read ts is)
+    ∙ ap (λ (r : Result (List Term) SyntaxFault). r >>= λ e. Ok (operands.Short e)) (expression_read ts is)
 
 far_by : (ts : List Token) → Some_tokens ts → operand_of (keyword keywords.Far ∷ ts) ≡ far_of ts
 unfolding operand_of
@@ -266,8 +266,8 @@ pointer_read s o is_s is_o =
     ∙ far_without_brackets tokens (no_brackets s (Mark Colon ∷ expression_tokens o) is_s)
     ∙ ap (λ (found : Option (List Token × List Token)). far_target found tokens)
     (around_one is_colon (expression_tokens s) (Mark Colon) (expression_tokens o) (each_plain (fails is_colon) no_colon_passes (expression_tokens s) (plain_expression s)) refl)
-    ∙ ap (λ (r : Result (List Term) LineFault). r >>= λ x. expression_of (expression_tokens o) >>= λ y. Ok (operands.FarPointer x y)) (expression_read s is_s)
-    ∙ ap (λ (r : Result (List Term) LineFault). r >>= λ y. Ok (operands.FarPointer s y)) (expression_read o is_o)
+    ∙ ap (λ (r : Result (List Term) SyntaxFault). r >>= λ x. expression_of (expression_tokens o) >>= λ y. Ok (operands.FarPointer x y)) (expression_read s is_s)
+    ∙ ap (λ (r : Result (List Term) SyntaxFault). r >>= λ y. Ok (operands.FarPointer s y)) (expression_read o is_o)
 
 pub operand_read : (op : Operand) → IsOperand op → operand_of (operand_tokens op) ≡ Ok op
 unfolding operand_of far_of brackets_of

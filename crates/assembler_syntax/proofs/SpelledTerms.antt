@@ -6,8 +6,8 @@ use Rattle.std.proofs.lemmas.List.{take_at}
 use Rattle.std.proofs.lemmas.Bool.Decides.{nat_tests}
 use Rattle.dialect.specs.declared.meaning.Meaning.TheVariants as meanings
 use Rattle.dialect.specs.declared.keyword.Keyword.TheVariants as keywords
-use Rattle.assembler_lexeme.specs.declared.fault.LineFault.{LineFault}
-use Rattle.assembler_lexeme.specs.declared.fault.LineFault.TheVariants.{BadLine}
+use Rattle.assembler_lexeme.specs.declared.fault.SyntaxFault.{SyntaxFault}
+use Rattle.assembler_lexeme.specs.declared.fault.SyntaxFault.TheVariants.{BadLine}
 use Rattle.assembler_syntax.specs.declared.expression.Atom.{Atom}
 use Rattle.assembler_syntax.specs.declared.expression.Atom.TheVariants as atoms
 use Rattle.assembler_syntax.specs.declared.expression.Term.{Term}
@@ -63,13 +63,13 @@ atom_read atoms.Here = refl
 atom_read (atoms.SegmentOf name) = refl
 
 pub term_read : (t : Term) → term_of (signed_term t) ≡ Ok t
-term_read t = ap (λ (r : Result Atom LineFault). r >>= λ a. Ok (record { is_negative = t.is_negative; atom = a })) (atom_read t.atom)
+term_read t = ap (λ (r : Result Atom SyntaxFault). r >>= λ a. Ok (record { is_negative = t.is_negative; atom = a })) (atom_read t.atom)
 
 terms_read : (ts : List Term) → all_of term_of (map signed_term ts) ≡ Ok ts
 terms_read [] = refl
 terms_read (t ∷ ts) =
-    ap (λ (r : Result Term LineFault). r >>= λ y. all_of term_of (map signed_term ts) >>= λ ys. Ok (y ∷ ys)) (term_read t)
-    ∙ ap (λ (r : Result (List Term) LineFault). r >>= λ ys. Ok (t ∷ ys)) (terms_read ts)
+    ap (λ (r : Result Term SyntaxFault). r >>= λ y. all_of term_of (map signed_term ts) >>= λ ys. Ok (y ∷ ys)) (term_read t)
+    ∙ ap (λ (r : Result (List Term) SyntaxFault). r >>= λ ys. Ok (t ∷ ys)) (terms_read ts)
 
 pub expression_read : (ts : List Term) → IsExpression ts → expression_of (expression_tokens ts) ≡ Ok ts
 unfolding expression_of
@@ -78,7 +78,7 @@ expression_read ts is = ap (all_of term_of) (parts_of_expression ts is) ∙ term
 pub constant_read : (ts : List Term) → IsConstant ts → constant_of (expression_tokens ts) ≡ Ok ts
 unfolding constant_of
 constant_read ts is =
-    ap (λ (r : Result (List Term) LineFault). r >>= λ terms. if list_all is_constant terms then Ok terms else Err BadLine) (expression_read ts is.0)
+    ap (λ (r : Result (List Term) SyntaxFault). r >>= λ terms. if list_all is_constant terms then Ok terms else Err BadLine) (expression_read ts is.0)
     ∙ ap (λ (b : Bool). if b then Ok ts else Err BadLine) is.1
 
 -- the tokens of expressions: none of them parts, opens, closes or belongs to another statement

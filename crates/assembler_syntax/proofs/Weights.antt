@@ -14,8 +14,8 @@ use Rattle.dialect.specs.declared.register.Register.{Register}
 use Rattle.dialect.specs.declared.register.Register.TheVariants as registers
 use Rattle.dialect.specs.declared.keyword.Keyword.{Keyword}
 use Rattle.dialect.specs.declared.keyword.Keyword.TheVariants as keywords
-use Rattle.assembler_lexeme.specs.declared.fault.LineFault.{LineFault}
-use Rattle.assembler_lexeme.specs.declared.fault.LineFault.TheVariants.{BadLine, UnknownName, BadCharacter}
+use Rattle.assembler_lexeme.specs.declared.fault.SyntaxFault.{SyntaxFault}
+use Rattle.assembler_lexeme.specs.declared.fault.SyntaxFault.TheVariants.{BadLine, UnknownName, BadCharacter}
 use Rattle.assembler_syntax.specs.declared.operand.Size.{Size}
 use Rattle.assembler_syntax.specs.declared.operand.Size.TheVariants as sizes
 use Rattle.assembler_syntax.specs.declared.operand.Address.{Address}
@@ -117,7 +117,7 @@ unfolding atom_of
 atom_le [] a is = absurd (cc)
 atom_le (t ∷ ts) a is = let one = some_weight t in omega arith
 
-term_by : (r : Result Atom LineFault) (is_negative : Bool) (term : Term) (n : ℕ) → ((a : Atom) → r ≡ Ok a → 1 ≤ n)
+term_by : (r : Result Atom SyntaxFault) (is_negative : Bool) (term : Term) (n : ℕ) → ((a : Atom) → r ≡ Ok a → 1 ≤ n)
     → (r >>= λ atom. Ok (record { is_negative = is_negative; atom = atom })) ≡ Ok term → 1 ≤ n
 term_by (Ok a) is_negative term n some is = some a refl
 term_by (Err fault) is_negative term n some is = absurd (cc)
@@ -144,7 +144,7 @@ chosen : (test : Bool) (terms found : List Term) → (if test then Ok terms else
 chosen true terms found is = cc
 chosen false terms found is = absurd (cc)
 
-constant_by : (n : ℕ) (r : Result (List Term) LineFault) (terms : List Term) → ((found : List Term) → r ≡ Ok found → is_expression_within n found ≡ true)
+constant_by : (n : ℕ) (r : Result (List Term) SyntaxFault) (terms : List Term) → ((found : List Term) → r ≡ Ok found → is_expression_within n found ≡ true)
     → (r >>= λ found. if list_all is_constant found then Ok found else Err BadLine) ≡ Ok terms → is_expression_within n terms ≡ true
 constant_by n (Ok found) terms within is =
     let same = chosen (list_all is_constant found) found terms is in rw (← same) (within found refl)
@@ -176,7 +176,7 @@ unsigned : (a b : Address) (r : Register) (is_negative : Bool) → (if is_negati
 unsigned a b r true is = absurd (cc)
 unsigned a b r false is = register_same a b r is
 
-term_more : (a b : Address) (r : Result Term LineFault) (n : ℕ) → ((term : Term) → r ≡ Ok term → 1 ≤ n) → (r >>= λ term. Ok (with_term a term)) ≡ Ok b
+term_more : (a b : Address) (r : Result Term SyntaxFault) (n : ℕ) → ((term : Term) → r ≡ Ok term → 1 ≤ n) → (r >>= λ term. Ok (with_term a term)) ≡ Ok b
     → terms_size b.displacement ≤ terms_size a.displacement + n
 term_more a b (Ok term) n some is =
     let same : with_term a term ≡ b = cc in
@@ -194,7 +194,7 @@ part_le : (a b : Address) (part : Signed) → with_part a part ≡ Ok b → term
 unfolding with_part
 part_le a b part is = part_by (register_of part.tokens) a b part is
 
-with_parts_by : (r : Result Address LineFault) (ps : List Signed) (b : Address) (n m : ℕ) → ((a : Address) → r ≡ Ok a → terms_size a.displacement ≤ n)
+with_parts_by : (r : Result Address SyntaxFault) (ps : List Signed) (b : Address) (n m : ℕ) → ((a : Address) → r ≡ Ok a → terms_size a.displacement ≤ n)
     → ((a : Address) → with_parts a ps ≡ Ok b → terms_size b.displacement ≤ terms_size a.displacement + m)
     → (r >>= λ a. with_parts a ps) ≡ Ok b → terms_size b.displacement ≤ n + m
 with_parts_by (Ok a) ps b n m first rest is = let one = first a refl in let others = rest a is in omega arith
@@ -210,12 +210,12 @@ displacement_in : (n : ℕ) (terms : Option (List Term)) → terms_size terms �
 displacement_in n None le = refl
 displacement_in n (Some terms) le = is_le (length terms) n le
 
-memory_by : (n : ℕ) (r : Result Address LineFault) (o : Operand) → ((a : Address) → r ≡ Ok a → is_displacement_within n a.displacement ≡ true)
+memory_by : (n : ℕ) (r : Result Address SyntaxFault) (o : Operand) → ((a : Address) → r ≡ Ok a → is_displacement_within n a.displacement ≡ true)
     → (r >>= λ a. Ok (operands.Memory a)) ≡ Ok o → is_operand_within n o ≡ true
 memory_by n (Ok a) o within is = let same : operands.Memory a ≡ o = cc in rw (← same) (within a refl)
 memory_by n (Err fault) o within is = absurd (cc)
 
-inner_by : (n : ℕ) (size : Option Size) (segment : Option SegmentRegister) (r : Result (List Token) LineFault) (o : Operand)
+inner_by : (n : ℕ) (size : Option Size) (segment : Option SegmentRegister) (r : Result (List Token) SyntaxFault) (o : Operand)
     → ((inner : List Token) → r ≡ Ok inner → weight inner ≤ n)
     → (r >>= λ inner. with_parts (empty_address size segment) (signed_parts inner) >>= λ a. Ok (operands.Memory a)) ≡ Ok o → is_operand_within n o ≡ true
 inner_by n size segment (Ok inner) o le is =
@@ -236,7 +236,7 @@ memory_in_is n size segment ts o le is =
     (λ inner found. let inside = closed_le is_close_bracket ts inner found in omega arith)
     is
 
-value_by : (n : ℕ) (r : Result (List Term) LineFault) (o : Operand) → ((terms : List Term) → r ≡ Ok terms → is_expression_within n terms ≡ true)
+value_by : (n : ℕ) (r : Result (List Term) SyntaxFault) (o : Operand) → ((terms : List Term) → r ≡ Ok terms → is_expression_within n terms ≡ true)
     → (r >>= λ value. Ok (operands.Value value)) ≡ Ok o → is_operand_within n o ≡ true
 value_by n (Ok terms) o within is = let same : operands.Value terms ≡ o = cc in rw (← same) (within terms refl)
 value_by n (Err fault) o within is = absurd (cc)
@@ -245,7 +245,7 @@ value_in : (n : ℕ) (ts : List Token) (o : Operand) → weight ts ≤ n → val
 unfolding value_of
 value_in n ts o le is = value_by n (expression_of ts) o (λ terms. expression_in n ts terms le) is
 
-short_by : (n : ℕ) (r : Result (List Term) LineFault) (o : Operand) → ((terms : List Term) → r ≡ Ok terms → is_expression_within n terms ≡ true)
+short_by : (n : ℕ) (r : Result (List Term) SyntaxFault) (o : Operand) → ((terms : List Term) → r ≡ Ok terms → is_expression_within n terms ≡ true)
     → (r >>= λ target. Ok (operands.Short target)) ≡ Ok o → is_operand_within n o ≡ true
 short_by n (Ok terms) o within is = let same : operands.Short terms ≡ o = cc in rw (← same) (within terms refl)
 short_by n (Err fault) o within is = absurd (cc)
@@ -289,7 +289,7 @@ far_label_in n [] o is = absurd (cc)
 far_label_in n (t ∷ []) o is = label_in n t o is
 far_label_in n (t ∷ u ∷ ts) o is = absurd (cc)
 
-pointer_by : (n : ℕ) (r s : Result (List Term) LineFault) (o : Operand) → ((terms : List Term) → r ≡ Ok terms → is_expression_within n terms ≡ true)
+pointer_by : (n : ℕ) (r s : Result (List Term) SyntaxFault) (o : Operand) → ((terms : List Term) → r ≡ Ok terms → is_expression_within n terms ≡ true)
     → ((terms : List Term) → s ≡ Ok terms → is_expression_within n terms ≡ true)
     → (r >>= λ segment. s >>= λ offset. Ok (operands.FarPointer segment offset)) ≡ Ok o → is_operand_within n o ≡ true
 pointer_by n (Ok segment) (Ok offset) o first second is =
@@ -360,7 +360,7 @@ record IsPieceWithin (n : ℕ) (p : Piece) : Type 0 where
   size : piece_weight p ≤ n
   terms : is_piece_within n p ≡ true
 
-value_piece_by : (n : ℕ) (r : Result (List Term) LineFault) (p : Piece) → ((terms : List Term) → r ≡ Ok terms → 1 ≤ n)
+value_piece_by : (n : ℕ) (r : Result (List Term) SyntaxFault) (p : Piece) → ((terms : List Term) → r ≡ Ok terms → 1 ≤ n)
     → ((terms : List Term) → r ≡ Ok terms → is_expression_within n terms ≡ true) → (r >>= λ value. Ok (kinds.Value value)) ≡ Ok p → IsPieceWithin n p
 value_piece_by n (Ok terms) p some within is =
     let same : kinds.Value terms ≡ p = cc in rw (← same) (record { size = some terms refl; terms = within terms refl })
@@ -417,14 +417,14 @@ record IsItemWithin (n : ℕ) (i : Item) : Type 0 where
   size : item_weight i ≤ n
   terms : is_item_within n i ≡ true
 
-once_by : (n : ℕ) (r : Result Piece LineFault) (i : Item) → ((p : Piece) → r ≡ Ok p → IsPieceWithin n p) → (r >>= λ piece. Ok (items.Once piece)) ≡ Ok i → IsItemWithin n i
+once_by : (n : ℕ) (r : Result Piece SyntaxFault) (i : Item) → ((p : Piece) → r ≡ Ok p → IsPieceWithin n p) → (r >>= λ piece. Ok (items.Once piece)) ≡ Ok i → IsItemWithin n i
 once_by n (Ok p) i within is =
     let same : items.Once p ≡ i = cc in
     let found = within p refl in
     rw (← same) (record { size = found.size; terms = found.terms })
 once_by n (Err fault) i within is = absurd (cc)
 
-repeated_by : (n : ℕ) (width : DataWidth) (r : Result (List Term) LineFault) (s : Result (List Token) LineFault) (i : Item)
+repeated_by : (n : ℕ) (width : DataWidth) (r : Result (List Term) SyntaxFault) (s : Result (List Token) SyntaxFault) (i : Item)
     → ((terms : List Term) → r ≡ Ok terms → is_expression_within n terms ≡ true) → ((inner : List Token) → s ≡ Ok inner → weight inner ≤ n)
     → (r >>= λ count. s >>= λ inner. pieces_of width inner >>= λ each. Ok (items.Repeated count each)) ≡ Ok i → IsItemWithin n i
 repeated_by n width (Ok count) (Ok inner) i first le is =
@@ -433,7 +433,7 @@ repeated_by n width (Ok count) (Ok inner) i first le is =
     (λ each found. pieces_terms n width inner each (le inner refl) found)
     is
   where
-    each_by : (each : Result (List Piece) LineFault) → ((ps : List Piece) → each ≡ Ok ps → pieces_weight ps ≤ n) → ((ps : List Piece) → each ≡ Ok ps → list_all (is_piece_within n) ps ≡ true)
+    each_by : (each : Result (List Piece) SyntaxFault) → ((ps : List Piece) → each ≡ Ok ps → pieces_weight ps ≤ n) → ((ps : List Piece) → each ≡ Ok ps → list_all (is_piece_within n) ps ≡ true)
         → (each >>= λ ps. Ok (items.Repeated count ps)) ≡ Ok i → IsItemWithin n i
     each_by (Ok ps) size terms found =
         let same : items.Repeated count ps ≡ i = cc in
@@ -498,7 +498,7 @@ items_size width ts is read =
     omega arith
 
 -- a statement holds no more than its tokens
-data_by : (n : ℕ) (width : DataWidth) (r : Result (List Item) LineFault) (s : Statement) → ((is : List Item) → r ≡ Ok is → list_all (is_item_within n) is ≡ true)
+data_by : (n : ℕ) (width : DataWidth) (r : Result (List Item) SyntaxFault) (s : Statement) → ((is : List Item) → r ≡ Ok is → list_all (is_item_within n) is ≡ true)
     → ((is : List Item) → r ≡ Ok is → items_weight is ≤ n) → (r >>= λ items. Ok (statements.Data width items)) ≡ Ok s → IsWithin n s
 data_by n width (Ok is) s terms size read =
     let same : statements.Data width is ≡ s = cc in rw (← same) (record { terms = terms is refl; pieces = size is refl })
@@ -509,7 +509,7 @@ unfolding data_of
 data_in n width ts s le is =
     data_by n width (items_of width ts) s (λ each. items_terms n width ts each le) (λ each read. let size = items_size width ts each read in omega arith) is
 
-segment_at_by : (n : ℕ) (name : Name) (r : Result (List Term) LineFault) (s : Statement) → ((terms : List Term) → r ≡ Ok terms → is_expression_within n terms ≡ true)
+segment_at_by : (n : ℕ) (name : Name) (r : Result (List Term) SyntaxFault) (s : Statement) → ((terms : List Term) → r ≡ Ok terms → is_expression_within n terms ≡ true)
     → (r >>= λ paragraph. Ok (statements.Segment name paragraph)) ≡ Ok s → IsWithin n s
 segment_at_by n name (Ok terms) s within is =
     let same : statements.Segment name terms ≡ s = cc in rw (← same) (record { terms = within terms refl; pieces = omega arith })
@@ -534,7 +534,7 @@ unfolding ends_of
 ends_in n [] s is = let same : statements.Ends ≡ s = cc in rw (← same) (record { terms = refl; pieces = omega arith })
 ends_in n (t ∷ ts) s is = absurd (cc)
 
-org_by : (n : ℕ) (r : Result (List Term) LineFault) (s : Statement) → ((terms : List Term) → r ≡ Ok terms → is_expression_within n terms ≡ true)
+org_by : (n : ℕ) (r : Result (List Term) SyntaxFault) (s : Statement) → ((terms : List Term) → r ≡ Ok terms → is_expression_within n terms ≡ true)
     → (r >>= λ location. Ok (statements.Org location)) ≡ Ok s → IsWithin n s
 org_by n (Ok terms) s within is = let same : statements.Org terms ≡ s = cc in rw (← same) (record { terms = within terms refl; pieces = omega arith })
 org_by n (Err fault) s within is = absurd (cc)
@@ -543,7 +543,7 @@ org_in : (n : ℕ) (ts : List Token) (s : Statement) → weight ts ≤ n → org
 unfolding org_of
 org_in n ts s le is = org_by n (constant_of ts) s (λ terms. constant_in n ts terms le) is
 
-equ_by : (n : ℕ) (name : Name) (r : Result (List Term) LineFault) (s : Statement) → ((terms : List Term) → r ≡ Ok terms → is_expression_within n terms ≡ true)
+equ_by : (n : ℕ) (name : Name) (r : Result (List Term) SyntaxFault) (s : Statement) → ((terms : List Term) → r ≡ Ok terms → is_expression_within n terms ≡ true)
     → (r >>= λ value. Ok (statements.Equ name value)) ≡ Ok s → IsWithin n s
 equ_by n name (Ok terms) s within is = let same : statements.Equ name terms ≡ s = cc in rw (← same) (record { terms = within terms refl; pieces = omega arith })
 equ_by n name (Err fault) s within is = absurd (cc)
@@ -563,7 +563,7 @@ directive_in n keywords.Dw ts s le is = data_in n widths.Word ts s le is
 directive_in n keywords.Dd ts s le is = data_in n widths.Double ts s le is
 directive_in n k ts s le is = absurd (cc)
 
-instruction_by : (n : ℕ) (ps : List Prefix) (m : Mnemonic) (r : Result (List Operand) LineFault) (s : Statement)
+instruction_by : (n : ℕ) (ps : List Prefix) (m : Mnemonic) (r : Result (List Operand) SyntaxFault) (s : Statement)
     → ((os : List Operand) → r ≡ Ok os → list_all (is_operand_within n) os ≡ true)
     → (r >>= λ operands. Ok (statements.Instruction (record { prefixes = ps; mnemonic = m; operands = operands }))) ≡ Ok s → IsWithin n s
 instruction_by n ps m (Ok os) s within is =
@@ -585,7 +585,7 @@ prefixes_le (Word (meanings.Prefix p) ∷ ts) = let rest = prefixes_le ts in ome
 prefixes_le (Word (meanings.Register (registers.Segment s)) ∷ t ∷ ts) = prefixes_by s t ts (is_colon t) (prefixes_le ts)
 prefixes_le ts = omega arith
 
-keyword_by : (n : ℕ) (s : Statement) (test : Bool) → ◌≡◌ {A = Result Statement LineFault} (if test then Err BadLine else Err UnknownName) (Ok s) → IsWithin n s
+keyword_by : (n : ℕ) (s : Statement) (test : Bool) → ◌≡◌ {A = Result Statement SyntaxFault} (if test then Err BadLine else Err UnknownName) (Ok s) → IsWithin n s
 keyword_by n s true is = absurd (cc)
 keyword_by n s false is = absurd (cc)
 
@@ -622,7 +622,7 @@ statement_in n [] s le is = let same : statements.Empty ≡ s = cc in rw (← sa
 statement_in n (t ∷ []) s le is = prefixed_in n (t ∷ []) s le is
 statement_in n (t ∷ u ∷ ts) s le is = second_by n t u ts s (is_equ u) le is
 
-with_label_by : (n : ℕ) (label : Option Name) (r : Result Statement LineFault) (line : Line) → ((s : Statement) → r ≡ Ok s → IsWithin n s)
+with_label_by : (n : ℕ) (label : Option Name) (r : Result Statement SyntaxFault) (line : Line) → ((s : Statement) → r ≡ Ok s → IsWithin n s)
     → (r >>= λ s. Ok (record { label = label; statement = s })) ≡ Ok line → IsWithin n line.statement
 with_label_by n label (Ok s) line within is = let same : record { label = label; statement = s } ≡ line = cc in rw (← same) (within s refl)
 with_label_by n label (Err fault) line within is = absurd (cc)
@@ -645,7 +645,7 @@ line_in n [] line le is = with_label_in n None [] line le is
 line_in n (t ∷ []) line le is = with_label_in n None (t ∷ []) line le is
 line_in n (t ∷ u ∷ ts) line le is = labelled_in n t u ts line le is
 
-read_by : (n : ℕ) (r : Result (List Token) LineFault) (line : Line) (test : Bool) → ((ts : List Token) → r ≡ Ok ts → weight ts ≤ n)
+read_by : (n : ℕ) (r : Result (List Token) SyntaxFault) (line : Line) (test : Bool) → ((ts : List Token) → r ≡ Ok ts → weight ts ≤ n)
     → (if test then (r >>= line_of) else Err BadCharacter) ≡ Ok line → IsWithin n line.statement
 read_by n (Ok ts) line true le is = line_in n ts line (le ts refl) is
 read_by n (Err fault) line true le is = absurd (cc)

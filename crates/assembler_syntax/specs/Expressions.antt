@@ -4,8 +4,8 @@ use Rattle.std.specs.Prelude.{Bool, true, false, List, [], ◌∷◌, if◌then�
 use Rattle.std.specs.List.{list_all}
 use Rattle.dialect.specs.declared.meaning.Meaning.TheVariants.{Keyword}
 use Rattle.dialect.specs.declared.keyword.Keyword.TheVariants.{Seg}
-use Rattle.assembler_lexeme.specs.declared.fault.LineFault.{LineFault}
-use Rattle.assembler_lexeme.specs.declared.fault.LineFault.TheVariants.{BadLine}
+use Rattle.assembler_lexeme.specs.declared.fault.SyntaxFault.{SyntaxFault}
+use Rattle.assembler_lexeme.specs.declared.fault.SyntaxFault.TheVariants.{BadLine}
 use Rattle.assembler_syntax.specs.declared.expression.Atom.{Atom}
 use Rattle.assembler_syntax.specs.declared.expression.Atom.TheVariants as atoms
 use Rattle.assembler_syntax.specs.declared.expression.Term.{Term}
@@ -15,29 +15,29 @@ use Rattle.assembler_lexeme.specs.declared.token.Mark.TheVariants.{Dollar}
 use Rattle.assembler_lexeme.specs.Faults.{◌>>=◌, all_of}
 use Rattle.assembler_syntax.specs.Parts.{Signed, signed_parts}
 
-abbrev pub single_atom : Token → Result Atom LineFault
+abbrev pub single_atom : Token → Result Atom SyntaxFault
 single_atom One = Ok (atoms.Number 1)
 single_atom (Number n) = Ok (atoms.Number n)
 single_atom (Named name) = Ok (atoms.Named name)
 single_atom (Mark Dollar) = Ok atoms.Here
 single_atom t = Err BadLine
 
-abbrev pub segment_atom : Token → Token → Result Atom LineFault
+abbrev pub segment_atom : Token → Token → Result Atom SyntaxFault
 segment_atom (Word (Keyword Seg)) (Named name) = Ok (atoms.SegmentOf name)
 segment_atom s t = Err BadLine
 
 -- a number, a name, $, or SEG and a name
-unfoldable pub atom_of : List Token → Result Atom LineFault
+unfoldable pub atom_of : List Token → Result Atom SyntaxFault
 atom_of (t ∷ []) = single_atom t
 atom_of (s ∷ t ∷ []) = segment_atom s t
 atom_of ts = Err BadLine
 
-abbrev pub term_of : Signed → Result Term LineFault
+abbrev pub term_of : Signed → Result Term SyntaxFault
 term_of part = do
   atom ← atom_of part.tokens
   Ok (record { is_negative = part.is_negative; atom = atom })
 
-unfoldable pub expression_of : List Token → Result (List Term) LineFault
+unfoldable pub expression_of : List Token → Result (List Term) SyntaxFault
 expression_of ts = all_of term_of (signed_parts ts)
 
 -- neither $ nor SEG
@@ -51,7 +51,7 @@ abbrev pub is_constant : Term → Bool
 is_constant term = is_constant_atom term.atom
 
 -- an expression that must be a constant
-unfoldable pub constant_of : List Token → Result (List Term) LineFault
+unfoldable pub constant_of : List Token → Result (List Term) SyntaxFault
 constant_of ts = do
   terms ← expression_of ts
   if list_all is_constant terms then Ok terms else Err BadLine

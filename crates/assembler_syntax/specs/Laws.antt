@@ -1,11 +1,12 @@
 -- The laws of lines.
 -- Laws: claims above the definitions, each proved as the contract of a function.
-use Rattle.std.specs.Prelude.{ℕ, ◌≡◌, List, map, Ok}
+use Rattle.std.specs.Prelude.{ℕ, ◌≡◌, List, length, map, Ok}
 use Rattle.std.specs.List.{list_all}
 use Rattle.assembler_lexeme.specs.Lexemes.{folded, is_character, lexemes}
 use Rattle.assembler_syntax.specs.declared.statement.Line.{Line}
 use Rattle.assembler_syntax.specs.Lines.{line_of, read_line}
 use Rattle.assembler_syntax.specs.Spelling.{line_tokens, IsStatement}
+use Rattle.assembler_syntax.specs.Weights.{IsWithin}
 
 -- two lines whose lexemes differ in case outside quotes alone say the same
 abbrev pub CaseDoesNotCount : Type 0
@@ -15,3 +16,7 @@ CaseDoesNotCount =
 -- each line that the dialect has is read from its spelling
 abbrev pub EachLineIsRead : Type 0
 EachLineIsRead = (l : Line) → IsStatement l.statement → line_of (line_tokens l) ≡ Ok l
+
+-- what a line holds is no longer than its text
+abbrev pub HoldsNoMore : Type 0
+HoldsNoMore = (text : List ℕ) (line : Line) → read_line text ≡ Ok line → IsWithin (length text) line.statement

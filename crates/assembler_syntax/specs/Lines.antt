@@ -2,8 +2,8 @@
 -- To be believed: public contracts say what they say by these definitions.
 use Rattle.std.specs.Prelude.{ℕ, if◌then◌else◌, List, ◌∷◌, Option, None, Some, Result, Ok, Err}
 use Rattle.std.specs.List.{list_all}
-use Rattle.assembler_lexeme.specs.declared.fault.LineFault.{LineFault}
-use Rattle.assembler_lexeme.specs.declared.fault.LineFault.TheVariants.{BadCharacter}
+use Rattle.assembler_lexeme.specs.declared.fault.SyntaxFault.{SyntaxFault}
+use Rattle.assembler_lexeme.specs.declared.fault.SyntaxFault.TheVariants.{BadCharacter}
 use Rattle.assembler_lexeme.specs.declared.name.Name.{Name}
 use Rattle.assembler_syntax.specs.declared.statement.Line.{Line}
 use Rattle.assembler_lexeme.specs.declared.token.Token.{Token}
@@ -14,21 +14,21 @@ use Rattle.assembler_lexeme.specs.Faults.{◌>>=◌}
 use Rattle.assembler_lexeme.specs.Tokens.{tokens_of}
 use Rattle.assembler_syntax.specs.Statements.{statement_of}
 
-abbrev pub with_label : Option Name → List Token → Result Line LineFault
+abbrev pub with_label : Option Name → List Token → Result Line SyntaxFault
 with_label label ts = do
   statement ← statement_of ts
   Ok (record { label = label; statement = statement })
 
-abbrev pub labelled : Token → Token → List Token → Result Line LineFault
+abbrev pub labelled : Token → Token → List Token → Result Line SyntaxFault
 labelled (Named label) (Mark Colon) ts = with_label (Some label) ts
 labelled t u ts = with_label None (t ∷ u ∷ ts)
 
 -- a name with a colon behind it is a label
-unfoldable pub line_of : List Token → Result Line LineFault
+unfoldable pub line_of : List Token → Result Line SyntaxFault
 line_of (t ∷ u ∷ ts) = labelled t u ts
 line_of ts = with_label None ts
 
 -- What a line of the source says: a fault of its characters comes first, then one of its tokens, then one of its
 -- grammar.
-unfoldable pub read_line : List ℕ → Result Line LineFault
+unfoldable pub read_line : List ℕ → Result Line SyntaxFault
 read_line text = if list_all is_character text then (tokens_of (lexemes text) >>= line_of) else Err BadCharacter

@@ -11,8 +11,8 @@ use Rattle.dialect.specs.declared.meaning.Meaning.TheVariants.{Keyword, Register
 use Rattle.dialect.specs.declared.register.Register.{Register as RegisterType}
 use Rattle.dialect.specs.declared.register.Register.TheVariants as registers
 use Rattle.dialect.specs.declared.keyword.Keyword.TheVariants as keywords
-use Rattle.assembler_lexeme.specs.declared.fault.LineFault.{LineFault}
-use Rattle.assembler_lexeme.specs.declared.fault.LineFault.TheVariants.{BadLine}
+use Rattle.assembler_lexeme.specs.declared.fault.SyntaxFault.{SyntaxFault}
+use Rattle.assembler_lexeme.specs.declared.fault.SyntaxFault.TheVariants.{BadLine}
 use Rattle.assembler_syntax.specs.declared.expression.Term.{Term}
 use Rattle.assembler_syntax.specs.declared.operand.Size.{Size}
 use Rattle.assembler_syntax.specs.declared.operand.Size.TheVariants as sizes
@@ -42,7 +42,7 @@ base_with (Some bases.Di) Bx = Some bases.BxDi
 base_with (Some bases.Di) Bp = Some bases.BpDi
 base_with base r = None
 
-abbrev pub with_register : Address → RegisterType → Result Address LineFault
+abbrev pub with_register : Address → RegisterType → Result Address SyntaxFault
 with_register a (registers.Word r) = do
   base ← wanted (base_with a.base r)
   Ok (record a { base = Some base })
@@ -65,16 +65,16 @@ register_of (t ∷ []) = single_register t
 register_of ts = None
 
 -- no minus stands before a register
-abbrev pub with_part_by : Option RegisterType → Address → Signed → Result Address LineFault
+abbrev pub with_part_by : Option RegisterType → Address → Signed → Result Address SyntaxFault
 with_part_by (Some r) a part = if part.is_negative then Err BadLine else with_register a r
 with_part_by None a part = do
   term ← term_of part
   Ok (with_term a term)
 
-unfoldable pub with_part : Address → Signed → Result Address LineFault
+unfoldable pub with_part : Address → Signed → Result Address SyntaxFault
 with_part a part = with_part_by (register_of part.tokens) a part
 
-abbrev pub with_parts : Address → List Signed → Result Address LineFault
+abbrev pub with_parts : Address → List Signed → Result Address SyntaxFault
 with_parts a [] = Ok a
 with_parts a (part ∷ parts) = do
   b ← with_part a part
@@ -84,13 +84,13 @@ abbrev pub empty_address : Option Size → Option SegmentRegister → Address
 empty_address size segment = record { size = size; segment = segment; base = None; displacement = None }
 
 -- what stands behind an open bracket: parts, and the other bracket
-unfoldable pub memory_of : Option Size → Option SegmentRegister → List Token → Result Operand LineFault
+unfoldable pub memory_of : Option Size → Option SegmentRegister → List Token → Result Operand SyntaxFault
 memory_of size segment ts = do
   inner ← closed (around is_close_bracket ts)
   a ← with_parts (empty_address size segment) (signed_parts inner)
   Ok (operands.Memory a)
 
-unfoldable pub value_of : List Token → Result Operand LineFault
+unfoldable pub value_of : List Token → Result Operand SyntaxFault
 value_of ts = do
   value ← expression_of ts
   Ok (operands.Value value)
@@ -114,65 +114,65 @@ unfoldable pub brackets_of : List Token → Option (Option SegmentRegister × Li
 brackets_of [] = None
 brackets_of (t ∷ ts) = brackets_by t ts
 
-abbrev pub memory_in : Option Size → Option (Option SegmentRegister × List Token) → Result Operand LineFault
+abbrev pub memory_in : Option Size → Option (Option SegmentRegister × List Token) → Result Operand SyntaxFault
 memory_in size (Some brackets) = memory_of size brackets.0 brackets.1
 memory_in size None = Err BadLine
 
 -- FAR label, or FAR segment:offset
-abbrev pub single_label : Token → Result Operand LineFault
+abbrev pub single_label : Token → Result Operand SyntaxFault
 single_label (Named label) = Ok (operands.FarLabel label)
 single_label t = Err BadLine
 
-abbrev pub far_label : List Token → Result Operand LineFault
+abbrev pub far_label : List Token → Result Operand SyntaxFault
 far_label (t ∷ []) = single_label t
 far_label ts = Err BadLine
 
-abbrev pub far_pointer : List Token → List Token → Result Operand LineFault
+abbrev pub far_pointer : List Token → List Token → Result Operand SyntaxFault
 far_pointer segment offset = do
   s ← expression_of segment
   o ← expression_of offset
   Ok (operands.FarPointer s o)
 
-abbrev pub far_target : Option (List Token × List Token) → List Token → Result Operand LineFault
+abbrev pub far_target : Option (List Token × List Token) → List Token → Result Operand SyntaxFault
 far_target (Some colon) ts = far_pointer colon.0 colon.1
 far_target None ts = far_label ts
 
-abbrev pub far_by : Option (Option SegmentRegister × List Token) → List Token → Result Operand LineFault
+abbrev pub far_by : Option (Option SegmentRegister × List Token) → List Token → Result Operand SyntaxFault
 far_by (Some brackets) ts = memory_of (Some sizes.Far) brackets.0 brackets.1
 far_by None ts = far_target (around is_colon ts) ts
 
-unfoldable pub far_of : List Token → Result Operand LineFault
+unfoldable pub far_of : List Token → Result Operand SyntaxFault
 far_of ts = far_by (brackets_of ts) ts
 
-abbrev pub short_of : List Token → Result Operand LineFault
+abbrev pub short_of : List Token → Result Operand SyntaxFault
 short_of ts = do
   target ← expression_of ts
   Ok (operands.Short target)
 
 -- an operand of one token
-abbrev pub single_operand : Token → Result Operand LineFault
+abbrev pub single_operand : Token → Result Operand SyntaxFault
 single_operand (Word (Register r)) = Ok (operands.Register r)
 single_operand One = Ok operands.One
 single_operand t = value_of (t ∷ [])
 
-abbrev pub place_or_value : Option (Option SegmentRegister × List Token) → List Token → Result Operand LineFault
+abbrev pub place_or_value : Option (Option SegmentRegister × List Token) → List Token → Result Operand SyntaxFault
 place_or_value (Some brackets) ts = memory_of None brackets.0 brackets.1
 place_or_value None ts = value_of ts
 
 -- an operand of more tokens, by its first
-abbrev pub led_operand : Token → List Token → Result Operand LineFault
+abbrev pub led_operand : Token → List Token → Result Operand SyntaxFault
 led_operand (Word (Keyword keywords.Short)) ts = short_of ts
 led_operand (Word (Keyword keywords.Byte)) ts = memory_in (Some sizes.Byte) (brackets_of ts)
 led_operand (Word (Keyword keywords.Word)) ts = memory_in (Some sizes.Word) (brackets_of ts)
 led_operand (Word (Keyword keywords.Far)) ts = far_of ts
 led_operand t ts = place_or_value (brackets_of (t ∷ ts)) (t ∷ ts)
 
-unfoldable pub operand_of : List Token → Result Operand LineFault
+unfoldable pub operand_of : List Token → Result Operand SyntaxFault
 operand_of [] = Err BadLine
 operand_of (t ∷ []) = single_operand t
 operand_of (t ∷ u ∷ ts) = led_operand t (u ∷ ts)
 
 -- none, or some with commas between them
-unfoldable pub operands_of : List Token → Result (List Operand) LineFault
+unfoldable pub operands_of : List Token → Result (List Operand) SyntaxFault
 operands_of [] = Ok []
 operands_of (t ∷ ts) = all_of operand_of (parts (t ∷ ts))

@@ -4,8 +4,8 @@ use Rattle.std.specs.Prelude.{ℕ, ◌+◌, Bool, true, false, not, ◌&&◌, if
 use Rattle.std.specs.Borrow.{Bor}
 use Rattle.dialect.specs.declared.meaning.Meaning.TheVariants.{Keyword}
 use Rattle.dialect.specs.declared.keyword.Keyword.TheVariants.{Dup}
-use Rattle.assembler_lexeme.specs.declared.fault.LineFault.{LineFault}
-use Rattle.assembler_lexeme.specs.declared.fault.LineFault.TheVariants.{BadLine}
+use Rattle.assembler_lexeme.specs.declared.fault.SyntaxFault.{SyntaxFault}
+use Rattle.assembler_lexeme.specs.declared.fault.SyntaxFault.TheVariants.{BadLine}
 use Rattle.assembler_lexeme.specs.declared.token.Token.{Token}
 use Rattle.assembler_lexeme.specs.declared.token.Token.TheVariants.{Word, Mark}
 use Rattle.assembler_lexeme.specs.declared.token.Mark.TheVariants.{Comma, Colon, Plus, Minus, OpenBracket, CloseBracket, OpenParenthesis, CloseParenthesis}
@@ -53,7 +53,7 @@ around_view (Some p) = Some (p.0.now, p.1.now)
 around_view None = None
 
 -- nothing stands behind it
-abbrev pub closed : Option (List Token × List Token) → Result (List Token) LineFault
+abbrev pub closed : Option (List Token × List Token) → Result (List Token) SyntaxFault
 closed (Some (inner, [])) = Ok inner
 closed found = Err BadLine
 

@@ -1,5 +1,5 @@
 //! The laws of lines.
-ghost use Rattle.assembler_syntax.specs.Laws.{CaseDoesNotCount, EachLineIsRead};
+ghost use Rattle.assembler_syntax.specs.Laws.{CaseDoesNotCount, EachLineIsRead, HoldsNoMore};
 
 /// Lines whose lexemes differ in case outside quotes alone say the same.
 pub fn case_does_not_count()
@@ -9,4 +9,10 @@ pub fn case_does_not_count()
 /// Each line that the dialect has is read from its spelling.
 pub fn each_line_is_read()
     ensures { EachLineIsRead }
+{}
+
+/// What a line holds is no longer than its text: no expression has more terms than the text has bytes, nor has a data
+/// line more values and characters.
+pub fn lines_hold_no_more()
+    ensures { HoldsNoMore }
 {}

@@ -1,10 +1,9 @@
 //! Reading a line.
-ghost use Rattle.std.specs.Prelude.{◌≡◌, ◌∷◌, length, IfOk};
+ghost use Rattle.std.specs.Prelude.{◌≡◌, ◌∷◌};
 ghost use Rattle.std.specs.List.{list_all};
 ghost use Rattle.assembler_lexeme.specs.Lexemes.{is_character};
 ghost use Rattle.assembler_lexeme.specs.Faults.{Gives};
 ghost use Rattle.assembler_syntax.specs.Lines.{labelled, line_of, read_line, with_label};
-ghost use Rattle.assembler_syntax.specs.Weights.{IsWithin};
 
 mod expression;
 mod item;
@@ -12,7 +11,7 @@ mod operand;
 mod statement;
 
 use crate::statement::Line;
-use assembler_lexeme::fault::{LineError, LineFault};
+use assembler_lexeme::fault::{SyntaxError, SyntaxFault};
 use assembler_lexeme::lexeme::is_character;
 use assembler_lexeme::name::Name;
 use assembler_lexeme::token::{Mark, Token, read_tokens};
@@ -21,15 +20,12 @@ use std::alloc::Global;
 
 /// What a line of a source says by itself, or why it is no line of the dialect: a fault of its characters comes
 /// first, then one of its words, then one of its grammar.
-/// What it holds is no longer than the text: no expression has more terms than the text has bytes, nor has a data
-/// line more values and characters.
-#[tactic(auto, using(crate::proofs::Weights::line_within), unfolding(crate::specs::Lines::read_line))]
-pub fn read_line(alloc: Global, text: &[u8]) -> Result<Line, LineError>
-    ensures answer { Gives result (read_line text.now) }
-    ensures weight { IfOk result (λ line. IsWithin (length text.now) line.statement) }
+#[tactic(auto, unfolding(crate::specs::Lines::read_line))]
+pub fn read_line(alloc: Global, text: &[u8]) -> Result<Line, SyntaxError>
+    ensures { Gives result (read_line text.now) }
 {
     if !are_characters(text) {
-        return Err(LineError::Fault(LineFault::BadCharacter));
+        return Err(SyntaxError::Fault(SyntaxFault::BadCharacter));
     }
     let tokens = read_tokens(alloc, text)?;
     labelled_line(alloc, tokens.as_slice())
@@ -42,7 +38,7 @@ fn are_characters(text: &[u8]) -> bool
 }
 
 #[tactic(auto, unfolding(crate::specs::Lines::line_of))]
-fn labelled_line(alloc: Global, tokens: &[Token]) -> Result<Line, LineError>
+fn labelled_line(alloc: Global, tokens: &[Token]) -> Result<Line, SyntaxError>
     ensures { Gives result (line_of tokens.now) }
 {
     match tokens {
@@ -57,7 +53,7 @@ fn labelled(
     second: &Token,
     rest: &[Token],
     tokens: &[Token],
-) -> Result<Line, LineError>
+) -> Result<Line, SyntaxError>
     requires { tokens.now ≡ first.now ∷ second.now ∷ rest.now }
     ensures { Gives result (labelled first.now second.now rest.now) }
 {
@@ -67,7 +63,7 @@ fn labelled(
     }
 }
 
-fn line_with(alloc: Global, label: Option<Name>, tokens: &[Token]) -> Result<Line, LineError>
+fn line_with(alloc: Global, label: Option<Name>, tokens: &[Token]) -> Result<Line, SyntaxError>
     ensures { Gives result (with_label label tokens.now) }
 {
     let statement = read_statement(alloc, tokens)?;

@@ -1,10 +1,10 @@
 -- The report: the clock, the registers, the processor's state, lost key codes, the speaker's changes and the
 -- screen, as text.
 -- To be believed: public contracts say what they say by these definitions.
-use Rattle.std.specs.Prelude.{ℕ, ◌/◌, ◌%◌, if◌then◌else◌, List, [], ◌∷◌, ◌++◌, codes, length}
+use Rattle.std.specs.Prelude.{ℕ, if◌then◌else◌, List, [], ◌∷◌, ◌++◌, codes, length}
 use Rattle.std.specs.List.{flat_map}
-use Rattle.std.specs.Fmt.{decimal, digit_glyph}
-use Rattle.std.specs.Prelude.{true}
+use Rattle.std.specs.Fmt.{decimal}
+use Rattle.board_types.specs.Digits.{hex_word}
 use Rattle.board_types.specs.Lines.{is_high}
 use Rattle.board_types.specs.declared.regs.Regs.{Regs}
 use Rattle.board_types.specs.Flags.{flags_word}
@@ -12,13 +12,6 @@ use Rattle.board_types.specs.declared.state.State.{State}
 use Rattle.board_types.specs.declared.state.State.TheVariants.{Running, Halted, Jammed}
 use Rattle.board.specs.declared.board.SpeakerChange.{SpeakerChange}
 use Rattle.board.specs.Plain.{Plain, clock_of, registers_of, state_of, lost_codes, screen_of}
-
--- two and four hexadecimal digits, in upper case
-abbrev pub hex_byte_text : ℕ → List ℕ
-hex_byte_text byte = digit_glyph true (byte / 16) ∷ digit_glyph true (byte % 16) ∷ []
-
-abbrev pub hex_word : ℕ → List ℕ
-hex_word word = hex_byte_text (word / 256) ++ hex_byte_text (word % 256)
 
 unfoldable pub general_line : Regs → List ℕ
 general_line r =

@@ -1,30 +1,15 @@
 //! The report of a board as text.
-ghost use Rattle.std.specs.Prelude.{◌≡◌, ◌++◌, IfOk, OnOk, Some};
+ghost use Rattle.std.specs.Prelude.{◌≡◌, ◌++◌, IfOk, OnOk};
 ghost use Rattle.std.specs.String.{string_bytes};
 ghost use Rattle.std.specs.List.{flat_map};
 ghost use Rattle.board.specs.Plain.{screen_of};
-ghost use Rattle.board_report.specs.Text.{change_line, clock_line, general_line, hex_word, register_lines, report_text, segment_line, state_lines, state_name};
+ghost use Rattle.board_report.specs.Text.{change_line, clock_line, general_line, register_lines, report_text, segment_line, state_lines, state_name};
 
 use board::board::{Board, SpeakerChange};
+use board_types::digits::HexWord;
 use board_types::regs::Regs;
 use board_types::state::State;
 use std::alloc::{AllocError, Global};
-use std::fmt;
-
-/// A word that is shown as four hexadecimal digits.
-#[derive(Clone, Copy)]
-pub struct HexWord(pub u16);
-
-impl fmt::Display for HexWord {
-    ghost output = { λ w. Some (hex_word w.0) };
-
-    #[tactic(auto, using(std::proofs::lemmas::Fmt::hex_byte))]
-    fn fmt<W: fmt::Write>(&self, f: &mut fmt::Formatter<W>) -> fmt::Result {
-        let high = (self.0 / 256) as u8;
-        let low = (self.0 % 256) as u8;
-        write!(f, "{high:02X}{low:02X}")
-    }
-}
 
 #[tactic(auto, unfolding(crate::specs::Text::general_line))]
 fn general_line(alloc: Global, regs: &Regs) -> Result<String, AllocError>

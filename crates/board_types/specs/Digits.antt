@@ -1,6 +1,7 @@
--- Numbers as digits spell them.
+-- Numbers as digits spell them, and bytes and words as hexadecimal digits.
 -- To be believed: public contracts say what they say by these definitions.
-use Rattle.std.specs.Prelude.{ℕ, ◌+◌, ◌*◌, ◌-◌, ◌&&◌, nat_le, nat_lt, if◌then◌else◌, List, [], ◌∷◌, Option, None, Some}
+use Rattle.std.specs.Prelude.{ℕ, ◌+◌, ◌*◌, ◌-◌, ◌/◌, ◌%◌, true, ◌&&◌, nat_le, nat_lt, if◌then◌else◌, List, [], ◌∷◌, ◌++◌, Option, None, Some}
+use Rattle.std.specs.Fmt.{digit_glyph}
 
 -- the value of a digit or of a letter as a digit, A to F in any case being 10 to 15; 255 is none
 abbrev pub digit_of : ℕ → ℕ
@@ -13,3 +14,10 @@ digit_of b =
 abbrev pub spelled : ℕ → ℕ → List ℕ → Option ℕ
 spelled base front [] = Some front
 spelled base front (b ∷ bs) = if nat_lt (digit_of b) base then spelled base (front * base + digit_of b) bs else None
+
+-- two and four hexadecimal digits, in upper case
+abbrev pub hex_byte_text : ℕ → List ℕ
+hex_byte_text byte = digit_glyph true (byte / 16) ∷ digit_glyph true (byte % 16) ∷ []
+
+abbrev pub hex_word : ℕ → List ℕ
+hex_word word = hex_byte_text (word / 256) ++ hex_byte_text (word % 256)

@@ -5,9 +5,8 @@ use Rattle.std.specs.Fmt.{decimal, digit_glyph}
 use Rattle.std.proofs.lemmas.Fmt.{decimal_by_steps, decimal_nonempty}
 use Rattle.std.proofs.lemmas.Bool.Decides.{nat_tests}
 use Rattle.std.proofs.Math.Nat.{min-eq_left}
-use Rattle.board_report.specs.Text.{hex_byte_text, hex_word}
+use Rattle.board_types.specs.Digits.{hex_byte_text, hex_word, spelled}
 use Rattle.board_types.specs.TextLines.{onto_first}
-use Rattle.board_types.specs.Digits.{spelled}
 use Rattle.debugger.specs.Words.{words_from, words_of, is_space, hex_number, count_of}
 use Rattle.debugger.specs.Dump.{address_text}
 use Rattle.debugger.specs.Commands.{is_colon, break_command, break_round, break_of, byte_command, command_in, command_of, command_with, command_with_two, dump_command, plain_command}

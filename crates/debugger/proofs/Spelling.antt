@@ -3,8 +3,7 @@ use Rattle.std.proofs.Common.{◌≡◌, ℕ, ◌+◌, ◌*◌, ◌/◌, ◌%◌
 use Rattle.std.specs.Fmt.{decimal, digit_glyph}
 use Rattle.std.proofs.lemmas.Fmt.{decimal_by_steps}
 use Rattle.std.proofs.lemmas.Bool.Decides.{nat_tests}
-use Rattle.board_report.specs.Text.{hex_byte_text, hex_word}
-use Rattle.board_types.specs.Digits.{digit_of, spelled}
+use Rattle.board_types.specs.Digits.{hex_byte_text, hex_word, digit_of, spelled}
 
 -- the value of a digit's character
 glyph_value : (d : ℕ) → d < 16 → digit_of (digit_glyph true d) ≡ d

@@ -1,11 +1,10 @@
 -- Bytes of memory as text.
 -- To be believed: public contracts say what they say by these definitions.
-use Rattle.std.specs.Prelude.{ℕ, ◌+◌, ◌-◌, ◌*◌, ◌/◌, ◌%◌, min, List, ◌∷◌, ◌++◌, codes, map}
-use Rattle.std.specs.Prelude.{true}
+use Rattle.std.specs.Prelude.{ℕ, ◌+◌, ◌-◌, ◌*◌, ◌/◌, ◌%◌, min, List, ◌∷◌, ◌++◌, codes, map, true}
 use Rattle.std.specs.List.{flat_map, range_with_len}
 use Rattle.std.specs.Fmt.{digit_glyph}
 use Rattle.board.specs.Plain.{Plain, byte_of}
-use Rattle.board_report.specs.Text.{hex_byte_text, hex_word}
+use Rattle.board_types.specs.Digits.{hex_byte_text, hex_word}
 
 -- a physical address in five hexadecimal digits
 abbrev pub address_text : ℕ → List ℕ

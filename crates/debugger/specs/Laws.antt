@@ -2,7 +2,7 @@
 -- Laws: claims above the definitions, each proved as the contract of a function.
 use Rattle.std.specs.Prelude.{ℕ, ◌≡◌, ◌+◌, ◌<◌, ◌≤◌, ◌^◌, List, ◌++◌, codes, Some}
 use Rattle.std.specs.Fmt.{decimal}
-use Rattle.board_report.specs.Text.{hex_byte_text, hex_word}
+use Rattle.board_types.specs.Digits.{hex_byte_text, hex_word}
 use Rattle.debugger.specs.declared.command.Command.{Command}
 use Rattle.debugger.specs.declared.command.Command.TheVariants.{Break, Byte, Sound, Halted, Go, Step, Regs, Screen, Dump, Trail}
 use Rattle.debugger.specs.Commands.{command_of}

@@ -6,7 +6,7 @@ use Rattle.std.specs.Fmt.{decimal}
 use Rattle.board.specs.declared.trail.TrailEntry.{TrailEntry}
 use Rattle.board.specs.declared.trail.TrailEvent.{TrailEvent}
 use Rattle.board.specs.declared.trail.TrailEvent.TheVariants.{Instruction, Entry}
-use Rattle.board_report.specs.Text.{hex_byte_text, hex_word}
+use Rattle.board_types.specs.Digits.{hex_byte_text, hex_word}
 use Rattle.disassembler.specs.Text.{instr_text}
 
 -- an instruction's bytes and its text, or the type of an interrupt that was entered

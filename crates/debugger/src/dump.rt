@@ -5,7 +5,7 @@ ghost use Rattle.std.specs.List.{flat_map};
 ghost use Rattle.debugger.specs.Dump.{address_text, bytes_from, dump_line, dump_text, spaced_byte};
 
 use board::board::Board;
-use board_report::text::HexWord;
+use board_types::digits::HexWord;
 use std::alloc::{AllocError, Global};
 use std::fmt;
 

@@ -2,29 +2,15 @@
 ghost use Rattle.std.specs.Prelude.{◌≡◌, ◌++◌, IfOk, OnOk, Some};
 ghost use Rattle.std.specs.String.{string_bytes};
 ghost use Rattle.std.specs.List.{flat_map};
-ghost use Rattle.board_report.specs.Text.{hex_byte_text};
+ghost use Rattle.board_types.specs.Digits.{hex_byte_text};
 ghost use Rattle.debugger.specs.TrailText.{entry_line, event_text};
 
 use board::board::Board;
 use board::trail::{TrailEntry, TrailEvent};
-use board_report::text::HexWord;
+use board_types::digits::{HexByte, HexWord};
 use disassembler::text::InstrText;
 use std::alloc::{AllocError, Global};
 use std::fmt;
-
-/// A byte in two hexadecimal digits.
-#[derive(Clone, Copy)]
-struct HexByte(u8);
-
-impl fmt::Display for HexByte {
-    ghost output = { λ b. Some (hex_byte_text b.0) };
-
-    #[tactic(auto, using(std::proofs::lemmas::Fmt::hex_byte))]
-    fn fmt<W: fmt::Write>(&self, f: &mut fmt::Formatter<W>) -> fmt::Result {
-        let byte = self.0;
-        write!(f, "{byte:02X}")
-    }
-}
 
 /// Bytes, two digits each.
 #[derive(Clone, Copy)]

@@ -5,7 +5,7 @@
 #![tactic(auto)]
 
 use anyhow::{Context, Result, bail};
-use assembler_lexeme::fault::{LineError, LineFault};
+use assembler_lexeme::fault::{SyntaxError, SyntaxFault};
 use assembler_syntax::read::read_line;
 use rows::judge_rows;
 use std::alloc::Global;
@@ -31,9 +31,9 @@ fn judge(alloc: Global, row: &str) -> Result<()> {
 fn answer_to(alloc: Global, line: &[u8]) -> Result<u8> {
     match read_line(alloc, line) {
         Ok(_) => Ok(b'-'),
-        Err(LineError::Fault(LineFault::BadCharacter)) => Ok(b'2'),
-        Err(LineError::Fault(LineFault::BadLine)) => Ok(b'3'),
-        Err(LineError::Fault(LineFault::UnknownName)) => Ok(b'4'),
-        Err(LineError::Memory) => bail!("out of memory"),
+        Err(SyntaxError::Fault(SyntaxFault::BadCharacter)) => Ok(b'2'),
+        Err(SyntaxError::Fault(SyntaxFault::BadLine)) => Ok(b'3'),
+        Err(SyntaxError::Fault(SyntaxFault::UnknownName)) => Ok(b'4'),
+        Err(SyntaxError::Memory) => bail!("out of memory"),
     }
 }

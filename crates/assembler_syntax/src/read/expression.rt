@@ -7,13 +7,13 @@ ghost use Rattle.assembler_syntax.specs.Expressions.{atom_of, constant_of, expre
 
 use crate::expression::{Atom, Expression, Term};
 use crate::part::SignedParts;
-use assembler_lexeme::fault::{LineError, LineFault};
+use assembler_lexeme::fault::{SyntaxError, SyntaxFault};
 use assembler_lexeme::token::{Mark, Token};
 use dialect::keyword::Keyword;
 use dialect::meaning::Meaning;
 use std::alloc::Global;
 
-fn single_atom(token: &Token) -> Result<Atom, LineError>
+fn single_atom(token: &Token) -> Result<Atom, SyntaxError>
     ensures { Gives result (single_atom token.now) }
 {
     match token {
@@ -21,34 +21,34 @@ fn single_atom(token: &Token) -> Result<Atom, LineError>
         Token::Number(number) => Ok(Atom::Number(*number)),
         Token::Named(name) => Ok(Atom::Named(*name)),
         Token::Mark(Mark::Dollar) => Ok(Atom::Here),
-        _ => Err(LineError::Fault(LineFault::BadLine)),
+        _ => Err(SyntaxError::Fault(SyntaxFault::BadLine)),
     }
 }
 
-fn segment_atom(first: &Token, second: &Token) -> Result<Atom, LineError>
+fn segment_atom(first: &Token, second: &Token) -> Result<Atom, SyntaxError>
     ensures { Gives result (segment_atom first.now second.now) }
 {
     match (first, second) {
         (Token::Word(Meaning::Keyword(Keyword::Seg)), Token::Named(name)) => {
             Ok(Atom::SegmentOf(*name))
         }
-        _ => Err(LineError::Fault(LineFault::BadLine)),
+        _ => Err(SyntaxError::Fault(SyntaxFault::BadLine)),
     }
 }
 
 #[tactic(auto, unfolding(crate::specs::Expressions::atom_of))]
-fn atom_of(tokens: &[Token]) -> Result<Atom, LineError>
+fn atom_of(tokens: &[Token]) -> Result<Atom, SyntaxError>
     ensures { Gives result (atom_of tokens.now) }
 {
     match tokens {
         [token] => single_atom(token),
         [first, second] => segment_atom(first, second),
-        _ => Err(LineError::Fault(LineFault::BadLine)),
+        _ => Err(SyntaxError::Fault(SyntaxFault::BadLine)),
     }
 }
 
 /// A term behind a sign.
-pub(crate) fn read_term(is_negative: bool, tokens: &[Token]) -> Result<Term, LineError>
+pub(crate) fn read_term(is_negative: bool, tokens: &[Token]) -> Result<Term, SyntaxError>
     ensures { Gives result (term_of (signed_part is_negative tokens.now)) }
 {
     let atom = atom_of(tokens)?;
@@ -57,12 +57,12 @@ pub(crate) fn read_term(is_negative: bool, tokens: &[Token]) -> Result<Term, Lin
 
 /// An expression.
 #[tactic(auto, unfolding(crate::specs::Expressions::expression_of))]
-pub(crate) fn read_expression(alloc: Global, tokens: &[Token]) -> Result<Expression, LineError>
+pub(crate) fn read_expression(alloc: Global, tokens: &[Token]) -> Result<Expression, SyntaxError>
     ensures { Gives result (expression_of tokens.now) }
 {
     let mut parts = SignedParts::of(tokens);
     let Some((is_negative, part)) = parts.next() else {
-        return Err(LineError::Fault(LineFault::BadLine));
+        return Err(SyntaxError::Fault(SyntaxFault::BadLine));
     };
     let first = read_term(is_negative, part)?;
     read_terms(alloc, first, parts)
@@ -70,7 +70,7 @@ pub(crate) fn read_expression(alloc: Global, tokens: &[Token]) -> Result<Express
 
 /// A term and those behind it.
 #[tactic(auto, using(crate::proofs::Gathering::term_behind))]
-fn read_terms(alloc: Global, first: Term, parts: SignedParts) -> Result<Expression, LineError>
+fn read_terms(alloc: Global, first: Term, parts: SignedParts) -> Result<Expression, SyntaxError>
     ensures { Gives result (with_front (first ∷ []) (all_of term_of parts.entry)) }
 {
     let mut parts = parts;
@@ -84,14 +84,14 @@ fn read_terms(alloc: Global, first: Term, parts: SignedParts) -> Result<Expressi
 
 /// An expression that must be a constant: it holds neither `$` nor SEG.
 #[tactic(auto, unfolding(crate::specs::Expressions::constant_of))]
-pub(crate) fn read_constant(alloc: Global, tokens: &[Token]) -> Result<Expression, LineError>
+pub(crate) fn read_constant(alloc: Global, tokens: &[Token]) -> Result<Expression, SyntaxError>
     ensures { Gives result (constant_of tokens.now) }
 {
     let expression = read_expression(alloc, tokens)?;
     if are_constant(&expression) {
         Ok(expression)
     } else {
-        Err(LineError::Fault(LineFault::BadLine))
+        Err(SyntaxError::Fault(SyntaxFault::BadLine))
     }
 }
 

@@ -9,7 +9,7 @@ use crate::part::{
 };
 use crate::read::expression::{read_constant, read_expression};
 use crate::statement::{DataWidth, Item, Piece};
-use assembler_lexeme::fault::{LineError, LineFault};
+use assembler_lexeme::fault::{SyntaxError, SyntaxFault};
 use assembler_lexeme::sequence::Sequence;
 use assembler_lexeme::token::Token;
 use std::alloc::Global;
@@ -20,7 +20,7 @@ pub(crate) fn read_items(
     alloc: Global,
     width: DataWidth,
     tokens: &[Token],
-) -> Result<Sequence<Item>, LineError>
+) -> Result<Sequence<Item>, SyntaxError>
     ensures { Gives result (items_of width tokens.now) }
 {
     let mut parts = Parts::of(tokens);
@@ -34,7 +34,7 @@ pub(crate) fn read_items(
 
 /// Pieces that DUP repeats, or one piece.
 #[tactic(auto, unfolding(crate::specs::Items::item_of))]
-fn read_item(alloc: Global, width: DataWidth, tokens: &[Token]) -> Result<Item, LineError>
+fn read_item(alloc: Global, width: DataWidth, tokens: &[Token]) -> Result<Item, SyntaxError>
     ensures { Gives result (item_of width tokens.now) }
 {
     match around(tokens, dup_place(tokens)) {
@@ -49,12 +49,12 @@ fn read_repeated(
     width: DataWidth,
     count: &[Token],
     body: &[Token],
-) -> Result<Item, LineError>
+) -> Result<Item, SyntaxError>
     ensures { Gives result (repeated width count.now body.now) }
 {
     let count = read_constant(alloc, count)?;
     let Some(inner) = in_parentheses(body) else {
-        return Err(LineError::Fault(LineFault::BadLine));
+        return Err(SyntaxError::Fault(SyntaxFault::BadLine));
     };
     let pieces = read_pieces(alloc, width, inner)?;
     Ok(Item::Repeated(count, pieces))
@@ -78,7 +78,7 @@ fn read_pieces(
     alloc: Global,
     width: DataWidth,
     tokens: &[Token],
-) -> Result<Sequence<Piece>, LineError>
+) -> Result<Sequence<Piece>, SyntaxError>
     ensures { Gives result (pieces_of width tokens.now) }
 {
     let mut parts = Parts::of(tokens);
@@ -92,7 +92,7 @@ fn read_pieces(
 
 /// An expression, or in DB a quoted text.
 #[tactic(auto, unfolding(crate::specs::Items::piece_of))]
-fn read_piece(alloc: Global, width: DataWidth, tokens: &[Token]) -> Result<Piece, LineError>
+fn read_piece(alloc: Global, width: DataWidth, tokens: &[Token]) -> Result<Piece, SyntaxError>
     ensures { Gives result (piece_of width tokens.now) }
 {
     match tokens {
@@ -106,7 +106,7 @@ fn single_piece(
     width: DataWidth,
     token: &Token,
     tokens: &[Token],
-) -> Result<Piece, LineError>
+) -> Result<Piece, SyntaxError>
     requires { tokens.now ≡ token.now ∷ [] }
     ensures { Gives result (single_piece width token.now) }
 {
@@ -118,7 +118,7 @@ fn single_piece(
     }
 }
 
-fn value_piece(alloc: Global, tokens: &[Token]) -> Result<Piece, LineError>
+fn value_piece(alloc: Global, tokens: &[Token]) -> Result<Piece, SyntaxError>
     ensures { Gives result (value_piece tokens.now) }
 {
     Ok(Piece::Value(read_expression(alloc, tokens)?))

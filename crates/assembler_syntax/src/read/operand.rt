@@ -12,7 +12,7 @@ use crate::part::{
     is_open_bracket,
 };
 use crate::read::expression::{read_expression, read_term};
-use assembler_lexeme::fault::{LineError, LineFault};
+use assembler_lexeme::fault::{SyntaxError, SyntaxFault};
 use assembler_lexeme::sequence::Sequence;
 use assembler_lexeme::token::{Mark, Token};
 use dialect::keyword::Keyword;
@@ -27,7 +27,10 @@ type Brackets<'a, 'b> = (Option<SegmentRegister>, &'a [Token<'b>]);
 
 /// The operands of an instruction: none, or some with commas between them.
 #[tactic(auto, unfolding(crate::specs::Operands::operands_of))]
-pub(crate) fn read_operands(alloc: Global, tokens: &[Token]) -> Result<Sequence<Operand>, LineError>
+pub(crate) fn read_operands(
+    alloc: Global,
+    tokens: &[Token],
+) -> Result<Sequence<Operand>, SyntaxError>
     ensures { Gives result (operands_of tokens.now) }
 {
     if tokens.is_empty() {
@@ -37,7 +40,7 @@ pub(crate) fn read_operands(alloc: Global, tokens: &[Token]) -> Result<Sequence<
     }
 }
 
-fn read_parts(alloc: Global, parts: Parts) -> Result<Sequence<Operand>, LineError>
+fn read_parts(alloc: Global, parts: Parts) -> Result<Sequence<Operand>, SyntaxError>
     ensures { Gives result (all_of operand_of parts.entry) }
 {
     let mut parts = parts;
@@ -50,17 +53,17 @@ fn read_parts(alloc: Global, parts: Parts) -> Result<Sequence<Operand>, LineErro
 }
 
 #[tactic(auto, unfolding(crate::specs::Operands::operand_of))]
-fn read_operand(alloc: Global, tokens: &[Token]) -> Result<Operand, LineError>
+fn read_operand(alloc: Global, tokens: &[Token]) -> Result<Operand, SyntaxError>
     ensures { Gives result (operand_of tokens.now) }
 {
     match tokens {
-        [] => Err(LineError::Fault(LineFault::BadLine)),
+        [] => Err(SyntaxError::Fault(SyntaxFault::BadLine)),
         [token] => single_operand(alloc, token, tokens),
         [first, rest @ ..] => led_operand(alloc, first, rest, tokens),
     }
 }
 
-fn single_operand(alloc: Global, token: &Token, tokens: &[Token]) -> Result<Operand, LineError>
+fn single_operand(alloc: Global, token: &Token, tokens: &[Token]) -> Result<Operand, SyntaxError>
     requires { tokens.now ≡ token.now ∷ [] }
     ensures { Gives result (single_operand token.now) }
 {
@@ -76,7 +79,7 @@ fn led_operand(
     first: &Token,
     rest: &[Token],
     tokens: &[Token],
-) -> Result<Operand, LineError>
+) -> Result<Operand, SyntaxError>
     requires { tokens.now ≡ first.now ∷ rest.now }
     ensures { Gives result (led_operand first.now rest.now) }
 {
@@ -92,16 +95,16 @@ fn led_operand(
 }
 
 /// Memory behind a size word.
-fn memory_in(alloc: Global, size: Size, tokens: &[Token]) -> Result<Operand, LineError>
+fn memory_in(alloc: Global, size: Size, tokens: &[Token]) -> Result<Operand, SyntaxError>
     ensures { Gives result (memory_in (Some size) (brackets_of tokens.now)) }
 {
     match brackets_of(tokens) {
         Some((segment, inner)) => read_memory(alloc, Some(size), segment, inner),
-        None => Err(LineError::Fault(LineFault::BadLine)),
+        None => Err(SyntaxError::Fault(SyntaxFault::BadLine)),
     }
 }
 
-fn place_or_value(alloc: Global, tokens: &[Token]) -> Result<Operand, LineError>
+fn place_or_value(alloc: Global, tokens: &[Token]) -> Result<Operand, SyntaxError>
     ensures { Gives result (place_or_value (brackets_of tokens.now) tokens.now) }
 {
     match brackets_of(tokens) {
@@ -111,7 +114,7 @@ fn place_or_value(alloc: Global, tokens: &[Token]) -> Result<Operand, LineError>
 }
 
 #[tactic(auto, unfolding(crate::specs::Operands::value_of))]
-fn read_value(alloc: Global, tokens: &[Token]) -> Result<Operand, LineError>
+fn read_value(alloc: Global, tokens: &[Token]) -> Result<Operand, SyntaxError>
     ensures { Gives result (value_of tokens.now) }
 {
     Ok(Operand::Value(read_expression(alloc, tokens)?))
@@ -119,7 +122,7 @@ fn read_value(alloc: Global, tokens: &[Token]) -> Result<Operand, LineError>
 
 /// FAR and memory, a label, or a segment and an offset.
 #[tactic(auto, unfolding(crate::specs::Operands::far_of))]
-fn read_far(alloc: Global, tokens: &[Token]) -> Result<Operand, LineError>
+fn read_far(alloc: Global, tokens: &[Token]) -> Result<Operand, SyntaxError>
     ensures { Gives result (far_of tokens.now) }
 {
     if let Some((segment, inner)) = brackets_of(tokens) {
@@ -131,7 +134,7 @@ fn read_far(alloc: Global, tokens: &[Token]) -> Result<Operand, LineError>
     }
 }
 
-fn far_pointer(alloc: Global, segment: &[Token], offset: &[Token]) -> Result<Operand, LineError>
+fn far_pointer(alloc: Global, segment: &[Token], offset: &[Token]) -> Result<Operand, SyntaxError>
     ensures { Gives result (far_pointer segment.now offset.now) }
 {
     let segment = read_expression(alloc, segment)?;
@@ -139,21 +142,21 @@ fn far_pointer(alloc: Global, segment: &[Token], offset: &[Token]) -> Result<Ope
     Ok(Operand::FarPointer(segment, offset))
 }
 
-fn far_label(tokens: &[Token]) -> Result<Operand, LineError>
+fn far_label(tokens: &[Token]) -> Result<Operand, SyntaxError>
     ensures { Gives result (far_label tokens.now) }
 {
     match tokens {
         [token] => single_label(token),
-        _ => Err(LineError::Fault(LineFault::BadLine)),
+        _ => Err(SyntaxError::Fault(SyntaxFault::BadLine)),
     }
 }
 
-fn single_label(token: &Token) -> Result<Operand, LineError>
+fn single_label(token: &Token) -> Result<Operand, SyntaxError>
     ensures { Gives result (single_label token.now) }
 {
     match token {
         Token::Named(label) => Ok(Operand::FarLabel(*label)),
-        _ => Err(LineError::Fault(LineFault::BadLine)),
+        _ => Err(SyntaxError::Fault(SyntaxFault::BadLine)),
     }
 }
 
@@ -195,11 +198,11 @@ fn read_memory(
     size: Option<Size>,
     segment: Option<SegmentRegister>,
     tokens: &[Token],
-) -> Result<Operand, LineError>
+) -> Result<Operand, SyntaxError>
     ensures { Gives result (memory_of size segment tokens.now) }
 {
     let Some(inner) = before_last(tokens, close_bracket_place(tokens)) else {
-        return Err(LineError::Fault(LineFault::BadLine));
+        return Err(SyntaxError::Fault(SyntaxFault::BadLine));
     };
     let address = Address {
         size,
@@ -211,7 +214,7 @@ fn read_memory(
     Ok(Operand::Memory(address))
 }
 
-fn with_parts(alloc: Global, address: Address, parts: SignedParts) -> Result<Address, LineError>
+fn with_parts(alloc: Global, address: Address, parts: SignedParts) -> Result<Address, SyntaxError>
     ensures { Gives result (with_parts address parts.entry) }
 {
     let mut parts = parts;
@@ -228,11 +231,11 @@ fn with_part(
     address: Address,
     is_negative: bool,
     part: &[Token],
-) -> Result<Address, LineError>
+) -> Result<Address, SyntaxError>
     ensures { Gives result (with_part address (signed_part is_negative part.now)) }
 {
     match register_of(part) {
-        Some(_) if is_negative => Err(LineError::Fault(LineFault::BadLine)),
+        Some(_) if is_negative => Err(SyntaxError::Fault(SyntaxFault::BadLine)),
         Some(register) => with_register(address, register),
         None => with_term(alloc, address, read_term(is_negative, part)?),
     }
@@ -257,14 +260,14 @@ fn single_register(token: &Token) -> Option<Register>
     }
 }
 
-fn with_register(address: Address, register: Register) -> Result<Address, LineError>
+fn with_register(address: Address, register: Register) -> Result<Address, SyntaxError>
     ensures { Gives result (with_register address register) }
 {
     let Register::Word(register) = register else {
-        return Err(LineError::Fault(LineFault::BadLine));
+        return Err(SyntaxError::Fault(SyntaxFault::BadLine));
     };
     let Some(base) = base_with(address.base, register) else {
-        return Err(LineError::Fault(LineFault::BadLine));
+        return Err(SyntaxError::Fault(SyntaxFault::BadLine));
     };
     Ok(Address {
         base: Some(base),
@@ -293,7 +296,7 @@ fn base_with(base: Option<Base>, register: WordRegister) -> Option<Base>
     }
 }
 
-fn with_term(alloc: Global, address: Address, term: Term) -> Result<Address, LineError>
+fn with_term(alloc: Global, address: Address, term: Term) -> Result<Address, SyntaxError>
     ensures { Gives result (Ok (with_term address term)) }
 {
     let Address {
@@ -311,7 +314,11 @@ fn with_term(alloc: Global, address: Address, term: Term) -> Result<Address, Lin
     })
 }
 
-fn terms_with(alloc: Global, terms: Option<Expression>, term: Term) -> Result<Expression, LineError>
+fn terms_with(
+    alloc: Global,
+    terms: Option<Expression>,
+    term: Term,
+) -> Result<Expression, SyntaxError>
     ensures { Gives result (Ok (terms_with terms term)) }
 {
     match terms {

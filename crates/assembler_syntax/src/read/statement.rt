@@ -8,7 +8,7 @@ use crate::read::expression::read_constant;
 use crate::read::item::read_items;
 use crate::read::operand::read_operands;
 use crate::statement::{DataWidth, Instruction, Statement};
-use assembler_lexeme::fault::{LineError, LineFault};
+use assembler_lexeme::fault::{SyntaxError, SyntaxFault};
 use assembler_lexeme::name::Name;
 use assembler_lexeme::sequence::Sequence;
 use assembler_lexeme::token::Token;
@@ -22,7 +22,7 @@ use std::alloc::Global;
 
 /// What a line says behind its label.
 #[tactic(auto, unfolding(crate::specs::Statements::statement_of))]
-pub(crate) fn read_statement(alloc: Global, tokens: &[Token]) -> Result<Statement, LineError>
+pub(crate) fn read_statement(alloc: Global, tokens: &[Token]) -> Result<Statement, SyntaxError>
     ensures { Gives result (statement_of tokens.now) }
 {
     match tokens {
@@ -45,18 +45,18 @@ fn is_equ(token: &Token) -> bool
 }
 
 #[tactic(auto, unfolding(crate::specs::Statements::equ_of))]
-fn read_equ(alloc: Global, first: &Token, value: &[Token]) -> Result<Statement, LineError>
+fn read_equ(alloc: Global, first: &Token, value: &[Token]) -> Result<Statement, SyntaxError>
     ensures { Gives result (equ_of first.now value.now) }
 {
     match first {
         Token::Named(name) => Ok(Statement::Equ(*name, read_constant(alloc, value)?)),
-        _ => Err(LineError::Fault(LineFault::BadLine)),
+        _ => Err(SyntaxError::Fault(SyntaxFault::BadLine)),
     }
 }
 
 /// Prefixes, if there are any, and what stands behind them.
 #[tactic(auto, unfolding(crate::specs::Statements::prefixed_statement))]
-fn prefixed_statement(alloc: Global, tokens: &[Token]) -> Result<Statement, LineError>
+fn prefixed_statement(alloc: Global, tokens: &[Token]) -> Result<Statement, SyntaxError>
     ensures { Gives result (prefixed_statement tokens.now) }
 {
     let mut prefixes = Sequence::new(alloc);
@@ -113,13 +113,13 @@ fn statement_behind(
     alloc: Global,
     prefixes: Sequence<Prefix>,
     tokens: &[Token],
-) -> Result<Statement, LineError>
+) -> Result<Statement, SyntaxError>
     ensures { Gives result (statement_behind prefixes tokens.now) }
 {
     match split(tokens) {
         Some((Token::Word(meaning), rest)) => word_statement(alloc, prefixes, *meaning, rest),
-        Some((Token::Named(_), _)) => Err(LineError::Fault(LineFault::UnknownName)),
-        _ => Err(LineError::Fault(LineFault::BadLine)),
+        Some((Token::Named(_), _)) => Err(SyntaxError::Fault(SyntaxFault::UnknownName)),
+        _ => Err(SyntaxError::Fault(SyntaxFault::BadLine)),
     }
 }
 
@@ -128,16 +128,16 @@ fn word_statement(
     prefixes: Sequence<Prefix>,
     meaning: Meaning,
     rest: &[Token],
-) -> Result<Statement, LineError>
+) -> Result<Statement, SyntaxError>
     ensures { Gives result (word_statement prefixes meaning rest.now) }
 {
     match meaning {
         Meaning::Mnemonic(mnemonic) => read_instruction(alloc, prefixes, mnemonic, rest),
         Meaning::Keyword(keyword) if prefixes.is_empty() => read_directive(alloc, keyword, rest),
         Meaning::Keyword(keyword) if is_directive(keyword) => {
-            Err(LineError::Fault(LineFault::BadLine))
+            Err(SyntaxError::Fault(SyntaxFault::BadLine))
         }
-        _ => Err(LineError::Fault(LineFault::UnknownName)),
+        _ => Err(SyntaxError::Fault(SyntaxFault::UnknownName)),
     }
 }
 
@@ -157,7 +157,7 @@ fn read_instruction(
     prefixes: Sequence<Prefix>,
     mnemonic: Mnemonic,
     tokens: &[Token],
-) -> Result<Statement, LineError>
+) -> Result<Statement, SyntaxError>
     ensures { Gives result (instruction_of prefixes mnemonic tokens.now) }
 {
     let operands = read_operands(alloc, tokens)?;
@@ -169,7 +169,11 @@ fn read_instruction(
 }
 
 #[tactic(auto, unfolding(crate::specs::Statements::directive_of))]
-fn read_directive(alloc: Global, keyword: Keyword, tokens: &[Token]) -> Result<Statement, LineError>
+fn read_directive(
+    alloc: Global,
+    keyword: Keyword,
+    tokens: &[Token],
+) -> Result<Statement, SyntaxError>
     ensures { Gives result (directive_of keyword tokens.now) }
 {
     match keyword {
@@ -179,54 +183,54 @@ fn read_directive(alloc: Global, keyword: Keyword, tokens: &[Token]) -> Result<S
         Keyword::Db => read_data(alloc, DataWidth::Byte, tokens),
         Keyword::Dw => read_data(alloc, DataWidth::Word, tokens),
         Keyword::Dd => read_data(alloc, DataWidth::Double, tokens),
-        _ => Err(LineError::Fault(LineFault::UnknownName)),
+        _ => Err(SyntaxError::Fault(SyntaxFault::UnknownName)),
     }
 }
 
 #[tactic(auto, unfolding(crate::specs::Statements::segment_of))]
-fn read_segment(alloc: Global, tokens: &[Token]) -> Result<Statement, LineError>
+fn read_segment(alloc: Global, tokens: &[Token]) -> Result<Statement, SyntaxError>
     ensures { Gives result (segment_of tokens.now) }
 {
     match tokens {
         [name, at, paragraph @ ..] if is_at(at) => segment_by(alloc, name, paragraph),
-        _ => Err(LineError::Fault(LineFault::BadLine)),
+        _ => Err(SyntaxError::Fault(SyntaxFault::BadLine)),
     }
 }
 
-fn segment_by(alloc: Global, name: &Token, paragraph: &[Token]) -> Result<Statement, LineError>
+fn segment_by(alloc: Global, name: &Token, paragraph: &[Token]) -> Result<Statement, SyntaxError>
     ensures { Gives result (segment_by name.now paragraph.now) }
 {
     match name {
         Token::Named(name) => segment_at(alloc, *name, paragraph),
-        _ => Err(LineError::Fault(LineFault::BadLine)),
+        _ => Err(SyntaxError::Fault(SyntaxFault::BadLine)),
     }
 }
 
-fn segment_at(alloc: Global, name: Name, paragraph: &[Token]) -> Result<Statement, LineError>
+fn segment_at(alloc: Global, name: Name, paragraph: &[Token]) -> Result<Statement, SyntaxError>
     ensures { Gives result (segment_at name paragraph.now) }
 {
     Ok(Statement::Segment(name, read_constant(alloc, paragraph)?))
 }
 
 #[tactic(auto, unfolding(crate::specs::Statements::ends_of))]
-fn read_ends(tokens: &[Token]) -> Result<Statement, LineError>
+fn read_ends(tokens: &[Token]) -> Result<Statement, SyntaxError>
     ensures { Gives result (ends_of tokens.now) }
 {
     match tokens {
         [] => Ok(Statement::Ends),
-        _ => Err(LineError::Fault(LineFault::BadLine)),
+        _ => Err(SyntaxError::Fault(SyntaxFault::BadLine)),
     }
 }
 
 #[tactic(auto, unfolding(crate::specs::Statements::org_of))]
-fn read_org(alloc: Global, tokens: &[Token]) -> Result<Statement, LineError>
+fn read_org(alloc: Global, tokens: &[Token]) -> Result<Statement, SyntaxError>
     ensures { Gives result (org_of tokens.now) }
 {
     Ok(Statement::Org(read_constant(alloc, tokens)?))
 }
 
 #[tactic(auto, unfolding(crate::specs::Statements::data_of))]
-fn read_data(alloc: Global, width: DataWidth, tokens: &[Token]) -> Result<Statement, LineError>
+fn read_data(alloc: Global, width: DataWidth, tokens: &[Token]) -> Result<Statement, SyntaxError>
     ensures { Gives result (data_of width tokens.now) }
 {
     Ok(Statement::Data(width, read_items(alloc, width, tokens)?))

@@ -1,7 +1,6 @@
 use Rattle.std.proofs.Common.{◌≡◌, ◌∙◌, ◌++◌, ap, sym, subst, false}
 use Rattle.indexmap.proofs.CallerLemmas.{insert_entry-new}
-use Rattle.assembler_meaning.specs.Values.{meaning}
-use Rattle.assembler_meaning.specs.Values.{is_defined}
+use Rattle.assembler_meaning.specs.Values.{meaning, is_defined}
 use Rattle.assembler.specs.FirstPass.{IsNewDefinition, definition_names}
 use Rattle.assembler.proofs.ReadingNames.{none_is}
 use Rattle.assembler.proofs.reading.define.Goals as goal

@@ -1,6 +1,5 @@
-use Rattle.std.proofs.Common.{◌≡◌, ◌≤◌, length}
+use Rattle.std.proofs.Common.{◌≡◌, ◌≤◌, length, false}
 use Rattle.assembler_lexeme.specs.Lexemes.{lexemes_from}
-use Rattle.std.proofs.Common.{false}
 use Rattle.assembler_lexeme.proofs.lexeme.skip_blanks.Given as goal
 
 abbrev pub invariant-loop-rest : goal.invariant-loop-rest

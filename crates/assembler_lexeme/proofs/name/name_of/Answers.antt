@@ -1,7 +1,6 @@
-use Rattle.std.proofs.Common.{ap}
+use Rattle.std.proofs.Common.{ap, List, ℕ}
 use Rattle.assembler_lexeme.specs.declared.name.Name.{Name}
 use Rattle.assembler_lexeme.proofs.Wording.{name_is}
-use Rattle.std.proofs.Common.{List, ℕ}
 use Rattle.assembler_lexeme.proofs.name.name_of.Goals as goal
 
 pub returns : goal.returns

@@ -1,8 +1,7 @@
 use Rattle.std.proofs.Common.{◌≡◌, ◌+◌, ◌*◌, ◌^◌, ◌≤◌, drop, true, false}
 use Rattle.std.specs.List.{list_all, list_any}
 use Rattle.assembler_syntax.specs.Weights.{is_item_within, items_weight}
-use Rattle.assembler_meaning.specs.Data.{counts_of, data_size}
-use Rattle.assembler_meaning.specs.Data.{is_wrong_count}
+use Rattle.assembler_meaning.specs.Data.{counts_of, data_size, is_wrong_count}
 use Rattle.assembler_meaning.specs.Values.{term_limit}
 use Rattle.assembler_meaning.proofs.data.data_size.Given as goal
 

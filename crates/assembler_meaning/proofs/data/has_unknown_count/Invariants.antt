@@ -1,8 +1,7 @@
 use Rattle.std.proofs.Common.{◌≡◌, drop, true}
 use Rattle.std.specs.List.{list_all, list_any}
 use Rattle.assembler_syntax.specs.Weights.{is_item_within}
-use Rattle.assembler_meaning.specs.Data.{counts_of}
-use Rattle.assembler_meaning.specs.Data.{is_unknown}
+use Rattle.assembler_meaning.specs.Data.{counts_of, is_unknown}
 use Rattle.assembler_meaning.specs.Values.{term_limit}
 use Rattle.assembler_meaning.proofs.data.has_unknown_count.Given as goal
 

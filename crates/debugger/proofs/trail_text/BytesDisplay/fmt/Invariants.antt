@@ -2,7 +2,7 @@
 use Rattle.std.proofs.Common.{take}
 use Rattle.std.specs.List.{flat_map}
 use Rattle.std.specs.Fmt.{HasWritten, IsPlainFormatter}
-use Rattle.board_report.specs.Text.{hex_byte_text}
+use Rattle.board_types.specs.Digits.{hex_byte_text}
 use Rattle.debugger.proofs.trail_text.BytesDisplay.fmt.Given as goal
 
 abbrev pub invariant-loop-byte : goal.invariant-loop-byte
