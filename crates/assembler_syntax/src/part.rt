@@ -155,7 +155,7 @@ pub(crate) struct Parts<'a, 'b> {
 impl<'a, 'b> Model for Parts<'a, 'b> {
     ghost use Rattle.std.specs.Prelude.{List};
     ghost use Rattle.assembler_lexeme.specs.declared.token.Token.{Token};
-    ghost use Rattle.assembler_syntax.specs.Parts.{parts_left, tail_view, Signed, signed_left};
+    ghost use Rattle.assembler_syntax.specs.Parts.{parts_left, tail_view};
 
     ghost Value = { List (List Token) };
 
@@ -216,6 +216,9 @@ pub(crate) struct SignedParts<'a, 'b> {
 }
 
 impl<'a, 'b> Model for SignedParts<'a, 'b> {
+    ghost use Rattle.std.specs.Prelude.{List};
+    ghost use Rattle.assembler_syntax.specs.Parts.{Signed, signed_left, tail_view};
+
     ghost Value = { List Signed };
 
     ghost view = { λ p. signed_left p.is_negative (tail_view p.rest) };
