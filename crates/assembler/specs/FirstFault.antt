@@ -25,7 +25,8 @@ abbrev pub IsReadFault : List ℕ → SourceFault → Type 0
 IsReadFault text fault = (found : SyntaxFault) × (read_line text ≡ Err found) × (fault ≡ fault_of_line found)
 
 abbrev pub IsRowFault : Names → Option Location → List ℕ → SourceFault → Type 0
-IsRowFault names location text fault = (row : Row) × IsRow names location text row × (early_fault names row.location row.line row.form ≡ Some fault)
+IsRowFault names location text fault =
+    (row : Row) × IsRow names location text row × (early_fault names row.location row.line row.form ≡ Some fault)
 
 abbrev pub IsTextFault : Names → Option Location → List ℕ → SourceFault → Type 0
 IsTextFault names location text fault = IsReadFault text fault ⊎ IsRowFault names location text fault
@@ -44,7 +45,8 @@ pub record IsEarlyFault (source : List ℕ) (fault : SourceFault) (number : ℕ)
 -- each of these rows has no fault behind those before it
 abbrev pub AreFaultless : Names → List Row → List Row → Type 0
 AreFaultless names before [] = Unit {0}
-AreFaultless names before (row ∷ rows) = (row_fault names before row ≡ None) × AreFaultless names (before ++ row ∷ []) rows
+AreFaultless names before (row ∷ rows) =
+    (row_fault names before row ≡ None) × AreFaultless names (before ++ row ∷ []) rows
 
 -- of these rows those before the one with this number can be placed, and it has the fault
 pub record HasLateFault (rows : List Row) (fault : SourceFault) (number : ℕ) : Type 0 where
@@ -66,7 +68,8 @@ pub record IsLateFault (source : List ℕ) (fault : SourceFault) (number : ℕ) 
 -- fault of placing in the least line. Of memory nothing is said.
 abbrev pub IsFirst : List ℕ → AsmFault → Type 0
 IsFirst source SourceTooLong = source_limit < length source
-IsFirst source (InLine fault number) = (length source ≤ source_limit) × (IsEarlyFault source fault number ⊎ IsLateFault source fault number)
+IsFirst source (InLine fault number) =
+    (length source ≤ source_limit) × (IsEarlyFault source fault number ⊎ IsLateFault source fault number)
 IsFirst source Memory = Unit {0}
 
 -- the faults' numbers

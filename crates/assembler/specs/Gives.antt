@@ -29,7 +29,8 @@ pub record ArePlaced (rows : List Row) (image : List (ℕ × ℕ)) : Type 0 wher
   pub fit : AllByRecursion (Fits (names_of rows)) rows
   pub once : IsDistinct (λ a b. a == b) (keys_of (placed_by_all (names_of rows) rows))
   pub is_image : IsImage image
-  pub bytes : (address byte : ℕ) → (image_byte image address ≡ Some byte) ↔ Contains (placed_by_all (names_of rows) rows) (address, byte)
+  pub bytes : (address byte : ℕ) → (image_byte image address ≡ Some byte)
+      ↔ Contains (placed_by_all (names_of rows) rows) (address, byte)
 
 -- The source is within its length, its lines make rows that keep the rules of constants, names and segments, and the
 -- rows place the image's bytes.

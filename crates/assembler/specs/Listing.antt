@@ -27,7 +27,9 @@ abbrev pub more_mark : List ℕ → ℕ
 more_mark bytes = if nat_lt 8 (length bytes) then 43 else 32
 
 unfoldable pub bytes_part : Location → List ℕ → List ℕ
-bytes_part location bytes = hex_word location.segment ++ (58 ∷ hex_word location.offset ++ (32 ∷ first_bytes bytes ++ (more_mark bytes ∷ 32 ∷ [])))
+bytes_part location bytes =
+    hex_word location.segment ++ (58 ∷ hex_word location.offset
+    ++ (32 ∷ first_bytes bytes ++ (more_mark bytes ∷ 32 ∷ [])))
 
 -- spaces stand for no bytes
 abbrev pub place_part : Option Location → List ℕ → List ℕ

@@ -74,7 +74,8 @@ has_wrong_number names location size None = false
 
 -- a byte or a label past the segment's end
 abbrev pub is_past_end : Location → ℕ → Bool → Bool
-is_past_end location size has_label = (nat_lt 0 size && nat_lt 65536 (location.offset + size)) || (has_label && nat_lt 65535 location.offset)
+is_past_end location size has_label =
+    (nat_lt 0 size && nat_lt 65536 (location.offset + size)) || (has_label && nat_lt 65535 location.offset)
 
 abbrev pub is_loadable : ℕ → Bool
 is_loadable address = nat_lt address 0xA0000 || (nat_le 0xF0000 address && nat_lt address 0x100000)
@@ -84,8 +85,8 @@ abbrev pub addresses_from : Location → ℕ → ℕ → List ℕ
 addresses_from location n zero = []
 addresses_from location n (suc more) = address_behind location n ∷ addresses_from location (n + 1) more
 
--- The fault of what stands at a location, in the light of all names and of the addresses that are taken: of its faults the
--- one with the least number.
+-- The fault of what stands at a location, in the light of all names and of the addresses that are taken: of its faults
+-- the one with the least number.
 abbrev pub fault_at : Names → (ℕ → Bool) → Bool → Location → ℕ → Option Content → Option SourceFault
 fault_at names is_taken has_label location size content =
     if lacks_name names location content then Some Undefined else (
@@ -96,7 +97,8 @@ fault_at names is_taken has_label location size content =
 
 -- a line outside of segments places nothing
 unfoldable pub late_fault : Names → (ℕ → Bool) → Bool → Option Location → ℕ → Option Content → Option SourceFault
-late_fault names is_taken has_label (Some location) size content = fault_at names is_taken has_label location size content
+late_fault names is_taken has_label (Some location) size content =
+    fault_at names is_taken has_label location size content
 late_fault names is_taken has_label None size content = None
 
 -- some earlier line placed a byte there
@@ -106,4 +108,5 @@ is_placed placed address = list_any (λ entry. entry.0 == address) placed
 -- the fault that a row has behind these
 abbrev pub row_fault : Names → List Row → Row → Option SourceFault
 row_fault names before row =
-    late_fault names (is_placed (placed_by_all names before)) (is_some row.line.label) row.location row.size (content_of row.line.statement row.form)
+    late_fault names (is_placed (placed_by_all names before)) (is_some row.line.label) row.location row.size
+    (content_of row.line.statement row.form)

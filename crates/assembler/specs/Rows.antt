@@ -120,7 +120,8 @@ is_same a b = false
 abbrev pub defines_again : Names → Line → Bool
 defines_again names line =
     option_map_or (is_defined names) line.label false
-    || (option_map_or (is_defined names) (statement_name line.statement) false || is_same line.label (statement_name line.statement))
+    || (option_map_or (is_defined names) (statement_name line.statement) false
+    || is_same line.label (statement_name line.statement))
 
 -- labels and these statements stand in a segment only
 abbrev pub wants_segment : Statement → Bool

@@ -60,7 +60,8 @@ placing_fault is_taken has_label location size =
 -- what has no such fault has as many bytes as its row says
 abbrev pub HasSizeAt : Names → Location → ℕ → Option Content → Type 0
 HasSizeAt names location size content =
-    lacks_name names location content ≡ false → has_wrong_number names location size content ≡ false → length (bytes_by names location size content) ≡ size
+    lacks_name names location content ≡ false → has_wrong_number names location size content ≡ false
+    → length (bytes_by names location size content) ≡ size
 
 abbrev pub HasSize : Names → Option Location → ℕ → Option Content → Type 0
 HasSize names (Some location) size content = HasSizeAt names location size content
@@ -79,10 +80,12 @@ StopsAt number found Memory = Unit {0}
 abbrev pub AreFaultlessKept : Names → List KeptRow → List KeptRow → Type 0
 AreFaultlessKept names before [] = Unit {0}
 AreFaultlessKept names before (kept ∷ more) =
-    (kept_fault names (is_placed (entries_by_all names before)) kept ≡ None) × AreFaultlessKept names (before ++ kept ∷ []) more
+    (kept_fault names (is_placed (entries_by_all names before)) kept ≡ None)
+    × AreFaultlessKept names (before ++ kept ∷ []) more
 
 -- what stands at a location has no fault where these addresses are taken
-pub record CanStand (names : Names) (is_taken : ℕ → Bool) (has_label : Bool) (location : Location) (size : ℕ) (content : Option Content) : Type 0 where
+pub record CanStand (names : Names) (is_taken : ℕ → Bool) (has_label : Bool) (location : Location) (size : ℕ)
+    (content : Option Content) : Type 0 where
   pub known : lacks_name names location content ≡ false
   pub fits : has_wrong_number names location size content ≡ false
   pub within : is_past_end location size has_label ≡ false

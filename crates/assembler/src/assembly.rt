@@ -20,11 +20,13 @@ const SOURCE_LIMIT: usize = 1_048_576;
 pub fn assemble(alloc: Global, source: &[u8]) -> Result<Listing, AsmFault>
     ensures source { IfOk result (λ listing. listing.source ≡ source.now) }
     ensures gives { IfOk result (λ listing. Gives source.now listing.image) }
-    ensures names { IfOk result (λ listing. (rows : List Row) → AreRows [] (text_lines source.now) rows → listing.names ≡ names_of rows) }
+    ensures names { IfOk result (λ listing. (rows : List Row) → AreRows [] (text_lines source.now) rows
+        → listing.names ≡ names_of rows) }
     ensures fault { IfErr result (IsFirst source.now) }
 
     // Where the source gives an image, no other image comes, and no fault but the want of memory.
-    ensures refused { (image : List (ℕ × ℕ)) → Gives source.now image → MatchResult result (λ listing. listing.image ≡ image) (λ fault. fault ≡ Memory) }
+    ensures refused { (image : List (ℕ × ℕ)) → Gives source.now image
+        → MatchResult result (λ listing. listing.image ≡ image) (λ fault. fault ≡ Memory) }
 {
     if source.len() > SOURCE_LIMIT {
         return Err(AsmFault::SourceTooLong);

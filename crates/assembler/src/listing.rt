@@ -39,9 +39,14 @@ impl Model for Listing {
 
     ghost Value = { ListingState };
 
-    ghost view = { λ l. record { source = l.reading.source.items; names = l.reading.symbols.entries; image = l.image } };
+    ghost view = { λ l. record {
+      source = l.reading.source.items;
+      names = l.reading.symbols.entries;
+      image = l.image;
+    } };
 
-    ghost invariant = { λ l. Reads l.reading.source.items l.reading.symbols.entries l.reading.rows.items × Gives l.reading.source.items l.image };
+    ghost invariant = { λ l. Reads l.reading.source.items l.reading.symbols.entries l.reading.rows.items
+        × Gives l.reading.source.items l.image };
 }
 
 impl Listing {
@@ -55,7 +60,9 @@ impl Listing {
     /// The listing's line `i`, from 0 on: where the line's bytes stand, the first eight of them, a `+` where there are
     /// more, and the source's line. `None` past the last line.
     pub fn line(&self, alloc: Global, i: usize) -> Result<Option<String>, AsmFault>
-        ensures line { (rows : List Row) → AreRows [] (text_lines self.now.source) rows → IfOk result (λ text. option_map string_bytes text ≡ line_at self.now.names (text_lines self.now.source) rows i) }
+        ensures line { (rows : List Row) → AreRows [] (text_lines self.now.source) rows
+            → IfOk result (λ text. option_map string_bytes text
+            ≡ line_at self.now.names (text_lines self.now.source) rows i) }
         ensures fault { IfErr result (λ fault. fault ≡ Memory) }
     {
         let Some(row) = self.reading.rows.as_slice().get(i) else {

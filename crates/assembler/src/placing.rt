@@ -142,10 +142,13 @@ fn code_values(
     requires small { AreSmall symbols.now.entries }
     requires ends { location.offset + size ≤ 2 ^ 40 }
     requires short { list_all (is_operand_within term_limit) instruction.now.operands ≡ true }
-    ensures values { IfOk result (λ values. fields_of symbols.now.entries location size form.now instruction.now ≡ Some values) }
-    ensures free { OnOk result (content_fault symbols.now.entries location size (Some (Code form.now instruction.now)) ≡ None) }
+    ensures values { IfOk result (λ values. fields_of symbols.now.entries location size form.now instruction.now
+        ≡ Some values) }
+    ensures free { OnOk result (content_fault symbols.now.entries location size (Some (Code form.now instruction.now))
+        ≡ None) }
     ensures fits { IfOk result (FitsForm form.now) }
-    ensures fault { IfErr result (λ fault. content_fault symbols.now.entries location size (Some (Code form.now instruction.now)) ≡ Some fault) }
+    ensures fault { IfErr result (λ fault.
+        content_fault symbols.now.entries location size (Some (Code form.now instruction.now)) ≡ Some fault) }
 {
     let Some(numbers) = numbers_of(symbols, location.offset, instruction) else {
         return Err(SourceFault::Undefined);

@@ -143,7 +143,8 @@ fn add_line(
     requires chosen { IsFormOf state.old.symbols.entries line.statement form }
     requires form { IfSome form IsForm }
     requires clean { early_fault state.old.symbols.entries state.old.location line form ≡ None }
-    ensures { IfOk result (AddsRow state.old state.new start length (row_of state.old.symbols.entries state.old.location line form)) }
+    ensures { IfOk result (AddsRow state.old state.new start length
+        (row_of state.old.symbols.entries state.old.location line form)) }
 {
     let location = state.location;
     let size = size_of(&state.symbols, &line.statement, form);

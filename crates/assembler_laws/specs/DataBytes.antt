@@ -22,15 +22,18 @@ pub record HasNumber (image : List (ℕ × ℕ)) (location : Location) (start si
   pub number : ℕ
   pub below : number < 256 ^ size
   pub is_value : (value ≡ pos number) ⊎ (value +ℤ pos (256 ^ size) ≡ pos number)
-  pub bytes : (k : ℕ) → k < size → image_byte image (address_behind location (start + k)) ≡ Some (number / 256 ^ k % 256)
+  pub bytes : (k : ℕ) → k < size → image_byte image (address_behind location (start + k))
+      ≡ Some (number / 256 ^ k % 256)
 
 -- it has the value of this expression there
 abbrev pub HasValue : Names → List (ℕ × ℕ) → Location → ℕ → ℕ → List Term → Type 0
-HasValue names image location start size terms = (value : ℤ) × (value_of names location.offset terms ≡ Some value) × HasNumber image location start size value
+HasValue names image location start size terms =
+    (value : ℤ) × (value_of names location.offset terms ≡ Some value) × HasNumber image location start size value
 
 -- it has these characters there, one byte each
 abbrev pub HasText : List (ℕ × ℕ) → Location → ℕ → List ℕ → Type 0
-HasText image location start text = (k d : ℕ) → k < length text → image_byte image (address_behind location (start + k)) ≡ Some (get_or text k d)
+HasText image location start text =
+    (k d : ℕ) → k < length text → image_byte image (address_behind location (start + k)) ≡ Some (get_or text k d)
 
 abbrev pub HasPiece : Names → List (ℕ × ℕ) → Location → ℕ → DataWidth → Piece → Type 0
 HasPiece names image location start width (Value terms) = HasValue names image location start (width_size width) terms
@@ -47,35 +50,43 @@ item_size names width item = times_of names item * sum_by (piece_size width) (pi
 
 -- A piece of a data line, with as many bytes before it as the items before its own have, the copies before its own, and
 -- the pieces before it in the copy.
-pub record StandsBehind (names : Names) (width : DataWidth) (items : List Item) (piece : Piece) (start : ℕ) : Type 0 where
-  pub before : List Item
-  pub item : Item
-  pub after : List Item
-  pub items_are : items ≡ before ++ item ∷ after
-  pub copy : ℕ
-  pub is_copy : copy < times_of names item
-  pub front : List Piece
-  pub back : List Piece
-  pub pieces_are : pieces_of item ≡ front ++ piece ∷ back
-  pub counted : start ≡ sum_by (item_size names width) before + (copy * sum_by (piece_size width) (pieces_of item) + sum_by (piece_size width) front)
+pub record StandsBehind (names : Names) (width : DataWidth) (items : List Item) (piece : Piece) (start : ℕ) : Type 0
+  where
+    pub before : List Item
+    pub item : Item
+    pub after : List Item
+    pub items_are : items ≡ before ++ item ∷ after
+    pub copy : ℕ
+    pub is_copy : copy < times_of names item
+    pub front : List Piece
+    pub back : List Piece
+    pub pieces_are : pieces_of item ≡ front ++ piece ∷ back
+    pub counted : start ≡ sum_by (item_size names width) before
+        + (copy * sum_by (piece_size width) (pieces_of item) + sum_by (piece_size width) front)
 
--- A data line stands in a segment, has as many bytes as its items, and each piece of it stands where it is counted to. So
--- with DW x, y and z the i-th number stands two times i bytes on, with DB 'AB' the i-th character i bytes, and with
+-- A data line stands in a segment, has as many bytes as its items, and each piece of it stands where it is counted to.
+-- So with DW x, y and z the i-th number stands two times i bytes on, with DB 'AB' the i-th character i bytes, and with
 -- n DUP (x) the i-th copy of n.
-pub record PlacesData (names : Names) (image : List (ℕ × ℕ)) (row : Row) (width : DataWidth) (items : List Item) : Type 0 where
+pub record PlacesData (names : Names) (image : List (ℕ × ℕ)) (row : Row) (width : DataWidth) (items : List Item) : Type
+    0 where
   pub location : Location
   pub has_place : row.location ≡ Some location
   pub counts : (item : Item) → Contains items item → HasCount names item
   pub size : row.size ≡ sum_by (item_size names width) items
-  pub pieces : (piece : Piece) (start : ℕ) → StandsBehind names width items piece start → HasPiece names image location start width piece
-  pub numbers : (values : List (List Term)) → items ≡ map (λ terms. Once (Value terms)) values → (i : ℕ) (d : List Term) → i < length values
+  pub pieces : (piece : Piece) (start : ℕ) → StandsBehind names width items piece start
+      → HasPiece names image location start width piece
+  pub numbers : (values : List (List Term)) → items ≡ map (λ terms. Once (Value terms)) values
+      → (i : ℕ) (d : List Term) → i < length values
       → HasValue names image location (i * width_size width) (width_size width) (get_or values i d)
   pub text : (text : List ℕ) → items ≡ Once (Text text) ∷ [] → HasText image location 0 text
-  pub copies : (count terms : List Term) (n : ℕ) → items ≡ Repeated count (Value terms ∷ []) ∷ [] → constant_of names count ≡ Some (pos n)
+  pub copies : (count terms : List Term) (n : ℕ) → items ≡ Repeated count (Value terms ∷ []) ∷ []
+      → constant_of names count ≡ Some (pos n)
       → (i : ℕ) → i < n → HasValue names image location (i * width_size width) (width_size width) terms
 
 -- the image of an accepted source has each data line so
 abbrev pub DataGoesLowByteFirst : Type 0
 DataGoesLowByteFirst =
-    (source : List ℕ) (image : List (ℕ × ℕ)) (gives : Gives source image) (row : Row) (width : DataWidth) (items : List Item)
-    → Contains gives.rows row → row.line.statement ≡ Data width items → PlacesData (names_of gives.rows) image row width items
+    (source : List ℕ) (image : List (ℕ × ℕ)) (gives : Gives source image) (row : Row) (width : DataWidth)
+    (items : List Item)
+    → Contains gives.rows row → row.line.statement ≡ Data width items
+    → PlacesData (names_of gives.rows) image row width items

@@ -19,7 +19,8 @@ use Rattle.assembler.specs.Rows.{AreRows, Row, defines_again, early_fault, has_u
 
 -- but for want of memory one fault alone is first
 abbrev pub OneFaultIsFirst : Type 0
-OneFaultIsFirst = (source : List ℕ) (a b : AsmFault) → a ≢ Memory → b ≢ Memory → IsFirst source a → IsFirst source b → a ≡ b
+OneFaultIsFirst =
+    (source : List ℕ) (a b : AsmFault) → a ≢ Memory → b ≢ Memory → IsFirst source a → IsFirst source b → a ≡ b
 
 -- one there is, or all lines are clean and each can be placed behind those before it
 abbrev pub EachSourceHasAnOutcome : Type 0
@@ -29,10 +30,12 @@ EachSourceHasAnOutcome =
 
 -- a source that gives an image has none
 abbrev pub NoFaultBesideImage : Type 0
-NoFaultBesideImage = (source : List ℕ) (image : List (ℕ × ℕ)) (fault : AsmFault) → Gives source image → IsFirst source fault → fault ≡ Memory
+NoFaultBesideImage =
+    (source : List ℕ) (image : List (ℕ × ℕ)) (fault : AsmFault) → Gives source image → IsFirst source fault
+    → fault ≡ Memory
 
--- the faults of the first pass, which lines have by themselves or in the light of the lines before; the others are those
--- of the second, in the light of all lines
+-- the faults of the first pass, which lines have by themselves or in the light of the lines before; the others are
+-- those of the second, in the light of all lines
 abbrev pub is_early : SourceFault → Bool
 is_early Undefined = false
 is_early OutOfRange = false
@@ -50,26 +53,31 @@ pub record ComeInPasses (source : List ℕ) : Type 0 where
 abbrev pub FaultsComeInPasses : Type 0
 FaultsComeInPasses = (source : List ℕ) → ComeInPasses source
 
--- The line of the first fault is one of the source, each line before it makes a row that is clean, and if the fault is of
--- the second pass all lines do.
+-- The line of the first fault is one of the source, each line before it makes a row that is clean, and if the fault is
+-- of the second pass all lines do.
 pub record IsFirstLine (source : List ℕ) (fault : SourceFault) (number : ℕ) : Type 0 where
   pub counted : (0 < number) × (number ≤ length (text_lines source))
-  pub before : (front : List (List ℕ)) (text : List ℕ) (back : List (List ℕ)) → text_lines source ≡ front ++ text ∷ back → length front + 1 < number
+  pub before : (front : List (List ℕ)) (text : List ℕ) (back : List (List ℕ))
+      → text_lines source ≡ front ++ text ∷ back → length front + 1 < number
       → (rows : List Row) × AreRows [] (front ++ text ∷ []) rows
   pub all : is_early fault ≡ false → (rows : List Row) × AreRows [] (text_lines source) rows
 
 abbrev pub LinesBeforeAreClean : Type 0
-LinesBeforeAreClean = (source : List ℕ) (fault : SourceFault) (number : ℕ) → IsFirst source (InLine fault number) → IsFirstLine source fault number
+LinesBeforeAreClean =
+    (source : List ℕ) (fault : SourceFault) (number : ℕ) → IsFirst source (InLine fault number)
+    → IsFirstLine source fault number
 
 -- Whatever lines follow that of a fault of the first pass, it stays the first fault.
 abbrev pub LaterLinesDoNotCount : Type 0
 LaterLinesDoNotCount =
-    (s t : List ℕ) (fault : SourceFault) (number : ℕ) → IsEarlyFault s fault number → take number (text_lines t) ≡ take number (text_lines s)
+    (s t : List ℕ) (fault : SourceFault) (number : ℕ) → IsEarlyFault s fault number
+    → take number (text_lines t) ≡ take number (text_lines s)
     → length t ≤ source_limit → IsFirst t (InLine fault number)
 
 -- which faults a line that is read has in the light of the lines before
 abbrev pub HasEarly : Names → Option Location → Line → Option Form → SourceFault → Type 0
-HasEarly known location line form BadLine = (opens_within location line.statement || has_wrong_constant known line.statement) ≡ true
+HasEarly known location line form BadLine =
+    (opens_within location line.statement || has_wrong_constant known line.statement) ≡ true
 HasEarly known location line form UnknownName = has_unknown_constant known line.statement ≡ true
 HasEarly known location line form BadForm = lacks_form line.statement form ≡ true
 HasEarly known location line form TwiceDefined = defines_again known line ≡ true
@@ -81,8 +89,10 @@ abbrev pub HasLate : Names → (ℕ → Bool) → Bool → Location → ℕ → 
 HasLate names is_taken has_label location size content Undefined = lacks_name names location content ≡ true
 HasLate names is_taken has_label location size content OutOfRange = has_wrong_number names location size content ≡ true
 HasLate names is_taken has_label location size content OutOfSegment = is_past_end location size has_label ≡ true
-HasLate names is_taken has_label location size content Overlap = list_any is_taken (addresses_from location 0 size) ≡ true
-HasLate names is_taken has_label location size content NotLoadable = list_all is_loadable (addresses_from location 0 size) ≡ false
+HasLate names is_taken has_label location size content Overlap =
+    list_any is_taken (addresses_from location 0 size) ≡ true
+HasLate names is_taken has_label location size content NotLoadable =
+    list_all is_loadable (addresses_from location 0 size) ≡ false
 HasLate names is_taken has_label location size content fault = ⊥
 
 -- of the faults that there are this one has the least number
@@ -94,5 +104,7 @@ pub record IsLeast (Has : SourceFault → Type 0) (fault : SourceFault) : Type 0
 pub record LeastNumbersComeFirst : Type 0 where
   pub early : (known : Names) (location : Option Location) (line : Line) (form : Option Form) (fault : SourceFault)
       → (early_fault known location line form ≡ Some fault) ↔ IsLeast (HasEarly known location line form) fault
-  pub late : (names : Names) (is_taken : ℕ → Bool) (has_label : Bool) (location : Location) (size : ℕ) (content : Option Content) (fault : SourceFault)
-      → (fault_at names is_taken has_label location size content ≡ Some fault) ↔ IsLeast (HasLate names is_taken has_label location size content) fault
+  pub late : (names : Names) (is_taken : ℕ → Bool) (has_label : Bool) (location : Location) (size : ℕ)
+      (content : Option Content) (fault : SourceFault)
+      → (fault_at names is_taken has_label location size content ≡ Some fault)
+      ↔ IsLeast (HasLate names is_taken has_label location size content) fault

@@ -65,11 +65,13 @@ said_constant (Equ name n) = Some (name, n)
 said_constant statement = None
 
 -- A line behind these stands at a place if and only if they open its segment and count to its offset; a label on it is
--- that place in the names of the source, and such a line has a place; what SEGMENT or EQU names is there its constant, told
--- by the lines before; and a line places as many bytes as its size says.
+-- that place in the names of the source, and such a line has a place; what SEGMENT or EQU names is there its constant,
+-- told by the lines before; and a line places as many bytes as its size says.
 pub record StandsWhereCounted (names : Names) (front : List Row) (row : Row) : Type 0 where
-  pub place : (location : Location) → (row.location ≡ Some location) ↔ (IsOpenAt front location.segment × IsCountedTo front location.offset)
-  pub label : (name : Name) → row.line.label ≡ Some name → (location : Location) × (row.location ≡ Some location) × (meaning names name ≡ Some (Label location))
+  pub place : (location : Location) → (row.location ≡ Some location)
+      ↔ (IsOpenAt front location.segment × IsCountedTo front location.offset)
+  pub label : (name : Name) → row.line.label ≡ Some name
+      → (location : Location) × (row.location ≡ Some location) × (meaning names name ≡ Some (Label location))
   pub constant : (name : Name) (terms : List Term) → said_constant row.line.statement ≡ Some (name, terms)
       → (n : ℤ) × (constant_of (names_of front) terms ≡ Some n) × (meaning names name ≡ Some (Constant n))
   pub bytes : length (placed_by names row) ≡ row.size
@@ -77,5 +79,6 @@ pub record StandsWhereCounted (names : Names) (front : List Row) (row : Row) : T
 -- each line of a source that gives an image stands so
 abbrev pub LinesStandWhereCounted : Type 0
 LinesStandWhereCounted =
-    (source : List ℕ) (image : List (ℕ × ℕ)) (gives : Gives source image) (front : List Row) (row : Row) (back : List Row)
+    (source : List ℕ) (image : List (ℕ × ℕ)) (gives : Gives source image) (front : List Row) (row : Row)
+    (back : List Row)
     → gives.rows ≡ front ++ row ∷ back → StandsWhereCounted (names_of gives.rows) front row

@@ -37,11 +37,12 @@ pub record DifferInCase (line other : List ℕ) : Type 0 where
   pub characters : list_all is_character line ≡ list_all is_character other
   pub same_lexemes : map folded (lexemes line) ≡ map folded (lexemes other)
 
--- Two sources whose lines differ in case outside quotes alone give the same image. Blanks and comments may make the other
--- longer than a source may be, so its length is asked.
+-- Two sources whose lines differ in case outside quotes alone give the same image. Blanks and comments may make the
+-- other longer than a source may be, so its length is asked.
 abbrev pub CaseDoesNotCount : Type 0
 CaseDoesNotCount =
-    (s t : List ℕ) (image : List (ℕ × ℕ)) → StandPairwise DifferInCase (text_lines s) (text_lines t) → length t ≤ source_limit
+    (s t : List ℕ) (image : List (ℕ × ℕ)) → StandPairwise DifferInCase (text_lines s) (text_lines t)
+    → length t ≤ source_limit
     → Gives s image → Gives t image
 
 -- a renaming takes no two names to one
@@ -113,4 +114,5 @@ pub record DifferInNames (rename : Name → Name) (line other : List ℕ) : Type
 abbrev pub RenamingDoesNotCount : Type 0
 RenamingDoesNotCount =
     (rename : Name → Name) → IsOneToOne rename → (s t : List ℕ) (image : List (ℕ × ℕ))
-    → StandPairwise (DifferInNames rename) (text_lines s) (text_lines t) → length t ≤ source_limit → Gives s image → Gives t image
+    → StandPairwise (DifferInNames rename) (text_lines s) (text_lines t) → length t ≤ source_limit → Gives s image
+    → Gives t image

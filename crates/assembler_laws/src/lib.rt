@@ -1,5 +1,5 @@
-//! What holds of each source that the assembler accepts: its bytes decode back, its lines stand where they are counted to,
-//! its data go low byte first, and neither case nor names count. And in which order faults are told.
+//! What holds of each source that the assembler accepts: its bytes decode back, its lines stand where they are counted
+//! to, its data go low byte first, and neither case nor names count. And in which order faults are told.
 #![tactic(auto)]
 
 pub mod data;

@@ -23,7 +23,8 @@ name_of word = record { letters = map to_ascii_uppercase word ++ replicate (31 -
 
 -- a word has at most 31 characters; it is one of the dialect's, or a name
 unfoldable pub word_token : List ℕ → Option Token
-word_token word = if nat_lt 31 (length word) then None else Some (option_map_or Word (meaning_of word) (Named (name_of word)))
+word_token word =
+    if nat_lt 31 (length word) then None else Some (option_map_or Word (meaning_of word) (Named (name_of word)))
 
 -- a number that is written `1` is told apart from all others
 unfoldable pub number_token : List ℕ → Option Token

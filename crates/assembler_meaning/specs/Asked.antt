@@ -1,5 +1,5 @@
--- What a line asks of the encoding table: an operation, and operands in the table's order, each place in memory with its
--- size (8086 Family User's Manual, "Instruction Set"; the order and the sizes are this board's assembler dialect).
+-- What a line asks of the encoding table: an operation, and operands in the table's order, each place in memory with
+-- its size (8086 Family User's Manual, "Instruction Set"; the order and the sizes are this board's assembler dialect).
 -- To be believed: public contracts say what they say by these definitions.
 use Rattle.std.specs.Prelude.{Bool, true, false, if◌then◌else◌, Option, Some, None, unwrap_or}
 use Rattle.isa.specs.declared.operation.Operation.{Operation}
@@ -91,7 +91,8 @@ asked_in_order operation first second = record {
 -- what a line with a mnemonic and these operands asks
 abbrev pub asked_of : Operation → KnownOperand → KnownOperand → Asked
 asked_of operation first second =
-    if is_exchanged operation first second then asked_in_order operation second first else asked_in_order operation first second
+    if is_exchanged operation first second then asked_in_order operation second first else
+    asked_in_order operation first second
 
 unfoldable pub asked : Mnemonic → KnownOperand → KnownOperand → Asked
 asked mnemonic first second =

@@ -56,14 +56,16 @@ pieces_size width (piece ∷ pieces) = piece_size width piece + pieces_size widt
 
 abbrev pub data_size : Names → DataWidth → List Item → ℕ
 data_size names width [] = 0
-data_size names width (item ∷ items) = times_of names item * pieces_size width (pieces_of item) + data_size names width items
+data_size names width (item ∷ items) =
+    times_of names item * pieces_size width (pieces_of item) + data_size names width items
 
 -- the bytes of a number
 abbrev pub number_bytes : DataWidth → ℤ → List ℕ
 number_bytes Byte n = modulo 256 n ∷ []
 number_bytes Word n = modulo 65536 n % 256 ∷ modulo 65536 n / 256 ∷ []
 number_bytes Double n =
-    modulo 4294967296 n % 256 ∷ modulo 4294967296 n / 256 % 256 ∷ modulo 4294967296 n / 65536 % 256 ∷ modulo 4294967296 n / 16777216 ∷ []
+    modulo 4294967296 n % 256 ∷ modulo 4294967296 n / 256 % 256 ∷ modulo 4294967296 n / 65536 % 256
+    ∷ modulo 4294967296 n / 16777216 ∷ []
 
 -- every name in a piece is defined, and its number fits
 abbrev pub is_piece_known : Names → ℕ → Piece → Bool
@@ -78,7 +80,8 @@ unfoldable pub are_items_known : Names → ℕ → List Item → Bool
 are_items_known names here items = list_all (λ item. list_all (is_piece_known names here) (pieces_of item)) items
 
 unfoldable pub do_items_fit : Names → ℕ → DataWidth → List Item → Bool
-do_items_fit names here width items = list_all (λ item. list_all (does_piece_fit names here width) (pieces_of item)) items
+do_items_fit names here width items =
+    list_all (λ item. list_all (does_piece_fit names here width) (pieces_of item)) items
 
 abbrev pub piece_bytes : Names → ℕ → DataWidth → Piece → List ℕ
 piece_bytes names here width (Value terms) = option_map_or (number_bytes width) (value_of names here terms) []
@@ -89,7 +92,8 @@ abbrev pub repeated : ℕ → List ℕ → List ℕ
 repeated times bytes = flat_map (λ each. each) (replicate times bytes)
 
 abbrev pub item_bytes : Names → ℕ → DataWidth → Item → List ℕ
-item_bytes names here width item = repeated (times_of names item) (flat_map (piece_bytes names here width) (pieces_of item))
+item_bytes names here width item =
+    repeated (times_of names item) (flat_map (piece_bytes names here width) (pieces_of item))
 
 unfoldable pub data_bytes : Names → ℕ → DataWidth → List Item → List ℕ
 data_bytes names here width items = flat_map (item_bytes names here width) items

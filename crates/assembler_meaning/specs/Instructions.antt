@@ -85,7 +85,8 @@ known_operands names more = None
 -- an instruction has at most seven prefixes
 unfoldable pub instruction_asked : Names → Instruction → Option Asked
 instruction_asked names i =
-    if nat_le (length (prefixes_of i)) 7 then option_map (λ os. asked i.mnemonic os.0 os.1) (known_operands names i.operands) else None
+    if nat_le (length (prefixes_of i)) 7 then option_map (λ os. asked i.mnemonic os.0 os.1)
+    (known_operands names i.operands) else None
 
 -- the form that the table has for it, or none
 abbrev pub IsChosenFor : Asked → Option Form → Type 0

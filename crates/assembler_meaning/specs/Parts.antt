@@ -49,7 +49,8 @@ is_zero (negsuc _) = false
 
 abbrev pub place_with : BaseType → NumberType → Place
 place_with base (Constant n) =
-    if is_zero n then place_without base else (if is_within (negsuc 127) (pos 127) n then BaseByte base else BaseWord base)
+    if is_zero n then place_without base else
+    (if is_within (negsuc 127) (pos 127) n then BaseByte base else BaseWord base)
 place_with base Later = BaseWord base
 
 abbrev pub place_at : Option BaseType → NumberType → Place

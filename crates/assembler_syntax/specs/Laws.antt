@@ -11,7 +11,8 @@ use Rattle.assembler_syntax.specs.Weights.{IsWithin}
 -- two lines whose lexemes differ in case outside quotes alone say the same
 abbrev pub CaseDoesNotCount : Type 0
 CaseDoesNotCount =
-    (s t : List ℕ) → list_all is_character s ≡ list_all is_character t → map folded (lexemes s) ≡ map folded (lexemes t) → read_line s ≡ read_line t
+    (s t : List ℕ) → list_all is_character s ≡ list_all is_character t
+    → map folded (lexemes s) ≡ map folded (lexemes t) → read_line s ≡ read_line t
 
 -- each line that the dialect has is read from its spelling
 abbrev pub EachLineIsRead : Type 0

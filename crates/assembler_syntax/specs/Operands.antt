@@ -96,7 +96,8 @@ value_of ts = do
   Ok (operands.Value value)
 
 -- as the code gives it
-abbrev pub brackets_view : Option (Option SegmentRegister × Bor (List Token)) → Option (Option SegmentRegister × List Token)
+abbrev pub brackets_view : Option (Option SegmentRegister × Bor (List Token))
+    → Option (Option SegmentRegister × List Token)
 brackets_view (Some b) = Some (b.0, b.1.now)
 brackets_view None = None
 

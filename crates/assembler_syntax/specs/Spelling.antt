@@ -109,7 +109,8 @@ operand_tokens (operands.Value e) = expression_tokens e
 operand_tokens (operands.Memory a) = address_tokens a
 operand_tokens (operands.Short e) = keyword keywords.Short ∷ expression_tokens e
 operand_tokens (operands.FarLabel label) = keyword keywords.Far ∷ Named label ∷ []
-operand_tokens (operands.FarPointer s o) = keyword keywords.Far ∷ (expression_tokens s ++ Mark Colon ∷ expression_tokens o)
+operand_tokens (operands.FarPointer s o) =
+    keyword keywords.Far ∷ (expression_tokens s ++ Mark Colon ∷ expression_tokens o)
 
 -- with commas between them
 abbrev pub with_commas : List (List Token) → List Token
@@ -124,7 +125,8 @@ piece_tokens (pieces.Text text) = Quoted text ∷ []
 abbrev pub item_tokens : Item → List Token
 item_tokens (items.Once piece) = piece_tokens piece
 item_tokens (items.Repeated count each) =
-    expression_tokens count ++ keyword keywords.Dup ∷ Mark OpenParenthesis ∷ (with_commas (map piece_tokens each) ++ Mark CloseParenthesis ∷ [])
+    expression_tokens count ++ keyword keywords.Dup ∷ Mark OpenParenthesis
+    ∷ (with_commas (map piece_tokens each) ++ Mark CloseParenthesis ∷ [])
 
 abbrev pub prefix_tokens : PrefixType → List Token
 prefix_tokens (prefixes.Segment s) = register (registers.Segment s) ∷ Mark Colon ∷ []
@@ -137,13 +139,15 @@ width_keyword widths.Double = keywords.Dd
 
 abbrev pub statement_tokens : Statement → List Token
 statement_tokens statements.Empty = []
-statement_tokens (statements.Segment name paragraph) = keyword keywords.Segment ∷ Named name ∷ keyword keywords.At ∷ expression_tokens paragraph
+statement_tokens (statements.Segment name paragraph) =
+    keyword keywords.Segment ∷ Named name ∷ keyword keywords.At ∷ expression_tokens paragraph
 statement_tokens statements.Ends = keyword keywords.Ends ∷ []
 statement_tokens (statements.Equ name value) = Named name ∷ keyword keywords.Equ ∷ expression_tokens value
 statement_tokens (statements.Org location) = keyword keywords.Org ∷ expression_tokens location
 statement_tokens (statements.Data width its) = keyword (width_keyword width) ∷ with_commas (map item_tokens its)
 statement_tokens (statements.Instruction i) =
-    flat_map prefix_tokens i.prefixes ++ Word (meanings.Mnemonic i.mnemonic) ∷ with_commas (map operand_tokens i.operands)
+    flat_map prefix_tokens i.prefixes ++ Word (meanings.Mnemonic i.mnemonic)
+    ∷ with_commas (map operand_tokens i.operands)
 
 abbrev pub label_tokens : Option Name → List Token
 label_tokens None = []

@@ -25,7 +25,8 @@ abbrev pub is_operand_within : ℕ → Operand → Bool
 is_operand_within n (operands.Value value) = is_expression_within n value
 is_operand_within n (operands.Memory a) = is_displacement_within n a.displacement
 is_operand_within n (operands.Short target) = is_expression_within n target
-is_operand_within n (operands.FarPointer segment offset) = is_expression_within n segment && is_expression_within n offset
+is_operand_within n (operands.FarPointer segment offset) =
+    is_expression_within n segment && is_expression_within n offset
 is_operand_within n operand = true
 
 -- the expression of a piece has at most n terms

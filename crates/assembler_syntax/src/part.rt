@@ -266,7 +266,8 @@ fn begins_with_minus(tokens: &[Token]) -> bool
 /// What stands before the first sign, and what stands from there on.
 #[tactic(auto, using(crate::proofs::Parting::first_signed))]
 fn first_signed<'a, 'b>(tokens: &'a [Token<'b>]) -> (&'a [Token<'b>], &'a [Token<'b>])
-    ensures { (is_negative : Bool) → signed_from is_negative tokens.now ≡ signed_part is_negative result.0.now ∷ signed_left (begins_with_minus result.1.now) (tail_of result.1.now) }
+    ensures { (is_negative : Bool) → signed_from is_negative tokens.now
+        ≡ signed_part is_negative result.0.now ∷ signed_left (begins_with_minus result.1.now) (tail_of result.1.now) }
 {
     tokens.split_at(signed_size(tokens))
 }

@@ -82,7 +82,8 @@ fn prefix_of(tokens: &[Token]) -> Option<(Prefix, usize)>
 }
 
 fn prefix_by(first: &Token, rest: &[Token]) -> Option<(Prefix, usize)>
-    ensures some { IfSome result (λ p. prefixes_of (first.now ∷ rest.now) ≡ onto_prefixes p.0 (prefixes_of (drop p.1 (first.now ∷ rest.now)))) }
+    ensures some { IfSome result (λ p. prefixes_of (first.now ∷ rest.now)
+        ≡ onto_prefixes p.0 (prefixes_of (drop p.1 (first.now ∷ rest.now)))) }
     ensures size { IfSome result (λ p. 0 < p.1) }
     ensures within { IfSome result (λ p. p.1 ≤ 1 + length rest.now) }
     ensures none { IfNone result (prefixes_of (first.now ∷ rest.now) ≡ ([], first.now ∷ rest.now)) }
@@ -96,10 +97,12 @@ fn prefix_by(first: &Token, rest: &[Token]) -> Option<(Prefix, usize)>
 
 /// The override whose register stands before these tokens, and how many tokens it has.
 fn override_by(segment: SegmentRegister, rest: &[Token]) -> Option<(Prefix, usize)>
-    ensures some { IfSome result (λ p. prefixes_of (segment_token segment ∷ rest.now) ≡ onto_prefixes p.0 (prefixes_of (drop p.1 (segment_token segment ∷ rest.now)))) }
+    ensures some { IfSome result (λ p. prefixes_of (segment_token segment ∷ rest.now)
+        ≡ onto_prefixes p.0 (prefixes_of (drop p.1 (segment_token segment ∷ rest.now)))) }
     ensures size { IfSome result (λ p. 0 < p.1) }
     ensures within { IfSome result (λ p. p.1 ≤ 1 + length rest.now) }
-    ensures none { IfNone result (prefixes_of (segment_token segment ∷ rest.now) ≡ ([], segment_token segment ∷ rest.now)) }
+    ensures none { IfNone result (prefixes_of (segment_token segment ∷ rest.now)
+        ≡ ([], segment_token segment ∷ rest.now)) }
 {
     match rest {
         [colon, ..] if is_colon(colon) => Some((Prefix::Segment(segment), 2)),
