@@ -44,9 +44,3 @@ abbrev pub board_fault_name : BoardFault → List ℕ
 board_fault_name RamSize = codes "RamSize"
 board_fault_name Memory = codes "Memory"
 board_fault_name ClockLimit = codes "ClockLimit"
-
--- the next clock brings a change that there is no room for, and nothing is done
-pub record IsHeldBack (old new : BoardState) : Type 0 where
-  pub kept : new ≡ old
-  pub changes_next : speaker_level (after_clock old.plain) ≢ speaker_level old.plain
-  pub full : old.room ≡ 0

@@ -3,7 +3,7 @@ ghost use Rattle.std.specs.Prelude.{◌≡◌, ◌<◌, ◌*◌, ◌^◌, IfOk, 
 ghost use Rattle.std.specs.List.{range_with_len};
 ghost use Rattle.std.specs.Result.{IsErrOf};
 ghost use Rattle.memory.specs.Regions.{IsTextAddress};
-ghost use Rattle.memory.specs.Map.{address_count, byte_at, with_byte, power_on, power_on_byte, memory_fault_number, IsRamSize, FitsRam, IsMap, PowerOnBytes, RamIsWritable, WriteChangesRamAlone};
+ghost use Rattle.memory.specs.Map.{address_count, byte_at, with_byte, power_on, power_on_byte, memory_fault_number, IsRamSize, FitsRam, IsMap};
 
 use crate::region::{Region, region_of};
 use board_types::address::RAM_LIMIT;
@@ -112,22 +112,6 @@ impl Memory {
         })
     }
 }
-
-/// A write changes the byte of a RAM address and no other, and an address where nothing answers, or in the ROM,
-/// keeps its byte.
-pub fn write_changes_ram_alone()
-    ensures { WriteChangesRamAlone }
-{}
-
-/// All RAM can be written.
-pub fn ram_is_writable()
-    ensures { RamIsWritable }
-{}
-
-/// At power-on each address has the byte of its region.
-pub fn power_on_bytes()
-    ensures { PowerOnBytes }
-{}
 
 /// Whether a board can have `ram_kb` times 1,024 bytes of RAM.
 fn is_ram_size(ram_kb: u16) -> bool

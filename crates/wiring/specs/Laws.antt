@@ -1,6 +1,6 @@
--- What holds of the wires whatever the chips' states are.
+-- What holds of memory and of the wires whatever the chips' states are.
 -- Laws: claims above the definitions, each proved as the contract of a function.
-use Rattle.std.specs.Prelude.{◌≡◌, ℕ, ◌+◌, ◌-◌, ◌/◌, ◌<◌, ◌≤◌, ◌&&◌, ◌||◌, not, true, false, if◌then◌else◌, List, length, None, is_some}
+use Rattle.std.specs.Prelude.{◌≡◌, ℕ, ◌+◌, ◌-◌, ◌/◌, ◌<◌, ◌≤◌, ◌&&◌, ◌||◌, not, true, false, if◌then◌else◌, List, length, None, is_some, ◌≢◌}
 use Rattle.board_types.specs.Bits.{has_bit}
 use Rattle.board_types.specs.Lines.{is_high}
 use Rattle.board_types.specs.declared.line.Line.TheVariants.{High}
@@ -11,7 +11,7 @@ use Rattle.pit8253.specs.Counter as counter
 use Rattle.pit8253.specs.Pit as pit
 use Rattle.ppi8255.specs.Ppi.{lines_b}
 use Rattle.wiring.specs.Chips.{ChipsState, power_on}
-use Rattle.wiring.specs.Ports.{after_input, after_output, with_byte}
+use Rattle.wiring.specs.Ports.{after_input, after_output, with_byte, byte_at, is_writable}
 use Rattle.wiring.specs.Wires.{port_b_line, after_settling, after_clock, after_clocks, after_arrival, after_arrivals, after_key_settling, after_acknowledge}
 use Rattle.wiring.specs.Speaker.{is_speaker_high, is_speaker_high_after}
 
@@ -109,3 +109,11 @@ abbrev pub NoReadTouches : Type 0
 NoReadTouches =
     (s : ChipsState) (writes : List (ℕ × ℕ)) (port : ℕ) → after_settling s ≡ s
     → is_speaker_high_after (after_input s port) writes ≡ is_speaker_high_after s writes
+
+-- a byte reads back where it can be written, elsewhere nothing changes, and a write leaves every other byte as it is
+abbrev pub WriteChangesOneByte : Type 0
+WriteChangesOneByte =
+    (s : ChipsState) (address byte : ℕ) →
+    (is_writable s address ≡ true → byte_at (with_byte s address byte) address ≡ byte)
+    × (is_writable s address ≡ false → with_byte s address byte ≡ s)
+    × ((other : ℕ) → other ≢ address → byte_at (with_byte s address byte) other ≡ byte_at s other)

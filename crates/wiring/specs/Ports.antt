@@ -1,7 +1,7 @@
 -- The addresses and the ports of the chips (IBM PC Technical Reference, "System Memory Map" and "I/O Address Map").
 -- That FFh is read and a write is lost where nothing answers is this board's choice.
 -- To be believed: public contracts say what they say by these definitions.
-use Rattle.std.specs.Prelude.{ℕ, ◌≡◌, ◌≢◌, ◌-◌, ◌==◌, Bool, true, false, ◌&&◌, ◌||◌, if◌then◌else◌, nat_le, nat_lt, length}
+use Rattle.std.specs.Prelude.{ℕ, ◌-◌, ◌==◌, Bool, true, false, ◌&&◌, ◌||◌, if◌then◌else◌, nat_le, nat_lt, length}
 use Rattle.bus.specs.Bus.{BusMeaning}
 use Rattle.memory.specs.Regions.{is_text_address}
 use Rattle.memory.specs.Map as map
@@ -91,11 +91,3 @@ chips_bus = record {
   after_input = after_input;
   after_output = after_output;
 }
-
--- a byte reads back where it can be written, elsewhere nothing changes, and a write leaves every other byte as it is
-abbrev pub WriteChangesOneByte : Type 0
-WriteChangesOneByte =
-    (s : ChipsState) (address byte : ℕ) →
-    (is_writable s address ≡ true → byte_at (with_byte s address byte) address ≡ byte)
-    × (is_writable s address ≡ false → with_byte s address byte ≡ s)
-    × ((other : ℕ) → other ≢ address → byte_at (with_byte s address byte) other ≡ byte_at s other)
