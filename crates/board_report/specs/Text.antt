@@ -1,10 +1,9 @@
 -- The report: the clock, the registers, the processor's state, lost key codes, the speaker's changes and the
 -- screen, as text.
 -- To be believed: public contracts say what they say by these definitions.
-use Rattle.std.specs.Prelude.{ℕ, ◌/◌, ◌%◌, if◌then◌else◌, List, [], ◌∷◌, ◌++◌, codes, length}
+use Rattle.std.specs.Prelude.{ℕ, ◌/◌, ◌%◌, true, if◌then◌else◌, List, [], ◌∷◌, ◌++◌, codes, length}
 use Rattle.std.specs.List.{flat_map}
 use Rattle.std.specs.Fmt.{decimal, digit_glyph}
-use Rattle.std.specs.Prelude.{true}
 use Rattle.board_types.specs.Lines.{is_high}
 use Rattle.board_types.specs.declared.regs.Regs.{Regs}
 use Rattle.board_types.specs.Flags.{flags_word}
