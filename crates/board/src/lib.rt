@@ -6,7 +6,7 @@ mod arrivals;
 pub mod board;
 pub mod laws;
 pub mod stop;
-mod system;
+mod plain;
 #[cfg(test)]
 mod tests;
 pub mod trail;

@@ -33,6 +33,14 @@ impl MemoryFault {
     }
 }
 
+impl From<AllocError> for MemoryFault {
+    ghost from_gives = { λ _ fault. fault ≡ MemoryFault.OutOfMemory };
+
+    fn from(_error: AllocError) -> MemoryFault {
+        MemoryFault::OutOfMemory
+    }
+}
+
 /// The board's memory: a byte for each address outside the text adapter's.
 #[derive(Drop)]
 pub struct Memory {
@@ -68,10 +76,8 @@ impl Memory {
         if !fits_ram(image, ram_size) {
             return Err(MemoryFault::RamSize);
         }
-        match power_on_cells(alloc, ram_size, image, address_count()) {
-            Ok(cells) => Ok(Memory { ram_size, cells }),
-            Err(_) => Err(MemoryFault::OutOfMemory),
-        }
+        let cells = power_on_cells(alloc, ram_size, image, address_count())?;
+        Ok(Memory { ram_size, cells })
     }
 
     /// The byte at `addr`, below 100000h and outside the text adapter's memory.
