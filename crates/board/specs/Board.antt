@@ -1,5 +1,5 @@
--- What a board shows: the plain board at its clock, the speaker's changes so far, the room that is kept for further ones,
--- and the last entries of the trail.
+-- What a board shows: the plain board at its clock, the speaker's changes so far, the room that is kept for further
+-- ones, and the last entries of the trail.
 -- To be believed: public contracts say what they say by these definitions.
 use Rattle.std.specs.Prelude.{ℕ, ◌+◌, ◌<◌, ◌≤◌, ◌≡◌, ◌≢◌, List, ◌++◌, codes, length}
 use Rattle.board.specs.declared.board.BoardFault.{BoardFault}

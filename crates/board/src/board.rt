@@ -129,7 +129,8 @@ impl Board {
         ensures changes { IfOk result (λ board. board.changes ≡ []) }
         ensures trail { IfOk result (λ board. board.trail ≡ []) }
         ensures size { OnOk result (IsRamSize config.ram_kb × FitsRam image.now (1024 * config.ram_kb)) }
-        ensures ram_size { IsErrOf result BoardFault.RamSize ↔ (¬ (IsRamSize config.ram_kb × FitsRam image.now (1024 * config.ram_kb))) }
+        ensures ram_size { IsErrOf result BoardFault.RamSize
+            ↔ (¬ (IsRamSize config.ram_kb × FitsRam image.now (1024 * config.ram_kb))) }
         ensures no_limit { ¬ (IsErrOf result BoardFault.ClockLimit) }
     {
         let plain = match PlainBoard::new(alloc, image, config, keys) {
@@ -188,7 +189,8 @@ impl<A: Allocator> Board<A> {
         ensures limit_kept { IsErrOf result BoardFault.ClockLimit → self.new ≡ self.old }
         ensures memory { IsErrOf result BoardFault.Memory → StoppedEarly count self.old self.new }
         ensures no_ram_size { ¬ (IsErrOf result BoardFault.RamSize) }
-        ensures succeeds { clock_of self.old.plain + count ≤ 2 ^ 40 → length (changes_in self.old.plain count) ≤ self.old.room → IsOk result }
+        ensures succeeds { clock_of self.old.plain + count ≤ 2 ^ 40
+            → length (changes_in self.old.plain count) ≤ self.old.room → IsOk result }
         ensures room { self.old.room + length self.old.changes ≤ self.new.room + length self.new.changes }
     {
         if self.is_past_limit(count) {
@@ -210,10 +212,13 @@ impl<A: Allocator> Board<A> {
         ensures limit { IsErrOf result BoardFault.ClockLimit ↔ (2 ^ 40 < clock_of self.old.plain + count) }
         ensures limit_kept { IsErrOf result BoardFault.ClockLimit → self.new ≡ self.old }
         ensures memory { IsErrOf result BoardFault.Memory → StoppedEarly count self.old self.new }
-        ensures none_passed { IsErrOf result BoardFault.Memory → NoStop stops.now.items (clock_of self.new.plain - clock_of self.old.plain) self.old.plain }
+        ensures none_passed { IsErrOf result BoardFault.Memory
+            → NoStop stops.now.items (clock_of self.new.plain - clock_of self.old.plain) self.old.plain }
         ensures no_ram_size { ¬ (IsErrOf result BoardFault.RamSize) }
-        ensures succeeds { clock_of self.old.plain + count ≤ 2 ^ 40 → length (changes_in self.old.plain count) ≤ self.old.room → IsOk result }
-        ensures succeeds_to_stop { clock_of self.old.plain + count ≤ 2 ^ 40 → FitsRoom stops.now.items count self.old → IsOk result }
+        ensures succeeds { clock_of self.old.plain + count ≤ 2 ^ 40
+            → length (changes_in self.old.plain count) ≤ self.old.room → IsOk result }
+        ensures succeeds_to_stop { clock_of self.old.plain + count ≤ 2 ^ 40 → FitsRoom stops.now.items count self.old
+            → IsOk result }
         ensures room { self.old.room + length self.old.changes ≤ self.new.room + length self.new.changes }
     {
         if self.is_past_limit(count) {
@@ -295,7 +300,9 @@ impl<A: Allocator> Board<A> {
         requires { clock_of self.old.plain < 2 ^ 40 }
         ensures plain { self.new.plain ≡ self.old.plain }
         ensures trail { self.new.trail ≡ self.old.trail }
-        ensures ok { OnOk result (self.new.changes ≡ self.old.changes ++ (record { clock = clock_of self.old.plain + 1; level = from_bool high }) ∷ []) }
+        ensures ok { OnOk result
+            (self.new.changes
+            ≡ self.old.changes ++ (record { clock = clock_of self.old.plain + 1; level = from_bool high }) ∷ []) }
         ensures room { OnOk result (self.old.room + length self.old.changes ≤ self.new.room + length self.new.changes) }
         ensures err { OnErr result (self.new ≡ self.old) }
         ensures full { OnErr result (self.old.room ≡ 0) }

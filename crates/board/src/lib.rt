@@ -5,8 +5,8 @@ mod act;
 mod arrivals;
 pub mod board;
 pub mod laws;
-pub mod stop;
 mod plain;
+pub mod stop;
 #[cfg(test)]
 mod tests;
 pub mod trail;

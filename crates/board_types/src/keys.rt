@@ -103,7 +103,8 @@ impl Keys {
     pub fn push(&mut self, stamp: Clock, code: u8) -> Result<(), KeyFault>
         ensures ok { OnOk result (self.new ≡ self.old ++ (record { stamp = stamp; code = code }) ∷ []) }
         ensures err { OnErr result (self.new ≡ self.old) }
-        ensures judged { MatchOption (push_fault self.old stamp code) (IsOkUnless result KeyFault.Memory) (λ fault. result ≡ Err fault) }
+        ensures judged { MatchOption (push_fault self.old stamp code) (IsOkUnless result KeyFault.Memory)
+            (λ fault. result ≡ Err fault) }
     {
         if !is_scan_code(code) {
             return Err(KeyFault::BadScan);

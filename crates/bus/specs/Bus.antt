@@ -19,4 +19,5 @@ pub record BusMeaning (S : Type 0) : Type 0 where
 -- a word is written low byte first; its high byte stands at the next offset, which wraps (this board's choice)
 unfoldable pub with_word_at : {S : Type 0} → BusMeaning S → S → ℕ → ℕ → ℕ → S
 with_word_at bus s segment offset word =
-    bus.after_write (bus.after_write s (physical segment offset) (word % 256)) (physical segment (offset_after offset 1)) (word / 256)
+    bus.after_write (bus.after_write s (physical segment offset) (word % 256))
+    (physical segment (offset_after offset 1)) (word / 256)

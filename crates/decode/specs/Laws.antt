@@ -7,7 +7,9 @@ use Rattle.decode.specs.Decoding.{longest_instruction, decoded_from, IsDecoded}
 
 -- `decoded_from` is the one instruction that stands in the bytes, and none where none does
 abbrev pub DecodingIsExact : Type 0
-DecodingIsExact = (bytes : List ℕ) → longest_instruction ≤ length bytes → All (λ b. b < 256) bytes → IsDecoded bytes (decoded_from bytes)
+DecodingIsExact =
+    (bytes : List ℕ) → longest_instruction ≤ length bytes → All (λ b. b < 256) bytes
+    → IsDecoded bytes (decoded_from bytes)
 
 -- no instruction has more bytes than are looked at
 abbrev pub NoneIsLonger : Type 0

@@ -20,7 +20,9 @@ StandsFor m operation = (near_operation m ≡ operation) ⊎ (far_operation m �
 
 -- an operation's first mnemonic, read again, stands for it
 abbrev pub OperationsAreRead : Type 0
-OperationsAreRead = (operation : Operation) → (m : Mnemonic) × (meaning_of (operation_name operation) ≡ Some (meanings.Mnemonic m)) × StandsFor m operation
+OperationsAreRead =
+    (operation : Operation)
+    → (m : Mnemonic) × (meaning_of (operation_name operation) ≡ Some (meanings.Mnemonic m)) × StandsFor m operation
 
 abbrev pub RegistersAreRead : Type 0
 RegistersAreRead = (r : Register) → meaning_of (register_name r) ≡ Some (meanings.Register r)

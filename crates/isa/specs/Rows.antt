@@ -1,4 +1,5 @@
--- What the code that writes an instruction and that finds a row rests on: digits fit reg, and so many rows are passed over.
+-- What the code that writes an instruction and that finds a row rests on: digits fit reg, and so many rows are passed
+-- over.
 -- For proofs alone: no public contract rests on it.
 use Rattle.std.specs.Prelude.{ℕ, ◌<◌, Bool, not, ◌&&◌, nat_le, length, take}
 use Rattle.std.specs.List.{list_all}

@@ -14,7 +14,8 @@ WriteChangesRamAlone =
 
 -- of a whole map all RAM can be written
 abbrev pub RamIsWritable : Type 0
-RamIsWritable = (memory : MemoryMap) (address : ℕ) → IsMap memory → address < memory.ram_size → is_writable memory address ≡ true
+RamIsWritable =
+    (memory : MemoryMap) (address : ℕ) → IsMap memory → address < memory.ram_size → is_writable memory address ≡ true
 
 -- at power-on each address has the byte of its region
 abbrev pub PowerOnBytes : Type 0

@@ -67,7 +67,8 @@ impl Memory {
         ensures power_on { IfOk result (λ memory. memory ≡ power_on image.now (1024 * ram_kb)) }
         ensures size { OnOk result (IsRamSize ram_kb) }
         ensures fits { OnOk result (FitsRam image.now (1024 * ram_kb)) }
-        ensures refused { IsErrOf result MemoryFault.RamSize ↔ (¬ (IsRamSize ram_kb × FitsRam image.now (1024 * ram_kb))) }
+        ensures refused { IsErrOf result MemoryFault.RamSize
+            ↔ (¬ (IsRamSize ram_kb × FitsRam image.now (1024 * ram_kb))) }
     {
         if !is_ram_size(ram_kb) {
             return Err(MemoryFault::RamSize);
@@ -154,7 +155,8 @@ fn power_on_cells(
     image: &Image,
     count: u32,
 ) -> Result<Vec<u8>, AllocError>
-    ensures cells { IfOk result (λ cells. cells.items ≡ map (power_on_byte image.now ram_size) (range_with_len 0 count)) }
+    ensures cells { IfOk result
+        (λ cells. cells.items ≡ map (power_on_byte image.now ram_size) (range_with_len 0 count)) }
     ensures length { IfOk result (λ cells. length cells.items ≡ count) }
 {
     let mut cells = Vec::with_capacity(alloc, count as usize)?;

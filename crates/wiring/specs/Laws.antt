@@ -52,10 +52,12 @@ pub record SettlingChanges (s t : ChipsState) : Type 0 where
   pub other_lines : (level : ℕ) → 2 ≤ level → contains t.pic.high level ≡ contains s.pic.high level
   pub other_rises : (level : ℕ) → 2 ≤ level → contains t.pic.risen level ≡ contains s.pic.risen level
   pub rises : (level : ℕ) → level < 2
-      → contains t.pic.risen level ≡ (contains s.pic.risen level || (not (contains s.pic.high level) && contains t.pic.high level))
+      → contains t.pic.risen level
+      ≡ (contains s.pic.risen level || (not (contains s.pic.high level) && contains t.pic.high level))
 
 abbrev pub SettlingChangesAlone : Type 0
-SettlingChangesAlone = (s : ChipsState) → length s.pic.high ≡ 8 → length s.pic.risen ≡ 8 → SettlingChanges s (after_settling s)
+SettlingChangesAlone =
+    (s : ChipsState) → length s.pic.high ≡ 8 → length s.pic.risen ≡ 8 → SettlingChanges s (after_settling s)
 
 -- while the wires have settled, n clocks tick the counters once for each number that 4 divides
 abbrev pub ClocksTick : Type 0
@@ -86,23 +88,28 @@ pub record WiresStay : Type 0 where
 pub record SoundsAlike (s t : ChipsState) : Type 0 where
   pub clock : s.clock ≡ t.clock
   pub ppi : s.ppi ≡ t.ppi
-  pub counter_2 : record s.pit.counter_2 { latch = None; high_next = false } ≡ record t.pit.counter_2 { latch = None; high_next = false }
+  pub counter_2 : record s.pit.counter_2 { latch = None; high_next = false }
+      ≡ record t.pit.counter_2 { latch = None; high_next = false }
 
 -- the speaker's next level depends on these and on the port writes alone
 abbrev pub DependsOnWrites : Type 0
 DependsOnWrites =
-    (s t : ChipsState) (writes : List (ℕ × ℕ)) → SoundsAlike s t → is_speaker_high_after s writes ≡ is_speaker_high_after t writes
+    (s t : ChipsState) (writes : List (ℕ × ℕ)) → SoundsAlike s t
+    → is_speaker_high_after s writes ≡ is_speaker_high_after t writes
 
 -- no key that arrives touches the speaker's next level
 abbrev pub NoKeyTouches : Type 0
 NoKeyTouches =
     (s : ChipsState) (writes : List (ℕ × ℕ)) (codes : List ℕ)
-    → is_speaker_high (after_key_settling (after_arrivals (after_clock (after_port_writes after_output s writes)) codes)) ≡ is_speaker_high_after s writes
+    → is_speaker_high
+    (after_key_settling (after_arrivals (after_clock (after_port_writes after_output s writes)) codes))
+    ≡ is_speaker_high_after s writes
 
 -- nor does an interrupt that the processor takes
 abbrev pub NoEntryTouches : Type 0
 NoEntryTouches =
-    (s : ChipsState) (writes : List (ℕ × ℕ)) → is_speaker_high_after (after_acknowledge s) writes ≡ is_speaker_high_after s writes
+    (s : ChipsState) (writes : List (ℕ × ℕ))
+    → is_speaker_high_after (after_acknowledge s) writes ≡ is_speaker_high_after s writes
 
 -- nor, where the wires have settled, a read of any port
 abbrev pub NoReadTouches : Type 0
