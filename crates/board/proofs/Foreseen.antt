@@ -9,7 +9,8 @@ use Rattle.execute.specs.Meaning.{after_step}
 use Rattle.execute.specs.Boundaries.{after_enter}
 use Rattle.execute.specs.declared.boundary.Cause.{Cause}
 use Rattle.execute.specs.declared.boundary.Cause.TheVariants as causes
-use Rattle.execute.specs.PortWrites.{EachAccessKeeps, WritesAlone, port_writes_of}
+use Rattle.execute.specs.PortWrites.{port_writes_of}
+use Rattle.execute.specs.Laws.{EachAccessKeeps, WritesAlone}
 use Rattle.execute.proofs.Writes.{port_writes_tell, again_keeps_any, enter_keeps_any}
 use Rattle.mda_text.specs.Mda.{with_text_byte}
 use Rattle.memory.specs.Regions.{is_text_address}

@@ -6,7 +6,8 @@ use Rattle.board_types.proofs.Iterate.{iterate_zero, iterate_more, iterate_add, 
 use Rattle.board_types.specs.declared.line.Line.{Line}
 use Rattle.board_types.specs.declared.line.Line.TheVariants.{Low, High}
 use Rattle.board.specs.declared.board.SpeakerChange.{SpeakerChange}
-use Rattle.board.specs.Board.{BoardState, IsHeldBack, Ran, StoppedEarly}
+use Rattle.board.specs.Board.{BoardState, Ran, StoppedEarly}
+use Rattle.board.specs.HeldBack.{IsHeldBack}
 use Rattle.board.specs.Laws.{RunsJoin}
 use Rattle.board_types.specs.Lines.{from_bool, is_high}
 use Rattle.board.specs.Plain.{Plain, clock_of, after_clock, after_clocks, change_next, changes_in, speaker_level}

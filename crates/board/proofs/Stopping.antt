@@ -3,7 +3,8 @@ use Rattle.std.proofs.Common.{◌≡◌, ℕ, zero, suc, ◌+◌, ◌-◌, ◌<�
 use Rattle.std.specs.List.{position_from}
 use Rattle.board.specs.declared.stop.Condition.{Condition}
 use Rattle.board.specs.declared.stop.Stop.{Stop}
-use Rattle.board.specs.Board.{BoardState, IsHeldBack, Ran}
+use Rattle.board.specs.Board.{BoardState, Ran}
+use Rattle.board.specs.HeldBack.{IsHeldBack}
 use Rattle.board.specs.Plain.{Plain, after_clocks, changes_in, clock_of}
 use Rattle.board.specs.Stops.{holding, run_length, FitsRoom, IsStopOf, NoStop, StopsAt}
 use Rattle.board.specs.Laws.{RunsHaveOneEnd}

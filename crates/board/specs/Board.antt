@@ -1,5 +1,5 @@
--- What a board shows: the plain board at its clock, the speaker's changes so far, the room that is kept for further ones,
--- and the last entries of the trail.
+-- What a board shows: the plain board at its clock, the speaker's changes so far, the room that is kept for further
+-- ones, and the last entries of the trail.
 -- To be believed: public contracts say what they say by these definitions.
 use Rattle.std.specs.Prelude.{ℕ, ◌+◌, ◌<◌, ◌≤◌, ◌≡◌, ◌≢◌, List, ◌++◌, codes, length}
 use Rattle.board.specs.declared.board.BoardFault.{BoardFault}
@@ -44,9 +44,3 @@ abbrev pub board_fault_name : BoardFault → List ℕ
 board_fault_name RamSize = codes "RamSize"
 board_fault_name Memory = codes "Memory"
 board_fault_name ClockLimit = codes "ClockLimit"
-
--- the next clock brings a change that there is no room for, and nothing is done
-pub record IsHeldBack (old new : BoardState) : Type 0 where
-  pub kept : new ≡ old
-  pub changes_next : speaker_level (after_clock old.plain) ≢ speaker_level old.plain
-  pub full : old.room ≡ 0

@@ -40,18 +40,23 @@ pub record WiresHold (s : ChipsState) : Type 0 where
 
 -- so they are at every clock of every board
 abbrev pub WiresAlwaysHold : Type 0
-WiresAlwaysHold = (image : List (ℕ × ℕ)) (config : Config) (keys : List StampedKey) (n : ℕ) → WiresHold (board_after image config keys n).chips
+WiresAlwaysHold =
+    (image : List (ℕ × ℕ)) (config : Config) (keys : List StampedKey) (n : ℕ)
+    → WiresHold (board_after image config keys n).chips
 
--- where they hold, the speaker's level at the next clock is known from the port writes that the processor is about to make
+-- where they hold, the speaker's level at the next clock is known from the port writes that the processor is about to
+-- make
 abbrev pub LevelIsForeseen : Type 0
 LevelIsForeseen =
-    (s : Plain) → WiresHold s.chips → speaker_level (after_clock s) ≡ from_bool (is_speaker_high_after s.chips (writes_of s.cpu (next_act s)))
+    (s : Plain) → WiresHold s.chips
+    → speaker_level (after_clock s) ≡ from_bool (is_speaker_high_after s.chips (writes_of s.cpu (next_act s)))
 
 -- at every clock of a board that can be had, each address of RAM and of text memory takes bytes
 abbrev pub MemoryTakesBytes : Type 0
 MemoryTakesBytes =
     (image : List (ℕ × ℕ)) (config : Config) (keys : List StampedKey) (n address : ℕ) → IsRamSize config.ram_kb
-    → (address < 1024 * config.ram_kb) ⊎ IsTextAddress address → is_writable (board_after image config keys n).chips address ≡ true
+    → (address < 1024 * config.ram_kb) ⊎ IsTextAddress address
+    → is_writable (board_after image config keys n).chips address ≡ true
 
 -- an interrupt is requested
 abbrev pub IsRequested : Plain → Type 0
@@ -74,7 +79,8 @@ RequestIsTaken = (s : Plain) → TakesRequest s ↔ (IsRequested s × MayTakeReq
 
 -- in n clocks and at their end a request stands, until it is taken
 abbrev pub RequestStays : Plain → ℕ → Type 0
-RequestStays s n = (i : ℕ) → i ≤ n → ((j : ℕ) → j < i → ¬ (TakesRequest (after_clocks s j))) → IsRequested (after_clocks s i)
+RequestStays s n =
+    (i : ℕ) → i ≤ n → ((j : ℕ) → j < i → ¬ (TakesRequest (after_clocks s j))) → IsRequested (after_clocks s i)
 
 -- within n clocks a request is taken, at the first clock at which one may be
 pub record IsTakenWithin (s : Plain) (n : ℕ) : Type 0 where
@@ -99,8 +105,8 @@ NoRequestWithoutIf =
 abbrev pub NoKeyComes : Plain → ℕ → Type 0
 NoKeyComes s n = All (λ k. (k.stamp ≤ clock_of s) ⊎ (clock_of s + n < k.stamp)) s.keys
 
--- For n clocks a halted processor stays so: it is free, no single step is due and no key comes, and IF is 0 or the chips
--- alone bring no request in any of these clocks.
+-- For n clocks a halted processor stays so: it is free, no single step is due and no key comes, and IF is 0 or the
+-- chips alone bring no request in any of these clocks.
 pub record HaltLasts (s : Plain) (n : ℕ) : Type 0 where
   pub wires_hold : WiresHold s.chips
   pub halted : s.cpu.state ≡ Halted
@@ -124,7 +130,8 @@ pub record GoOnAlone (s : ChipsState) (n : ℕ) (t : ChipsState) : Type 0 where
 -- n clocks later the chips alone have gone on
 abbrev pub ChipsAloneGoOn : Plain → ℕ → Type 0
 ChipsAloneGoOn s n =
-    (after_clocks s n ≡ record s { chips = wires.after_clocks s.chips n }) × GoOnAlone s.chips n (wires.after_clocks s.chips n)
+    (after_clocks s n ≡ record s { chips = wires.after_clocks s.chips n })
+    × GoOnAlone s.chips n (wires.after_clocks s.chips n)
 
 -- so it is while a halt lasts
 abbrev pub HaltIsQuiet : Type 0
@@ -132,7 +139,8 @@ HaltIsQuiet = (s : Plain) (n : ℕ) → HaltLasts s n → ChipsAloneGoOn s n
 
 -- and after a jam, whatever is requested, while no key comes
 abbrev pub JamIsQuiet : Type 0
-JamIsQuiet = (s : Plain) (n : ℕ) → WiresHold s.chips → s.cpu.state ≡ Jammed → s.busy ≡ 0 → NoKeyComes s n → ChipsAloneGoOn s n
+JamIsQuiet =
+    (s : Plain) (n : ℕ) → WiresHold s.chips → s.cpu.state ≡ Jammed → s.busy ≡ 0 → NoKeyComes s n → ChipsAloneGoOn s n
 
 -- a run of n clocks has one end: a stop, or none
 pub record HasOneEnd (stops : List Condition) (n : ℕ) (s : Plain) : Type 0 where

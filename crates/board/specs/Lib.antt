@@ -5,3 +5,4 @@ pub mod Trail
 pub mod Board
 pub mod Stops
 pub mod Laws
+pub mod HeldBack

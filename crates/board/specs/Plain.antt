@@ -64,7 +64,8 @@ next_act s = if is_free s then act_at s.cpu s.chips (boundary_of s.cpu (is_reque
 -- The processor's part of a clock, at once and whole (this board's choice). A request is acknowledged as it is entered.
 abbrev pub after_act : CpuState → ℕ → ChipsState → Act → StepResult ChipsState
 after_act cpu busy chips Nothing = step_result cpu chips busy
-after_act cpu busy chips Request = after_enter chips_bus cpu (after_acknowledge chips) (requested_type chips) causes.Request
+after_act cpu busy chips Request =
+    after_enter chips_bus cpu (after_acknowledge chips) (requested_type chips) causes.Request
 after_act cpu busy chips SingleStep = after_enter chips_bus cpu chips 1 causes.SingleStep
 after_act cpu busy chips Iteration = after_again chips_bus cpu chips
 after_act cpu busy chips (Instruction decoded) = after_step chips_bus cpu chips decoded

@@ -35,8 +35,8 @@ holding stops s = position_from (λ condition. holds condition s) 1 stops
 abbrev pub NoStop : List Condition → ℕ → Plain → Type 0
 NoStop stops n s = (j : ℕ) → 1 ≤ j → j ≤ n → holding stops (after_clocks s j) ≡ None
 
--- The stop of a run of n clocks: the first clock after the start at which a condition holds, with the least number of one
--- that does. A condition that holds at the start is no stop there.
+-- The stop of a run of n clocks: the first clock after the start at which a condition holds, with the least number of
+-- one that does. A condition that holds at the start is no stop there.
 pub record StopsAt (stops : List Condition) (n : ℕ) (s : Plain) (stop : Stop) : Type 0 where
   pub passed : ℕ
   pub after_start : 1 ≤ passed

@@ -27,8 +27,8 @@ start_of cpu chips NoRow = None
 start_of cpu chips (Found instr size) =
     Some (Instruction instr (record { items = code_bytes chips cpu.registers.cs cpu.registers.ip size }))
 
--- What an act begins: an instruction, or the entry of an interrupt; the single step's type is 1. An iteration of a repeat
--- begins nothing.
+-- What an act begins: an instruction, or the entry of an interrupt; the single step's type is 1. An iteration of a
+-- repeat begins nothing.
 abbrev pub event_of : CpuState → ChipsState → Act → Option TrailEvent
 event_of cpu chips acts.Nothing = None
 event_of cpu chips acts.Request = Some (Entry (requested_type chips))
@@ -39,7 +39,8 @@ event_of cpu chips (acts.Instruction decoded) = start_of cpu chips decoded
 -- an event with its clock and CS:IP, which an entry pushes
 abbrev pub entry_at : Plain → Option TrailEvent → List TrailEntry
 entry_at s None = []
-entry_at s (Some event) = record { clock = clock_of s; cs = s.cpu.registers.cs; ip = s.cpu.registers.ip; event = event } ∷ []
+entry_at s (Some event) =
+    record { clock = clock_of s; cs = s.cpu.registers.cs; ip = s.cpu.registers.ip; event = event } ∷ []
 
 -- what the next clock adds to the trail
 unfoldable pub trail_next : Plain → List TrailEntry

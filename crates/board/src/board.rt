@@ -3,15 +3,16 @@ ghost use Rattle.std.specs.Prelude.{IsTrue, All, ◌-◌, slice_get, ◌≡◌, 
 ghost use Rattle.std.specs.Result.{IfErr, IsErrOf};
 ghost use Rattle.std.specs.String.{string_bytes};
 ghost use Rattle.memory.specs.Map.{IsRamSize, FitsRam};
-ghost use Rattle.board.specs.Board.{IsHeldBack, Ran, StoppedEarly, board_fault_name, board_fault_number};
+ghost use Rattle.board.specs.Board.{Ran, StoppedEarly, board_fault_name, board_fault_number};
+ghost use Rattle.board.specs.HeldBack.{IsHeldBack};
 ghost use Rattle.board.specs.Plain.{after_clock, after_clocks, byte_of, change_next, changes_in, clock_of, lost_codes, power_on, registers_of, screen_of, speaker_level, state_of};
 ghost use Rattle.board.specs.Stops.{FitsRoom, HasAddress, IsStopOf, NoStop, run_length};
 ghost use Rattle.board.specs.Trail.{last, trail_in, trail_next};
 ghost use Rattle.std.specs.Option.{option_copied};
 ghost use Rattle.board_types.specs.Lines.{from_bool};
 
+use crate::plain::PlainBoard;
 use crate::stop::{Stop, Stopped, Stops};
-use crate::system::System;
 use crate::trail::{Trail, TrailEntry};
 use board_types::clock::Clock;
 use board_types::image::Image;
@@ -59,6 +60,14 @@ impl BoardFault {
     }
 }
 
+impl From<AllocError> for BoardFault {
+    ghost from_gives = { λ _ fault. fault ≡ BoardFault.Memory };
+
+    fn from(_error: AllocError) -> BoardFault {
+        BoardFault::Memory
+    }
+}
+
 /// How a board is fitted out.
 #[derive(Clone, Copy, Debug, PartialEq, Eq)]
 pub struct Config {
@@ -81,7 +90,7 @@ pub struct SpeakerChange {
 /// list of changes grows in memory of its own allocator, `A`.
 #[derive(Drop)]
 pub struct Board<A: Allocator = Global> {
-    system: System,
+    plain: PlainBoard,
     changes: Vec<SpeakerChange, A>,
     trail: Trail,
 }
@@ -94,9 +103,14 @@ impl<A: Allocator> Model for Board<A> {
 
     ghost Value = { BoardState };
 
-    ghost view = { λ b. record { plain = b.system; changes = b.changes.items; room = vec_capacity b.changes - length b.changes.items; trail = b.trail } };
+    ghost view = { λ b. record {
+      plain = b.plain;
+      changes = b.changes.items;
+      room = vec_capacity b.changes - length b.changes.items;
+      trail = b.trail;
+    } };
 
-    ghost invariant = { λ b. (clock_of b.system ≤ 2 ^ 40) × (length b.trail ≤ 32) };
+    ghost invariant = { λ b. (clock_of b.plain ≤ 2 ^ 40) × (length b.trail ≤ 32) };
 }
 
 impl Board {
@@ -115,22 +129,20 @@ impl Board {
         ensures changes { IfOk result (λ board. board.changes ≡ []) }
         ensures trail { IfOk result (λ board. board.trail ≡ []) }
         ensures size { OnOk result (IsRamSize config.ram_kb × FitsRam image.now (1024 * config.ram_kb)) }
-        ensures ram_size { IsErrOf result BoardFault.RamSize ↔ (¬ (IsRamSize config.ram_kb × FitsRam image.now (1024 * config.ram_kb))) }
+        ensures ram_size { IsErrOf result BoardFault.RamSize
+            ↔ (¬ (IsRamSize config.ram_kb × FitsRam image.now (1024 * config.ram_kb))) }
         ensures no_limit { ¬ (IsErrOf result BoardFault.ClockLimit) }
     {
-        let system = match System::new(alloc, image, config, keys) {
-            Ok(system) => system,
+        let plain = match PlainBoard::new(alloc, image, config, keys) {
+            Ok(plain) => plain,
             Err(MemoryFault::RamSize) => return Err(BoardFault::RamSize),
             Err(MemoryFault::OutOfMemory) => return Err(BoardFault::Memory),
         };
-        match Trail::new(alloc) {
-            Ok(trail) => Ok(Board {
-                system,
-                changes: Vec::new(alloc),
-                trail,
-            }),
-            Err(_) => Err(BoardFault::Memory),
-        }
+        Ok(Board {
+            plain,
+            changes: Vec::new(alloc),
+            trail: Trail::new(alloc)?,
+        })
     }
 
     /// The same board at the same clock, with its lists, in memory of its own. Refused as `Memory` where there is none.
@@ -140,19 +152,8 @@ impl Board {
         ensures trail { IfOk result (λ board. board.trail ≡ self.now.trail) }
         ensures err { IfErr result (λ fault. fault ≡ BoardFault.Memory) }
     {
-        match self.try_copy() {
-            Ok(board) => Ok(board),
-            Err(_) => Err(BoardFault::Memory),
-        }
-    }
-
-    fn try_copy(&self) -> Result<Board, AllocError>
-        ensures plain { IfOk result (λ board. board.plain ≡ self.now.plain) }
-        ensures changes { IfOk result (λ board. board.changes ≡ self.now.changes) }
-        ensures trail { IfOk result (λ board. board.trail ≡ self.now.trail) }
-    {
         Ok(Board {
-            system: self.system.copy()?,
+            plain: self.plain.copy()?,
             changes: self.changes.clone()?,
             trail: self.trail.copy()?,
         })
@@ -167,7 +168,7 @@ impl Board {
         ensures trail { result.trail ≡ self.trail }
     {
         Board {
-            system: self.system,
+            plain: self.plain,
             changes,
             trail: self.trail,
         }
@@ -188,7 +189,8 @@ impl<A: Allocator> Board<A> {
         ensures limit_kept { IsErrOf result BoardFault.ClockLimit → self.new ≡ self.old }
         ensures memory { IsErrOf result BoardFault.Memory → StoppedEarly count self.old self.new }
         ensures no_ram_size { ¬ (IsErrOf result BoardFault.RamSize) }
-        ensures succeeds { clock_of self.old.plain + count ≤ 2 ^ 40 → length (changes_in self.old.plain count) ≤ self.old.room → IsOk result }
+        ensures succeeds { clock_of self.old.plain + count ≤ 2 ^ 40
+            → length (changes_in self.old.plain count) ≤ self.old.room → IsOk result }
         ensures room { self.old.room + length self.old.changes ≤ self.new.room + length self.new.changes }
     {
         if self.is_past_limit(count) {
@@ -210,10 +212,13 @@ impl<A: Allocator> Board<A> {
         ensures limit { IsErrOf result BoardFault.ClockLimit ↔ (2 ^ 40 < clock_of self.old.plain + count) }
         ensures limit_kept { IsErrOf result BoardFault.ClockLimit → self.new ≡ self.old }
         ensures memory { IsErrOf result BoardFault.Memory → StoppedEarly count self.old self.new }
-        ensures none_passed { IsErrOf result BoardFault.Memory → NoStop stops.now.items (clock_of self.new.plain - clock_of self.old.plain) self.old.plain }
+        ensures none_passed { IsErrOf result BoardFault.Memory
+            → NoStop stops.now.items (clock_of self.new.plain - clock_of self.old.plain) self.old.plain }
         ensures no_ram_size { ¬ (IsErrOf result BoardFault.RamSize) }
-        ensures succeeds { clock_of self.old.plain + count ≤ 2 ^ 40 → length (changes_in self.old.plain count) ≤ self.old.room → IsOk result }
-        ensures succeeds_to_stop { clock_of self.old.plain + count ≤ 2 ^ 40 → FitsRoom stops.now.items count self.old → IsOk result }
+        ensures succeeds { clock_of self.old.plain + count ≤ 2 ^ 40
+            → length (changes_in self.old.plain count) ≤ self.old.room → IsOk result }
+        ensures succeeds_to_stop { clock_of self.old.plain + count ≤ 2 ^ 40 → FitsRoom stops.now.items count self.old
+            → IsOk result }
         ensures room { self.old.room + length self.old.changes ≤ self.new.room + length self.new.changes }
     {
         if self.is_past_limit(count) {
@@ -221,8 +226,8 @@ impl<A: Allocator> Board<A> {
         }
         for _gone in 0..count {
             self.run_clock()?;
-            if let Some(number) = self.system.holding(stops.as_slice()) {
-                let clock = self.system.clock();
+            if let Some(number) = self.plain.holding(stops.as_slice()) {
+                let clock = self.clock();
                 return Ok(Some(Stop { number, clock }));
             }
         }
@@ -241,10 +246,8 @@ impl<A: Allocator> Board<A> {
         ensures err_kept { OnErr result (self.new ≡ self.old) }
         ensures succeeds { n ≤ self.old.room → IsOk result }
     {
-        match self.changes.try_reserve(n) {
-            Ok(()) => Ok(()),
-            Err(_) => Err(BoardFault::Memory),
-        }
+        self.changes.try_reserve(n)?;
+        Ok(())
     }
 
     /// Whether a run of `count` clocks would go past the last clock.
@@ -252,7 +255,7 @@ impl<A: Allocator> Board<A> {
         ensures trail { length self.now.trail ≤ 32 }
         ensures past { IsTrue result ↔ (2 ^ 40 < clock_of self.now.plain + count) }
     {
-        Clock::LAST - self.system.clock().get() < count
+        Clock::LAST - self.clock().get() < count
     }
 
     /// One processor clock. The list of changes grows before anything else changes.
@@ -266,12 +269,12 @@ impl<A: Allocator> Board<A> {
         ensures err { OnErr result (IsHeldBack self.old self.new) }
         ensures fault { IfErr result (λ fault. fault ≡ BoardFault.Memory) }
     {
-        let next = self.system.next_act();
-        let high = self.system.is_high_next(&next);
+        let next = self.plain.next_act();
+        let high = self.plain.is_high_next(&next);
         self.list_change(high)?;
-        let entry = self.system.next_entry(&next);
+        let entry = self.plain.next_entry(&next);
         self.trail.extend(entry);
-        self.system.tick(&next);
+        self.plain.tick(&next);
         Ok(())
     }
 
@@ -286,7 +289,7 @@ impl<A: Allocator> Board<A> {
         ensures err { OnErr result (IsHeldBack self.old self.new) }
         ensures fault { IfErr result (λ fault. fault ≡ BoardFault.Memory) }
     {
-        if high == self.system.is_high() {
+        if high == self.plain.is_high() {
             return Ok(());
         }
         self.add_change(high)
@@ -297,14 +300,16 @@ impl<A: Allocator> Board<A> {
         requires { clock_of self.old.plain < 2 ^ 40 }
         ensures plain { self.new.plain ≡ self.old.plain }
         ensures trail { self.new.trail ≡ self.old.trail }
-        ensures ok { OnOk result (self.new.changes ≡ self.old.changes ++ (record { clock = clock_of self.old.plain + 1; level = from_bool high }) ∷ []) }
+        ensures ok { OnOk result
+            (self.new.changes
+            ≡ self.old.changes ++ (record { clock = clock_of self.old.plain + 1; level = from_bool high }) ∷ []) }
         ensures room { OnOk result (self.old.room + length self.old.changes ≤ self.new.room + length self.new.changes) }
         ensures err { OnErr result (self.new ≡ self.old) }
         ensures full { OnErr result (self.old.room ≡ 0) }
         ensures fault { IfErr result (λ fault. fault ≡ BoardFault.Memory) }
     {
         let level = Line::from_bool(high);
-        let clock = Clock::new(self.system.clock().get() + 1).unwrap();
+        let clock = Clock::new(self.clock().get() + 1).unwrap();
         self.reserve_speaker(1)?;
         match self.changes.push(SpeakerChange { clock, level }) {
             Ok(()) => Ok(()),
@@ -313,39 +318,44 @@ impl<A: Allocator> Board<A> {
     }
 
     /// The board's clock.
+    #[tactic(auto, unfolding(crate::specs::Plain::clock_of))]
     pub fn clock(&self) -> Clock
         ensures { result ≡ clock_of self.now.plain }
     {
-        self.system.clock()
+        self.plain.chips.clock()
     }
 
     /// The processor's registers.
+    #[tactic(auto, unfolding(crate::specs::Plain::registers_of))]
     pub fn regs(&self) -> Regs
         ensures { result ≡ registers_of self.now.plain }
     {
-        self.system.regs()
+        self.plain.cpu.regs()
     }
 
     /// The byte at the physical address `addr`, below 100000h.
+    #[tactic(auto, unfolding(crate::specs::Plain::byte_of))]
     pub fn byte(&self, addr: u32) -> u8
         requires { addr < 2 ^ 20 }
         ensures { result ≡ byte_of self.now.plain addr }
     {
-        self.system.byte(addr)
+        self.plain.chips.byte(addr)
     }
 
     /// Whether the processor runs, is halted or is jammed.
+    #[tactic(auto, unfolding(crate::specs::Plain::state_of))]
     pub fn state(&self) -> State
         ensures { result ≡ state_of self.now.plain }
     {
-        self.system.state()
+        self.plain.cpu.state()
     }
 
     /// How many key codes were lost because the keyboard's queue was full.
+    #[tactic(auto, unfolding(crate::specs::Plain::lost_codes))]
     pub fn lost(&self) -> u64
         ensures { result ≡ lost_codes self.now.plain }
     {
-        self.system.lost()
+        self.plain.chips.lost()
     }
 
     /// The changes of the speaker's level since power-on, where it is low.
@@ -365,13 +375,11 @@ impl<A: Allocator> Board<A> {
     }
 
     /// The screen's 25 rows of 80 characters, each ended by a line feed.
+    #[tactic(auto, unfolding(crate::specs::Plain::screen_of))]
     pub fn screen(&self) -> Result<String, BoardFault>
         ensures ok { IfOk result (λ text. string_bytes text ≡ screen_of self.now.plain) }
         ensures err { IfErr result (λ fault. fault ≡ BoardFault.Memory) }
     {
-        match self.system.screen() {
-            Ok(text) => Ok(text),
-            Err(_) => Err(BoardFault::Memory),
-        }
+        Ok(self.plain.chips.text()?)
     }
 }

@@ -5,8 +5,8 @@ mod act;
 mod arrivals;
 pub mod board;
 pub mod laws;
+mod plain;
 pub mod stop;
-mod system;
 #[cfg(test)]
 mod tests;
 pub mod trail;

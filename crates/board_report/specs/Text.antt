@@ -15,13 +15,16 @@ use Rattle.board.specs.Plain.{Plain, clock_of, registers_of, state_of, lost_code
 
 unfoldable pub general_line : Regs → List ℕ
 general_line r =
-    codes "AX=" ++ (hex_word r.ax ++ (codes " BX=" ++ (hex_word r.bx ++ (codes " CX=" ++ (hex_word r.cx ++ (codes " DX=" ++ (hex_word r.dx
-    ++ (codes " SP=" ++ (hex_word r.sp ++ (codes " BP=" ++ (hex_word r.bp ++ (codes " SI=" ++ (hex_word r.si ++ (codes " DI=" ++ (hex_word r.di
+    codes "AX=" ++ (hex_word r.ax ++ (codes " BX=" ++ (hex_word r.bx
+    ++ (codes " CX=" ++ (hex_word r.cx ++ (codes " DX=" ++ (hex_word r.dx
+    ++ (codes " SP=" ++ (hex_word r.sp ++ (codes " BP=" ++ (hex_word r.bp
+    ++ (codes " SI=" ++ (hex_word r.si ++ (codes " DI=" ++ (hex_word r.di
     ++ codes "\n")))))))))))))))
 
 unfoldable pub segment_line : Regs → List ℕ
 segment_line r =
-    codes "CS=" ++ (hex_word r.cs ++ (codes " DS=" ++ (hex_word r.ds ++ (codes " ES=" ++ (hex_word r.es ++ (codes " SS=" ++ (hex_word r.ss
+    codes "CS=" ++ (hex_word r.cs ++ (codes " DS=" ++ (hex_word r.ds
+    ++ (codes " ES=" ++ (hex_word r.es ++ (codes " SS=" ++ (hex_word r.ss
     ++ (codes " IP=" ++ (hex_word r.ip ++ (codes " FL=" ++ (hex_word (flags_word r.flags)
     ++ codes "\n")))))))))))
 
@@ -39,11 +42,14 @@ clock_line clock = codes "clock " ++ (decimal clock ++ codes "\n")
 
 unfoldable pub state_lines : State → ℕ → ℕ → List ℕ
 state_lines state lost changes =
-    codes "state " ++ (state_name state ++ (codes "\nlost " ++ (decimal lost ++ (codes "\nsound " ++ (decimal changes ++ codes "\n")))))
+    codes "state " ++ (state_name state
+    ++ (codes "\nlost " ++ (decimal lost
+    ++ (codes "\nsound " ++ (decimal changes ++ codes "\n")))))
 
 -- a change of the speaker's level: the clock, and 1 for high or 0 for low
 unfoldable pub change_line : SpeakerChange → List ℕ
-change_line change = decimal change.clock ++ (codes " " ++ (decimal (if is_high change.level then 1 else 0) ++ codes "\n"))
+change_line change =
+    decimal change.clock ++ (codes " " ++ (decimal (if is_high change.level then 1 else 0) ++ codes "\n"))
 
 -- the whole report
 unfoldable pub report_text : Plain → List SpeakerChange → List ℕ

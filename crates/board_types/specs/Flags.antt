@@ -11,6 +11,5 @@ flag_bit flag value = if flag then value else 0
 abbrev pub flags_word : Flags → ℕ
 flags_word f =
     0xF002 + flag_bit f.carry 1 + flag_bit f.parity (2 ^ 2) + flag_bit f.auxiliary_carry (2 ^ 4)
-    + flag_bit f.zero (2 ^ 6)
-    + flag_bit f.sign (2 ^ 7) + flag_bit f.trap (2 ^ 8) + flag_bit f.interrupt_enable (2 ^ 9)
-    + flag_bit f.direction (2 ^ 10) + flag_bit f.overflow (2 ^ 11)
+    + flag_bit f.zero (2 ^ 6) + flag_bit f.sign (2 ^ 7) + flag_bit f.trap (2 ^ 8)
+    + flag_bit f.interrupt_enable (2 ^ 9) + flag_bit f.direction (2 ^ 10) + flag_bit f.overflow (2 ^ 11)

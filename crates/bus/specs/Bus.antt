@@ -1,7 +1,7 @@
 -- What the processor reaches over the bus: bytes of memory and ports. An instruction is given a meaning over any
 -- such thing, which keeps a state of its own.
 -- To be believed: public contracts say what they say by these definitions.
-use Rattle.std.specs.Prelude.{ℕ, ◌/◌, ◌%◌, ◌≡◌, ◌≢◌, Bool, true, false}
+use Rattle.std.specs.Prelude.{ℕ, ◌/◌, ◌%◌, Bool}
 use Rattle.board_types.specs.Address.{physical, offset_after}
 
 pub record BusMeaning (S : Type 0) : Type 0 where
@@ -16,19 +16,8 @@ pub record BusMeaning (S : Type 0) : Type 0 where
   -- a byte written to a port
   pub after_output : S → ℕ → ℕ → S
 
--- what a bus keeps: a byte that is written reads back where the address takes it, elsewhere nothing changes, and a
--- write leaves every other byte as it is; which addresses take bytes stays, and no port changes memory
-pub record IsBus {S : Type 0} (bus : BusMeaning S) : Type 0 where
-  pub written : (s : S) (address byte : ℕ) → bus.is_writable s address ≡ true → bus.byte_at (bus.after_write s address byte) address ≡ byte
-  pub refused : (s : S) (address byte : ℕ) → bus.is_writable s address ≡ false → bus.after_write s address byte ≡ s
-  pub others : (s : S) (address byte other : ℕ) → other ≢ address → bus.byte_at (bus.after_write s address byte) other ≡ bus.byte_at s other
-  pub fixed : (s : S) (address byte other : ℕ) → bus.is_writable (bus.after_write s address byte) other ≡ bus.is_writable s other
-  pub input_fixed : (s : S) (port other : ℕ) → bus.is_writable (bus.after_input s port) other ≡ bus.is_writable s other
-  pub output_fixed : (s : S) (port byte other : ℕ) → bus.is_writable (bus.after_output s port byte) other ≡ bus.is_writable s other
-  pub input_keeps : (s : S) (port address : ℕ) → bus.byte_at (bus.after_input s port) address ≡ bus.byte_at s address
-  pub output_keeps : (s : S) (port byte address : ℕ) → bus.byte_at (bus.after_output s port byte) address ≡ bus.byte_at s address
-
 -- a word is written low byte first; its high byte stands at the next offset, which wraps (this board's choice)
 unfoldable pub with_word_at : {S : Type 0} → BusMeaning S → S → ℕ → ℕ → ℕ → S
 with_word_at bus s segment offset word =
-    bus.after_write (bus.after_write s (physical segment offset) (word % 256)) (physical segment (offset_after offset 1)) (word / 256)
+    bus.after_write (bus.after_write s (physical segment offset) (word % 256))
+    (physical segment (offset_after offset 1)) (word / 256)

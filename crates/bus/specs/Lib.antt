@@ -1,2 +1,3 @@
 pub mod Bus
 pub mod PortWrites
+pub mod Kept

@@ -3,7 +3,8 @@
 #![tactic(auto)]
 
 ghost use Rattle.std.specs.Prelude.{◌≡◌, ◌<◌, ◌^◌, ℕ};
-ghost use Rattle.bus.specs.Bus.{BusMeaning, IsBus};
+ghost use Rattle.bus.specs.Bus.{BusMeaning};
+ghost use Rattle.bus.specs.Kept.{IsBus};
 
 /// Memory and ports, as an instruction reaches them. What stands behind the bus is seen as a state of its own,
 /// which may be kept in another form.

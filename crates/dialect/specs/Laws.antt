@@ -1,6 +1,6 @@
 -- The laws of the words.
 -- Laws: claims above the definitions, each proved as the contract of a function.
-use Rattle.std.specs.Prelude.{ℕ, ◌≡◌, true, List, slice_get, Some}
+use Rattle.std.specs.Prelude.{ℕ, ◌≡◌, ◌⊎◌, true, List, slice_get, Some}
 use Rattle.isa.specs.declared.operation.Operation.{Operation}
 use Rattle.isa.specs.declared.form.Prefix.{Prefix}
 use Rattle.isa.specs.declared.form.Prefix.TheVariants as prefixes
@@ -13,7 +13,6 @@ use Rattle.dialect.specs.declared.meaning.Meaning.TheVariants as meanings
 use Rattle.dialect.specs.Mnemonics.{near_operation, far_operation}
 use Rattle.dialect.specs.Words.{Entry, words, spells, meaning_of}
 use Rattle.dialect.specs.Names.{operation_name, register_name, prefix_name, keyword_name}
-use Rattle.std.specs.Prelude.{◌⊎◌}
 
 -- a mnemonic stands for the operation
 abbrev pub StandsFor : Mnemonic → Operation → Type 0
@@ -21,7 +20,9 @@ StandsFor m operation = (near_operation m ≡ operation) ⊎ (far_operation m �
 
 -- an operation's first mnemonic, read again, stands for it
 abbrev pub OperationsAreRead : Type 0
-OperationsAreRead = (operation : Operation) → (m : Mnemonic) × (meaning_of (operation_name operation) ≡ Some (meanings.Mnemonic m)) × StandsFor m operation
+OperationsAreRead =
+    (operation : Operation)
+    → (m : Mnemonic) × (meaning_of (operation_name operation) ≡ Some (meanings.Mnemonic m)) × StandsFor m operation
 
 abbrev pub RegistersAreRead : Type 0
 RegistersAreRead = (r : Register) → meaning_of (register_name r) ≡ Some (meanings.Register r)

@@ -73,7 +73,8 @@ operand_text One = codes "1"
 operand_text (Byte number) = byte_text number
 operand_text (Word number) = word_text number
 operand_text (Short target) = keyword_name keywords.Short ++ (codes " " ++ word_text target)
-operand_text (Far segment offset) = keyword_name keywords.Far ++ (codes " " ++ (word_text segment ++ (codes ":" ++ word_text offset)))
+operand_text (Far segment offset) =
+    keyword_name keywords.Far ++ (codes " " ++ (word_text segment ++ (codes ":" ++ word_text offset)))
 operand_text (Memory memory) = memory_text memory
 
 -- the operands behind the mnemonic
@@ -101,7 +102,8 @@ is_nop f = is_xchg (operation_of f.row) && (is_ax (first_of f.row) && f.code == 
 abbrev pub plain_text : Form → Values → ℕ → List ℕ
 plain_text f v next =
     operation_name (operation_of f.row)
-    ++ operands_text (written_operand f v next (first_of f.row) (second_of f.row)) (written_operand f v next (second_of f.row) (first_of f.row))
+    ++ operands_text (written_operand f v next (first_of f.row) (second_of f.row))
+    (written_operand f v next (second_of f.row) (first_of f.row))
 
 unfoldable pub body_text : Form → Values → ℕ → List ℕ
 body_text f v next = if is_nop f then mnemonic_name mnemonics.Nop else plain_text f v next

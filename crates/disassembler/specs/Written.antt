@@ -107,7 +107,8 @@ written_operand f v next kinds.Memory other = word_operand f.place (far_size (op
 written_operand f v next kinds.Imm8 other = Byte (v.number % 256)
 written_operand f v next kinds.Imm16 other = Word v.number
 written_operand f v next kinds.Signed8 other = Word (sign_extended v.number)
-written_operand f v next kinds.Rel8 other = target_operand (operation_of f.row) (target_after next (sign_extended v.number))
+written_operand f v next kinds.Rel8 other =
+    target_operand (operation_of f.row) (target_after next (sign_extended v.number))
 written_operand f v next kinds.Rel16 other = Word (target_after next v.number)
 written_operand f v next kinds.At8 other = memory_at None None (Some v.number)
 written_operand f v next kinds.At16 other = memory_at None None (Some v.number)

@@ -1,7 +1,6 @@
 //! The repeat in progress.
 ghost use Rattle.std.specs.Prelude.{◌≡◌};
 
-use arrayvec::ArrayVec;
 use isa::form::Instr;
 use isa::operation::Strings;
 
@@ -19,20 +18,7 @@ impl Repeating {
     {
         Repeating {
             operation: self.operation,
-            instr: copied(&self.instr),
+            instr: self.instr.copied(),
         }
-    }
-}
-
-/// The same instruction once more; it takes no memory.
-pub fn copied(instr: &Instr) -> Instr
-    ensures { result ≡ instr.now }
-{
-    let mut prefixes = ArrayVec::new();
-    let _ = prefixes.try_extend_from_slice(instr.prefixes.as_slice());
-    Instr {
-        prefixes,
-        form: instr.form,
-        values: instr.values,
     }
 }

@@ -38,7 +38,8 @@ CmpTells {S} bus =
     → let to = location_of m.registers i (first_of i.form.row) in
     let from = location_of m.registers i (second_of i.form.row) in
     let width = width_at to in
-    TellsOrder (after_arithmetic bus m Cmp i).registers.flags width (operand_at bus m to width) (operand_at bus m from width)
+    TellsOrder (after_arithmetic bus m Cmp i).registers.flags width (operand_at bus m to width)
+    (operand_at bus m from width)
 
 -- AL and the flags are what the sum of two bytes left
 pub record HasSum (r : Registers) (a b carry : ℕ) : Type 0 where
@@ -57,7 +58,8 @@ pub record WorksInAl {S : Type 0} (bus : BusMeaning S) (m : Machine S) (i : Inst
   pub add : HasSum (after_arithmetic bus m Add i).registers (al_of m.registers) b 0
   pub adc : HasSum (after_arithmetic bus m Adc i).registers (al_of m.registers) b (from_bool m.registers.flags.carry)
   pub sub : HasDifference (after_arithmetic bus m Sub i).registers (al_of m.registers) b 0
-  pub sbb : HasDifference (after_arithmetic bus m Sbb i).registers (al_of m.registers) b (from_bool m.registers.flags.carry)
+  pub sbb : HasDifference (after_arithmetic bus m Sbb i).registers (al_of m.registers) b
+      (from_bool m.registers.flags.carry)
 
 abbrev pub SumsStandInAl : {S : Type 0} → BusMeaning S → Type 0
 SumsStandInAl {S} bus =
@@ -101,9 +103,11 @@ AaaAdds =
 -- AAS after SUB or SBB of bytes whose low halves are digits: their difference's digit, and its borrow, which AH gives
 abbrev pub AasSubtracts : Type 0
 AasSubtracts =
-    (r : Registers) (a b borrow : ℕ) → r.ax < 65536 → a < 256 → b < 256 → a % 16 < 10 → b % 16 < 10 → borrow < 2 → HasDifference r a b borrow
+    (r : Registers) (a b borrow : ℕ) → r.ax < 65536 → a < 256 → b < 256 → a % 16 < 10 → b % 16 < 10 → borrow < 2
+    → HasDifference r a b borrow
     → let borrows = nat_lt (a % 16) (b % 16 + borrow) in
-    LeavesDigit (after_aas r) ((ah_of r + 256 - from_bool borrows) % 256) ((a % 16 + 10 - (b % 16 + borrow)) % 10) borrows
+    LeavesDigit (after_aas r) ((ah_of r + 256 - from_bool borrows) % 256)
+    ((a % 16 + 10 - (b % 16 + borrow)) % 10) borrows
 
 -- AX holds this number as two unpacked digits
 pub record HoldsDigits (r : Registers) (n : ℕ) : Type 0 where

@@ -22,7 +22,8 @@ pub fn perform_arithmetic<B: Bus>(
     operation: Arithmetic,
     instr: &Instr,
 )
-    ensures { machine registers.new (B.state bus.new) ≡ after_arithmetic B.meaning (machine registers.old (B.state bus.old)) operation instr.now }
+    ensures { machine registers.new (B.state bus.new)
+        ≡ after_arithmetic B.meaning (machine registers.old (B.state bus.old)) operation instr.now }
 {
     let to = locate(registers, instr, instr.form.row.first());
     let from = locate(registers, instr, instr.form.row.second());

@@ -21,7 +21,8 @@ pub fn perform_unary<B: Bus>(
     operation: Unary,
     instr: &Instr,
 )
-    ensures { machine registers.new (B.state bus.new) ≡ after_unary B.meaning (machine registers.old (B.state bus.old)) operation instr.now }
+    ensures { machine registers.new (B.state bus.new)
+        ≡ after_unary B.meaning (machine registers.old (B.state bus.old)) operation instr.now }
 {
     let to = locate(registers, instr, instr.form.row.first());
     let width = to.width();

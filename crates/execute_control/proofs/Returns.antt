@@ -2,7 +2,8 @@
 use Rattle.std.proofs.Common.{◌≡◌, ℕ, ◌+◌, ◌*◌, ◌<◌, refl, sym, ap, ◌∙◌, arith}
 use Rattle.board_types.specs.Address.{physical, offset_after}
 use Rattle.isa.specs.declared.operation.Control.TheVariants.{Call, CallFar}
-use Rattle.bus.specs.Bus.{BusMeaning, IsBus}
+use Rattle.bus.specs.Bus.{BusMeaning}
+use Rattle.bus.specs.Kept.{IsBus}
 use Rattle.execute_machine.specs.FlagState.{FlagState}
 use Rattle.execute_machine.specs.Flags.{pushed_word, popped_flags}
 use Rattle.execute_machine.specs.Locations.{Machine, machine, word_at}

@@ -1,7 +1,8 @@
 -- Words on the stack: what is pushed reads back, and further pushes leave it.
 use Rattle.std.proofs.Common.{◌≡◌, ℕ, ◌+◌, ◌*◌, ◌/◌, ◌%◌, ◌<◌, ◌≢◌, true, ap, ◌∙◌, arith}
 use Rattle.board_types.specs.Address.{physical, offset_after}
-use Rattle.bus.specs.Bus.{BusMeaning, IsBus, with_word_at}
+use Rattle.bus.specs.Bus.{BusMeaning, with_word_at}
+use Rattle.bus.specs.Kept.{IsBus}
 use Rattle.execute_machine.specs.Locations.{word_at}
 
 -- different offsets of one segment have different addresses

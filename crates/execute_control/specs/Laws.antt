@@ -49,11 +49,14 @@ after_round body i r = after_looping (body r) Loop i
 -- Take whatever a loop repeats, if it leaves CX as it is. The LOOP of each round jumps, but that of the last of CX
 -- rounds doesn't, and then CX is 0.
 pub record LoopRuns (body : Registers → Registers) (i : Instr) (r : Registers) : Type 0 where
-  pub jumps : (k : ℕ) → k < loop_rounds r.cx → is_loop_taken (body (iterate (after_round body i) k r)) Loop ≡ nat_lt (k + 1) (loop_rounds r.cx)
+  pub jumps : (k : ℕ) → k < loop_rounds r.cx
+      → is_loop_taken (body (iterate (after_round body i) k r)) Loop ≡ nat_lt (k + 1) (loop_rounds r.cx)
   pub ends : (iterate (after_round body i) (loop_rounds r.cx) r).cx ≡ 0
 
 abbrev pub LoopRunsCxTimes : Type 0
-LoopRunsCxTimes = (body : Registers → Registers) → ((r : Registers) → (body r).cx ≡ r.cx) → (i : Instr) (r : Registers) → r.cx < 65536 → LoopRuns body i r
+LoopRunsCxTimes =
+    (body : Registers → Registers) → ((r : Registers) → (body r).cx ≡ r.cx) → (i : Instr) (r : Registers)
+    → r.cx < 65536 → LoopRuns body i r
 
 -- the address of the byte so far above the top of the stack
 abbrev pub stack_address : Registers → ℕ → ℕ
@@ -68,7 +71,9 @@ TakesPushes bus m bytes = (k : ℕ) → k < bytes → bus.is_writable m.bus (sta
 pub record KeepsStack {S : Type 0} (bus : BusMeaning S) (before after : Machine S) (bytes : ℕ) : Type 0 where
   pub ss : after.registers.ss ≡ before.registers.ss
   pub sp : after.registers.sp ≡ before.registers.sp
-  pub held : (k : ℕ) → k < bytes → bus.byte_at after.bus (stack_address before.registers k) ≡ bus.byte_at before.bus (stack_address before.registers k)
+  pub held : (k : ℕ) → k < bytes
+      → bus.byte_at after.bus (stack_address before.registers k)
+      ≡ bus.byte_at before.bus (stack_address before.registers k)
 
 -- a return from a near call: IP is that of the instruction after the CALL, and SP is what it was before the CALL and as
 -- much more as the return says; all else is as the subroutine left it
@@ -77,7 +82,10 @@ CallReturns {S} bus =
     (m n : Machine S) (call return : Instr) → m.registers.sp < 65536 → TakesPushes bus m 2
     → KeepsStack bus (after_control bus m Call call) n 2
     → after_control bus n Ret return
-    ≡ machine (record n.registers { ip = m.registers.ip; sp = offset_after m.registers.sp (control_operand bus n return) }) n.bus
+    ≡ machine (record n.registers {
+      ip = m.registers.ip;
+      sp = offset_after m.registers.sp (control_operand bus n return);
+    }) n.bus
 
 -- the same of a far call, with CS
 abbrev pub FarCallReturns : {S : Type 0} → BusMeaning S → Type 0
@@ -85,7 +93,11 @@ FarCallReturns {S} bus =
     (m n : Machine S) (call return : Instr) → m.registers.sp < 65536 → TakesPushes bus m 4
     → KeepsStack bus (after_control bus m CallFar call) n 4
     → after_control bus n Retf return
-    ≡ machine (record n.registers { ip = m.registers.ip; cs = m.registers.cs; sp = offset_after m.registers.sp (control_operand bus n return) }) n.bus
+    ≡ machine (record n.registers {
+      ip = m.registers.ip;
+      cs = m.registers.cs;
+      sp = offset_after m.registers.sp (control_operand bus n return);
+    }) n.bus
 
 -- an interrupt of any type, and the IRET of its handler: flags, CS, IP and SP are again what they were; all else is as
 -- the handler left it
@@ -94,4 +106,9 @@ InterruptReturns {S} bus =
     (m n : Machine S) (kind : ℕ) (return : Instr) → m.registers.sp < 65536 → TakesPushes bus m 6
     → KeepsStack bus (after_entry bus m kind) n 6
     → after_control bus n Iret return
-    ≡ machine (record n.registers { ip = m.registers.ip; cs = m.registers.cs; flags = m.registers.flags; sp = m.registers.sp }) n.bus
+    ≡ machine (record n.registers {
+      ip = m.registers.ip;
+      cs = m.registers.cs;
+      flags = m.registers.flags;
+      sp = m.registers.sp;
+    }) n.bus

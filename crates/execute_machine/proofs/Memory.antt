@@ -1,7 +1,8 @@
 -- A word that is written reads back, and leaves all other bytes as they are.
 use Rattle.std.proofs.Common.{◌≡◌, ◌≢◌, ◌<◌, ◌+◌, ◌*◌, ◌/◌, ◌%◌, ℕ, ap, ◌∙◌, arith}
 use Rattle.board_types.specs.Address.{physical, offset_after}
-use Rattle.bus.specs.Bus.{BusMeaning, IsBus, with_word_at}
+use Rattle.bus.specs.Bus.{BusMeaning, with_word_at}
+use Rattle.bus.specs.Kept.{IsBus}
 use Rattle.execute_machine.specs.Locations.{word_at}
 use Rattle.execute_machine.specs.Memory.{HoldsBytes, TakesWord}
 

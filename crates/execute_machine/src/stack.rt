@@ -10,7 +10,8 @@ use bus::Bus;
 /// Lowers SP by 2 and writes the word there.
 #[tactic(auto, unfolding(crate::specs::Stack::after_push))]
 pub fn push<B: Bus>(bus: &mut B, registers: &mut Registers, word: u16)
-    ensures { machine registers.new (B.state bus.new) ≡ after_push B.meaning (machine registers.old (B.state bus.old)) word }
+    ensures { machine registers.new (B.state bus.new)
+        ≡ after_push B.meaning (machine registers.old (B.state bus.old)) word }
 {
     registers.sp = registers.sp.wrapping_sub(2);
     write_word(bus, registers.ss, registers.sp, word);
@@ -44,7 +45,8 @@ pub fn pop<B: Bus>(bus: &B, registers: &mut Registers) -> u16
 
 #[tactic(auto, unfolding(crate::specs::Stack::after_entry_pushes))]
 fn push_state<B: Bus>(bus: &mut B, registers: &mut Registers)
-    ensures { machine registers.new (B.state bus.new) ≡ after_entry_pushes B.meaning (machine registers.old (B.state bus.old)) }
+    ensures { machine registers.new (B.state bus.new)
+        ≡ after_entry_pushes B.meaning (machine registers.old (B.state bus.old)) }
 {
     let flags = registers.flags.get().word();
     let (cs, ip) = (registers.cs, registers.ip);
@@ -55,7 +57,8 @@ fn push_state<B: Bus>(bus: &mut B, registers: &mut Registers)
 
 #[tactic(auto, unfolding(crate::specs::Stack::after_vector))]
 fn take_vector<B: Bus>(bus: &B, registers: &mut Registers, kind: u8)
-    ensures { machine registers.new (B.state bus.now) ≡ after_vector B.meaning (machine registers.old (B.state bus.now)) kind }
+    ensures { machine registers.new (B.state bus.now)
+        ≡ after_vector B.meaning (machine registers.old (B.state bus.now)) kind }
 {
     registers.flags.set_interrupt_enable(false);
     registers.flags.set_trap(false);
@@ -67,7 +70,8 @@ fn take_vector<B: Bus>(bus: &B, registers: &mut Registers, kind: u8)
 /// Enters the interrupt of this type: pushes FLAGS, CS and IP, clears IF and TF, then takes IP and CS from the vector.
 #[tactic(auto, unfolding(crate::specs::Stack::after_entry))]
 pub fn enter<B: Bus>(bus: &mut B, registers: &mut Registers, kind: u8)
-    ensures { machine registers.new (B.state bus.new) ≡ after_entry B.meaning (machine registers.old (B.state bus.old)) kind }
+    ensures { machine registers.new (B.state bus.new)
+        ≡ after_entry B.meaning (machine registers.old (B.state bus.old)) kind }
 {
     push_state(bus, registers);
     take_vector(bus, registers, kind);

@@ -33,13 +33,15 @@ pub record HoldsWords (r : Registers) : Type 0 where
 -- MUL leaves the product of the unsigned numbers in AX or DX:AX
 abbrev pub MulMultiplies : {S : Type 0} → BusMeaning S → Type 0
 MulMultiplies {S} bus = (m : Machine S) (i : Instr) →
-    dividend_of (after_product bus m Mul i).registers (operand_width m i) ≡ accumulator m.registers (operand_width m i) * operand_of bus m i
+    dividend_of (after_product bus m Mul i).registers (operand_width m i)
+    ≡ accumulator m.registers (operand_width m i) * operand_of bus m i
 
 -- IMUL leaves that of the signed numbers
 abbrev pub ImulMultiplies : {S : Type 0} → BusMeaning S → Type 0
 ImulMultiplies {S} bus = (m : Machine S) (i : Instr) → HoldsWords m.registers →
     signed (double_half (operand_width m i)) (dividend_of (after_product bus m Imul i).registers (operand_width m i))
-    ≡ signed (half_size (operand_width m i)) (accumulator m.registers (operand_width m i)) *ℤ signed (half_size (operand_width m i)) (operand_of bus m i)
+    ≡ signed (half_size (operand_width m i)) (accumulator m.registers (operand_width m i))
+    *ℤ signed (half_size (operand_width m i)) (operand_of bus m i)
 
 -- AH or DX
 abbrev pub remainder_of : Registers → Width → ℕ
@@ -54,9 +56,16 @@ pub record Divides (size dividend divisor quotient remainder : ℕ) : Type 0 whe
 
 -- DIV leaves them, and has a fault exactly where there are none
 pub record DivDivides {S : Type 0} (bus : BusMeaning S) : Type 0 where
-  pub divides : (m : Machine S) (i : Instr) → has_fault bus m Div i ≡ false → let after = (after_product bus m Div i).registers in Divides (size_of (operand_width m i)) (dividend_of m.registers (operand_width m i)) (operand_of bus m i) (accumulator after (operand_width m i)) (remainder_of after (operand_width m i))
-  pub refuses : (m : Machine S) (i : Instr) → has_fault bus m Div i ≡ true → (quotient remainder : ℕ) → Divides (size_of (operand_width m i)) (dividend_of m.registers (operand_width m i)) (operand_of bus m i) quotient remainder → ⊥
-  pub enters : (m : Machine S) (i : Instr) → has_fault bus m Div i ≡ true → after_product bus m Div i ≡ after_entry bus m 0
+  pub divides : (m : Machine S) (i : Instr) → has_fault bus m Div i ≡ false
+      → let after = (after_product bus m Div i).registers in
+      Divides (size_of (operand_width m i)) (dividend_of m.registers (operand_width m i)) (operand_of bus m i)
+      (accumulator after (operand_width m i)) (remainder_of after (operand_width m i))
+  pub refuses : (m : Machine S) (i : Instr) → has_fault bus m Div i ≡ true → (quotient remainder : ℕ)
+      → Divides (size_of (operand_width m i)) (dividend_of m.registers (operand_width m i)) (operand_of bus m i)
+      quotient remainder
+      → ⊥
+  pub enters : (m : Machine S) (i : Instr) → has_fault bus m Div i ≡ true
+      → after_product bus m Div i ≡ after_entry bus m 0
 
 -- The same of signed numbers: the remainder is 0 or has the dividend's sign, and the quotient's magnitude is below half
 -- of the values, so that the least number counts as not fitting (this board's choice).
@@ -68,9 +77,19 @@ pub record DividesSigned (half : ℕ) (dividend divisor quotient remainder : ℤ
 
 abbrev pub SignedDivision : Width → ℕ → ℕ → ℤ → ℤ → Type 0
 SignedDivision width dividend divisor quotient remainder =
-    DividesSigned (half_size width) (signed (double_half width) dividend) (signed (half_size width) divisor) quotient remainder
+    DividesSigned (half_size width) (signed (double_half width) dividend) (signed (half_size width) divisor)
+    quotient remainder
 
 pub record IdivDivides {S : Type 0} (bus : BusMeaning S) : Type 0 where
-  pub divides : (m : Machine S) (i : Instr) → HoldsWords m.registers → has_fault bus m Idiv i ≡ false → let after = (after_product bus m Idiv i).registers in SignedDivision (operand_width m i) (dividend_of m.registers (operand_width m i)) (operand_of bus m i) (signed (half_size (operand_width m i)) (accumulator after (operand_width m i))) (signed (half_size (operand_width m i)) (remainder_of after (operand_width m i)))
-  pub refuses : (m : Machine S) (i : Instr) → HoldsWords m.registers → has_fault bus m Idiv i ≡ true → (quotient remainder : ℤ) → SignedDivision (operand_width m i) (dividend_of m.registers (operand_width m i)) (operand_of bus m i) quotient remainder → ⊥
-  pub enters : (m : Machine S) (i : Instr) → has_fault bus m Idiv i ≡ true → after_product bus m Idiv i ≡ after_entry bus m 0
+  pub divides : (m : Machine S) (i : Instr) → HoldsWords m.registers → has_fault bus m Idiv i ≡ false
+      → let after = (after_product bus m Idiv i).registers in
+      SignedDivision (operand_width m i) (dividend_of m.registers (operand_width m i)) (operand_of bus m i)
+      (signed (half_size (operand_width m i)) (accumulator after (operand_width m i)))
+      (signed (half_size (operand_width m i)) (remainder_of after (operand_width m i)))
+  pub refuses : (m : Machine S) (i : Instr) → HoldsWords m.registers → has_fault bus m Idiv i ≡ true
+      → (quotient remainder : ℤ)
+      → SignedDivision (operand_width m i) (dividend_of m.registers (operand_width m i)) (operand_of bus m i)
+      quotient remainder
+      → ⊥
+  pub enters : (m : Machine S) (i : Instr) → has_fault bus m Idiv i ≡ true
+      → after_product bus m Idiv i ≡ after_entry bus m 0

@@ -90,7 +90,8 @@ fn finish_division<B: Bus>(
 ) -> bool
     requires quotient { IfSome division (λ d. d.quotient < size_of width) }
     requires remainder { IfSome division (λ d. d.remainder < size_of width) }
-    ensures machine { machine registers.new (B.state bus.new) ≡ after_division B.meaning (machine registers.old (B.state bus.old)) width division }
+    ensures machine { machine registers.new (B.state bus.new)
+        ≡ after_division B.meaning (machine registers.old (B.state bus.old)) width division }
     ensures fault { result ≡ is_none division }
 {
     match division {
@@ -114,7 +115,8 @@ fn perform_operation<B: Bus>(
     operand: u16,
 ) -> bool
     requires { operand < size_of width }
-    ensures machine { machine registers.new (B.state bus.new) ≡ after_operation B.meaning (machine registers.old (B.state bus.old)) operation width operand }
+    ensures machine { machine registers.new (B.state bus.new)
+        ≡ after_operation B.meaning (machine registers.old (B.state bus.old)) operation width operand }
     ensures fault { result ≡ has_no_quotient registers.old operation width operand }
 {
     let factor = accumulator(registers, width);
@@ -156,7 +158,8 @@ pub fn perform_product<B: Bus>(
     operation: Product,
     instr: &Instr,
 ) -> bool
-    ensures machine { machine registers.new (B.state bus.new) ≡ after_product B.meaning (machine registers.old (B.state bus.old)) operation instr.now }
+    ensures machine { machine registers.new (B.state bus.new)
+        ≡ after_product B.meaning (machine registers.old (B.state bus.old)) operation instr.now }
     ensures fault { result ≡ has_fault B.meaning (machine registers.old (B.state bus.old)) operation instr.now }
 {
     let place = locate(registers, instr, instr.form.row.first());

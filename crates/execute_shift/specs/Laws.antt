@@ -19,7 +19,8 @@ signed width value = if is_negative width value then pos value -ℤ pos (size_of
 -- SHL by n is times 2 ^ n, modulo the width
 abbrev pub ShlMultiplies : Type 0
 ShlMultiplies =
-    (width : Width) (s : Shifted) (n : ℕ) → s.value < size_of width → (after_shifts Shl width s n).value ≡ s.value * 2 ^ n % size_of width
+    (width : Width) (s : Shifted) (n : ℕ) → s.value < size_of width
+    → (after_shifts Shl width s n).value ≡ s.value * 2 ^ n % size_of width
 
 -- SHR by n divides an unsigned number by 2 ^ n, toward 0
 abbrev pub ShrDivides : Type 0
@@ -35,12 +36,15 @@ pub record IsFloor (dividend : ℤ) (divisor : ℕ) (quotient : ℤ) : Type 0 wh
 -- SAR by n divides a signed number by 2 ^ n, toward minus infinity
 abbrev pub SarDivides : Type 0
 SarDivides =
-    (width : Width) (s : Shifted) (n : ℕ) → s.value < size_of width → IsFloor (signed width s.value) (2 ^ n) (signed width (after_shifts Sar width s n).value)
+    (width : Width) (s : Shifted) (n : ℕ) → s.value < size_of width
+    → IsFloor (signed width s.value) (2 ^ n) (signed width (after_shifts Sar width s n).value)
 
 -- ROL and ROR by the width give the operand back
 pub record RotatesTurnRound : Type 0 where
-  pub rol : (width : Width) (s : Shifted) → s.value < size_of width → (after_shifts Rol width s (bits_of width)).value ≡ s.value
-  pub ror : (width : Width) (s : Shifted) → s.value < size_of width → (after_shifts Ror width s (bits_of width)).value ≡ s.value
+  pub rol : (width : Width) (s : Shifted) → s.value < size_of width
+      → (after_shifts Rol width s (bits_of width)).value ≡ s.value
+  pub ror : (width : Width) (s : Shifted) → s.value < size_of width
+      → (after_shifts Ror width s (bits_of width)).value ≡ s.value
 
 -- the operand and CF are as they were
 pub record SameWithCarry (before after : Shifted) : Type 0 where
@@ -49,5 +53,7 @@ pub record SameWithCarry (before after : Shifted) : Type 0 where
 
 -- RCL and RCR by the width and 1 give the operand and CF back
 pub record RotatesThroughCarryTurnRound : Type 0 where
-  pub rcl : (width : Width) (s : Shifted) → s.value < size_of width → SameWithCarry s (after_shifts Rcl width s (bits_of width + 1))
-  pub rcr : (width : Width) (s : Shifted) → s.value < size_of width → SameWithCarry s (after_shifts Rcr width s (bits_of width + 1))
+  pub rcl : (width : Width) (s : Shifted) → s.value < size_of width
+      → SameWithCarry s (after_shifts Rcl width s (bits_of width + 1))
+  pub rcr : (width : Width) (s : Shifted) → s.value < size_of width
+      → SameWithCarry s (after_shifts Rcr width s (bits_of width + 1))

@@ -46,7 +46,8 @@ pub fn perform_shift<B: Bus>(
     operation: Shift,
     instr: &Instr,
 )
-    ensures { machine registers.new (B.state bus.new) ≡ after_shift B.meaning (machine registers.old (B.state bus.old)) operation instr.now }
+    ensures { machine registers.new (B.state bus.new)
+        ≡ after_shift B.meaning (machine registers.old (B.state bus.old)) operation instr.now }
 {
     let place = locate(registers, instr, instr.form.row.first());
     let counter = locate(registers, instr, instr.form.row.second());

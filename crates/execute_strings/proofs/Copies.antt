@@ -9,7 +9,8 @@ use Rattle.isa.specs.declared.register.SegmentRegister.TheVariants.{Es, Cs, Ss, 
 use Rattle.isa.specs.declared.register.WordRegister.TheVariants.{Cx, Si, Di}
 use Rattle.isa.specs.declared.form.Instr.{Instr}
 use Rattle.isa.specs.Prefixes.{chosen_segment}
-use Rattle.bus.specs.Bus.{BusMeaning, IsBus, with_word_at}
+use Rattle.bus.specs.Bus.{BusMeaning, with_word_at}
+use Rattle.bus.specs.Kept.{IsBus}
 use Rattle.execute_machine.specs.declared.width.Width.{Width}
 use Rattle.execute_machine.specs.declared.width.Width.TheVariants as widths
 use Rattle.execute_machine.specs.declared.registers.Registers.{Registers}

@@ -33,7 +33,8 @@ element_offset true first size n = (first + 65536 * n - size * n) % 65536
 
 -- element n of the source and of the destination that these registers begin
 abbrev pub source_element : Registers → Width → Instr → ℕ → OperandLocation
-source_element r width i n = element_at width (segment_for r i Ds) (element_offset r.flags.direction r.si (element_size width) n)
+source_element r width i n =
+    element_at width (segment_for r i Ds) (element_offset r.flags.direction r.si (element_size width) n)
 
 abbrev pub destination_element : Registers → Width → ℕ → OperandLocation
 destination_element r width n = element_at width r.es (element_offset r.flags.direction r.di (element_size width) n)
@@ -47,7 +48,8 @@ TakesElement bus s _ = ⊥
 -- an address isn't one of an element's
 abbrev pub IsOutside : ℕ → OperandLocation → Type 0
 IsOutside address (ByteAt segment offset) = address ≢ physical segment offset
-IsOutside address (WordAt segment offset) = (address ≢ physical segment offset) × (address ≢ physical segment (offset_after offset 1))
+IsOutside address (WordAt segment offset) =
+    (address ≢ physical segment offset) × (address ≢ physical segment (offset_after offset 1))
 IsOutside address _ = Unit {0}
 
 -- MOVS copies element after element, up or down. Iteration n puts element n of the source, as memory stands after the
@@ -60,7 +62,8 @@ pub record CopiesInOrder {S : Type 0} (bus : BusMeaning S) : Type 0 where
       ≡ value_at bus (after_copies bus m width i n) (source_element m.registers width i n)
   pub others : (m : Machine S) (width : Width) (i : Instr) (n address : ℕ) → HoldsWords m.registers
       → IsOutside address (destination_element m.registers width n)
-      → bus.byte_at (after_copies bus m width i (n + 1)).bus address ≡ bus.byte_at (after_copies bus m width i n).bus address
+      → bus.byte_at (after_copies bus m width i (n + 1)).bus address
+      ≡ bus.byte_at (after_copies bus m width i n).bus address
   pub registers : (m : Machine S) (width : Width) (i : Instr) (n : ℕ) → HoldsWords m.registers
       → (after_copies bus m width i n).registers ≡ record m.registers {
         si = element_offset m.registers.flags.direction m.registers.si (element_size width) n;

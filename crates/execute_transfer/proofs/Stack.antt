@@ -12,7 +12,8 @@ use Rattle.isa.specs.declared.form.Place.TheVariants.{Absent, Register, Direct, 
 use Rattle.isa.specs.declared.form.Instr.{Instr}
 use Rattle.isa.specs.Prefixes.{chosen_segment}
 use Rattle.isa.specs.Row.{first_of}
-use Rattle.bus.specs.Bus.{BusMeaning, IsBus}
+use Rattle.bus.specs.Bus.{BusMeaning}
+use Rattle.bus.specs.Kept.{IsBus}
 use Rattle.execute_machine.specs.declared.registers.Registers.{Registers}
 use Rattle.execute_machine.specs.Registers.{segment_register}
 use Rattle.execute_machine.specs.declared.location.OperandLocation.{OperandLocation}

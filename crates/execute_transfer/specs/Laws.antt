@@ -26,7 +26,8 @@ PopGivesBack {S} bus =
     → TakesWord bus m.bus m.registers.ss (offset_after m.registers.sp 65534)
     → let pushed = after_transfer bus m Push i in
     after_transfer bus pushed Pop j
-    ≡ with_value_at bus (machine m.registers pushed.bus) (first_place m.registers j) (pushed_operand bus m (first_place m.registers i))
+    ≡ with_value_at bus (machine m.registers pushed.bus) (first_place m.registers j)
+    (pushed_operand bus m (first_place m.registers i))
 
 -- where the stack takes bytes, PUSH SP stores SP as it lowered it
 abbrev pub PushSpStoresTheLowered : {S : Type 0} → BusMeaning S → Type 0
@@ -84,9 +85,11 @@ with_half b word byte = if nat_lt (byte_register_number b) 4 then word / 256 * 2
 -- a byte register is that half of its word register, and to write it leaves the other half and all other registers
 pub record ByteRegistersAreHalves : Type 0 where
   pub read : (r : Registers) (b : ByteRegister) → byte_register r b ≡ half_of b (word_register r (holder b))
-  pub write : (r : Registers) (b : ByteRegister) (byte : ℕ) → with_byte_register r b byte ≡ with_word_register r (holder b) (with_half b (word_register r (holder b)) byte)
+  pub write : (r : Registers) (b : ByteRegister) (byte : ℕ)
+      → with_byte_register r b byte ≡ with_word_register r (holder b) (with_half b (word_register r (holder b)) byte)
 
 -- what is written to a register reads back
 pub record RegistersReadBack : Type 0 where
-  pub byte : (r : Registers) (b : ByteRegister) (byte : ℕ) → byte < 256 → byte_register (with_byte_register r b byte) b ≡ byte
+  pub byte : (r : Registers) (b : ByteRegister) (byte : ℕ) → byte < 256
+      → byte_register (with_byte_register r b byte) b ≡ byte
   pub word : (r : Registers) (w : WordRegister) (word : ℕ) → word_register (with_word_register r w word) w ≡ word

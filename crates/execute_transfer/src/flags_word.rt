@@ -13,7 +13,8 @@ use isa::register::ByteRegister;
 
 #[tactic(auto, unfolding(crate::specs::Meaning::after_pushf))]
 pub(crate) fn perform_pushf<B: Bus>(bus: &mut B, registers: &mut Registers)
-    ensures { machine registers.new (B.state bus.new) ≡ after_pushf B.meaning (machine registers.old (B.state bus.old)) }
+    ensures { machine registers.new (B.state bus.new)
+        ≡ after_pushf B.meaning (machine registers.old (B.state bus.old)) }
 {
     let word = registers.flags.get().word();
     push(bus, registers, word);

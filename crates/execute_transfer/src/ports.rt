@@ -29,14 +29,16 @@ fn is_ax(kind: Kind) -> bool
 
 #[tactic(auto, unfolding(crate::specs::Meaning::after_byte_input))]
 fn input_byte<B: Bus>(bus: &mut B, registers: &mut Registers, port: u16)
-    ensures { machine registers.new (B.state bus.new) ≡ after_byte_input B.meaning (machine registers.old (B.state bus.old)) port }
+    ensures { machine registers.new (B.state bus.new)
+        ≡ after_byte_input B.meaning (machine registers.old (B.state bus.old)) port }
 {
     set_byte(registers, ByteRegister::Al, bus.in8(port));
 }
 
 #[tactic(auto, unfolding(crate::specs::Meaning::after_word_input))]
 fn input_word<B: Bus>(bus: &mut B, registers: &mut Registers, port: u16)
-    ensures { machine registers.new (B.state bus.new) ≡ after_word_input B.meaning (machine registers.old (B.state bus.old)) port }
+    ensures { machine registers.new (B.state bus.new)
+        ≡ after_word_input B.meaning (machine registers.old (B.state bus.old)) port }
 {
     let low = bus.in8(port);
     let high = bus.in8(port.wrapping_add(1));
@@ -45,7 +47,8 @@ fn input_word<B: Bus>(bus: &mut B, registers: &mut Registers, port: u16)
 
 #[tactic(auto, unfolding(crate::specs::Meaning::after_in))]
 pub(crate) fn perform_in<B: Bus>(bus: &mut B, registers: &mut Registers, instr: &Instr)
-    ensures { machine registers.new (B.state bus.new) ≡ after_in B.meaning (machine registers.old (B.state bus.old)) instr.now }
+    ensures { machine registers.new (B.state bus.new)
+        ≡ after_in B.meaning (machine registers.old (B.state bus.old)) instr.now }
 {
     let port = port_of(instr.form.row.second(), registers.dx, instr.values.number);
     if is_ax(instr.form.row.first()) {
@@ -57,7 +60,8 @@ pub(crate) fn perform_in<B: Bus>(bus: &mut B, registers: &mut Registers, instr: 
 
 #[tactic(auto, unfolding(crate::specs::Meaning::after_out, crate::specs::Meaning::outputs_of))]
 pub(crate) fn perform_out<B: Bus>(bus: &mut B, registers: &Registers, instr: &Instr)
-    ensures { machine registers.now (B.state bus.new) ≡ after_out B.meaning (machine registers.now (B.state bus.old)) instr.now }
+    ensures { machine registers.now (B.state bus.new)
+        ≡ after_out B.meaning (machine registers.now (B.state bus.old)) instr.now }
 {
     let port = port_of(instr.form.row.first(), registers.dx, instr.values.number);
     bus.out8(port, (registers.ax % 256) as u8);

@@ -21,7 +21,8 @@ use Rattle.isa.specs.declared.form.Prefix.TheVariants.{Segment, Lock, Repeat}
 use Rattle.isa.specs.Table.{rows}
 use Rattle.isa.specs.Layout.{code_part, field_part, field_size, second_part, second_size}
 use Rattle.isa.specs.Encoding.{code_number, displacement_field, encoding, field_bytes, form_length, prefix_byte, second_bytes, FitsCode, IsForm}
-use Rattle.isa.specs.Parts.{begins, is_named, is_second, has_opcode, is_before, HasDigit}
+use Rattle.isa.specs.Parts.{begins, is_named, is_second}
+use Rattle.isa.specs.Rows.{has_opcode, is_before, HasDigit}
 use Rattle.isa.specs.Laws.{LengthIsTheForms, NoPrefixIsARow, OneRowFits}
 
 left_true : (s t : Bool) → (s && t) ≡ true → s ≡ true

@@ -12,7 +12,8 @@ use Rattle.isa.specs.Parts.{begins}
 -- no bytes fit two rows
 abbrev pub OneRowFits : Type 0
 OneRowFits =
-    (opcode next : ℕ) (r s : Row) → opcode < 256 → Contains rows r → Contains rows s → begins r opcode next ≡ true → begins s opcode next ≡ true → r ≡ s
+    (opcode next : ℕ) (r s : Row) → opcode < 256 → Contains rows r → Contains rows s → begins r opcode next ≡ true
+    → begins s opcode next ≡ true → r ≡ s
 
 -- an instruction is as long as its form, whatever the numbers in its fields
 abbrev pub LengthIsTheForms : Type 0

@@ -7,3 +7,4 @@ pub mod Prefixes
 pub mod Parts
 pub mod Clocks
 pub mod Laws
+pub mod Rows

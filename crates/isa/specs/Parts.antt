@@ -1,7 +1,6 @@
 -- Whether the opcode and the byte after it are a row's.
 -- To be believed: public contracts say what they say by these definitions.
-use Rattle.std.specs.Prelude.{ℕ, ◌+◌, ◌-◌, ◌/◌, ◌%◌, ◌<◌, ◌==◌, Bool, true, not, ◌&&◌, nat_le, nat_lt, Option, find, length, take}
-use Rattle.std.specs.List.{list_all}
+use Rattle.std.specs.Prelude.{ℕ, ◌+◌, ◌-◌, ◌/◌, ◌%◌, ◌==◌, Bool, true, not, ◌&&◌, nat_le, nat_lt, Option, find}
 use Rattle.isa.specs.declared.layout.CodePart.{CodePart}
 use Rattle.isa.specs.declared.layout.CodePart.TheVariants as code_parts
 use Rattle.isa.specs.declared.layout.RegPart.{RegPart}
@@ -13,11 +12,6 @@ use Rattle.isa.specs.declared.layout.Second.TheVariants as seconds
 use Rattle.isa.specs.declared.row.Row.{Row}
 use Rattle.isa.specs.Table.{rows}
 use Rattle.isa.specs.Layout.{code_part, second_part}
-
--- a digit is one that reg can hold
-abbrev pub HasDigit : Second → Type 0
-HasDigit (seconds.Addressing (reg_parts.Digit digit) _) = digit < 8
-HasDigit _ = Unit {0}
 
 -- a segment register but CS
 abbrev pub is_segment : ℕ → Bool
@@ -58,10 +52,3 @@ begins r opcode next = is_code (code_part r) r.opcode opcode && is_second (secon
 -- the row that an opcode, with the byte after it, begins
 unfoldable pub row_at : ℕ → ℕ → Option Row
 row_at opcode next = find (λ r. begins r opcode next) rows
-
--- so many rows come before the first that has the opcode
-abbrev pub has_opcode : ℕ → Row → Bool
-has_opcode opcode r = is_code (code_part r) r.opcode opcode
-
-abbrev pub is_before : ℕ → ℕ → Bool
-is_before opcode count = nat_le count (length rows) && list_all (λ r. not (has_opcode opcode r)) (take count rows)

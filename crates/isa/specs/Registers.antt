@@ -37,11 +37,13 @@ segment_register_number Ds = 3
 -- the register with a number; above the last one's number the last
 abbrev pub byte_register_of : ℕ → ByteRegister
 byte_register_of n =
-    cond (n == 0) Al (cond (n == 1) Cl (cond (n == 2) Dl (cond (n == 3) Bl (cond (n == 4) Ah (cond (n == 5) Ch (cond (n == 6) Dh Bh))))))
+    cond (n == 0) Al (cond (n == 1) Cl (cond (n == 2) Dl (cond (n == 3) Bl
+    (cond (n == 4) Ah (cond (n == 5) Ch (cond (n == 6) Dh Bh))))))
 
 abbrev pub word_register_of : ℕ → WordRegister
 word_register_of n =
-    cond (n == 0) Ax (cond (n == 1) Cx (cond (n == 2) Dx (cond (n == 3) Bx (cond (n == 4) Sp (cond (n == 5) Bp (cond (n == 6) Si Di))))))
+    cond (n == 0) Ax (cond (n == 1) Cx (cond (n == 2) Dx (cond (n == 3) Bx
+    (cond (n == 4) Sp (cond (n == 5) Bp (cond (n == 6) Si Di))))))
 
 abbrev pub segment_register_of : ℕ → SegmentRegister
 segment_register_of n =

@@ -59,8 +59,9 @@ shifts f = f Rol 0 ∷ f Ror 1 ∷ f Rcl 2 ∷ f Rcr 3 ∷ f Shl 4 ∷ f Shr 5 �
 
 abbrev pub conditions : (JumpCondition → ℕ → Row) → List Row
 conditions f =
-    f Overflow 0 ∷ f NotOverflow 1 ∷ f Below 2 ∷ f NotBelow 3 ∷ f Zero 4 ∷ f NotZero 5 ∷ f BelowOrZero 6 ∷ f Above 7
-    ∷ f Sign 8 ∷ f NotSign 9 ∷ f Parity 10 ∷ f NotParity 11 ∷ f Less 12 ∷ f NotLess 13 ∷ f LessOrZero 14 ∷ f Greater 15 ∷ []
+    f Overflow 0 ∷ f NotOverflow 1 ∷ f Below 2 ∷ f NotBelow 3 ∷ f Zero 4 ∷ f NotZero 5 ∷ f BelowOrZero 6
+    ∷ f Above 7 ∷ f Sign 8 ∷ f NotSign 9 ∷ f Parity 10 ∷ f NotParity 11 ∷ f Less 12 ∷ f NotLess 13
+    ∷ f LessOrZero 14 ∷ f Greater 15 ∷ []
 
 -- CMP writes nothing back
 abbrev pub with_immediate : ArithmeticType → Clocks

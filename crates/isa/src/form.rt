@@ -184,6 +184,19 @@ pub struct Instr {
 }
 
 impl Instr {
+    /// The same instruction once more; it takes no memory.
+    pub fn copied(&self) -> Instr
+        ensures { result ≡ self.now }
+    {
+        let mut prefixes = ArrayVec::new();
+        let _ = prefixes.try_extend_from_slice(self.prefixes.as_slice());
+        Instr {
+            prefixes,
+            form: self.form,
+            values: self.values,
+        }
+    }
+
     /// How many bytes the instruction has, its prefixes counted.
     pub fn length(&self) -> u8
         ensures value { result ≡ instr_length self.now }

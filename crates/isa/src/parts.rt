@@ -1,6 +1,7 @@
 //! The row that bytes begin with.
 ghost use Rattle.std.specs.Prelude.{◌≡◌, IsTrue, find};
-ghost use Rattle.isa.specs.Parts.{begins, is_before, is_code, is_named, is_reg, is_second, is_segment_not_cs, row_at};
+ghost use Rattle.isa.specs.Parts.{begins, is_code, is_named, is_reg, is_second, is_segment_not_cs, row_at};
+ghost use Rattle.isa.specs.Rows.{is_before};
 
 use crate::layout::{CodePart, PlacePart, RegPart, Second};
 use crate::row::Row;

@@ -56,11 +56,13 @@ pub data IsMerge : List ℕ → List ℕ → List ℕ → Type 0 where
 -- what becomes of the codes of a run from a keyboard
 pub record AccountsForCodes (s : KeyboardState) (es : List Event) : Type 0 where
   -- first in, first out: those taken and then those still held are those held at first and then those accepted
-  pub in_order : codes_along taken_codes s es ++ held_codes (after_events s es) ≡ held_codes s ++ codes_along accepted_codes s es
+  pub in_order : codes_along taken_codes s es ++ held_codes (after_events s es)
+      ≡ held_codes s ++ codes_along accepted_codes s es
   -- each code that arrives is accepted or lost, and none is both
   pub once : IsMerge (codes_along arriving_codes s es) (codes_along accepted_codes s es) (codes_along lost_codes s es)
   -- the lost ones are counted, up to the greatest u64
-  pub counted : s.lost < 2 ^ 64 → (after_events s es).lost ≡ min (s.lost + length (codes_along lost_codes s es)) (2 ^ 64 - 1)
+  pub counted : s.lost < 2 ^ 64
+      → (after_events s es).lost ≡ min (s.lost + length (codes_along lost_codes s es)) (2 ^ 64 - 1)
   -- no more than sixteen ever wait
   pub within : length s.waiting ≤ 16 → length (after_events s es).waiting ≤ 16
 

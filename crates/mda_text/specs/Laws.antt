@@ -20,7 +20,8 @@ with_start m start =
 -- cell (r, c) shows the word that is 80 r + c further on
 pub record StartsAt (m : MdaState) (start : ℕ) : Type 0 where
   pub given : start < 2 ^ 14 → (with_start m start).start ≡ start
-  pub words : (row column : ℕ) → start < 2 ^ 14 → word_at (with_start m start) row column ≡ (start + 80 * row + column) % 2048
+  pub words : (row column : ℕ) → start < 2 ^ 14
+      → word_at (with_start m start) row column ≡ (start + 80 * row + column) % 2048
 
 -- no word is shown twice
 abbrev pub ShowsOnce : MdaState → Type 0
@@ -31,22 +32,26 @@ ShowsOnce m =
 -- what cells show is told by text memory, start address and video enable alone
 abbrev pub ShowsAlike : MdaState → MdaState → Type 0
 ShowsAlike m other =
-    m.bytes ≡ other.bytes → m.start ≡ other.start → m.video ≡ other.video → (row column : ℕ) → cell m row column ≡ cell other row column
+    m.bytes ≡ other.bytes → m.start ≡ other.start → m.video ≡ other.video → (row column : ℕ)
+    → cell m row column ≡ cell other row column
 
 -- with a start address 80 words on, round the 2,048 words, the screen has moved up by a row
 abbrev pub Scrolls : MdaState → ℕ → Type 0
 Scrolls m start =
-    (row column : ℕ) → start < 2 ^ 14 → start % 2048 ≡ (m.start + 80) % 2048 → cell (with_start m start) row column ≡ cell m (row + 1) column
+    (row column : ℕ) → start < 2 ^ 14 → start % 2048 ≡ (m.start + 80) % 2048
+    → cell (with_start m start) row column ≡ cell m (row + 1) column
 
 -- a byte written to text memory changes no cell but those that show its word
 abbrev pub ChangesOneCell : MdaState → ℕ → ℕ → Type 0
 ChangesOneCell m offset byte =
-    (row column : ℕ) → word_at m row column ≢ offset / 2 → cell (with_text_byte m offset byte) row column ≡ cell m row column
+    (row column : ℕ) → word_at m row column ≢ offset / 2
+    → cell (with_text_byte m offset byte) row column ≡ cell m row column
 
 -- text memory is memory: a byte written reads back, all others stay, and nothing else writes to it
 pub record IsMemory (m : MdaState) : Type 0 where
   pub reads_back : (offset byte : ℕ) → offset < length m.bytes → text_byte (with_text_byte m offset byte) offset ≡ byte
-  pub others_stay : (offset byte other : ℕ) → other ≢ offset → text_byte (with_text_byte m offset byte) other ≡ text_byte m other
+  pub others_stay : (offset byte other : ℕ) → other ≢ offset
+      → text_byte (with_text_byte m offset byte) other ≡ text_byte m other
   pub size_stays : (offset byte : ℕ) → length (with_text_byte m offset byte).bytes ≡ length m.bytes
   pub ports_stay : (offset byte port : ℕ) → byte_at (with_text_byte m offset byte) port ≡ byte_at m port
   pub port_writes : (port byte : ℕ) → (after_write m port byte).bytes ≡ m.bytes
@@ -96,9 +101,11 @@ since_mark m es = after_events (after_mark m) es
 pub record TellsChanges (m : MdaState) (es : List Event) : Type 0 where
   -- a cell is named, while the mark has a number, exactly if it shows another character than at the mark
   pub named : m.next_mark ≢ 0 → (row column : ℕ) → IsCell row column
-      → Contains (changed_cells (since_mark m es) m.next_mark) (row, column) ↔ (cell (since_mark m es) row column ≢ cell m row column)
+      → Contains (changed_cells (since_mark m es) m.next_mark) (row, column)
+      ↔ (cell (since_mark m es) row column ≢ cell m row column)
   -- by any other number all cells are named
-  pub all : (mark row column : ℕ) → (mark ≢ m.next_mark) ⊎ (mark ≡ 0) → IsCell row column → Contains (changed_cells (since_mark m es) mark) (row, column)
+  pub all : (mark row column : ℕ) → (mark ≢ m.next_mark) ⊎ (mark ≡ 0) → IsCell row column
+      → Contains (changed_cells (since_mark m es) mark) (row, column)
   -- in rising order, each once
   pub rising : (mark : ℕ) → AllPairs (λ a b. 80 * a.0 + a.1 < 80 * b.0 + b.1) (changed_cells (since_mark m es) mark)
 

@@ -1,7 +1,7 @@
 -- The memory map: one byte for each of 1,048,576 addresses. What stands at the text adapter's addresses is
 -- its own, and not said here.
 -- To be believed: public contracts say what they say by these definitions.
-use Rattle.std.specs.Prelude.{ℕ, ◌≡◌, ◌≢◌, ◌+◌, ◌*◌, ◌%◌, ◌<◌, ◌≤◌, ◌&&◌, Bool, true, false, if◌then◌else◌, nat_lt, List, map, length, slice_index, slice_set, unwrap_or, Option, IsSome}
+use Rattle.std.specs.Prelude.{ℕ, ◌≡◌, ◌%◌, ◌<◌, ◌≤◌, ◌&&◌, Bool, true, false, if◌then◌else◌, nat_lt, List, map, length, slice_index, slice_set, unwrap_or, Option, IsSome}
 use Rattle.std.specs.List.{range_with_len}
 use Rattle.board_types.specs.Image.{image_byte}
 use Rattle.memory.specs.declared.region.Region.{Region}
@@ -77,22 +77,3 @@ FitsRam image ram_size = (address : ℕ) → ram_size ≤ address → address < 
 abbrev pub memory_fault_number : MemoryFault → ℕ
 memory_fault_number RamSize = 36
 memory_fault_number OutOfMemory = 41
-
--- a byte reads back where there is RAM, elsewhere nothing changes, and a write leaves every other byte as it is
-abbrev pub WriteChangesRamAlone : Type 0
-WriteChangesRamAlone =
-    (memory : MemoryMap) (address byte : ℕ) →
-    (is_writable memory address ≡ true → byte_at (with_byte memory address byte) address ≡ byte)
-    × (is_writable memory address ≡ false → with_byte memory address byte ≡ memory)
-    × ((other : ℕ) → other ≢ address → byte_at (with_byte memory address byte) other ≡ byte_at memory other)
-    × ((with_byte memory address byte).ram_size ≡ memory.ram_size)
-
--- of a whole map all RAM can be written
-abbrev pub RamIsWritable : Type 0
-RamIsWritable = (memory : MemoryMap) (address : ℕ) → IsMap memory → address < memory.ram_size → is_writable memory address ≡ true
-
--- at power-on each address has the byte of its region
-abbrev pub PowerOnBytes : Type 0
-PowerOnBytes =
-    (image : List (ℕ × ℕ)) (ram_size address : ℕ) → address < address_count →
-    byte_at (power_on image ram_size) address ≡ power_on_byte image ram_size address

@@ -2,5 +2,6 @@
 //! elsewhere (IBM PC Technical Reference, "System Memory Map").
 #![tactic(auto)]
 
+pub mod laws;
 pub mod map;
 pub mod region;

@@ -3,7 +3,7 @@ ghost use Rattle.std.specs.Prelude.{◌≡◌, ◌<◌, ◌*◌, ◌^◌, IfOk, 
 ghost use Rattle.std.specs.List.{range_with_len};
 ghost use Rattle.std.specs.Result.{IsErrOf};
 ghost use Rattle.memory.specs.Regions.{IsTextAddress};
-ghost use Rattle.memory.specs.Map.{address_count, byte_at, with_byte, power_on, power_on_byte, memory_fault_number, IsRamSize, FitsRam, IsMap, PowerOnBytes, RamIsWritable, WriteChangesRamAlone};
+ghost use Rattle.memory.specs.Map.{address_count, byte_at, with_byte, power_on, power_on_byte, memory_fault_number, IsRamSize, FitsRam, IsMap};
 
 use crate::region::{Region, region_of};
 use board_types::address::RAM_LIMIT;
@@ -33,6 +33,14 @@ impl MemoryFault {
     }
 }
 
+impl From<AllocError> for MemoryFault {
+    ghost from_gives = { λ _ fault. fault ≡ MemoryFault.OutOfMemory };
+
+    fn from(_error: AllocError) -> MemoryFault {
+        MemoryFault::OutOfMemory
+    }
+}
+
 /// The board's memory: a byte for each address outside the text adapter's.
 #[derive(Drop)]
 pub struct Memory {
@@ -59,7 +67,8 @@ impl Memory {
         ensures power_on { IfOk result (λ memory. memory ≡ power_on image.now (1024 * ram_kb)) }
         ensures size { OnOk result (IsRamSize ram_kb) }
         ensures fits { OnOk result (FitsRam image.now (1024 * ram_kb)) }
-        ensures refused { IsErrOf result MemoryFault.RamSize ↔ (¬ (IsRamSize ram_kb × FitsRam image.now (1024 * ram_kb))) }
+        ensures refused { IsErrOf result MemoryFault.RamSize
+            ↔ (¬ (IsRamSize ram_kb × FitsRam image.now (1024 * ram_kb))) }
     {
         if !is_ram_size(ram_kb) {
             return Err(MemoryFault::RamSize);
@@ -68,10 +77,8 @@ impl Memory {
         if !fits_ram(image, ram_size) {
             return Err(MemoryFault::RamSize);
         }
-        match power_on_cells(alloc, ram_size, image, address_count()) {
-            Ok(cells) => Ok(Memory { ram_size, cells }),
-            Err(_) => Err(MemoryFault::OutOfMemory),
-        }
+        let cells = power_on_cells(alloc, ram_size, image, address_count())?;
+        Ok(Memory { ram_size, cells })
     }
 
     /// The byte at `addr`, below 100000h and outside the text adapter's memory.
@@ -113,22 +120,6 @@ impl Memory {
     }
 }
 
-/// A write changes the byte of a RAM address and no other, and an address where nothing answers, or in the ROM,
-/// keeps its byte.
-pub fn write_changes_ram_alone()
-    ensures { WriteChangesRamAlone }
-{}
-
-/// All RAM can be written.
-pub fn ram_is_writable()
-    ensures { RamIsWritable }
-{}
-
-/// At power-on each address has the byte of its region.
-pub fn power_on_bytes()
-    ensures { PowerOnBytes }
-{}
-
 /// Whether a board can have `ram_kb` times 1,024 bytes of RAM.
 fn is_ram_size(ram_kb: u16) -> bool
     ensures { IsTrue result ↔ IsRamSize ram_kb }
@@ -164,7 +155,8 @@ fn power_on_cells(
     image: &Image,
     count: u32,
 ) -> Result<Vec<u8>, AllocError>
-    ensures cells { IfOk result (λ cells. cells.items ≡ map (power_on_byte image.now ram_size) (range_with_len 0 count)) }
+    ensures cells { IfOk result
+        (λ cells. cells.items ≡ map (power_on_byte image.now ram_size) (range_with_len 0 count)) }
     ensures length { IfOk result (λ cells. length cells.items ≡ count) }
 {
     let mut cells = Vec::with_capacity(alloc, count as usize)?;

@@ -20,11 +20,13 @@ abbrev pub all_keep_line : List Event → ℕ → Bool
 all_keep_line [] level = true
 all_keep_line (event ∷ earlier) level = keeps_line event level && all_keep_line earlier level
 
--- in edge mode a level that was taken doesn't ask again until its line has fallen and risen; then it asks. In level mode
--- it asks as long as its line is high
+-- in edge mode a level that was taken doesn't ask again until its line has fallen and risen; then it asks. In level
+-- mode it asks as long as its line is high
 pub record AsksByEdge (s : PicState) (level : ℕ) : Type 0 where
-  pub once : s.is_level_triggered ≡ false → contains s.high level ≡ true → (later : List Event) → all_keep_line later level ≡ true → asks (after_events (after_taking s level) later) level ≡ false
-  pub again : level < length s.high → level < length s.risen → asks (after_line (after_line s level Low) level High) level ≡ true
+  pub once : s.is_level_triggered ≡ false → contains s.high level ≡ true → (later : List Event)
+      → all_keep_line later level ≡ true → asks (after_events (after_taking s level) later) level ≡ false
+  pub again : level < length s.high → level < length s.risen
+      → asks (after_line (after_line s level Low) level High) level ≡ true
   pub always : s.is_level_triggered ≡ true → asks s level ≡ contains s.high level
 
 abbrev pub AsksOnceARise : Type 0

@@ -53,7 +53,8 @@ RotationTurns =
 abbrev pub BeginsAnew : Type 0
 BeginsAnew =
     (s : PicState) (value : ℕ) → has_bit value 4 ≡ true
-    → after_write s false value ≡ after_write (record power_on { high = s.high; vector_base = s.vector_base; slaves = s.slaves }) false value
+    → after_write s false value
+    ≡ after_write (record power_on { high = s.high; vector_base = s.vector_base; slaves = s.slaves }) false value
 
 -- the words that follow this ICW1 at A0 = 1: ICW2, ICW3 where it isn't single, and ICW4 where it asks for it
 abbrev pub later_words : ℕ → ℕ → ℕ → ℕ → List ℕ
@@ -86,7 +87,8 @@ pub record IsDeafInSequence (s : PicState) : Type 0 where
 
 abbrev pub WaitsForSequence : Type 0
 WaitsForSequence =
-    (s : PicState) → (is_operating s.expected ≡ false → IsDeafInSequence s) × (s.is_8086 ≡ false → level_to_take s ≡ None)
+    (s : PicState)
+    → (is_operating s.expected ≡ false → IsDeafInSequence s) × (s.is_8086 ≡ false → level_to_take s ≡ None)
 
 -- the level asks, is unmasked, nothing that blocks stands at or before its place, and none before it may be taken
 pub record IsFirstToTake (s : PicState) (level : ℕ) : Type 0 where
@@ -154,7 +156,8 @@ pub record EndsNone (s : PicState) : Type 0 where
 -- "End of Interrupt (EOI)"
 abbrev pub EndsFirstInService : Type 0
 EndsFirstInService =
-    (s : PicState) → is_operating s.expected ≡ true → MatchOption (highest_served s) (EndsNone s) (λ level. Ends s level)
+    (s : PicState) → is_operating s.expected ≡ true
+    → MatchOption (highest_served s) (EndsNone s) (λ level. Ends s level)
 
 -- "In-Service Register": a level that is taken comes into service. "Automatic End of Interrupt (AEOI) Mode": then it
 -- doesn't, and the order stays but under "Automatic Rotation", which makes it the lowest
@@ -162,7 +165,8 @@ pub record Serves (s : PicState) (level : ℕ) : Type 0 where
   pub in_service : s.auto_end ≡ false → level < length s.served → contains (after_taking s level).served level ≡ true
   pub at_once : s.auto_end ≡ true → (after_taking s level).served ≡ s.served
   pub stays : (s.auto_end && s.rotates) ≡ false → (after_taking s level).order ≡ s.order
-  pub turns : (s.auto_end && s.rotates) ≡ true → IsTurn s.order → level < 8 → (after_taking s level).order ≡ order_with_lowest level
+  pub turns : (s.auto_end && s.rotates) ≡ true → IsTurn s.order → level < 8
+      → (after_taking s level).order ≡ order_with_lowest level
 
 abbrev pub ServesTaken : Type 0
 ServesTaken = (s : PicState) (level : ℕ) → Serves s level

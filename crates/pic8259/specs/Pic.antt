@@ -182,7 +182,8 @@ expected_after_icw2 s = if s.is_cascaded then Icw3 else expected_after_icw3 s
 unfoldable pub after_icw2 : PicState → ℕ → PicState
 after_icw2 s value = record s { vector_base = 8 * (value / 8); expected = expected_after_icw2 s }
 
--- "Initialization Command Word 3 (ICW3)": no slave hangs on this board, so it is kept without effect (this board's choice)
+-- "Initialization Command Word 3 (ICW3)": no slave hangs on this board, so it is kept without effect (this board's
+-- choice)
 unfoldable pub after_icw3 : PicState → ℕ → PicState
 after_icw3 s value = record s { slaves = value; expected = expected_after_icw3 s }
 
@@ -223,7 +224,8 @@ highest_served s = find (blocks s) s.order
 unfoldable pub after_ocw2 : PicState → Bool → Bool → Bool → ℕ → PicState
 after_ocw2 s false false true level = option_map_or (λ highest. after_end s highest) (highest_served s) s
 after_ocw2 s false true true level = after_end s level
-after_ocw2 s true false true level = option_map_or (λ highest. after_lowering (after_end s highest) highest) (highest_served s) s
+after_ocw2 s true false true level =
+    option_map_or (λ highest. after_lowering (after_end s highest) highest) (highest_served s) s
 after_ocw2 s true true true level = after_lowering (after_end s level) level
 after_ocw2 s true false false level = record s { rotates = true }
 after_ocw2 s false false false level = record s { rotates = false }

@@ -293,7 +293,8 @@ impl Pic {
         ensures order { result ≡ self.now.order }
         ensures size { length result ≡ 8 }
         ensures levels { All (λ level. level < 8) result }
-        ensures places { (place : ℕ) → place < 8 → up_to result (slice_index_or result place 0) ≡ take (place + 1) result }
+        ensures places { (place : ℕ) → place < 8
+            → up_to result (slice_index_or result place 0) ≡ take (place + 1) result }
     {
         let lowest = self.lowest;
         [

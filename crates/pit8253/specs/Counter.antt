@@ -134,7 +134,8 @@ after_rest c = record c { out = High }
 -- a tick that loads nothing. Nothing counts before the first load; the gate stops counting in modes 0, 2, 3
 -- and 4, and in mode 0 the first byte of two does.
 abbrev pub after_count : CounterState → Mode → CounterState
-after_count c TerminalCount = if is_loaded c.progress && is_high c.gate && is_none c.first_byte then after_countdown c else c
+after_count c TerminalCount =
+    if is_loaded c.progress && is_high c.gate && is_none c.first_byte then after_countdown c else c
 after_count c OneShot = if is_loaded c.progress then after_countdown c else c
 after_count c RateGenerator = if is_loaded c.progress && is_high c.gate then after_rate_count c else c
 after_count c SquareWave = if is_loaded c.progress && is_high c.gate then after_square_count c else c
@@ -255,7 +256,8 @@ next_byte c = if reads_high c.access c.high_next then reading c / 256 else readi
 abbrev pub after_read_by : CounterState → Access → CounterState
 after_read_by c LowByte = record c { latch = None }
 after_read_by c HighByte = record c { latch = None }
-after_read_by c LowThenHigh = if c.high_next then record c { latch = None; high_next = false } else record c { high_next = true }
+after_read_by c LowThenHigh =
+    if c.high_next then record c { latch = None; high_next = false } else record c { high_next = true }
 
 unfoldable pub after_read : CounterState → CounterState
 after_read c = after_read_by c c.access

@@ -88,7 +88,8 @@ CountsToStrobe =
 abbrev pub CountsPeriod : Type 0
 CountsPeriod =
     (c : CounterState) → Runs c → c.mode ≡ RateGenerator → c.gate ≡ High
-    → ((n : ℕ) → n < ticks_left c → after_ticks c n ≡ after_rate_fall c n) × (after_ticks c (ticks_left c) ≡ after_load c High)
+    → ((n : ℕ) → n < ticks_left c → after_ticks c n ≡ after_rate_fall c n)
+    × (after_ticks c (ticks_left c) ≡ after_load c High)
 
 -- mode 3 counts down to the end of the half, and there loads the newest count and turns OUT, but for a newest count
 -- of 1, which leaves it high
@@ -130,7 +131,8 @@ StaysHigh =
 -- mode 0: n ticks after the load OUT is low below the count, and high from then on
 abbrev pub CountsOut : Type 0
 CountsOut =
-    (c : CounterState) → c.mode ≡ TerminalCount → c.gate ≡ High → c.first_byte ≡ None → c.newest < modulus c.radix → (n : ℕ)
+    (c : CounterState) → c.mode ≡ TerminalCount → c.gate ≡ High → c.first_byte ≡ None
+    → c.newest < modulus c.radix → (n : ℕ)
     → (after_ticks (after_load c Low) n).out ≡ (if nat_lt n (size c) then Low else High)
 
 -- mode 1: the same, whatever the gate
@@ -167,7 +169,8 @@ StrobesOnTrigger =
 -- modes 2 and 3: a low gate sets OUT high at once, and leaves all else as it is
 abbrev pub GateSetsHigh : Type 0
 GateSetsHigh =
-    (c : CounterState) → (c.mode ≡ RateGenerator) ⊎ (c.mode ≡ SquareWave) → after_gate c Low ≡ record c { gate = Low; out = High }
+    (c : CounterState) → (c.mode ≡ RateGenerator) ⊎ (c.mode ≡ SquareWave)
+    → after_gate c Low ≡ record c { gate = Low; out = High }
 
 -- there a rise after a full count reloads: the next tick loads the newest count with OUT high
 abbrev pub RiseReloads : Type 0
@@ -239,7 +242,8 @@ NewCountWaits =
 -- nothing counts before the first load: with none due, the count is shown as it was, whatever ticks follow
 abbrev pub WaitsForLoad : Type 0
 WaitsForLoad =
-    (c : CounterState) → c.load_due ≡ false → is_loaded c.progress ≡ false → (n : ℕ) → reading (after_ticks c n) ≡ reading c
+    (c : CounterState) → c.load_due ≡ false → is_loaded c.progress ≡ false → (n : ℕ)
+    → reading (after_ticks c n) ≡ reading c
 
 -- how many ticks two bytes stand for, in binary
 abbrev pub ticks_of : ℕ → ℕ → ℕ
@@ -269,13 +273,15 @@ ShootsAsTriggered =
 abbrev pub DividesAsTold : Type 0
 DividesAsTold =
     (c : CounterState) → c.gate ≡ High → (low high : ℕ) → low < 256 → high < 256 → ticks_of low high ≢ 1 → (n : ℕ)
-    → (after_ticks (after_setup c 0x34 low high) (1 + n)).out ≡ (if n % ticks_of low high + 1 == ticks_of low high then Low else High)
+    → (after_ticks (after_setup c 0x34 low high) (1 + n)).out
+    ≡ (if n % ticks_of low high + 1 == ticks_of low high then Low else High)
 
 -- mode 3: then OUT is high for the first half of each period
 abbrev pub MakesSquaresAsTold : Type 0
 MakesSquaresAsTold =
     (c : CounterState) → c.gate ≡ High → (low high : ℕ) → low < 256 → high < 256 → ticks_of low high ≢ 1 → (n : ℕ)
-    → (after_ticks (after_setup c 0x36 low high) (1 + n)).out ≡ (if nat_lt (n % ticks_of low high) ((ticks_of low high + 1) / 2) then High else Low)
+    → (after_ticks (after_setup c 0x36 low high) (1 + n)).out
+    ≡ (if nat_lt (n % ticks_of low high) ((ticks_of low high + 1) / 2) then High else Low)
 
 -- mode 4: then OUT is low for the one tick that ends the count
 abbrev pub StrobesAsTold : Type 0
@@ -293,4 +299,8 @@ StrobesAsTriggered =
 abbrev pub CountersTickAlike : Type 0
 CountersTickAlike =
     (n : ℕ) (p : PitState)
-    → pit.after_ticks p n ≡ record { counter_0 = after_ticks p.counter_0 n; counter_1 = after_ticks p.counter_1 n; counter_2 = after_ticks p.counter_2 n }
+    → pit.after_ticks p n ≡ record {
+      counter_0 = after_ticks p.counter_0 n;
+      counter_1 = after_ticks p.counter_1 n;
+      counter_2 = after_ticks p.counter_2 n;
+    }

@@ -29,7 +29,11 @@ with_counter p n c =
 
 -- one tick of the three counters
 unfoldable pub after_tick : PitState → PitState
-after_tick p = record { counter_0 = one.after_tick p.counter_0; counter_1 = one.after_tick p.counter_1; counter_2 = one.after_tick p.counter_2 }
+after_tick p = record {
+  counter_0 = one.after_tick p.counter_0;
+  counter_1 = one.after_tick p.counter_1;
+  counter_2 = one.after_tick p.counter_2;
+}
 
 -- n ticks of them, one after another
 abbrev pub after_ticks : PitState → ℕ → PitState

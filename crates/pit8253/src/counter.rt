@@ -32,9 +32,39 @@ impl Model for Counter {
 
     ghost Value = { CounterState };
 
-    ghost view = { λ c. record { mode = c.mode; access = c.access; radix = c.radix; first_byte = c.first_byte; newest = c.newest; progress = c.progress; load_due = c.load_due; count = c.count; count_radix = c.count_radix; strobe_due = c.strobe_due; latch = c.latch; high_next = c.high_next; gate = c.gate; out = c.out } };
+    ghost view = { λ c. record {
+      mode = c.mode;
+      access = c.access;
+      radix = c.radix;
+      first_byte = c.first_byte;
+      newest = c.newest;
+      progress = c.progress;
+      load_due = c.load_due;
+      count = c.count;
+      count_radix = c.count_radix;
+      strobe_due = c.strobe_due;
+      latch = c.latch;
+      high_next = c.high_next;
+      gate = c.gate;
+      out = c.out;
+    } };
 
-    ghost inverse = { λ c. record { mode = c.mode; access = c.access; radix = c.radix; first_byte = c.first_byte; newest = c.newest; progress = c.progress; load_due = c.load_due; count = c.count; count_radix = c.count_radix; strobe_due = c.strobe_due; latch = c.latch; high_next = c.high_next; gate = c.gate; out = c.out } };
+    ghost inverse = { λ c. record {
+      mode = c.mode;
+      access = c.access;
+      radix = c.radix;
+      first_byte = c.first_byte;
+      newest = c.newest;
+      progress = c.progress;
+      load_due = c.load_due;
+      count = c.count;
+      count_radix = c.count_radix;
+      strobe_due = c.strobe_due;
+      latch = c.latch;
+      high_next = c.high_next;
+      gate = c.gate;
+      out = c.out;
+    } };
 }
 
 impl Counter {

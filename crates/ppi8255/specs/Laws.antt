@@ -20,7 +20,8 @@ BeginsAnew s word = has_bit word 7 ≡ true → after_write s 3 word ≡ after_w
 
 -- a control word whose bit 7 is 0 sets the bit of port C that its bits 3 to 1 name to its bit 0, and nothing else
 pub record SetsOneBit (s : PpiState) (word : ℕ) : Type 0 where
-  pub bits : (k : ℕ) → k < 8 → has_bit (after_write s 3 word).c_latch k ≡ (if k == word / 2 % 8 then has_bit word 0 else has_bit s.c_latch k)
+  pub bits : (k : ℕ) → k < 8
+      → has_bit (after_write s 3 word).c_latch k ≡ (if k == word / 2 % 8 then has_bit word 0 else has_bit s.c_latch k)
   pub others : record (after_write s 3 word) { c_latch = s.c_latch } ≡ s
 
 -- port C as an input: its bits 3 to 0 are the first four switches of SW2 where line 2 of port B is 1, else bit 0 the
@@ -44,7 +45,8 @@ after_writes s (w ∷ ws) = after_writes (after_write s w.0 w.1) ws
 
 -- after the same writes two ports give the same reads, and the same levels of port B
 pub record LooksAlike (s t : PpiState) (writes : List (ℕ × ℕ)) : Type 0 where
-  pub reads : (port : ℕ) (inputs : Inputs) → byte_at (after_writes s writes) port inputs ≡ byte_at (after_writes t writes) port inputs
+  pub reads : (port : ℕ) (inputs : Inputs)
+      → byte_at (after_writes s writes) port inputs ≡ byte_at (after_writes t writes) port inputs
   pub lines : lines_b (after_writes s writes) ≡ lines_b (after_writes t writes)
 
 -- two ports that differ only in what the latches of inputs hold

@@ -7,7 +7,7 @@ use Rattle.memory.specs.Regions.{is_text_address}
 use Rattle.memory.specs.Map.{MemoryMap}
 use Rattle.memory.specs.Map as map
 use Rattle.memory.proofs.Writes.{write_changes}
-use Rattle.bus.specs.Bus.{IsBus}
+use Rattle.bus.specs.Kept.{IsBus}
 use Rattle.mda_text.specs.Mda as mda
 use Rattle.mda_text.specs.Mda.{MdaState}
 use Rattle.mda_text.proofs.ScreenLaws.{is_memory}
@@ -18,24 +18,30 @@ use Rattle.wiring.specs.Ports.{byte_at, with_byte, is_writable, port_at, after_p
 use Rattle.wiring.specs.Wires.{after_settling}
 
 -- which addresses take bytes stays
-kept_writable : (memory : MemoryMap) (address byte other : ℕ) → map.is_writable (map.with_byte memory address byte) other ≡ map.is_writable memory other
+kept_writable : (memory : MemoryMap) (address byte other : ℕ)
+    → map.is_writable (map.with_byte memory address byte) other ≡ map.is_writable memory other
 unfolding map.is_writable map.with_byte
 kept_writable memory address byte other = grind (arith, common_steps)
 
-written_back : (s : ChipsState) (address byte : ℕ) → is_writable s address ≡ true → byte_at (with_byte s address byte) address ≡ byte
+written_back : (s : ChipsState) (address byte : ℕ) → is_writable s address ≡ true
+    → byte_at (with_byte s address byte) address ≡ byte
 unfolding byte_at with_byte is_writable mda.text_byte mda.with_text_byte
-written_back s address byte writable = let in_map = write_changes s.memory address byte in grind (arith, common_steps, in_map.0)
+written_back s address byte writable =
+    let in_map = write_changes s.memory address byte in grind (arith, common_steps, in_map.0)
 
 nothing_written : (s : ChipsState) (address byte : ℕ) → is_writable s address ≡ false → with_byte s address byte ≡ s
 unfolding with_byte is_writable mda.with_text_byte
-nothing_written s address byte kept = let in_map = write_changes s.memory address byte in grind (arith, common_steps, in_map.1)
+nothing_written s address byte kept =
+    let in_map = write_changes s.memory address byte in grind (arith, common_steps, in_map.1)
 
-others_stay : (s : ChipsState) (address byte other : ℕ) → other ≢ address → byte_at (with_byte s address byte) other ≡ byte_at s other
+others_stay : (s : ChipsState) (address byte other : ℕ) → other ≢ address
+    → byte_at (with_byte s address byte) other ≡ byte_at s other
 unfolding byte_at with_byte mda.text_byte mda.with_text_byte
 others_stay s address byte other differ =
     let in_map = write_changes s.memory address byte in grind (arith, common_steps, in_map.2 other differ)
 
-writable_stays : (s : ChipsState) (address byte other : ℕ) → is_writable (with_byte s address byte) other ≡ is_writable s other
+writable_stays : (s : ChipsState) (address byte other : ℕ)
+    → is_writable (with_byte s address byte) other ≡ is_writable s other
 unfolding with_byte is_writable mda.with_text_byte
 writable_stays s address byte other = grind (arith, common_steps, kept_writable s.memory address byte other)
 
@@ -50,14 +56,18 @@ same_then s t u first second = record { memory = first.memory ∙ second.memory;
 same_byte : (s t : ChipsState) (address : ℕ) → SameBytes s t → byte_at s address ≡ byte_at t address
 unfolding byte_at mda.text_byte
 same_byte s t address same =
-    ap (λ (bytes : List ℕ). if is_text_address address then slice_index bytes (address - 0xB0000) else map.byte_at s.memory address) same.text
-    ∙ ap (λ memory. if is_text_address address then slice_index t.mda.bytes (address - 0xB0000) else map.byte_at memory address) same.memory
+    ap (λ (bytes : List ℕ). if is_text_address address then slice_index bytes (address - 0xB0000)
+    else map.byte_at s.memory address) same.text
+    ∙ ap (λ memory. if is_text_address address then slice_index t.mda.bytes (address - 0xB0000)
+    else map.byte_at memory address) same.memory
 
 pub same_writable : (s t : ChipsState) (address : ℕ) → SameBytes s t → is_writable s address ≡ is_writable t address
 unfolding is_writable
 same_writable s t address same =
-    ap (λ (bytes : List ℕ). if is_text_address address then nat_lt (address - 0xB0000) (length bytes) else map.is_writable s.memory address) same.text
-    ∙ ap (λ memory. if is_text_address address then nat_lt (address - 0xB0000) (length t.mda.bytes) else map.is_writable memory address) same.memory
+    ap (λ (bytes : List ℕ). if is_text_address address then nat_lt (address - 0xB0000) (length bytes)
+    else map.is_writable s.memory address) same.text
+    ∙ ap (λ memory. if is_text_address address then nat_lt (address - 0xB0000) (length t.mda.bytes)
+    else map.is_writable memory address) same.memory
 
 pub bytes_after_settling : (s : ChipsState) → SameBytes (after_settling s) s
 unfolding after_settling
@@ -79,11 +89,14 @@ bytes_after_write s Nothing byte = record { memory = refl; text = refl }
 
 bytes_after_input : (s : ChipsState) (port : ℕ) → SameBytes (after_input s port) s
 unfolding after_input
-bytes_after_input s port = same_then _ _ s (bytes_after_settling (after_port_read s (port_at port))) (bytes_after_read s (port_at port))
+bytes_after_input s port =
+    same_then _ _ s (bytes_after_settling (after_port_read s (port_at port))) (bytes_after_read s (port_at port))
 
 bytes_after_output : (s : ChipsState) (port byte : ℕ) → SameBytes (after_output s port byte) s
 unfolding after_output
-bytes_after_output s port byte = same_then _ _ s (bytes_after_settling (after_port_write s (port_at port) byte)) (bytes_after_write s (port_at port) byte)
+bytes_after_output s port byte =
+    same_then _ _ s (bytes_after_settling (after_port_write s (port_at port) byte))
+    (bytes_after_write s (port_at port) byte)
 
 pub chips_keep_bytes : IsBus chips_bus
 chips_keep_bytes = record {

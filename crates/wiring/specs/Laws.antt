@@ -1,6 +1,6 @@
--- What holds of the wires whatever the chips' states are.
+-- What holds of memory and of the wires whatever the chips' states are.
 -- Laws: claims above the definitions, each proved as the contract of a function.
-use Rattle.std.specs.Prelude.{◌≡◌, ℕ, ◌+◌, ◌-◌, ◌/◌, ◌<◌, ◌≤◌, ◌&&◌, ◌||◌, not, true, false, if◌then◌else◌, List, length, None, is_some}
+use Rattle.std.specs.Prelude.{◌≡◌, ℕ, ◌+◌, ◌-◌, ◌/◌, ◌<◌, ◌≤◌, ◌&&◌, ◌||◌, not, true, false, if◌then◌else◌, List, length, None, is_some, ◌≢◌}
 use Rattle.board_types.specs.Bits.{has_bit}
 use Rattle.board_types.specs.Lines.{is_high}
 use Rattle.board_types.specs.declared.line.Line.TheVariants.{High}
@@ -11,7 +11,7 @@ use Rattle.pit8253.specs.Counter as counter
 use Rattle.pit8253.specs.Pit as pit
 use Rattle.ppi8255.specs.Ppi.{lines_b}
 use Rattle.wiring.specs.Chips.{ChipsState, power_on}
-use Rattle.wiring.specs.Ports.{after_input, after_output, with_byte}
+use Rattle.wiring.specs.Ports.{after_input, after_output, with_byte, byte_at, is_writable}
 use Rattle.wiring.specs.Wires.{port_b_line, after_settling, after_clock, after_clocks, after_arrival, after_arrivals, after_key_settling, after_acknowledge}
 use Rattle.wiring.specs.Speaker.{is_speaker_high, is_speaker_high_after}
 
@@ -52,10 +52,12 @@ pub record SettlingChanges (s t : ChipsState) : Type 0 where
   pub other_lines : (level : ℕ) → 2 ≤ level → contains t.pic.high level ≡ contains s.pic.high level
   pub other_rises : (level : ℕ) → 2 ≤ level → contains t.pic.risen level ≡ contains s.pic.risen level
   pub rises : (level : ℕ) → level < 2
-      → contains t.pic.risen level ≡ (contains s.pic.risen level || (not (contains s.pic.high level) && contains t.pic.high level))
+      → contains t.pic.risen level
+      ≡ (contains s.pic.risen level || (not (contains s.pic.high level) && contains t.pic.high level))
 
 abbrev pub SettlingChangesAlone : Type 0
-SettlingChangesAlone = (s : ChipsState) → length s.pic.high ≡ 8 → length s.pic.risen ≡ 8 → SettlingChanges s (after_settling s)
+SettlingChangesAlone =
+    (s : ChipsState) → length s.pic.high ≡ 8 → length s.pic.risen ≡ 8 → SettlingChanges s (after_settling s)
 
 -- while the wires have settled, n clocks tick the counters once for each number that 4 divides
 abbrev pub ClocksTick : Type 0
@@ -86,26 +88,39 @@ pub record WiresStay : Type 0 where
 pub record SoundsAlike (s t : ChipsState) : Type 0 where
   pub clock : s.clock ≡ t.clock
   pub ppi : s.ppi ≡ t.ppi
-  pub counter_2 : record s.pit.counter_2 { latch = None; high_next = false } ≡ record t.pit.counter_2 { latch = None; high_next = false }
+  pub counter_2 : record s.pit.counter_2 { latch = None; high_next = false }
+      ≡ record t.pit.counter_2 { latch = None; high_next = false }
 
 -- the speaker's next level depends on these and on the port writes alone
 abbrev pub DependsOnWrites : Type 0
 DependsOnWrites =
-    (s t : ChipsState) (writes : List (ℕ × ℕ)) → SoundsAlike s t → is_speaker_high_after s writes ≡ is_speaker_high_after t writes
+    (s t : ChipsState) (writes : List (ℕ × ℕ)) → SoundsAlike s t
+    → is_speaker_high_after s writes ≡ is_speaker_high_after t writes
 
 -- no key that arrives touches the speaker's next level
 abbrev pub NoKeyTouches : Type 0
 NoKeyTouches =
     (s : ChipsState) (writes : List (ℕ × ℕ)) (codes : List ℕ)
-    → is_speaker_high (after_key_settling (after_arrivals (after_clock (after_port_writes after_output s writes)) codes)) ≡ is_speaker_high_after s writes
+    → is_speaker_high
+    (after_key_settling (after_arrivals (after_clock (after_port_writes after_output s writes)) codes))
+    ≡ is_speaker_high_after s writes
 
 -- nor does an interrupt that the processor takes
 abbrev pub NoEntryTouches : Type 0
 NoEntryTouches =
-    (s : ChipsState) (writes : List (ℕ × ℕ)) → is_speaker_high_after (after_acknowledge s) writes ≡ is_speaker_high_after s writes
+    (s : ChipsState) (writes : List (ℕ × ℕ))
+    → is_speaker_high_after (after_acknowledge s) writes ≡ is_speaker_high_after s writes
 
 -- nor, where the wires have settled, a read of any port
 abbrev pub NoReadTouches : Type 0
 NoReadTouches =
     (s : ChipsState) (writes : List (ℕ × ℕ)) (port : ℕ) → after_settling s ≡ s
     → is_speaker_high_after (after_input s port) writes ≡ is_speaker_high_after s writes
+
+-- a byte reads back where it can be written, elsewhere nothing changes, and a write leaves every other byte as it is
+abbrev pub WriteChangesOneByte : Type 0
+WriteChangesOneByte =
+    (s : ChipsState) (address byte : ℕ) →
+    (is_writable s address ≡ true → byte_at (with_byte s address byte) address ≡ byte)
+    × (is_writable s address ≡ false → with_byte s address byte ≡ s)
+    × ((other : ℕ) → other ≢ address → byte_at (with_byte s address byte) other ≡ byte_at s other)

@@ -1,7 +1,7 @@
 -- The addresses and the ports of the chips (IBM PC Technical Reference, "System Memory Map" and "I/O Address Map").
 -- That FFh is read and a write is lost where nothing answers is this board's choice.
 -- To be believed: public contracts say what they say by these definitions.
-use Rattle.std.specs.Prelude.{ℕ, ◌≡◌, ◌≢◌, ◌-◌, ◌==◌, Bool, true, false, ◌&&◌, ◌||◌, if◌then◌else◌, nat_le, nat_lt, length}
+use Rattle.std.specs.Prelude.{ℕ, ◌-◌, ◌==◌, Bool, true, false, ◌&&◌, ◌||◌, if◌then◌else◌, nat_le, nat_lt, length}
 use Rattle.bus.specs.Bus.{BusMeaning}
 use Rattle.memory.specs.Regions.{is_text_address}
 use Rattle.memory.specs.Map as map
@@ -17,7 +17,8 @@ use Rattle.wiring.specs.Wires.{after_settling}
 
 -- the byte at an address: text memory is the adapter's
 unfoldable pub byte_at : ChipsState → ℕ → ℕ
-byte_at s address = if is_text_address address then mda.text_byte s.mda (address - 0xB0000) else map.byte_at s.memory address
+byte_at s address =
+    if is_text_address address then mda.text_byte s.mda (address - 0xB0000) else map.byte_at s.memory address
 
 -- a write changes the byte of a RAM or text address, and no other
 unfoldable pub with_byte : ChipsState → ℕ → ℕ → ChipsState
@@ -28,11 +29,12 @@ with_byte s address byte =
 -- RAM and text memory take bytes
 unfoldable pub is_writable : ChipsState → ℕ → Bool
 is_writable s address =
-    if is_text_address address then nat_lt (address - 0xB0000) (length s.mda.bytes) else map.is_writable s.memory address
+    if is_text_address address then nat_lt (address - 0xB0000) (length s.mda.bytes)
+    else map.is_writable s.memory address
 
 -- what answers at a port: the interrupt controller at 20h and 21h, which are its A0 = 0 and 1, the timer at 40h to
--- 43h, the parallel port at 60h to 63h, the text adapter at 3B4h, 3B5h, 3B8h and 3BAh. That they don't answer at further
--- ports too is this board's choice
+-- 43h, the parallel port at 60h to 63h, the text adapter at 3B4h, 3B5h, 3B8h and 3BAh. That they don't answer at
+-- further ports too is this board's choice
 unfoldable pub port_at : ℕ → Port
 port_at n =
     if n == 0x20 then Controller false
@@ -91,11 +93,3 @@ chips_bus = record {
   after_input = after_input;
   after_output = after_output;
 }
-
--- a byte reads back where it can be written, elsewhere nothing changes, and a write leaves every other byte as it is
-abbrev pub WriteChangesOneByte : Type 0
-WriteChangesOneByte =
-    (s : ChipsState) (address byte : ℕ) →
-    (is_writable s address ≡ true → byte_at (with_byte s address byte) address ≡ byte)
-    × (is_writable s address ≡ false → with_byte s address byte ≡ s)
-    × ((other : ℕ) → other ≢ address → byte_at (with_byte s address byte) other ≡ byte_at s other)

@@ -30,7 +30,8 @@ after_gate_wire pit ppi = after_gate pit 2 (port_b_line ppi 0)
 
 -- IR0 is OUT0, and IR1 is high while the latch is full
 abbrev pub after_request_wires : PicState → PitState → KeyboardState → PicState
-after_request_wires pic pit keyboard = after_line (after_line pic 0 pit.counter_0.out) 1 (from_bool (is_some keyboard.latch))
+after_request_wires pic pit keyboard =
+    after_line (after_line pic 0 pit.counter_0.out) 1 (from_bool (is_some keyboard.latch))
 
 -- the wires settle: the latch, then gate 2, then the request lines
 unfoldable pub after_settling : ChipsState → ChipsState
@@ -47,7 +48,8 @@ pit_after_clock pit clock = if clock % 4 == 0 then after_tick pit else pit
 -- one clock goes by: the adapter's beam moves, the counters may tick, and the wires settle
 unfoldable pub after_clock : ChipsState → ChipsState
 after_clock s =
-    after_settling (record s { clock = s.clock + 1; mda = mda.after_clock s.mda; pit = pit_after_clock s.pit (s.clock + 1) })
+    after_settling
+    (record s { clock = s.clock + 1; mda = mda.after_clock s.mda; pit = pit_after_clock s.pit (s.clock + 1) })
 
 -- n clocks, one after another, in which no key arrives and the keyboard doesn't settle
 abbrev pub after_clocks : ChipsState → ℕ → ChipsState

@@ -20,16 +20,16 @@ returns-in-Some-clause-stop g c =
     let on = c.in_ok-run_clock.ensures in
     let ran : Ran (c.loop-gone._gone + 1) c.args.self.now c.run_clock.new.self =
     ran_more _ _ _ _ c.loop-gone.invariant.ran (record { plain = on.plain; clock = on.clock; changes = on.changes; trail = on.trail; room = on.room }) in
-    let now : c.self.inside.system ≡ c.run_clock.new.self.plain = ap (λ (b : BoardState). b.plain) c.self.view_is in
+    let now : c.self.inside.plain ≡ c.run_clock.new.self.plain = ap (λ (b : BoardState). b.plain) c.self.view_is in
     let here : holding c.args.stops.now.items c.run_clock.new.self.plain ≡ Some c.in-Some.number =
-    ap (holding c.args.stops.now.items) (sym now) ∙ ap (λ stops. holding stops c.self.inside.system) (sym c.as_slice.ensures.value) ∙ sym c.holding.ensures ∙ c.in-Some.is in
+    ap (holding c.args.stops.now.items) (sym now) ∙ ap (λ stops. holding stops c.self.inside.plain) (sym c.as_slice.ensures.value) ∙ sym c.holding.ensures ∙ c.in-Some.is in
     stops_here c.args.stops.now.items c.args.count c.loop-gone._gone c.args.self.now c.run_clock.new.self c.in-Some.number c.clock-clock.result c.loop-gone-test.true c.loop-gone.invariant.none ran here
     (c.clock-clock.ensures ∙ ap clock_of now)
 
 pub returns-in-Some-clause-ran : goal.returns-in-Some-clause-ran
 returns-in-Some-clause-ran g c =
     let on = c.in_ok-run_clock.ensures in
-    let now : c.self.inside.system ≡ c.run_clock.new.self.plain = ap (λ (b : BoardState). b.plain) c.self.view_is in
+    let now : c.self.inside.plain ≡ c.run_clock.new.self.plain = ap (λ (b : BoardState). b.plain) c.self.view_is in
     ran_to_stop (c.loop-gone._gone + 1) c.args.self.now c.run_clock.new.self c.clock-clock.result
     (ran_more _ _ _ _ c.loop-gone.invariant.ran (record { plain = on.plain; clock = on.clock; changes = on.changes; trail = on.trail; room = on.room }))
     (c.clock-clock.ensures ∙ ap clock_of now)
@@ -39,7 +39,7 @@ loop-gone-preserved g c =
     let on = c.in_ok-run_clock.ensures in
     let ran : Ran (c.loop-gone._gone + 1) c.args.self.now c.run_clock.new.self =
     ran_more _ _ _ _ c.loop-gone.invariant.ran (record { plain = on.plain; clock = on.clock; changes = on.changes; trail = on.trail; room = on.room }) in
-    let now : c.self.inside.system ≡ c.run_clock.new.self.plain = ap (λ (b : BoardState). b.plain) c.self.view_is in
+    let now : c.self.inside.plain ≡ c.run_clock.new.self.plain = ap (λ (b : BoardState). b.plain) c.self.view_is in
     let here : holding c.args.stops.now.items (after_clocks c.args.self.now.plain (c.loop-gone._gone + 1)) ≡ None =
-    ap (holding c.args.stops.now.items) (sym ran.plain ∙ sym now) ∙ ap (λ stops. holding stops c.self.inside.system) (sym c.as_slice.ensures.value) ∙ sym c.holding.ensures ∙ c.in_default.is in
+    ap (holding c.args.stops.now.items) (sym ran.plain ∙ sym now) ∙ ap (λ stops. holding stops c.self.inside.plain) (sym c.as_slice.ensures.value) ∙ sym c.holding.ensures ∙ c.in_default.is in
     record { ran = ran; none = no_stop_more c.args.stops.now.items c.loop-gone._gone c.args.self.now.plain c.loop-gone.invariant.none here }

@@ -1,5 +1,5 @@
 use Rattle.memory.proofs.Writes.{write_changes}
-use Rattle.memory.proofs.map.write_changes_ram_alone.Goals as goal
+use Rattle.memory.proofs.laws.write_changes_ram_alone.Goals as goal
 
 pub returns : goal.returns
 returns c = write_changes

@@ -1,0 +1,18 @@
+//! What holds of every memory map. Each is an empty function whose contract states it.
+ghost use Rattle.memory.specs.Laws.{WriteChangesRamAlone, RamIsWritable, PowerOnBytes};
+
+/// A write changes the byte of a RAM address and no other, and an address where nothing answers, or in the ROM,
+/// keeps its byte.
+pub fn write_changes_ram_alone()
+    ensures { WriteChangesRamAlone }
+{}
+
+/// All RAM can be written.
+pub fn ram_is_writable()
+    ensures { RamIsWritable }
+{}
+
+/// At power-on each address has the byte of its region.
+pub fn power_on_bytes()
+    ensures { PowerOnBytes }
+{}
