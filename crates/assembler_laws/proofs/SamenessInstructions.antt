@@ -9,7 +9,7 @@ use Rattle.assembler_syntax.specs.declared.expression.Term.{Term}
 use Rattle.assembler_syntax.specs.declared.operand.Operand.{Operand}
 use Rattle.assembler_syntax.specs.declared.operand.Operand.TheVariants.{Register, One, Value, Memory, Short, FarLabel, FarPointer}
 use Rattle.assembler_syntax.specs.declared.statement.Instruction.{Instruction}
-use Rattle.assembler_meaning.specs.declared.operand.KnownOperand.{Operand}
+use Rattle.assembler_meaning.specs.declared.operand.KnownOperand.{KnownOperand}
 use Rattle.assembler_meaning.specs.declared.operand.KnownOperand.TheVariants as operands
 use Rattle.assembler_meaning.specs.declared.fields.Numbers.{Numbers}
 use Rattle.assembler_meaning.specs.Asked.{asked}
@@ -63,7 +63,7 @@ module _ (rename : Name → Name) (once : IsOneToOne rename) where
   pub same_asked : (names : Names) (i : Instruction) → instruction_asked (renamed_names rename names) (renamed_instruction rename i) ≡ instruction_asked names i
   unfolding instruction_asked
   same_asked names i =
-      λ k. if nat_le (length (same_prefixes i k)) 7 then option_map (λ (os : Operand × Operand). asked i.mnemonic os.0 os.1) (same_operands names i.operands k) else None
+      λ k. if nat_le (length (same_prefixes i k)) 7 then option_map (λ (os : KnownOperand × KnownOperand). asked i.mnemonic os.0 os.1) (same_operands names i.operands k) else None
 
   pub same_instruction_size : (f : Form) (i : Instruction) → instruction_size f (renamed_instruction rename i) ≡ instruction_size f i
   same_instruction_size f i = λ k. length (same_prefixes i k) + form_length f

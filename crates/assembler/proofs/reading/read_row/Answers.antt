@@ -1,23 +1,20 @@
 use Rattle.std.proofs.Common.{◌∙◌, length, sym}
-use Rattle.assembler_syntax.specs.Weights.{IsWithin}
 use Rattle.assembler_syntax.proofs.Weights.{line_within}
 use Rattle.assembler.proofs.ReadingFaults.{is_short, row_fault}
 use Rattle.assembler.proofs.reading.read_row.Goals as goal
 
--- the line holds no more than its text
-is_within : (c : goal.In-Ok) → IsWithin (length c.args.text.now) c.in-Ok.line.statement
-is_within c = line_within c.args.text.now c.in-Ok.line c.in-Ok.ensures
-
 pub statement_form-form-requires-clause-short : goal.statement_form-form-requires-clause-short
 statement_form-form-requires-clause-short c =
-    is_short c.args.start (length c.args.text.now) c.in-Ok.line.statement c.requires.place (is_within c)
+    is_short c.args.start (length c.args.text.now) c.in-Ok.line.statement c.requires.place
+    (line_within c.args.text.now c.in-Ok.line c.in-Ok.ensures)
 
 pub early_fault-requires-clause-short : goal.early_fault-requires-clause-short
 early_fault-requires-clause-short c =
-    is_short c.args.start (length c.args.text.now) c.in-Ok.line.statement c.requires.place (is_within c)
+    is_short c.args.start (length c.args.text.now) c.in-Ok.line.statement c.requires.place
+    (line_within c.args.text.now c.in-Ok.line c.in-Ok.ensures)
 
 pub add_line-requires-clause-within : goal.add_line-requires-clause-within
-add_line-requires-clause-within c = is_within c
+add_line-requires-clause-within c = line_within c.args.text.now c.in-Ok.line c.in-Ok.ensures
 
 pub returns-in-Some-clause-err : goal.returns-in-Some-clause-err
 returns-in-Some-clause-err c =
