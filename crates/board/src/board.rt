@@ -3,6 +3,7 @@ ghost use Rattle.std.specs.Prelude.{IsTrue, All, ◌-◌, slice_get, ◌≡◌, 
 ghost use Rattle.std.specs.Result.{IfErr, IsErrOf};
 ghost use Rattle.std.specs.String.{string_bytes};
 ghost use Rattle.memory.specs.Map.{IsRamSize, FitsRam};
+ghost use Rattle.board.specs.declared.board.BoardFault.TheVariants.{Memory};
 ghost use Rattle.board.specs.Board.{Ran, StoppedEarly, board_fault_name, board_fault_number};
 ghost use Rattle.board.specs.HeldBack.{IsHeldBack};
 ghost use Rattle.board.specs.Plain.{after_clock, after_clocks, byte_of, change_next, changes_in, clock_of, lost_codes, power_on, registers_of, screen_of, speaker_level, state_of};
@@ -61,7 +62,7 @@ impl BoardFault {
 }
 
 impl From<AllocError> for BoardFault {
-    ghost from_gives = { λ _ fault. fault ≡ BoardFault.Memory };
+    ghost from_gives = { λ _ fault. fault ≡ Memory };
 
     fn from(_error: AllocError) -> BoardFault {
         BoardFault::Memory

@@ -3,6 +3,7 @@ ghost use Rattle.std.specs.Prelude.{◌≡◌, ◌<◌, ◌*◌, ◌^◌, IfOk, 
 ghost use Rattle.std.specs.List.{range_with_len};
 ghost use Rattle.std.specs.Result.{IsErrOf};
 ghost use Rattle.memory.specs.Regions.{IsTextAddress};
+ghost use Rattle.memory.specs.declared.map.MemoryFault.TheVariants.{OutOfMemory};
 ghost use Rattle.memory.specs.Map.{address_count, byte_at, with_byte, power_on, power_on_byte, memory_fault_number, IsRamSize, FitsRam, IsMap};
 
 use crate::region::{Region, region_of};
@@ -34,7 +35,7 @@ impl MemoryFault {
 }
 
 impl From<AllocError> for MemoryFault {
-    ghost from_gives = { λ _ fault. fault ≡ MemoryFault.OutOfMemory };
+    ghost from_gives = { λ _ fault. fault ≡ OutOfMemory };
 
     fn from(_error: AllocError) -> MemoryFault {
         MemoryFault::OutOfMemory
