@@ -15,6 +15,7 @@ ghost use Rattle.board_types.specs.Lines.{from_bool};
 use crate::plain::PlainBoard;
 use crate::stop::{Stop, Stopped, Stops};
 use crate::trail::{Trail, TrailEntry};
+use board_types::bytes::Bytes;
 use board_types::clock::Clock;
 use board_types::image::Image;
 use board_types::keys::Keys;
@@ -252,11 +253,12 @@ impl<A: Allocator> Board<A> {
     }
 
     /// Whether a run of `count` clocks would go past the last clock.
+    #[tactic(auto, unfolding(crate::specs::Plain::clock_of))]
     fn is_past_limit(&self, count: u64) -> bool
         ensures trail { length self.now.trail ≤ 32 }
         ensures past { IsTrue result ↔ (2 ^ 40 < clock_of self.now.plain + count) }
     {
-        Clock::LAST - self.clock().get() < count
+        Clock::LAST - self.plain.chips.clock().get() < count
     }
 
     /// One processor clock. The list of changes grows before anything else changes.

@@ -1,5 +1,5 @@
 use Rattle.std.proofs.Common.{◌∙◌, sym, ap, ◌≡◌, ◌+◌, None, Some}
-use Rattle.board.specs.Plain.{after_clocks, clock_of}
+use Rattle.board.specs.Plain.{after_clocks}
 use Rattle.board.specs.Board.{BoardState, Ran}
 use Rattle.board.specs.Stops.{holding}
 use Rattle.board.proofs.Runs.{ran_none, ran_more, not_held}
@@ -23,16 +23,13 @@ returns-in-Some-clause-stop g c =
     let now : c.self.inside.plain ≡ c.run_clock.new.self.plain = ap (λ (b : BoardState). b.plain) c.self.view_is in
     let here : holding c.args.stops.now.items c.run_clock.new.self.plain ≡ Some c.in-Some.number =
     ap (holding c.args.stops.now.items) (sym now) ∙ ap (λ stops. holding stops c.self.inside.plain) (sym c.as_slice.ensures.value) ∙ sym c.holding.ensures ∙ c.in-Some.is in
-    stops_here c.args.stops.now.items c.args.count c.loop-gone._gone c.args.self.now c.run_clock.new.self c.in-Some.number c.clock-clock.result c.loop-gone-test.true c.loop-gone.invariant.none ran here
-    (c.clock-clock.ensures ∙ ap clock_of now)
+    stops_here c.args.stops.now.items c.args.count c.loop-gone._gone c.args.self.now c.run_clock.new.self c.in-Some.number c.clock-clock.result c.loop-gone-test.true c.loop-gone.invariant.none ran here c.clock-clock.ensures
 
 pub returns-in-Some-clause-ran : goal.returns-in-Some-clause-ran
 returns-in-Some-clause-ran g c =
     let on = c.in_ok-run_clock.ensures in
-    let now : c.self.inside.plain ≡ c.run_clock.new.self.plain = ap (λ (b : BoardState). b.plain) c.self.view_is in
     ran_to_stop (c.loop-gone._gone + 1) c.args.self.now c.run_clock.new.self c.clock-clock.result
-    (ran_more _ _ _ _ c.loop-gone.invariant.ran (record { plain = on.plain; clock = on.clock; changes = on.changes; trail = on.trail; room = on.room }))
-    (c.clock-clock.ensures ∙ ap clock_of now)
+    (ran_more _ _ _ _ c.loop-gone.invariant.ran (record { plain = on.plain; clock = on.clock; changes = on.changes; trail = on.trail; room = on.room })) c.clock-clock.ensures
 
 pub loop-gone-preserved : goal.loop-gone-preserved
 loop-gone-preserved g c =
