@@ -1,4 +1,4 @@
-//! Runs whose list of speaker changes finds no memory. All other runs are rows of the crate `board_rows`.
+//! Runs whose list of speaker changes finds no memory. All other runs are cases of the crate `board_cases`.
 ghost use Rattle.std.specs.Prelude.{◌≡◌, [], IfOk};
 
 use crate::board::{Board, BoardFault, Config};

@@ -1,9 +1,14 @@
-//! Four parts of the board, each used alone: the interrupt controller, the timer, the assembler and the board itself.
-//! A module each, written to be copied; docs/PARTS.md goes with them.
+//! Eight parts of the board, each used alone: the interrupt controller, the timer, the parallel port, the keyboard, the
+//! text adapter, the memory, the assembler and the board itself. A module each, written to be copied; docs/PARTS.md goes
+//! with them.
 #![tactic(auto)]
 
 mod controller;
+mod keys;
 mod machine;
+mod parallel_port;
+mod ram_and_rom;
+mod screen;
 mod source;
 mod timer;
 
@@ -19,6 +24,10 @@ use std::str;
 fn main(rt: HostRuntime) -> Result<()> {
     print_vectors(&rt)?;
     print_changes(&rt)?;
+    print_port(&rt)?;
+    print_codes(&rt)?;
+    print_cell(&rt)?;
+    print_bytes(&rt)?;
     print_hex(&rt)?;
     print_fault(&rt)?;
     print_machine(&rt)
@@ -38,6 +47,35 @@ fn print_changes(rt: &HostRuntime) -> Result<()> {
         print!(rt; " {tick}")?;
     }
     println!(rt; "")?;
+    Ok(())
+}
+
+/// SW1 has 6Dh and SW2 1Ah.
+fn print_port(rt: &HostRuntime) -> Result<()> {
+    let (sw1, sw2) = parallel_port::switches_of(0x6D, 0x1A);
+    let port_c = parallel_port::port_c();
+    println!(rt; "switches {sw1:02X} {sw2:02X}, port C {port_c:02X}")?;
+    Ok(())
+}
+
+/// The key A, down and up, and no third code.
+fn print_codes(rt: &HostRuntime) -> Result<()> {
+    let (first, second, third) = keys::codes_of(rt.alloc(), 0x1E, 0x9E)?;
+    println!(rt; "codes {first:02X} {second:02X} {third:02X}")?;
+    Ok(())
+}
+
+/// A cell that an A is written to, and the status twice.
+fn print_cell(rt: &HostRuntime) -> Result<()> {
+    let (character, before, after) = screen::shown(rt.alloc())?;
+    println!(rt; "cell {character:02X}, status {before:02X} {after:02X}")?;
+    Ok(())
+}
+
+/// RAM, the ROM, and where nothing answers.
+fn print_bytes(rt: &HostRuntime) -> Result<()> {
+    let (ram, rom, nothing) = ram_and_rom::bytes_read(rt.alloc())?;
+    println!(rt; "bytes {ram:02X} {rom:02X} {nothing:02X}")?;
     Ok(())
 }
 

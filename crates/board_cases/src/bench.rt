@@ -1,0 +1,19 @@
+//! The steps of a case, one after another.
+use crate::words::Words;
+use anyhow::{Result, ensure};
+
+/// What a case's steps are made on.
+pub trait Bench {
+    /// Makes a step. Answers whether it came out as it says, or `None` where there is no such step.
+    fn make(&mut self, verb: &str, words: Words) -> Option<bool>;
+}
+
+/// Makes `steps`, parted by semicolons, up to the first that doesn't come out, which the error names.
+pub fn follow<B: Bench>(bench: &mut B, steps: &str) -> Result<()> {
+    for step in steps.split(';') {
+        let mut words = Words(step);
+        let verb = words.word().unwrap_or("");
+        ensure!(bench.make(verb, words) == Some(true), "{step}");
+    }
+    Ok(())
+}

@@ -1,0 +1,52 @@
+//! Cases of outside values for the system board. Of a case that differs the step that didn't come out is printed.
+//!
+//! A case is one line: `chips` or `board`, a colon, and steps parted by semicolons, each a verb and its words. Ports,
+//! addresses, bytes and registers are hexadecimal; clocks, counts, sizes in KB, fault numbers and the screen's lines,
+//! from 0, are decimal. Levels are `H` and `L`.
+//!
+//! Before the chips or the board are made: `put ADDRESS BYTE ..` into the image, from the address on,
+//! `keys STAMP CODE ..`, `switches SW1 SW2`, and `ram KB taken`, which makes them, or `ram KB FAULT`, which is
+//! refused (by a fault of this number; a board's fault has its name behind).
+//!
+//! `chips`: `in PORT BYTE`, `out PORT BYTE`, `write ADDRESS BYTE`, `read ADDRESS BYTE`, `arrive CODE`, `settle`,
+//! `lost COUNT`, `sync CLOCK`, `request LEVEL`, `acknowledge VECTOR`, `speaker LEVEL`, `next PORT BYTE LEVEL` (the
+//! speaker's level at the next clock after a write to the port), `screen LINE 'TEXT'` (the text, and spaces up to 80
+//! characters), `copy` (goes on with a copy).
+//!
+//! `board`: `run CLOCKS`, `refused CLOCKS FAULT NAME`, `clock CLOCK`, `state STATE`, `regs NAME=WORD ..` (all that
+//! aren't 0, from AX to FL), `byte ADDRESS BYTE`, `lost COUNT`, `changes CLOCK-LEVEL ..` (all of the speaker's, as `72H
+//! 76L`), `screen LINE 'TEXT'`, `blank` (the whole screen), `copy` (goes on with a copy), `until CLOCKS CLOCK NUMBER
+//! CONDITION ..` (a run that stops at this clock, by the condition of this number, or that has no stop where it is 0; a
+//! condition is `free`, `at CS IP`, `byte ADDRESS BYTE`, `sound` or `halted`), `trail COUNT` (of entries), `begun INDEX
+//! CLOCK CS IP BYTE ..` (the trail's entry at this index, from 0: an instruction), `entered INDEX CLOCK CS IP TYPE`.
+#![tactic(auto)]
+
+mod bench;
+mod boards;
+mod chips;
+mod parts;
+mod stops;
+mod trail;
+mod words;
+
+use anyhow::{Context, Result, bail};
+use bench::follow;
+use boards::BoardBench;
+use cases::judge_cases;
+use chips::ChipsBench;
+use std::alloc::Global;
+use std::io;
+
+fn main(rt: HostRuntime) -> io::Result<()> {
+    judge_cases(&rt, judge)
+}
+
+/// Makes a case's steps. Fails with the first that doesn't come out.
+fn judge(alloc: Global, case: &str) -> Result<()> {
+    let (name, steps) = case.split_once(':').context("no colon")?;
+    match name {
+        "chips" => follow(&mut ChipsBench::new(alloc), steps),
+        "board" => follow(&mut BoardBench::new(alloc), steps),
+        _ => bail!("nothing has this name"),
+    }
+}

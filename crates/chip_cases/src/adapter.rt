@@ -1,0 +1,89 @@
+//! A command to the text adapter, with what has to come of it.
+ghost use Rattle.std.specs.Prelude.{◌<◌, IfSome};
+
+use anyhow::{Result, ensure};
+use mda_text::mda::{COLUMNS, Mda, ROWS};
+use std::alloc::Global;
+use std::str::SplitWhitespace;
+
+/// How many bytes text memory has.
+const TEXT_SIZE: u16 = 4096;
+
+#[derive(Drop)]
+struct Operands<'a>(SplitWhitespace<'a>);
+
+impl<'a> Operands<'a> {
+    /// The next word, a hexadecimal number.
+    fn number(&mut self) -> Option<u64> {
+        u64::from_str_radix(self.0.next()?, 16).ok()
+    }
+
+    fn word(&mut self) -> Option<u16> {
+        u16::try_from(self.number()?).ok()
+    }
+
+    fn byte(&mut self) -> Option<u8> {
+        u8::try_from(self.number()?).ok()
+    }
+
+    /// An offset of text memory.
+    fn offset(&mut self) -> Option<u16>
+        ensures { IfSome result (λ offset. offset < 4096) }
+    {
+        let offset = self.word()?;
+        (offset < TEXT_SIZE).then_some(offset)
+    }
+}
+
+/// Makes a command. Fails where it doesn't come out as it says, or can't be read.
+pub fn obey(mda: &mut Mda, alloc: Global, command: &str) -> Result<()> {
+    let command = command.trim_start();
+    ensure!(comes_out(mda, alloc, command) == Some(true), "{command}");
+    Ok(())
+}
+
+/// Makes the command, and tells whether it came out as it says; `None` where it can't be read, or there is no memory.
+fn comes_out(mda: &mut Mda, alloc: Global, command: &str) -> Option<bool> {
+    let mut words = Operands(command.split_whitespace());
+    match words.0.next()? {
+        "new" => *mda = Mda::new(alloc).ok()?,
+        "copy" => *mda = mda.copy().ok()?,
+        "out" => mda.write_port(words.word()?, words.byte()?),
+        "poke" => mda.write_mem(words.offset()?, words.byte()?),
+        "clocks" => mda.advance(words.number()?),
+        "in" => return Some(mda.read_port(words.word()?) == words.byte()?),
+        "peek" => return Some(mda.read_mem(words.offset()?) == words.byte()?),
+        "cell" => return shows(mda, words.byte()?, words.byte()?, words.byte()?),
+        "mark" => return Some(mda.mark() == words.number()?),
+        "changed" => return names(mda, words),
+        "all" => return Some(mda.changed_since(words.number()?).count() == 2000),
+        "line" => return has_line(mda, command),
+        _ => return None,
+    }
+    Some(true)
+}
+
+fn shows(mda: &Mda, row: u8, column: u8, character: u8) -> Option<bool> {
+    (row < ROWS && column < COLUMNS).then_some(())?;
+    Some(mda.cell(row, column) == character)
+}
+
+/// Whether the cells that have changed since a mark are those that the words name, by row and column.
+fn names(mda: &Mda, mut words: Operands) -> Option<bool> {
+    for cell in mda.changed_since(words.number()?) {
+        if (words.byte()?, words.byte()?) != cell {
+            return Some(false);
+        }
+    }
+    Some(words.0.next().is_none())
+}
+
+/// Whether a line of the screen's text is the one after the command's second word, and blanks up to its end.
+fn has_line(mda: &Mda, command: &str) -> Option<bool> {
+    let (_, rest) = command.split_once(' ')?;
+    let (number, wanted) = rest.split_once(' ')?;
+    let number = usize::from_str_radix(number, 16).ok()?;
+    let text = mda.text().ok()?;
+    let line = text.as_str().split('\n').nth(number)?;
+    Some(line.len() == 80 && line.trim_end() == wanted)
+}

@@ -1,0 +1,48 @@
+//! The steps of a case, one after another.
+use crate::verb::{Verb, number, verb_of};
+use anyhow::{Context, Result, ensure};
+
+/// What a case's steps are made on.
+pub trait Bench {
+    /// Makes one access: writes `value`, or answers where a value is wanted. Gives the answer, or `value` where the
+    /// access answers nothing, or `None` where there is no such access.
+    fn access(&mut self, verb: Verb, place: u64, value: u64) -> Option<u64>;
+}
+
+/// Makes `steps`, parted by semicolons, up to the first that fails, which the error names.
+pub fn follow<B: Bench>(bench: &mut B, steps: &str) -> Result<()> {
+    for step in steps.split(';') {
+        make(bench, step).context(step.trim())?;
+    }
+    Ok(())
+}
+
+/// Makes a step: an access for each of its values, or the one of a verb that has none.
+fn make<B: Bench>(bench: &mut B, step: &str) -> Result<()> {
+    let (name, operands) = first_word(step);
+    let (verb, place_radix, radix) = verb_of(name).context("no such verb")?;
+    let (place, values) = if place_radix == 0 {
+        (0, operands)
+    } else {
+        let (place, values) = first_word(operands);
+        (number(place, place_radix).context("no such place")?, values)
+    };
+    if radix == 0 {
+        ensure!(values.is_empty(), "no values");
+        bench.access(verb, place, 0).context("refused")?;
+        return Ok(());
+    }
+    ensure!(!values.is_empty(), "a value is missing");
+    for word in values.split_whitespace() {
+        let value = number(word, radix).context("no such value")?;
+        let came = bench.access(verb, place, value).context("refused")?;
+        ensure!(came == value, "wanted {word}, came {came:02X}");
+    }
+    Ok(())
+}
+
+/// The first word of a text, and what follows it.
+fn first_word(text: &str) -> (&str, &str) {
+    let text = text.trim();
+    text.split_once(' ').unwrap_or((text, ""))
+}

@@ -1,0 +1,26 @@
+//! The keyboard and its latch alone: codes arrive, and the lines of port B move them into the latch and clear it.
+ghost use Rattle.std.specs.Prelude.{◌≡◌, IfOk};
+
+use keyboard::keyboard::Keyboard;
+use std::alloc::{AllocError, Global};
+
+/// What a program reads that takes a code three times, where two have arrived; an empty latch reads 0.
+pub fn codes_of(alloc: Global, first: u8, second: u8) -> Result<(u8, u8, u8), AllocError>
+    ensures { IfOk result (λ codes. codes ≡ (first, second, 0)) }
+{
+    let mut keyboard = Keyboard::new(alloc)?;
+    keyboard.arrive(first);
+    keyboard.arrive(second);
+    let one = take(&mut keyboard);
+    let two = take(&mut keyboard);
+    let three = take(&mut keyboard);
+    Ok((one, two, three))
+}
+
+/// Reads the latch once the keyboard may send, and clears it.
+fn take(keyboard: &mut Keyboard) -> u8 {
+    keyboard.settle(0x40); // line 6 of port B: the first code moves into the empty latch
+    let code = keyboard.latch().unwrap_or(0);
+    keyboard.settle(0xC0); // line 7: the latch is cleared
+    code
+}

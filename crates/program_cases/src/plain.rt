@@ -1,0 +1,61 @@
+//! The bytes that a case's text stands for. `|` is a line feed, `\HH` the byte of these two hexadecimal digits in upper
+//! case, `\_HH` so many blanks; every other byte is itself.
+
+/// What is left of a text.
+#[derive(Clone, Copy)]
+pub struct Plain<'a> {
+    /// The blanks that come first.
+    blanks: u8,
+    rest: &'a [u8],
+}
+
+impl<'a> Plain<'a> {
+    /// The whole of a text.
+    pub fn new(text: &'a str) -> Self {
+        Plain {
+            blanks: 0,
+            rest: text.as_bytes(),
+        }
+    }
+
+    /// Takes the next byte, or answers `None` at the end.
+    pub fn next_byte(&mut self) -> Option<u8> {
+        if self.blanks > 0 {
+            self.blanks -= 1;
+            return Some(b' ');
+        }
+        match self.rest {
+            [] => None,
+            [b'|', after @ ..] => {
+                self.rest = after;
+                Some(b'\n')
+            }
+            [b'\\', b'_', high, low, after @ ..] => {
+                self.rest = after;
+                self.blanks = number(*high, *low).saturating_sub(1);
+                Some(b' ')
+            }
+            [b'\\', high, low, after @ ..] => {
+                self.rest = after;
+                Some(number(*high, *low))
+            }
+            [first, after @ ..] => {
+                self.rest = after;
+                Some(*first)
+            }
+        }
+    }
+}
+
+/// The number of two hexadecimal digits.
+fn number(high: u8, low: u8) -> u8 {
+    digit(high) << 4 | digit(low)
+}
+
+fn digit(byte: u8) -> u8 {
+    match byte {
+        b'0'..=b'9' => byte - b'0',
+        b'A'..=b'F' => byte - b'A' + 10,
+        _ => 0,
+    }
+}

@@ -1,0 +1,21 @@
+//! What a line is by itself.
+use anyhow::{Result, bail};
+use assembler_lexeme::fault::{SyntaxError, SyntaxFault};
+use assembler_syntax::read::read_line;
+use std::alloc::Global;
+
+/// The fault that the line has whatever the other lines are, if it has one. In `text` `^` stands for a carriage return.
+pub fn answer_to(alloc: Global, text: &str) -> Result<String> {
+    let mut line = Vec::new(alloc);
+    for byte in text.as_bytes() {
+        line.push(if *byte == b'^' { b'\r' } else { *byte })?;
+    }
+    let answer = match read_line(alloc, line.as_slice()) {
+        Ok(_) => "alone -",
+        Err(SyntaxError::Fault(SyntaxFault::BadCharacter)) => "alone 2",
+        Err(SyntaxError::Fault(SyntaxFault::BadLine)) => "alone 3",
+        Err(SyntaxError::Fault(SyntaxFault::UnknownName)) => "alone 4",
+        Err(SyntaxError::Memory) => bail!("out of memory"),
+    };
+    Ok(String::from_str(alloc, answer)?)
+}

@@ -1,0 +1,70 @@
+//! Instructions whose texts are assembled again.
+use crate::code::Code;
+use crate::trip::{is_same_behind, text_of};
+use anyhow::{Context, Result, ensure};
+use isa::form::Instr;
+use isa::layout::Second;
+use std::alloc::Global;
+
+/// How many bytes are tried behind an opcode whose second byte is a number.
+const NUMBERS: u8 = 16;
+
+/// What stands around an opcode and its addressing byte.
+#[derive(Clone, Copy)]
+struct Setting {
+    prefix: Option<u8>,
+    /// The four bytes behind the addressing byte.
+    tail: [u8; 4],
+    /// Each addressing byte is tried that is a multiple of this.
+    step: u8,
+}
+
+impl Setting {
+    /// The setting in `back PREFIX TAIL STEP`.
+    fn read(text: &str) -> Option<Setting> {
+        let (prefix, rest) = text.strip_prefix("back ")?.split_once(' ')?;
+        let (tail, step) = rest.split_once(' ')?;
+        Some(Setting {
+            prefix: match prefix {
+                "none" => None,
+                digits => Some(u8::from_str_radix(digits, 16).ok()?),
+            },
+            tail: u32::from_str_radix(tail, 16).ok()?.to_be_bytes(),
+            step: step.parse::<u8>().ok()?,
+        })
+    }
+
+    /// The instruction that is tried of these two bytes, if they give one.
+    fn instruction(self, opcode: u8, second: u8) -> Option<Instr> {
+        let instr = Code::new(self.prefix, opcode, second, self.tail).instruction()?;
+        (second < NUMBERS || has_addressing(&instr)).then_some(instr)
+    }
+
+    /// How many instructions there are. Fails with the text of the first that doesn't come back.
+    fn count(self, alloc: Global) -> Result<u64> {
+        let mut count = 0u64;
+        for opcode in 0..=255u8 {
+            for second in 0..=255u8 {
+                if second.checked_rem(self.step) == Some(0)
+                    && let Some(instr) = self.instruction(opcode, second)
+                {
+                    let text = text_of(alloc, &instr)?;
+                    ensure!(is_same_behind(alloc, &text)?, "{text}");
+                    count = count.saturating_add(1);
+                }
+            }
+        }
+        Ok(count)
+    }
+}
+
+fn has_addressing(instr: &Instr) -> bool {
+    matches!(instr.form.row.second_part(), Second::Addressing(_, _))
+}
+
+/// How many instructions of the setting come back with the same text. Fails with the first that doesn't.
+pub fn answer_to(alloc: Global, text: &str) -> Result<String> {
+    let setting = Setting::read(text).context("no setting")?;
+    let count = setting.count(alloc)?;
+    Ok(format!(in alloc; "same {count}")?)
+}

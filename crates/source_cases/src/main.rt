@@ -1,0 +1,47 @@
+//! Cases of outside values for the assembler. Of a case that differs the answer that it got is printed.
+//!
+//! A case is one line, in one of three forms:
+//!
+//! `TEXT => ANSWER`, a line of a whole source: TEXT is line 8 of a source whose other lines define names and place it
+//! at 1000:1000 (`BEFORE` and `BEHIND` in src/placed.rt). The answer is the bytes that stand there in hexadecimal,
+//! `none` for no byte, or `fault N`; behind a fault ` line M` where it is another line's.
+//!
+//! `TEXT => alone ANSWER`, a line by itself: `2`, `3` or `4` where the text has that fault whatever the other lines
+//! are, `-` where it is a line of the dialect. In TEXT `^` stands for a carriage return.
+//!
+//! `back PREFIX TAIL STEP => same COUNT`, from bytes to text and back: each opcode stands behind the byte PREFIX, or
+//! behind none where it is `none`, and before each addressing byte, or number below 16, that is a multiple of STEP, and
+//! the four bytes of TAIL (STEP is decimal, the bytes are hexadecimal). The text of each instruction there is assembled
+//! at the instruction's address, and what then stands there must have the same text. It may be another row of the
+//! encoding table, or have no displacement where that was 0; XCHG and TEST may have their operands exchanged. The
+//! answer counts the instructions; of the first that comes back as another its text is printed.
+#![tactic(auto)]
+
+mod alone;
+mod back;
+mod code;
+mod placed;
+mod trip;
+
+use anyhow::{Context, Result, ensure};
+use cases::judge_cases;
+use std::alloc::Global;
+use std::io;
+
+fn main(rt: HostRuntime) -> io::Result<()> {
+    judge_cases(&rt, judge)
+}
+
+/// Fails where a case's answer is another one, or the case can't be read.
+fn judge(alloc: Global, case: &str) -> Result<()> {
+    let (text, wanted) = case.split_once(" => ").context("no answer")?;
+    let answer = if wanted.starts_with("alone ") {
+        alone::answer_to(alloc, text)?
+    } else if wanted.starts_with("same ") {
+        back::answer_to(alloc, text)?
+    } else {
+        placed::answer_to(alloc, text)?
+    };
+    ensure!(answer.as_str() == wanted, "{answer}");
+    Ok(())
+}

@@ -1,0 +1,54 @@
+//! What a line places in a whole source.
+use assembler::assembly::assemble;
+use assembler::fault::AsmFault;
+use board_types::image::Image;
+use std::alloc::{AllocError, Global};
+
+/// The lines before the case's.
+const BEFORE: &str =
+    "five EQU 5\nlow EQU -3\nbig EQU 1234h\nSEGMENT A AT 1000h\n ORG 0FF0h\nback: DB 0\n ORG 1000h\n";
+
+/// The lines behind it.
+const BEHIND: &str = "\n ORG 1040h\nfore: DB 0\nlater EQU 7\n";
+
+/// The case's line in the source.
+const LINE: u32 = 8;
+
+/// Where the case's bytes begin.
+const PLACE: u32 = 0x11000;
+
+/// Where `fore` stands.
+const END: u32 = 0x11040;
+
+/// What the assembler makes of the line.
+pub fn answer_to(alloc: Global, line: &str) -> Result<String, AllocError> {
+    let source = format!(in alloc; "{BEFORE}{line}{BEHIND}")?;
+    match assemble(alloc, source.as_bytes()) {
+        Ok(listing) => code_text(alloc, listing.image()),
+        Err(fault) => fault_text(alloc, fault),
+    }
+}
+
+/// The bytes from the case's place on, up to the first address without one.
+fn code_text(alloc: Global, image: &Image) -> Result<String, AllocError> {
+    let mut text = String::new(alloc);
+    for addr in PLACE..END {
+        let Some(byte) = image.get(addr) else {
+            break;
+        };
+        text.push_str(format!(in alloc; "{byte:02X}")?.as_str())?;
+    }
+    if text.is_empty() {
+        text.push_str("none")?;
+    }
+    Ok(text)
+}
+
+/// The fault's number, and its line where it isn't the case's.
+fn fault_text(alloc: Global, fault: AsmFault) -> Result<String, AllocError> {
+    let number = fault.number();
+    match fault.line() {
+        Some(line) if line != LINE => format!(in alloc; "fault {number} line {line}"),
+        _ => format!(in alloc; "fault {number}"),
+    }
+}

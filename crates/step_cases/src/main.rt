@@ -1,0 +1,40 @@
+//! Cases of outside values for the processor. The lines `begin` and `memory` are no cases: they only set it up.
+//!
+//! One step, over memory where every address takes a byte:
+//!
+//! `OP REGS | CODE | READ | REGS AFTER | WRITTEN | PORTS | COST | DUE`
+//!
+//! - OP: `step`, a new processor with REGS makes one step of the instruction CODE at CS:IP; `again`, the processor of
+//!   the line before goes on with its repeat; `request` and `single`, a new processor enters the interrupt of type
+//!   CODE.
+//! - REGS: AX CX DX BX SP BP SI DI ES CS SS DS IP and the flags word.
+//! - READ: the bytes of memory that it finds besides, as `AAAAA=VV`. WRITTEN: those that it writes, with their values
+//!   after.
+//! - PORTS: its port accesses in order, as `I0040=C3` and `O0040=C3`. Port p gives 7 p + 3, modulo 256.
+//! - COST: clocks, decimal. All other numbers are hexadecimal.
+//! - DUE: `running`, `halted` or `jammed`; marks, which aren't judged; what the next boundary is without a request and
+//!   with one: `instruction`, `iteration`, `single`, `request` or `nothing`.
+//!
+//! A list that is empty is `-`. What follows DUE, after a `|`, isn't read.
+//!
+//! One boundary after another: `begin REGS`, a new processor over memory of 00h; `memory AAAAA BYTES`, bytes from that
+//! address on; and then for each boundary
+//!
+//! `at R TYPE | TAKEN | REGS AFTER | WRITTEN | PORTS | COST | DUE`
+//!
+//! where R is 1 if an interrupt of that TYPE is requested, and TAKEN what the boundary is.
+#![tactic(auto)]
+
+mod bench;
+mod judge;
+mod ram;
+mod words;
+
+use bench::Bench;
+use cases::judge_cases;
+use std::io;
+
+fn main(rt: HostRuntime) -> io::Result<()> {
+    let mut bench = Bench::new(rt.alloc())?;
+    judge_cases(&rt, |alloc, line| bench.follow_line(alloc, line))
+}

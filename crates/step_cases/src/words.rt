@@ -1,0 +1,142 @@
+//! The words of a line: registers, bytes and port accesses. All are hexadecimal.
+
+use crate::ram::Access;
+use anyhow::{Context, Result, bail};
+use board_types::regs::{Flags, Regs};
+use std::alloc::Global;
+
+/// What the words of a list of registers are, in their order.
+pub const NAMES: [&str; 14] = [
+    "AX",
+    "CX",
+    "DX",
+    "BX",
+    "SP",
+    "BP",
+    "SI",
+    "DI",
+    "ES",
+    "CS",
+    "SS",
+    "DS",
+    "IP",
+    "the flags",
+];
+
+/// Reads the 14 hexadecimal words of a case's registers; refused where there are more or fewer.
+pub fn read_words(text: &str) -> Result<[u16; 14]> {
+    let mut words = [0u16; 14];
+    let mut count = 0usize;
+    for word in text.split_whitespace() {
+        match words.get_mut(count) {
+            Some(register) => *register = u16::from_str_radix(word, 16)?,
+            None => bail!("more than 14 words"),
+        }
+        count = count.saturating_add(1);
+    }
+    if count < 14 {
+        bail!("fewer than 14 words");
+    }
+    Ok(words)
+}
+
+/// The registers in a case's order.
+pub fn words_of(regs: Regs) -> [u16; 14] {
+    [
+        regs.ax,
+        regs.cx,
+        regs.dx,
+        regs.bx,
+        regs.sp,
+        regs.bp,
+        regs.si,
+        regs.di,
+        regs.es,
+        regs.cs,
+        regs.ss,
+        regs.ds,
+        regs.ip,
+        regs.flags.word(),
+    ]
+}
+
+/// Reads the registers of a case.
+pub fn read_regs(text: &str) -> Result<Regs> {
+    let [ax, cx, dx, bx, sp, bp, si, di, es, cs, ss, ds, ip, word] = read_words(text)?;
+    Ok(Regs {
+        ax,
+        cx,
+        dx,
+        bx,
+        sp,
+        bp,
+        si,
+        di,
+        es,
+        cs,
+        ss,
+        ds,
+        ip,
+        flags: read_flags(word),
+    })
+}
+
+fn read_flags(word: u16) -> Flags {
+    Flags {
+        carry: word % 2 == 1,
+        parity: word / 4 % 2 == 1,
+        auxiliary_carry: word / 16 % 2 == 1,
+        zero: word / 64 % 2 == 1,
+        sign: word / 128 % 2 == 1,
+        trap: word / 256 % 2 == 1,
+        interrupt_enable: word / 512 % 2 == 1,
+        direction: word / 1024 % 2 == 1,
+        overflow: word / 2048 % 2 == 1,
+    }
+}
+
+/// The words of a list; an empty one is `-`.
+pub fn words_in(alloc: Global, list: &str) -> Result<Vec<&str>> {
+    let list = list.trim();
+    if list == "-" {
+        return Ok(Vec::new(alloc));
+    }
+    Ok(list.split_whitespace().collect(alloc)?)
+}
+
+/// Bytes of two digits each; none are `-`.
+pub fn read_bytes(alloc: Global, digits: &str) -> Result<Vec<u8>> {
+    let digits = digits.trim();
+    let mut bytes = Vec::new(alloc);
+    if digits == "-" {
+        return Ok(bytes);
+    }
+    if digits.len() % 2 != 0 {
+        bail!("half a byte");
+    }
+    for i in 0..digits.len() / 2 {
+        let pair = digits.get(2 * i..2 * i + 2).context("no digits")?;
+        bytes.push(u8::from_str_radix(pair, 16)?)?;
+    }
+    Ok(bytes)
+}
+
+/// The address and the byte in `AAAAA=VV`.
+pub fn read_cell(word: &str) -> Result<(u32, u8)> {
+    let (address, byte) = word.split_once('=').context("no =")?;
+    Ok((
+        u32::from_str_radix(address, 16)?,
+        u8::from_str_radix(byte, 16)?,
+    ))
+}
+
+/// The access in `I0040=C3` or `O0040=C3`.
+pub fn read_access(word: &str) -> Result<Access> {
+    let (place, byte) = word.split_once('=').context("no =")?;
+    let byte = u8::from_str_radix(byte, 16)?;
+    if let Some(port) = place.strip_prefix('I') {
+        return Ok(Access::Read(u16::from_str_radix(port, 16)?, byte));
+    }
+    let port = place.strip_prefix('O').context("neither I nor O")?;
+    Ok(Access::Write(u16::from_str_radix(port, 16)?, byte))
+}
