@@ -1,2 +1,4 @@
+pub mod Codes
+pub mod Ports
 pub mod Squares
 pub mod Vectors

@@ -1,5 +1,6 @@
 //! The keyboard and its latch alone: codes arrive, and the lines of port B move them into the latch and clear it.
-ghost use Rattle.std.specs.Prelude.{◌≡◌, IfOk};
+ghost use Rattle.std.specs.Prelude.{◌≡◌, IfOk, unwrap_or};
+ghost use Rattle.keyboard.specs.Keyboard.{after_settling};
 
 use keyboard::keyboard::Keyboard;
 use std::alloc::{AllocError, Global};
@@ -18,7 +19,10 @@ pub fn codes_of(alloc: Global, first: u8, second: u8) -> Result<(u8, u8, u8), Al
 }
 
 /// Reads the latch once the keyboard may send, and clears it.
-fn take(keyboard: &mut Keyboard) -> u8 {
+fn take(keyboard: &mut Keyboard) -> u8
+    ensures code { result ≡ unwrap_or (after_settling keyboard.old 0x40).latch 0 }
+    ensures state { keyboard.new ≡ after_settling (after_settling keyboard.old 0x40) 0xC0 }
+{
     keyboard.settle(0x40); // line 6 of port B: the first code moves into the empty latch
     let code = keyboard.latch().unwrap_or(0);
     keyboard.settle(0xC0); // line 7: the latch is cleared
