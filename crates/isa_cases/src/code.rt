@@ -39,7 +39,8 @@ impl Code {
 impl Bytes for Code {
     ghost use Rattle.std.specs.Prelude.{◌+◌, ◌*◌, ◌-◌, ◌%◌, slice_index_or};
 
-    ghost byte_at = { λ c address. slice_index_or c.bytes.items ((((address + 0x100000) - 16 * 0xF800) + (0x10000 - c.ip)) % 0x10000) 0x90 };
+    ghost byte_at = { λ c address. slice_index_or c.bytes.items
+        ((((address + 0x100000) - 16 * 0xF800) + (0x10000 - c.ip)) % 0x10000) 0x90 };
 
     fn byte(&self, addr: u32) -> u8 {
         let ip = self.ip;

@@ -53,10 +53,12 @@ pub fn run_to_halt(
     keys: Keys,
     limit: u64,
 ) -> Result<(Board, Stopped), BoardFault>
-    ensures ram_size { IsErrOf result BoardFault.RamSize ↔ (¬ (IsRamSize CONFIG.ram_kb × FitsRam image.now (1024 * CONFIG.ram_kb))) }
+    ensures ram_size { IsErrOf result BoardFault.RamSize
+        ↔ (¬ (IsRamSize CONFIG.ram_kb × FitsRam image.now (1024 * CONFIG.ram_kb))) }
     ensures limit { IsErrOf result BoardFault.ClockLimit → 2 ^ 40 < limit }
     ensures stop { IfOk result (λ ran. IsStopOf (Condition.Halted ∷ []) limit (power_on image.now CONFIG keys) ran.1) }
-    ensures plain { IfOk result (λ ran. ran.0.plain ≡ board_after image.now CONFIG keys (run_length limit (power_on image.now CONFIG keys) ran.1)) }
+    ensures plain { IfOk result (λ ran. ran.0.plain ≡ board_after image.now CONFIG keys
+        (run_length limit (power_on image.now CONFIG keys) ran.1)) }
 {
     let mut halt = Stops::new();
     halt.push(Condition::Halted);

@@ -31,7 +31,8 @@ pub fn hex_of(alloc: Global, source: &[u8]) -> Result<Vec<u8>, AsmFault>
     ensures fault { IfErr result (IsFirst source.now) }
 
     // Where the source gives an image, no other text comes, and no fault but the want of memory.
-    ensures refused { (image : List (ℕ × ℕ)) → Gives source.now image → MatchResult result (λ text. text.items ≡ hex_text image) (λ fault. fault ≡ AsmFault.Memory) }
+    ensures refused { (image : List (ℕ × ℕ)) → Gives source.now image
+        → MatchResult result (λ text. text.items ≡ hex_text image) (λ fault. fault ≡ AsmFault.Memory) }
 {
     let listing = assemble(alloc, source)?;
     let mut text = Vec::new(alloc);

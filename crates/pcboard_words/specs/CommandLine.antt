@@ -30,7 +30,9 @@ asm_command = with_rule (with_rule (new_app (codes "asm")) (required_word (codes
 
 -- `NAME FILE RUN [--hex]`: a subcommand that has a program on a board
 abbrev pub board_command : Text → App
-board_command name = with_rule (with_rule (with_rule (new_app name) (required_word (codes "FILE"))) (required_word (codes "RUN"))) (flag (codes "hex"))
+board_command name =
+    with_rule (with_rule (with_rule (new_app name) (required_word (codes "FILE"))) (required_word (codes "RUN")))
+    (flag (codes "hex"))
 
 -- the program's own name isn't among the words, and `help` is no subcommand
 abbrev pub with_words_alone : App → App
@@ -39,7 +41,8 @@ with_words_alone a = record a { top = record a.top { no_binary_name = true; disa
 -- no word at all, or one of the subcommands
 abbrev pub app : App
 app = with_subcommand
-    (with_subcommand (with_subcommand (with_words_alone (new_app (codes "pcboard"))) asm_command.top) (board_command (codes "run")).top)
+    (with_subcommand (with_subcommand (with_words_alone (new_app (codes "pcboard"))) asm_command.top)
+    (board_command (codes "run")).top)
     (board_command (codes "debug")).top
 
 abbrev pub NamesTask : Text → Type 0
@@ -60,7 +63,8 @@ is_there name rows = is_some (first_of name rows)
 -- the matches of a subcommand are a task's: FILE is there, and RUN where the subcommand has one
 abbrev pub HoldsTask : Text × List Row → Type 0
 HoldsTask found =
-    NamesTask found.0 × (is_there (codes "FILE") found.1 ≡ true) × ((found.0 ≡ codes "asm") ⊎ (is_there (codes "RUN") found.1 ≡ true))
+    NamesTask found.0 × (is_there (codes "FILE") found.1 ≡ true)
+    × ((found.0 ≡ codes "asm") ⊎ (is_there (codes "RUN") found.1 ≡ true))
 
 -- the matches are of the subcommand `name`, with these two files, and with `--hex` or without
 abbrev pub HoldsBoardWords : Option (Text × List Row) → Text → Text → Text → Bool → Type 0

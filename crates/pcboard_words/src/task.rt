@@ -10,7 +10,8 @@ pub enum Task<'a> {
         file: &'a str,
         list: bool,
     },
-    /// Runs the program of `file`, a HEX text if `hex`, else a source, as the run file `run` says, and prints the report.
+    /// Runs the program of `file`, a HEX text if `hex`, else a source, as the run file `run` says, and prints the
+    /// report.
     Run {
         file: &'a str,
         run: &'a str,
