@@ -10,8 +10,8 @@
 //! what is told).
 #![tactic(auto)]
 
-mod plain;
 mod case;
+mod plain;
 mod streams;
 
 use anyhow::{Result, ensure};
