@@ -123,10 +123,7 @@ impl Session {
     fn registers(&self, alloc: Global) -> Result<Answer, DebugFault>
         ensures { Shows (register_lines (registers_of self.now.board.plain)) result }
     {
-        match register_lines(alloc, &self.board.regs()) {
-            Ok(text) => Ok(Answer::Text(text)),
-            Err(_) => Err(DebugFault::Memory(None)),
-        }
+        Ok(Answer::Text(register_lines(alloc, &self.board.regs())?))
     }
 
     fn screen(&self) -> Result<Answer, DebugFault>
@@ -142,19 +139,13 @@ impl Session {
         requires { first + count ≤ 2 ^ 20 }
         ensures { Shows (dump_text self.now.board.plain first count) result }
     {
-        match dump_text(alloc, &self.board, first, count) {
-            Ok(text) => Ok(Answer::Text(text)),
-            Err(_) => Err(DebugFault::Memory(None)),
-        }
+        Ok(Answer::Text(dump_text(alloc, &self.board, first, count)?))
     }
 
     fn trail(&self, alloc: Global) -> Result<Answer, DebugFault>
         ensures { Shows (flat_map entry_line self.now.board.trail) result }
     {
-        match trail_text(alloc, &self.board) {
-            Ok(text) => Ok(Answer::Text(text)),
-            Err(_) => Err(DebugFault::Memory(None)),
-        }
+        Ok(Answer::Text(trail_text(alloc, &self.board)?))
     }
 }
 

@@ -105,21 +105,11 @@ fn entries_of(alloc: Global, values: &[Value]) -> Result<Vec<KeyEntry>, RunFault
     let mut entries = Vec::new(alloc);
     for value in values {
         match entry_of(value) {
-            Some(entry) => push_entry(&mut entries, entry)?,
+            Some(entry) => entries.push(entry)?,
             None => return Err(RunFault::BadField),
         }
     }
     Ok(entries)
-}
-
-fn push_entry(entries: &mut Vec<KeyEntry>, entry: KeyEntry) -> Result<(), RunFault>
-    ensures pushed { OnOk result (entries.new.items ≡ entries.old.items ++ entry ∷ []) }
-    ensures err { IfErr result (λ fault. fault ≡ RunFault.Memory) }
-{
-    match entries.push(entry) {
-        Ok(_) => Ok(()),
-        Err(_) => Err(RunFault::Memory),
-    }
 }
 
 #[tactic(auto, unfolding(crate::specs::RunFile::entry_of))]

@@ -3,9 +3,8 @@
 use Rattle.std.specs.Prelude.{ℕ, ◌≡◌, ◌+◌, ◌==◌, Bool, true, false, List, [], ◌∷◌, ◌++◌, take, drop, Option, None, Some, IfSome, Ok, Err, position}
 use Rattle.std.specs.Io.KnownBytes.{Appends}
 use Rattle.board_types.specs.TextLines.{text_lines}
-use Rattle.assembler_meaning.specs.Values.{Names}
 use Rattle.assembler.specs.Rows.{Row, names_of}
-use Rattle.assembler.specs.Listing.{listed}
+use Rattle.assembler.specs.Listing.{Names, listed}
 use Rattle.assembler.specs.Gives.{Gives}
 use Rattle.assembler.specs.FirstFault.{IsFirst}
 use Rattle.board.specs.Board.{BoardState}

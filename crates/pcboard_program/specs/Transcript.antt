@@ -1,6 +1,6 @@
 -- What a session prints on an input: the replies to its lines.
 -- To be believed: public contracts say what they say by these definitions.
-use Rattle.std.specs.Prelude.{ℕ, ◌≡◌, ◌==◌, ◌&&◌, Bool, if◌then◌else◌, List, [], ◌∷◌, ◌++◌, codes, Option, None, Some, Result, Ok, Err, MatchBool, MatchOption, IfSome}
+use Rattle.std.specs.Prelude.{ℕ, ◌≡◌, ◌==◌, ◌&&◌, Bool, if◌then◌else◌, List, [], ◌∷◌, ◌++◌, codes, Option, None, Some, Result, Ok, Err, MatchBool}
 use Rattle.std.specs.Fmt.{decimal}
 use Rattle.std.specs.Str.{is_utf8}
 use Rattle.board_types.specs.TextLines.{onto_first}
@@ -53,13 +53,3 @@ abbrev pub Transcript : SessionState → List (List ℕ) → List ℕ → Type 0
 Transcript session [] text = text ≡ []
 Transcript session (line ∷ lines) text =
     MatchBool (ends_session line) (text ≡ []) (Replies line session (λ next rest. Transcript next lines rest) text)
-
--- the known bytes of an input lose their first, which is this one; or there is none
-abbrev pub TakesByte : Option (List ℕ) → Option (List ℕ) → Option ℕ → Type 0
-TakesByte old new byte = IfSome old (λ bytes. MatchOption byte ((bytes ≡ []) × (new ≡ Some []))
-    (λ b. (rest : List ℕ) × (bytes ≡ b ∷ rest) × (new ≡ Some rest)))
-
--- the known bytes of an input lose their first line, which is this one; or there is none
-abbrev pub TakesLine : Option (List ℕ) → Option (List ℕ) → Option (List ℕ) → Type 0
-TakesLine old new line = IfSome old (λ bytes. MatchOption line (input_lines bytes ≡ [])
-    (λ text. (rest : List ℕ) × (input_lines bytes ≡ text ∷ input_lines rest) × (new ≡ Some rest)))
