@@ -6,7 +6,7 @@ use Rattle.std.specs.List.{flat_map, slice_get, take_while}
 use Rattle.board_types.specs.Digits.{hex_byte_text, hex_word}
 use Rattle.assembler_lexeme.specs.declared.name.Name.{Name}
 use Rattle.assembler_meaning.specs.declared.symbol.Location.{Location}
-use Rattle.assembler_meaning.specs.Values.{Names, symbol_value}
+pub use Rattle.assembler_meaning.specs.Values.{Names, symbol_value}
 use Rattle.assembler.specs.Placement.{bytes_by, content_of}
 use Rattle.assembler.specs.Rows.{Row}
 

@@ -1,8 +1,10 @@
 //! Why a source is refused.
 ghost use Rattle.std.specs.Prelude.{◌≡◌};
+ghost use Rattle.assembler.specs.declared.fault.AsmFault.TheVariants.{Memory};
 ghost use Rattle.assembler.specs.FirstFault.{fault_line, fault_name, fault_number, fault_of_line, source_fault_name, source_fault_number};
 
 use assembler_lexeme::fault::SyntaxFault;
+use std::alloc::AllocError;
 use thiserror::Error;
 
 /// Why a line of a source is refused.
@@ -93,6 +95,14 @@ pub enum AsmFault {
     InLine(SourceFault, u32),
     #[error("out of memory")]
     Memory,
+}
+
+impl From<AllocError> for AsmFault {
+    ghost from_gives = { λ _ fault. fault ≡ Memory };
+
+    fn from(_error: AllocError) -> AsmFault {
+        AsmFault::Memory
+    }
 }
 
 impl AsmFault {

@@ -68,10 +68,8 @@ impl Listing {
         let Some(row) = self.reading.rows.as_slice().get(i) else {
             return Ok(None);
         };
-        match line_text(alloc, self.reading.source.as_slice(), &self.image, row) {
-            Ok(text) => Ok(Some(text)),
-            Err(_) => Err(AsmFault::Memory),
-        }
+        let text = line_text(alloc, self.reading.source.as_slice(), &self.image, row)?;
+        Ok(Some(text))
     }
 
     /// The `i`-th name that the source defines, from 0 on, in upper case, with its value: of a label its offset. Names

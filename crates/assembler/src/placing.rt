@@ -64,10 +64,7 @@ fn place_row(
     if let Some(fault) = late_fault(image, symbols, row) {
         return Err(AsmFault::InLine(fault, number));
     }
-    match put_row(alloc, image, symbols, row) {
-        Ok(()) => Ok(()),
-        Err(_) => Err(AsmFault::Memory),
-    }
+    Ok(put_row(alloc, image, symbols, row)?)
 }
 
 /// The fault of a line in the light of all names and of the bytes placed so far: of its faults the one with the least

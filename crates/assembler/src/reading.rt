@@ -3,7 +3,6 @@ ghost use Rattle.std.specs.Prelude.{◌≡◌, ◌≤◌, ◌+◌, ◌^◌, ◌+
 ghost use Rattle.std.specs.Option.{option_map};
 ghost use Rattle.std.specs.Box.{box_value};
 ghost use Rattle.isa.specs.Encoding.{IsForm};
-ghost use Rattle.assembler.specs.declared.fault.AsmFault.TheVariants.{Memory};
 ghost use Rattle.assembler.specs.FirstFault.{IsFirst};
 ghost use Rattle.assembler.specs.FirstPass.{AddsRow, AddsText, IsNewDefinition, KeepsText, StopsAt, StopsText, definition_names, offset_of, row_of, size_limit};
 ghost use Rattle.assembler.specs.Gives.{source_limit};
@@ -82,20 +81,16 @@ fn add_text(
     ensures err { IfErr result (StopsAt state.old text.now number) }
 {
     match read_row(alloc, state, start, text) {
-        Ok(row) => push_row(rows, row),
+        Ok(row) => Ok(push_row(rows, row)?),
         Err(LineStop::Fault(fault)) => Err(AsmFault::InLine(fault, number)),
         Err(LineStop::Memory) => Err(AsmFault::Memory),
     }
 }
 
-fn push_row(rows: &mut Vec<KeptRow>, row: KeptRow) -> Result<(), AsmFault>
-    ensures ok { OnOk result (rows.new.items ≡ rows.old.items ++ row ∷ []) }
-    ensures err { IfErr result (λ fault. fault ≡ Memory) }
+fn push_row(rows: &mut Vec<KeptRow>, row: KeptRow) -> Result<(), AllocError>
+    ensures { OnOk result (rows.new.items ≡ rows.old.items ++ row ∷ []) }
 {
-    match rows.push(row) {
-        Ok(()) => Ok(()),
-        Err(_) => Err(AsmFault::Memory),
-    }
+    Ok(rows.push(row)?)
 }
 
 /// What a line is, and what is left behind it.
@@ -199,10 +194,8 @@ fn define(symbols: &mut Symbols, definition: Option<(Name, Symbol)>) -> Result<(
     let Some((name, symbol)) = definition else {
         return Ok(());
     };
-    match symbols.insert(name, symbol) {
-        Ok(_) => Ok(()),
-        Err(_) => Err(AllocError),
-    }
+    symbols.insert(name, symbol)?;
+    Ok(())
 }
 
 /// What the second pass wants of a statement.

@@ -2,7 +2,6 @@
 ghost use Rattle.std.specs.Prelude.{◌≡◌, ◌++◌, IfOk, OnOk};
 ghost use Rattle.std.specs.String.{string_bytes};
 ghost use Rattle.std.specs.List.{flat_map};
-ghost use Rattle.board.specs.Plain.{screen_of};
 ghost use Rattle.board_report.specs.Text.{change_line, clock_line, general_line, register_lines, report_text, segment_line, state_lines, state_name};
 
 use board::board::{Board, SpeakerChange};
@@ -98,15 +97,6 @@ fn push_changes(
     Ok(())
 }
 
-fn push_screen(text: &mut String, board: &Board) -> Result<(), AllocError>
-    ensures { OnOk result (string_bytes text.new ≡ string_bytes text.old ++ screen_of board.now.plain) }
-{
-    match board.screen() {
-        Ok(screen) => text.push_str(screen.as_str()),
-        Err(_) => Err(AllocError),
-    }
-}
-
 /// The report of a board.
 #[tactic(auto, unfolding(crate::specs::Text::report_text))]
 pub fn report_text(alloc: Global, board: &Board) -> Result<String, AllocError>
@@ -120,6 +110,7 @@ pub fn report_text(alloc: Global, board: &Board) -> Result<String, AllocError>
     text.push_str(state.as_str())?;
     push_changes(alloc, &mut text, changes)?;
     text.push_str("screen\n")?;
-    push_screen(&mut text, board)?;
+    let screen = board.screen().map_err(|_| AllocError)?;
+    text.push_str(screen.as_str())?;
     Ok(text)
 }

@@ -12,7 +12,8 @@ use Rattle.debugger.specs.declared.fault.DebugFault.TheVariants.{ClockLimit, Bad
 abbrev pub answer_text : Answer → List ℕ
 answer_text (Stop number) = codes "stop " ++ (decimal number ++ codes "\n")
 answer_text (Clock clock) = codes "clock " ++ (decimal clock ++ codes "\n")
-answer_text (StopAt number clock) = codes "stop " ++ (decimal number ++ (codes " clock " ++ (decimal clock ++ codes "\n")))
+answer_text (StopAt number clock) =
+    codes "stop " ++ (decimal number ++ (codes " clock " ++ (decimal clock ++ codes "\n")))
 answer_text (Text text) = string_bytes text
 
 abbrev pub fault_number : DebugFault → ℕ

@@ -52,7 +52,8 @@ byte_command address byte = byte_of (hex_number 5 address) (hex_number 2 byte)
 
 -- 1 to 4,096 bytes are shown, all of them below 100000h
 abbrev pub dump_within : ℕ → ℕ → Option Command
-dump_within first count = if nat_le 1 count && (nat_le count 4096 && nat_le (first + count) (2 ^ 20)) then Some (Dump first count) else None
+dump_within first count =
+    if nat_le 1 count && (nat_le count 4096 && nat_le (first + count) (2 ^ 20)) then Some (Dump first count) else None
 
 abbrev pub dump_of : Option ℕ → Option ℕ → Option Command
 dump_of (Some first) (Some count) = dump_within first count

@@ -20,7 +20,8 @@ spaced_byte byte = codes " " ++ hex_byte_text byte
 
 -- `B0000: 48 07 49 07`
 unfoldable pub dump_line : Plain → ℕ → ℕ → List ℕ
-dump_line s first size = address_text first ++ (codes ":" ++ (flat_map spaced_byte (bytes_from s first size) ++ codes "\n"))
+dump_line s first size =
+    address_text first ++ (codes ":" ++ (flat_map spaced_byte (bytes_from s first size) ++ codes "\n"))
 
 -- line by line, sixteen bytes on each, the last having what is left
 abbrev pub dump_line_at : Plain → ℕ → ℕ → ℕ → List ℕ

@@ -91,7 +91,8 @@ RefusesStep old new ClockLimit = (clock_of old.board.plain ≡ 2 ^ 40) × (new �
 RefusesStep old new BadCommand = ⊥
 RefusesStep old new TooManyStops = ⊥
 RefusesStep old new (Memory None) = ⊥
-RefusesStep old new (Memory (Some clock)) = FindsNoMemory (conditions.Free ∷ []) (clocks_left old.board) old.board new.board clock × (new.stops ≡ old.stops)
+RefusesStep old new (Memory (Some clock)) =
+    FindsNoMemory (conditions.Free ∷ []) (clocks_left old.board) old.board new.board clock × (new.stops ≡ old.stops)
 
 abbrev pub IsText : List ℕ → Answer → Type 0
 IsText bytes (Stop number) = ⊥

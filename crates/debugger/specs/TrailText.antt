@@ -16,4 +16,6 @@ event_text (Entry kind) ip = codes "entry " ++ hex_byte_text kind
 
 -- `15 F000:0000 B800B0 MOV AX,0B000h`, `96 F000:0016 entry 08`
 unfoldable pub entry_line : TrailEntry → List ℕ
-entry_line e = decimal e.clock ++ (codes " " ++ (hex_word e.cs ++ (codes ":" ++ (hex_word e.ip ++ (codes " " ++ (event_text e.event e.ip ++ codes "\n"))))))
+entry_line e =
+    decimal e.clock ++ (codes " " ++ (hex_word e.cs ++ (codes ":"
+    ++ (hex_word e.ip ++ (codes " " ++ (event_text e.event e.ip ++ codes "\n"))))))

@@ -15,7 +15,9 @@ begins_word (b ∷ bs) = not (is_space b)
 -- the words of a line, parted by spaces
 abbrev pub words_from : List ℕ → List (List ℕ)
 words_from [] = []
-words_from (b ∷ bs) = if is_space b then words_from bs else (if begins_word bs then onto_first b (words_from bs) else (b ∷ []) ∷ words_from bs)
+words_from (b ∷ bs) =
+    if is_space b then words_from bs else
+    (if begins_word bs then onto_first b (words_from bs) else (b ∷ []) ∷ words_from bs)
 
 unfoldable pub words_of : List ℕ → List (List ℕ)
 words_of line = words_from line

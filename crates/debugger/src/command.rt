@@ -30,7 +30,8 @@ pub enum Command {
 }
 
 /// The command that a line is, if it is one. Its words are parted by spaces, and written in lower case; segments,
-/// offsets, addresses and bytes are hexadecimal in either case, of at most 4, 4, 5 and 2 digits, and counts are decimal.
+/// offsets, addresses and bytes are hexadecimal in either case, of at most 4, 4, 5 and 2 digits, and counts are
+/// decimal.
 #[tactic(auto, unfolding(crate::specs::Commands::command_of))]
 pub fn read_command(line: &str) -> Option<Command>
     ensures value { result ≡ command_of line.now }

@@ -81,7 +81,8 @@ fn push_bytes(
     size: u32,
 ) -> Result<(), AllocError>
     requires { first + size ≤ 2 ^ 20 }
-    ensures { OnOk result (string_bytes text.new ≡ string_bytes text.old ++ flat_map spaced_byte (bytes_from board.now.plain first size)) }
+    ensures { OnOk result (string_bytes text.new ≡ string_bytes text.old
+        ++ flat_map spaced_byte (bytes_from board.now.plain first size)) }
 {
     for passed in 0..size {
         let byte = board.byte(first + passed);

@@ -1,8 +1,10 @@
 //! Why a command is refused.
-ghost use Rattle.std.specs.Prelude.{◌≡◌};
+ghost use Rattle.std.specs.Prelude.{◌≡◌, None};
+ghost use Rattle.debugger.specs.declared.fault.DebugFault.TheVariants.{Memory};
 ghost use Rattle.debugger.specs.Answers.{fault_clock, fault_name, fault_number};
 
 use board_types::clock::Clock;
+use std::alloc::AllocError;
 use thiserror::Error;
 
 /// Why a session refuses a command.
@@ -18,6 +20,15 @@ pub enum DebugFault {
     /// this clock.
     #[error("out of memory")]
     Memory(Option<Clock>),
+}
+
+/// There is no memory for a text.
+impl From<AllocError> for DebugFault {
+    ghost from_gives = { λ _ fault. fault ≡ Memory None };
+
+    fn from(_error: AllocError) -> DebugFault {
+        DebugFault::Memory(None)
+    }
 }
 
 impl DebugFault {

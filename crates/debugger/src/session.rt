@@ -54,10 +54,10 @@ impl Session {
         })
     }
 
-    /// Does what the line commands, and answers. A line that is no command is refused as `BadCommand`, a seventeenth stop
-    /// as `TooManyStops`, a run past clock 2^40, or a step at it, as `ClockLimit`, and what finds no memory as `Memory`.
-    /// A refusal changes nothing, but a run that found no memory stands where it has come to, and its refusal tells the
-    /// clock; no stop was passed.
+    /// Does what the line commands, and answers. A line that is no command is refused as `BadCommand`, a seventeenth
+    /// stop as `TooManyStops`, a run past clock 2^40, or a step at it, as `ClockLimit`, and what finds no memory as
+    /// `Memory`. A refusal changes nothing, but a run that found no memory stands where it has come to, and its refusal
+    /// tells the clock; no stop was passed.
     pub fn command(&mut self, alloc: Global, line: &str) -> Result<Answer, DebugFault>
         ensures { AnswersLine (command_of line.now) self.old result self.new }
     {
@@ -123,10 +123,7 @@ impl Session {
     fn registers(&self, alloc: Global) -> Result<Answer, DebugFault>
         ensures { Shows (register_lines (registers_of self.now.board.plain)) result }
     {
-        match register_lines(alloc, &self.board.regs()) {
-            Ok(text) => Ok(Answer::Text(text)),
-            Err(_) => Err(DebugFault::Memory(None)),
-        }
+        Ok(Answer::Text(register_lines(alloc, &self.board.regs())?))
     }
 
     fn screen(&self) -> Result<Answer, DebugFault>
@@ -142,26 +139,21 @@ impl Session {
         requires { first + count ≤ 2 ^ 20 }
         ensures { Shows (dump_text self.now.board.plain first count) result }
     {
-        match dump_text(alloc, &self.board, first, count) {
-            Ok(text) => Ok(Answer::Text(text)),
-            Err(_) => Err(DebugFault::Memory(None)),
-        }
+        Ok(Answer::Text(dump_text(alloc, &self.board, first, count)?))
     }
 
     fn trail(&self, alloc: Global) -> Result<Answer, DebugFault>
         ensures { Shows (flat_map entry_line self.now.board.trail) result }
     {
-        match trail_text(alloc, &self.board) {
-            Ok(text) => Ok(Answer::Text(text)),
-            Err(_) => Err(DebugFault::Memory(None)),
-        }
+        Ok(Answer::Text(trail_text(alloc, &self.board)?))
     }
 }
 
 /// Runs a board for `count` clocks, or up to the first clock after the start at which one of `stops` holds.
 fn run(board: &mut Board, count: u64, stops: &Stops) -> Result<Stopped, DebugFault>
     requires { All HasAddress stops.now.items }
-    ensures { MatchResult result (Runs stops.now.items count board.old board.new) (RefusesRun stops.now.items count board.old board.new) }
+    ensures { MatchResult result (Runs stops.now.items count board.old board.new)
+        (RefusesRun stops.now.items count board.old board.new) }
 {
     match board.run_until(count, stops) {
         Ok(stopped) => Ok(stopped),

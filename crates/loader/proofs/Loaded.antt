@@ -4,10 +4,10 @@ use Rattle.std.specs.List.{AllByRecursion}
 use Rattle.std.specs.List.Sorted.{IsStrictlySortedBy}
 use Rattle.board_types.specs.Image.{image_byte}
 use Rattle.board_types.proofs.ImageBytes.{same_bytes}
-use Rattle.loader.specs.declared.hex_fault.LineFault.{LineFault}
+use Rattle.loader.specs.declared.hex_fault.RecordFault.{RecordFault}
 use Rattle.loader.specs.declared.hex_fault.HexFault.{HexFault}
 use Rattle.loader.specs.declared.hex_fault.HexFault.TheVariants.{InLine}
-use Rattle.loader.specs.declared.hex_fault.LineFault.TheVariants.{AfterEnd, NotLoadable}
+use Rattle.loader.specs.declared.hex_fault.RecordFault.TheVariants.{AfterEnd, NotLoadable}
 use Rattle.loader.specs.declared.hex_record.Extension.{Extension}
 use Rattle.loader.specs.declared.hex_record.Extension.TheVariants.{Segment}
 use Rattle.loader.specs.Laws.{bytes_of, filled_lines, is_end, last_byte, later_or, LoadsRecords}
@@ -56,7 +56,7 @@ put_append held [] ys = refl
 put_append held (x ∷ xs) ys = put_append (with_bytes held (x ∷ [])) xs ys
 
 -- what comes of a line that isn't blank
-abbrev goes_on : ℕ → Extension → List (ℕ × ℕ) → List (List ℕ) → Result HexRecord LineFault → Result (List (ℕ × ℕ)) HexFault
+abbrev goes_on : ℕ → Extension → List (ℕ × ℕ) → List (List ℕ) → Result HexRecord RecordFault → Result (List (ℕ × ℕ)) HexFault
 goes_on number extension held lines r =
     in_line (number + 1) (r >>= after_record extension held) (λ s. at_extension s.extension (after_end (number + 1) s.image lines) (λ next. image_after (number + 1) next s.image lines))
 
@@ -86,7 +86,7 @@ SomeGive extension held said image = (records : List HexRecord) × GivesBy exten
 
 -- ---- what is read has its records
 
-record_given : (number : ℕ) (extension : Extension) (held image : List (ℕ × ℕ)) (line : List ℕ) (lines : List (List ℕ)) (r : Result HexRecord LineFault) → record_of line ≡ r
+record_given : (number : ℕ) (extension : Extension) (held image : List (ℕ × ℕ)) (line : List ℕ) (lines : List (List ℕ)) (r : Result HexRecord RecordFault) → record_of line ≡ r
     → goes_on number extension held lines r ≡ Ok image
     → ((b : Extension) (h : List (ℕ × ℕ)) → image_after (number + 1) b h lines ≡ Ok image → SomeGive b h (filled_lines lines) image)
     → SomeGive extension held (line ∷ filled_lines lines) image
@@ -165,7 +165,7 @@ line_reads : (number : ℕ) (extension : Extension) (held image : List (ℕ × �
 line_reads number extension held image line lines true g more = more extension held g
 line_reads number extension held image line lines false g more = record_reads number extension held image line lines g.0 g.1 more
 
-no_lines : (records : List HexRecord) → [] ≡ map {B = Result HexRecord LineFault} Ok (records ++ end_of_file ∷ []) → ⊥
+no_lines : (records : List HexRecord) → [] ≡ map {B = Result HexRecord RecordFault} Ok (records ++ end_of_file ∷ []) → ⊥
 no_lines [] is = cc
 no_lines (r ∷ rs) is = cc
 

@@ -4,7 +4,7 @@ use Rattle.std.specs.List.{AllByRecursion}
 use Rattle.std.proofs.lemmas.List.{map-append}
 use Rattle.std.proofs.lemmas.List.Elements.{filter-append}
 use Rattle.board_types.specs.Image.{image_byte}
-use Rattle.loader.specs.declared.hex_fault.LineFault.{LineFault}
+use Rattle.loader.specs.declared.hex_fault.RecordFault.{RecordFault}
 use Rattle.loader.specs.declared.hex_record.Extension.{Extension}
 use Rattle.loader.specs.declared.hex_record.Extension.TheVariants.{Segment}
 use Rattle.loader.specs.Laws.{AreApart, bytes_of, extension_behind, filled_lines, is_end, last_byte, LinesChangePlaces}
@@ -16,7 +16,7 @@ use Rattle.loader.proofs.Places.{records_change_places}
 use Rattle.loader.proofs.Runs.{eq_not}
 
 abbrev Answer : Type 0
-Answer = Result HexRecord LineFault
+Answer = Result HexRecord RecordFault
 
 abbrev said : List HexRecord → List Answer
 said records = map Ok records

@@ -1,19 +1,19 @@
 -- The numbers, names and lines of the faults of a HEX text.
 -- To be believed: public contracts say what they say by these definitions.
 use Rattle.std.specs.Prelude.{ℕ, List, codes, Option, None, Some}
-use Rattle.loader.specs.declared.hex_fault.LineFault.{LineFault}
-use Rattle.loader.specs.declared.hex_fault.LineFault.TheVariants.{BadRecord, BadSum, BadType, AfterEnd, NotLoadable}
+use Rattle.loader.specs.declared.hex_fault.RecordFault.{RecordFault}
+use Rattle.loader.specs.declared.hex_fault.RecordFault.TheVariants.{BadRecord, BadSum, BadType, AfterEnd, NotLoadable}
 use Rattle.loader.specs.declared.hex_fault.HexFault.{HexFault}
 use Rattle.loader.specs.declared.hex_fault.HexFault.TheVariants.{InLine, NoEnd, Memory}
 
-abbrev pub line_fault_number : LineFault → ℕ
+abbrev pub line_fault_number : RecordFault → ℕ
 line_fault_number BadRecord = 21
 line_fault_number BadSum = 22
 line_fault_number BadType = 23
 line_fault_number AfterEnd = 25
 line_fault_number NotLoadable = 26
 
-abbrev pub line_fault_name : LineFault → List ℕ
+abbrev pub line_fault_name : RecordFault → List ℕ
 line_fault_name BadRecord = codes "BadRecord"
 line_fault_name BadSum = codes "BadSum"
 line_fault_name BadType = codes "BadType"

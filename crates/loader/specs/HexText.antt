@@ -37,7 +37,8 @@ abbrev pub longest_run : List (ℕ × ℕ) → ℕ → ℕ → List ℕ
 longest_run bytes address zero = []
 longest_run [] address (suc n) = []
 longest_run (byte ∷ bytes) address (suc n) =
-    if byte.0 == address then byte.1 ∷ (if (address + 1) % 65536 == 0 then [] else longest_run bytes (address + 1) n) else []
+    if byte.0 == address then byte.1 ∷ (if (address + 1) % 65536 == 0 then [] else
+    longest_run bytes (address + 1) n) else []
 
 -- The lines of bytes in the order of their addresses, the first `skip` of them left out: each line has the longest
 -- run of up to 16.
@@ -45,7 +46,8 @@ abbrev pub hex_lines : Option ℕ → ℕ → List (ℕ × ℕ) → List ℕ
 hex_lines last skip [] = end_line
 hex_lines last (suc skip) (byte ∷ bytes) = hex_lines last skip bytes
 hex_lines last zero (byte ∷ bytes) =
-    row_lines last byte.0 (longest_run (byte ∷ bytes) byte.0 16) ++ hex_lines (Some (byte.0 / 65536)) (length (longest_run (byte ∷ bytes) byte.0 16) - 1) bytes
+    row_lines last byte.0 (longest_run (byte ∷ bytes) byte.0 16)
+    ++ hex_lines (Some (byte.0 / 65536)) (length (longest_run (byte ∷ bytes) byte.0 16) - 1) bytes
 
 unfoldable pub hex_text : List (ℕ × ℕ) → List ℕ
 hex_text image = hex_lines None 0 image

@@ -31,7 +31,8 @@ is_end start_at = false
 -- the bytes of records in their order, each with its address: a data record's at the extension in force
 abbrev pub bytes_of : Extension → List HexRecord → List (ℕ × ℕ)
 bytes_of extension [] = []
-bytes_of extension (bytes_at offset content ∷ records) = placed_bytes extension offset content ++ bytes_of extension records
+bytes_of extension (bytes_at offset content ∷ records) =
+    placed_bytes extension offset content ++ bytes_of extension records
 bytes_of extension (end_of_file ∷ records) = bytes_of extension records
 bytes_of extension (extension_at next ∷ records) = bytes_of next records
 bytes_of extension (start_at ∷ records) = bytes_of extension records
@@ -69,7 +70,9 @@ LoadsRecords = (text : List ℕ) (image : List (ℕ × ℕ)) → Rises image →
 
 -- bytes put into an image: each address then has the last byte that was put there, or else what it had
 abbrev pub LaterBytesWin : Type 0
-LaterBytesWin = (image bytes : List (ℕ × ℕ)) (address : ℕ) → image_byte (with_bytes image bytes) address ≡ later_or (last_byte bytes address) (image_byte image address)
+LaterBytesWin =
+    (image bytes : List (ℕ × ℕ)) (address : ℕ)
+    → image_byte (with_bytes image bytes) address ≡ later_or (last_byte bytes address) (image_byte image address)
 
 -- the text that is written for an image loads that image and no other
 abbrev pub LoadsAlone : List (ℕ × ℕ) → Type 0
@@ -81,7 +84,9 @@ AreApart one two = AllByRecursion (λ x. AllByRecursion (λ y. x.0 ≢ y.0) two)
 
 -- the bytes of two records that share no address may be put in either order
 abbrev pub BytesChangePlaces : Type 0
-BytesChangePlaces = (image one two : List (ℕ × ℕ)) → AreApart one two → with_bytes (with_bytes image one) two ≡ with_bytes (with_bytes image two) one
+BytesChangePlaces =
+    (image one two : List (ℕ × ℕ)) → AreApart one two
+    → with_bytes (with_bytes image one) two ≡ with_bytes (with_bytes image two) one
 
 -- the extension in force behind records
 abbrev pub extension_behind : Extension → List HexRecord → Extension
@@ -93,16 +98,22 @@ extension_behind extension (start_at ∷ records) = extension_behind extension r
 
 -- two neighbouring data records that share no address may change places: the records give the same image
 abbrev pub RecordsChangePlaces : Type 0
-RecordsChangePlaces = (extension : Extension) (image : List (ℕ × ℕ)) (before after : List HexRecord) (m n : ℕ) (one two : List ℕ)
-    → AreApart (placed_bytes (extension_behind extension before) m one) (placed_bytes (extension_behind extension before) n two)
-    → with_bytes image (bytes_of extension (before ++ bytes_at m one ∷ bytes_at n two ∷ after)) ≡ with_bytes image (bytes_of extension (before ++ bytes_at n two ∷ bytes_at m one ∷ after))
+RecordsChangePlaces =
+    (extension : Extension) (image : List (ℕ × ℕ)) (before after : List HexRecord) (m n : ℕ) (one two : List ℕ)
+    → AreApart (placed_bytes (extension_behind extension before) m one)
+    (placed_bytes (extension_behind extension before) n two)
+    → with_bytes image (bytes_of extension (before ++ bytes_at m one ∷ bytes_at n two ∷ after))
+    ≡ with_bytes image (bytes_of extension (before ++ bytes_at n two ∷ bytes_at m one ∷ after))
 
 -- Two texts have the same lines, but that two neighbours have changed places. They are the lines of data records that
 -- share no address behind the records before them. Then an image that the one gives is given by the other.
 abbrev pub LinesChangePlaces : Type 0
-LinesChangePlaces = (text other : List ℕ) (before after : List (List ℕ)) (one two : List ℕ) (records : List HexRecord) (m n : ℕ) (xs ys : List ℕ)
+LinesChangePlaces =
+    (text other : List ℕ) (before after : List (List ℕ)) (one two : List ℕ) (records : List HexRecord) (m n : ℕ)
+    (xs ys : List ℕ)
     → text_lines text ≡ before ++ one ∷ two ∷ after → text_lines other ≡ before ++ two ∷ one ∷ after
     → map record_of (filled_lines before) ≡ map Ok records
     → record_of (without_spaces one) ≡ Ok (bytes_at m xs) → record_of (without_spaces two) ≡ Ok (bytes_at n ys)
-    → AreApart (placed_bytes (extension_behind (Segment 0) records) m xs) (placed_bytes (extension_behind (Segment 0) records) n ys)
+    → AreApart (placed_bytes (extension_behind (Segment 0) records) m xs)
+    (placed_bytes (extension_behind (Segment 0) records) n ys)
     → (image : List (ℕ × ℕ)) → Loads text image → Loads other image

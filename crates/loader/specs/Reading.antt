@@ -1,8 +1,8 @@
 -- What a HEX text says, line by line.
 -- To be believed: public contracts say what they say by these definitions.
 use Rattle.std.specs.Prelude.{ℕ, ◌+◌, ◌==◌, Bool, if◌then◌else◌, length, List, [], ◌∷◌, ◌≡◌, Option, None, Some, Result, Ok, Err}
-use Rattle.loader.specs.declared.hex_fault.LineFault.{LineFault}
-use Rattle.loader.specs.declared.hex_fault.LineFault.TheVariants.{AfterEnd, NotLoadable}
+use Rattle.loader.specs.declared.hex_fault.RecordFault.{RecordFault}
+use Rattle.loader.specs.declared.hex_fault.RecordFault.TheVariants.{AfterEnd, NotLoadable}
 use Rattle.loader.specs.declared.hex_fault.HexFault.{HexFault}
 use Rattle.loader.specs.declared.hex_fault.HexFault.TheVariants.{InLine, NoEnd, Memory}
 use Rattle.loader.specs.declared.hex_record.Extension.{Extension}
@@ -20,9 +20,10 @@ abbrev pub load_state : Option Extension → List (ℕ × ℕ) → LoadState
 load_state extension image = record { extension = extension; image = image }
 
 -- what a record does; a byte that the board can't be loaded with is a fault
-abbrev pub after_record : Extension → List (ℕ × ℕ) → HexRecord → Result LoadState LineFault
+abbrev pub after_record : Extension → List (ℕ × ℕ) → HexRecord → Result LoadState RecordFault
 after_record extension image (bytes_at offset content) =
-    if are_loadable (placed_bytes extension offset content) then Ok (load_state (Some extension) (with_bytes image (placed_bytes extension offset content))) else Err NotLoadable
+    if are_loadable (placed_bytes extension offset content) then Ok
+    (load_state (Some extension) (with_bytes image (placed_bytes extension offset content))) else Err NotLoadable
 after_record extension image end_of_file = Ok (load_state None image)
 after_record extension image (extension_at next) = Ok (load_state (Some next) image)
 after_record extension image start_at = Ok (load_state (Some extension) image)
@@ -31,12 +32,12 @@ abbrev pub is_blank : List ℕ → Bool
 is_blank line = length line == 0
 
 -- the same of a line without the spaces at its end; a blank one does nothing
-unfoldable pub after_line : Extension → List (ℕ × ℕ) → List ℕ → Result LoadState LineFault
+unfoldable pub after_line : Extension → List (ℕ × ℕ) → List ℕ → Result LoadState RecordFault
 after_line extension image line =
     if is_blank line then Ok (load_state (Some extension) image) else (record_of line >>= after_record extension image)
 
 -- a fault gets the number of its line
-abbrev pub in_line : {A B : Type 0} → ℕ → Result A LineFault → (A → Result B HexFault) → Result B HexFault
+abbrev pub in_line : {A B : Type 0} → ℕ → Result A RecordFault → (A → Result B HexFault) → Result B HexFault
 in_line number (Ok x) f = f x
 in_line number (Err fault) f = Err (InLine fault number)
 
@@ -54,7 +55,8 @@ at_extension (Some extension) ended more = more extension
 abbrev pub image_after : ℕ → Extension → List (ℕ × ℕ) → List (List ℕ) → Result (List (ℕ × ℕ)) HexFault
 image_after number extension image [] = Err NoEnd
 image_after number extension image (line ∷ lines) =
-    in_line (number + 1) (after_line extension image (without_spaces line)) (λ s. at_extension s.extension (after_end (number + 1) s.image lines)
+    in_line (number + 1) (after_line extension image (without_spaces line))
+    (λ s. at_extension s.extension (after_end (number + 1) s.image lines)
     (λ next. image_after (number + 1) next s.image lines))
 
 unfoldable pub image_of : List ℕ → Result (List (ℕ × ℕ)) HexFault

@@ -6,8 +6,8 @@ use Rattle.std.specs.Ordering.{nat_cmp}
 use Rattle.std.specs.BTreeMap.{insert_entry}
 use Rattle.hex.specs.declared.error.FromHexError.{FromHexError}
 use Rattle.hex.specs.Hex.{decode_of}
-use Rattle.loader.specs.declared.hex_fault.LineFault.{LineFault}
-use Rattle.loader.specs.declared.hex_fault.LineFault.TheVariants.{BadRecord, BadSum, BadType}
+use Rattle.loader.specs.declared.hex_fault.RecordFault.{RecordFault}
+use Rattle.loader.specs.declared.hex_fault.RecordFault.TheVariants.{BadRecord, BadSum, BadType}
 use Rattle.loader.specs.declared.hex_record.Extension.{Extension}
 use Rattle.loader.specs.declared.hex_record.Extension.TheVariants.{Segment, Linear}
 
@@ -25,16 +25,16 @@ pub data HexRecord : Type 0 where
 abbrev pub is_whole : List ℕ → Bool
 is_whole bytes = length bytes == slice_index bytes 0 + 5
 
-abbrev pub whole : Result (List ℕ) FromHexError → Result (List ℕ) LineFault
+abbrev pub whole : Result (List ℕ) FromHexError → Result (List ℕ) RecordFault
 whole (Ok bytes) = if is_whole bytes then Ok bytes else Err BadRecord
 whole (Err e) = Err BadRecord
 
 -- the bytes of a record: a colon, and two hexadecimal digits, in either case, for each
-abbrev pub record_bytes : List ℕ → Result (List ℕ) LineFault
+abbrev pub record_bytes : List ℕ → Result (List ℕ) RecordFault
 record_bytes [] = Err BadRecord
 record_bytes (mark ∷ digits) = if mark == 58 then whole (decode_of digits) else Err BadRecord
 
-abbrev pub record_of_size : ℕ → List ℕ → HexRecord → Result HexRecord LineFault
+abbrev pub record_of_size : ℕ → List ℕ → HexRecord → Result HexRecord RecordFault
 record_of_size n content found = if length content == n then Ok found else Err BadRecord
 
 -- two bytes as a number, the high one first
@@ -45,7 +45,7 @@ abbrev pub number_in : List ℕ → ℕ
 number_in content = number_of_two (slice_index content 0) (slice_index content 1)
 
 -- a record by its type
-unfoldable pub record_of_type : ℕ → ℕ → List ℕ → Result HexRecord LineFault
+unfoldable pub record_of_type : ℕ → ℕ → List ℕ → Result HexRecord RecordFault
 record_of_type kind offset content =
     if kind == 0 then Ok (bytes_at offset content) else (
     if kind == 1 then record_of_size 0 content end_of_file else (
@@ -55,18 +55,19 @@ record_of_type kind offset content =
     if kind == 5 then record_of_size 4 content start_at else Err BadType)))))
 
 -- all bytes of a record add to 0 modulo 256
-unfoldable pub record_in : List ℕ → Result HexRecord LineFault
+unfoldable pub record_in : List ℕ → Result HexRecord RecordFault
 record_in bytes =
-    if sum bytes % 256 == 0 then record_of_type (slice_index bytes 3) (number_of_two (slice_index bytes 1) (slice_index bytes 2)) (take (slice_index bytes 0) (drop 4 bytes))
+    if sum bytes % 256 == 0 then record_of_type (slice_index bytes 3)
+    (number_of_two (slice_index bytes 1) (slice_index bytes 2)) (take (slice_index bytes 0) (drop 4 bytes))
     else Err BadSum
 
 infixl 10 ◌>>=◌
-abbrev pub ◌>>=◌ : {A B : Type 0} → Result A LineFault → (A → Result B LineFault) → Result B LineFault
+abbrev pub ◌>>=◌ : {A B : Type 0} → Result A RecordFault → (A → Result B RecordFault) → Result B RecordFault
 (Ok x) >>= f = f x
 (Err fault) >>= f = Err fault
 
 -- what a line says, or its fault: its form, then its sum, type and length
-unfoldable pub record_of : List ℕ → Result HexRecord LineFault
+unfoldable pub record_of : List ℕ → Result HexRecord RecordFault
 record_of line = record_bytes line >>= record_in
 
 -- the address of an offset: in a segment it wraps within 65,536, and at 2^20

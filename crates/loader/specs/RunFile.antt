@@ -42,7 +42,8 @@ number_within least most name d =
 
 -- a key as it is written, its stamp being a clock
 abbrev pub entry_from : Option ℕ → Option ℕ → Option KeyEntry
-entry_from (Some stamp) (Some code) = if nat_le stamp (2 ^ 40) then Some (record { stamp = stamp; code = code }) else None
+entry_from (Some stamp) (Some code) =
+    if nat_le stamp (2 ^ 40) then Some (record { stamp = stamp; code = code }) else None
 entry_from _ _ = None
 
 abbrev pub pair_of : Items → Option KeyEntry
@@ -91,11 +92,13 @@ unfoldable pub keys_of : List KeyEntry → Result (List StampedKey) RunFault
 keys_of entries = unless (keys_fault 0 entries) (map key_of entries)
 
 abbrev pub with_keys : ℕ → ℕ → ℕ → ℕ → Result (List StampedKey) RunFault → Result RunFile RunFault
-with_keys ram sw1 sw2 budget (Ok keys) = Ok (record { ram_kb = ram; sw1 = sw1; sw2 = sw2; budget = budget; keys = keys })
+with_keys ram sw1 sw2 budget (Ok keys) =
+    Ok (record { ram_kb = ram; sw1 = sw1; sw2 = sw2; budget = budget; keys = keys })
 with_keys ram sw1 sw2 budget (Err fault) = Err fault
 
 -- what fields that are all good come to: 35 before the faults of the keys
-abbrev pub run_of_fields : Option ℕ → Option ℕ → Option ℕ → Option ℕ → Option ℕ → Option (List KeyEntry) → Result RunFile RunFault
+abbrev pub run_of_fields : Option ℕ → Option ℕ → Option ℕ → Option ℕ → Option ℕ → Option (List KeyEntry)
+    → Result RunFile RunFault
 run_of_fields (Some version) (Some ram) (Some sw1) (Some sw2) (Some budget) (Some entries) =
     if nat_le budget (2 ^ 40) then with_keys ram sw1 sw2 budget (keys_of entries) else Err BudgetTooLarge
 run_of_fields _ _ _ _ _ _ = Err BadField
@@ -103,7 +106,8 @@ run_of_fields _ _ _ _ _ _ = Err BadField
 -- what a value says as a run file, or the first fault: 32 before 35
 unfoldable pub run_of : Data → Result RunFile RunFault
 run_of d =
-    if has_only_fields d then run_of_fields (number_within 1 1 (codes "version") d) (number_within 0 65535 (codes "ram") d)
+    if has_only_fields d then run_of_fields (number_within 1 1 (codes "version") d)
+    (number_within 0 65535 (codes "ram") d)
     (number_within 0 255 (codes "sw1") d) (number_within 0 31 (codes "sw2") d)
     (number_of (codes "budget") d) (entries_in (get (codes "keys") d))
     else Err BadField

@@ -6,7 +6,7 @@ use thiserror::Error;
 
 /// What is wrong with a line of a HEX text.
 #[derive(Clone, Copy, Debug, PartialEq, Eq, Drop, Error)]
-pub enum LineFault {
+pub enum RecordFault {
     #[error("the line isn't a record")]
     BadRecord,
     #[error("the record's bytes don't add to 0")]
@@ -19,16 +19,16 @@ pub enum LineFault {
     NotLoadable,
 }
 
-impl LineFault {
+impl RecordFault {
     fn number(self) -> u8
         ensures { result ≡ line_fault_number self }
     {
         match self {
-            LineFault::BadRecord => 21,
-            LineFault::BadSum => 22,
-            LineFault::BadType => 23,
-            LineFault::AfterEnd => 25,
-            LineFault::NotLoadable => 26,
+            RecordFault::BadRecord => 21,
+            RecordFault::BadSum => 22,
+            RecordFault::BadType => 23,
+            RecordFault::AfterEnd => 25,
+            RecordFault::NotLoadable => 26,
         }
     }
 
@@ -36,11 +36,11 @@ impl LineFault {
         ensures { result.now ≡ line_fault_name self }
     {
         match self {
-            LineFault::BadRecord => "BadRecord",
-            LineFault::BadSum => "BadSum",
-            LineFault::BadType => "BadType",
-            LineFault::AfterEnd => "AfterEnd",
-            LineFault::NotLoadable => "NotLoadable",
+            RecordFault::BadRecord => "BadRecord",
+            RecordFault::BadSum => "BadSum",
+            RecordFault::BadType => "BadType",
+            RecordFault::AfterEnd => "AfterEnd",
+            RecordFault::NotLoadable => "NotLoadable",
         }
     }
 }
@@ -50,7 +50,7 @@ impl LineFault {
 pub enum HexFault {
     /// The first bad line, by its number from 1 on.
     #[error("line {1}: {0}")]
-    InLine(LineFault, u64),
+    InLine(RecordFault, u64),
     #[error("there is no end record")]
     NoEnd,
     #[error("out of memory")]

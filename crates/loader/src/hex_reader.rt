@@ -7,8 +7,8 @@ ghost use Rattle.std.specs.BTreeMap.{insert_entry};
 ghost use Rattle.std.specs.Ordering.{nat_cmp};
 ghost use Rattle.board_types.specs.TextLines.{text_lines};
 
-use crate::hex_fault::{HexFault, LineFault};
-use crate::hex_record::{Extension, LineError, Record, record_bytes, record_in};
+use crate::hex_fault::{HexFault, RecordFault};
+use crate::hex_record::{Extension, Record, RecordError, record_bytes, record_in};
 use crate::spaces::without_spaces;
 use board_types::image::{Image, is_loadable};
 use board_types::text::next_line;
@@ -30,8 +30,8 @@ pub fn read_hex(alloc: Global, text: &[u8]) -> Result<Image, HexFault>
         match read_line(alloc, &mut image, extension, without_spaces(line)) {
             Ok(Some(next)) => extension = next,
             Ok(None) => return ended(image, number, rest),
-            Err(LineError::Fault(fault)) => return Err(HexFault::InLine(fault, number)),
-            Err(LineError::Memory) => return Err(HexFault::Memory),
+            Err(RecordError::Fault(fault)) => return Err(HexFault::InLine(fault, number)),
+            Err(RecordError::Memory) => return Err(HexFault::Memory),
         }
     }
     Err(HexFault::NoEnd)
@@ -49,7 +49,7 @@ fn ended(image: Image, number: u64, text: &[u8]) -> Result<Image, HexFault>
         number += 1;
         rest = after;
         if !without_spaces(line).is_empty() {
-            return Err(HexFault::InLine(LineFault::AfterEnd, number));
+            return Err(HexFault::InLine(RecordFault::AfterEnd, number));
         }
     }
     Ok(image)
@@ -62,7 +62,7 @@ fn read_line(
     image: &mut Image,
     extension: Extension,
     line: &[u8],
-) -> Result<Option<Extension>, LineError>
+) -> Result<Option<Extension>, RecordError>
     ensures ok { IfOk result (λ next. after_line extension image.old line.now ≡ Ok (load_state next image.new)) }
     ensures err { IfErr result (λ error. Refuses error (after_line extension image.old line.now)) }
 {
@@ -72,7 +72,7 @@ fn read_line(
     let bytes = record_bytes(alloc, line)?;
     match record_in(bytes.as_slice()) {
         Ok(found) => take_record(image, extension, found),
-        Err(fault) => Err(LineError::Fault(fault)),
+        Err(fault) => Err(RecordError::Fault(fault)),
     }
 }
 
@@ -81,9 +81,10 @@ fn take_record(
     image: &mut Image,
     extension: Extension,
     found: Record<'_>,
-) -> Result<Option<Extension>, LineError>
+) -> Result<Option<Extension>, RecordError>
     requires { IsSmall (view_of found) }
-    ensures ok { IfOk result (λ next. after_record extension image.old (view_of found.entry) ≡ Ok (load_state next image.new)) }
+    ensures ok { IfOk result (λ next. after_record extension image.old (view_of found.entry)
+        ≡ Ok (load_state next image.new)) }
     ensures err { IfErr result (λ error. Refuses error (after_record extension image.old (view_of found.entry))) }
 {
     match found {
@@ -103,11 +104,12 @@ fn put_bytes(
     extension: Extension,
     offset: u16,
     bytes: &[u8],
-) -> Result<(), LineError>
+) -> Result<(), RecordError>
     requires { length bytes.now < 2 ^ 16 }
     ensures loadable { OnOk result (are_loadable (placed_bytes extension offset bytes.now) ≡ true) }
     ensures placed_bytes { OnOk result (image.new ≡ with_bytes image.old (placed_bytes extension offset bytes.now)) }
-    ensures refused { IfErr result (λ error. RefusesBytes error (are_loadable (placed_bytes extension offset bytes.now))) }
+    ensures refused { IfErr result (λ error. RefusesBytes error
+        (are_loadable (placed_bytes extension offset bytes.now))) }
 {
     let mut at = u64::from(offset);
     for byte in bytes {
@@ -118,7 +120,7 @@ fn put_bytes(
 }
 
 /// Puts a byte, where the board can be loaded with it.
-fn put_byte(image: &mut Image, address: u64, byte: u8) -> Result<(), LineError>
+fn put_byte(image: &mut Image, address: u64, byte: u8) -> Result<(), RecordError>
     ensures loadable { OnOk result (is_loadable address ≡ true) }
     ensures put { OnOk result (image.new ≡ insert_entry nat_cmp image.old address byte) }
     ensures refused { IfErr result (λ error. RefusesBytes error (is_loadable address)) }
@@ -126,8 +128,8 @@ fn put_byte(image: &mut Image, address: u64, byte: u8) -> Result<(), LineError>
     match u32::try_from(address) {
         Ok(address) if is_loadable(address) => match image.put(address, byte) {
             Ok(()) => Ok(()),
-            Err(_) => Err(LineError::Memory),
+            Err(_) => Err(RecordError::Memory),
         },
-        _ => Err(LineError::Fault(LineFault::NotLoadable)),
+        _ => Err(RecordError::Fault(RecordFault::NotLoadable)),
     }
 }

@@ -3,7 +3,7 @@ ghost use Rattle.std.specs.Prelude.{◌≡◌, ◌<◌, ◌^◌, IfErr, IfOk, Is
 ghost use Rattle.loader.specs.Records.{address_in, is_whole, number_of_two, record_bytes, record_in, record_of_type, record_of_size};
 ghost use Rattle.loader.specs.RecordViews.{IsSmall, Refuses, view_of, view_in};
 
-use crate::hex_fault::LineFault;
+use crate::hex_fault::RecordFault;
 use std::alloc::Global;
 
 /// What extends the offsets of data records to addresses.
@@ -44,24 +44,24 @@ pub enum Record<'a> {
 
 /// Why a line isn't read.
 #[derive(Clone, Copy, Drop)]
-pub enum LineError {
-    Fault(LineFault),
+pub enum RecordError {
+    Fault(RecordFault),
     Memory,
 }
 
 /// The bytes that a line spells behind its colon, all of a record.
-pub(crate) fn record_bytes(alloc: Global, line: &[u8]) -> Result<Vec<u8>, LineError>
+pub(crate) fn record_bytes(alloc: Global, line: &[u8]) -> Result<Vec<u8>, RecordError>
     ensures found { IfOk result (λ bytes. record_bytes line.now ≡ Ok bytes.items) }
     ensures whole { IfOk result (λ bytes. IsTrue (is_whole bytes.items)) }
     ensures refused { IfErr result (λ error. Refuses error (record_bytes line.now)) }
 {
     let [b':', digits @ ..] = line else {
-        return Err(LineError::Fault(LineFault::BadRecord));
+        return Err(RecordError::Fault(RecordFault::BadRecord));
     };
     match hex::decode(alloc, digits) {
         Ok(bytes) if is_whole(bytes.as_slice()) => Ok(bytes),
-        Err(hex::FromHexError::OutOfMemory) => Err(LineError::Memory),
-        _ => Err(LineError::Fault(LineFault::BadRecord)),
+        Err(hex::FromHexError::OutOfMemory) => Err(RecordError::Memory),
+        _ => Err(RecordError::Fault(RecordFault::BadRecord)),
     }
 }
 
@@ -74,13 +74,13 @@ fn is_whole(bytes: &[u8]) -> bool
 
 /// The record of these bytes.
 #[tactic(auto, unfolding(crate::specs::Records::record_in))]
-pub(crate) fn record_in(bytes: &[u8]) -> Result<Record<'_>, LineFault>
+pub(crate) fn record_in(bytes: &[u8]) -> Result<Record<'_>, RecordFault>
     requires { IsTrue (is_whole bytes.now) }
     ensures found { view_in result ≡ record_in bytes.now }
     ensures small { IfOk result (λ found. IsSmall (view_of found)) }
 {
     if sum(bytes) % 256 != 0 {
-        return Err(LineFault::BadSum);
+        return Err(RecordFault::BadSum);
     }
     let offset = number_of_two(bytes[1], bytes[2]);
     record_of_type(bytes[3], offset, &bytes[4..][..usize::from(bytes[0])])
@@ -101,7 +101,7 @@ fn number_of_two(high: u8, low: u8) -> u16
 
 /// The record of this type.
 #[tactic(auto, unfolding(crate::specs::Records::record_of_type))]
-fn record_of_type(kind: u8, offset: u16, content: &[u8]) -> Result<Record<'_>, LineFault>
+fn record_of_type(kind: u8, offset: u16, content: &[u8]) -> Result<Record<'_>, RecordFault>
     requires { length content.now < 256 }
     ensures found { view_in result ≡ record_of_type kind offset content.now }
     ensures small { IfOk result (λ found. IsSmall (view_of found)) }
@@ -119,8 +119,8 @@ fn record_of_type(kind: u8, offset: u16, content: &[u8]) -> Result<Record<'_>, L
             content[0], content[1],
         )))),
         3 | 5 => record_of_size(4, content, Record::Start),
-        2 | 4 => Err(LineFault::BadRecord),
-        _ => Err(LineFault::BadType),
+        2 | 4 => Err(RecordFault::BadRecord),
+        _ => Err(RecordFault::BadType),
     }
 }
 
@@ -128,7 +128,7 @@ fn record_of_size<'a>(
     size: usize,
     content: &[u8],
     found: Record<'a>,
-) -> Result<Record<'a>, LineFault>
+) -> Result<Record<'a>, RecordFault>
     requires { IsSmall (view_of found) }
     ensures found { view_in result ≡ record_of_size size content.now (view_of found.entry) }
     ensures small { IfOk result (λ given. IsSmall (view_of given)) }
@@ -136,6 +136,6 @@ fn record_of_size<'a>(
     if content.len() == size {
         Ok(found)
     } else {
-        Err(LineFault::BadRecord)
+        Err(RecordFault::BadRecord)
     }
 }

@@ -1,7 +1,9 @@
 //! Why a run file is refused.
 ghost use Rattle.std.specs.Prelude.{◌≡◌};
+ghost use Rattle.loader.specs.declared.run_fault.RunFault.TheVariants.{Memory};
 ghost use Rattle.loader.specs.RunFault.{run_fault_number, run_fault_name};
 
+use std::alloc::AllocFailed;
 use thiserror::Error;
 
 /// Why a run file isn't taken.
@@ -19,6 +21,14 @@ pub enum RunFault {
     BudgetTooLarge,
     #[error("out of memory")]
     Memory,
+}
+
+impl<T: Drop> From<AllocFailed<T>> for RunFault {
+    ghost from_gives = { λ _ fault. fault ≡ Memory };
+
+    fn from(_refused: AllocFailed<T>) -> RunFault {
+        RunFault::Memory
+    }
 }
 
 impl RunFault {

@@ -89,8 +89,10 @@ fn is_field(name: &str) -> bool
 /// The keys as the field `keys` writes them.
 #[tactic(auto, unfolding(crate::specs::RunFile::entries_in))]
 fn entries_in(alloc: Global, field: Option<&Value>) -> Result<Vec<KeyEntry>, RunFault>
-    ensures found { IfOk result (λ entries. entries_in (option_map (λ value. view value.now) field.entry) ≡ Some entries.items) }
-    ensures refused { IfErr result (λ fault. IsBadList fault (entries_in (option_map (λ value. view value.now) field.entry))) }
+    ensures found { IfOk result (λ entries. entries_in (option_map (λ value. view value.now) field.entry)
+        ≡ Some entries.items) }
+    ensures refused { IfErr result (λ fault. IsBadList fault
+        (entries_in (option_map (λ value. view value.now) field.entry))) }
 {
     match field.and_then(Value::as_array) {
         Some(values) => entries_of(alloc, values.as_slice()),
@@ -105,21 +107,11 @@ fn entries_of(alloc: Global, values: &[Value]) -> Result<Vec<KeyEntry>, RunFault
     let mut entries = Vec::new(alloc);
     for value in values {
         match entry_of(value) {
-            Some(entry) => push_entry(&mut entries, entry)?,
+            Some(entry) => entries.push(entry)?,
             None => return Err(RunFault::BadField),
         }
     }
     Ok(entries)
-}
-
-fn push_entry(entries: &mut Vec<KeyEntry>, entry: KeyEntry) -> Result<(), RunFault>
-    ensures pushed { OnOk result (entries.new.items ≡ entries.old.items ++ entry ∷ []) }
-    ensures err { IfErr result (λ fault. fault ≡ RunFault.Memory) }
-{
-    match entries.push(entry) {
-        Ok(_) => Ok(()),
-        Err(_) => Err(RunFault::Memory),
-    }
 }
 
 #[tactic(auto, unfolding(crate::specs::RunFile::entry_of))]

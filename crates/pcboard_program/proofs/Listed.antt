@@ -1,9 +1,8 @@
 -- The lines of a listing, one behind the other.
 use Rattle.std.proofs.Common.{◌≡◌, ◌∙◌, ℕ, zero, suc, ◌+◌, ◌≤◌, List, [], ◌∷◌, ◌++◌, length, drop, refl, sym, ap, arith, Option, None, Some, append_assoc}
 use Rattle.std.proofs.lemmas.List.{append-nil}
-use Rattle.assembler_meaning.specs.Values.{Names}
 use Rattle.assembler.specs.Rows.{Row}
-use Rattle.assembler.specs.Listing.{line_at, listed}
+use Rattle.assembler.specs.Listing.{Names, line_at, listed}
 use Rattle.pcboard_program.specs.Answer.{listing_text}
 
 -- the lines from the i-th on begin with it

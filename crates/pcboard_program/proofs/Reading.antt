@@ -1,12 +1,14 @@
 -- What is read of a source, and what is written.
-use Rattle.std.proofs.Common.{◌≡◌, ◌∙◌, ℕ, ◌<◌, List, length, take, refl, subst, arith, length-take, false, Option, option_map, None, Some, IfOk, IfSome, Result, Ok}
-use Rattle.std.specs.Io.KnownBytes.{Appends, Keeps}
+use Rattle.std.proofs.Common.{◌≡◌, ◌∙◌, ℕ, ◌<◌, List, length, take, refl, subst, arith, length-take, true, false, Bool, Option, option_map, None, Some, IfOk, IfSome, Result, Ok}
+use Rattle.std.specs.Io.KnownBytes.{Appends}
 use Rattle.std.proofs.lemmas.List.{take_all}
 use Rattle.assembler.specs.Gives.{Gives}
 use Rattle.loader.specs.HexText.{hex_text}
 use Rattle.loader.specs.RunFile.{Answers, run_of_text}
 use Rattle.board.specs.Board.{BoardState}
-use Rattle.pcboard_program.specs.Answer.{AppendsA, IsBoardOf, IsHexOf, IsListingOf, IsReport}
+use Rattle.pcboard_program.specs.Answer.{AppendsA, GivesImage, IsHexOf, IsListingOf}
+use Rattle.pcboard_program.specs.Ready.{IsReady, seen_of}
+use Rattle.loader.specs.declared.run_file.RunFile.{RunFile}
 
 pub shorter : (limit : ℕ) (bytes : List ℕ) → length (take limit bytes) < limit → take limit bytes ≡ bytes
 shorter limit bytes within = take_all limit bytes (omega (arith, length-take limit bytes))
@@ -17,12 +19,11 @@ seen_whole source image gives =
     let within : length (take 1048577 source) < 1048577 = omega (arith, gives.within) in
     subst (λ bytes. Gives bytes image) (shorter 1048577 source within) gives
 
--- bytes that are kept stay appended
-pub stay_appended : (old mid new : Option (List ℕ)) (text : List ℕ) → Appends old mid text → Keeps mid new → Appends old new text
-stay_appended None mid new text appends keeps = tt
-stay_appended (Some xs) None new text appends keeps = absurd appends
-stay_appended (Some xs) (Some ys) None text appends keeps = absurd keeps
-stay_appended (Some xs) (Some ys) (Some zs) text appends keeps = keeps ∙ appends
+-- what is read of a file
+pub read_on : {R : Type 0} (remaining : R → Option (List ℕ)) (source : Option (List ℕ)) (file : R) (bytes : List ℕ)
+    → IfSome source (λ known. remaining file ≡ Some known) → IfSome (remaining file) (λ known. bytes ≡ known) → IfSome source (λ known. bytes ≡ known)
+read_on remaining None file bytes rest read = tt
+read_on remaining (Some known) file bytes rest read = subst (λ left. IfSome left (λ known. bytes ≡ known)) rest read
 
 -- what is read through a limit
 pub read_through : {R V E : Type 0} (remaining : R → Option (List ℕ)) (items : V → List ℕ) (source : Option (List ℕ)) (file inner : R) (limit most : ℕ) (result : Result V E)
@@ -34,53 +35,40 @@ read_through remaining items (Some known) file inner limit most result rest same
     let left : option_map (take limit) (remaining inner) ≡ Some (take most known) = rw (same_limit, same_file, rest) refl in
     subst (λ bytes. IfSome bytes (λ known. IfOk result (λ bytes. items bytes ≡ known))) left read
 
--- the report of the bytes that were seen is the report of the whole source
-pub seen_report : (source said : Option (List ℕ)) (bytes run text : List ℕ)
-    → IfSome source (λ known. bytes ≡ take 1048577 known) → IfSome said (λ known. run ≡ known) → IsReport false bytes run text
-    → IfSome source (λ known. IfSome said (λ known_run. IsReport false known known_run text))
-seen_report None said bytes run text seen same report = tt
-seen_report (Some known) None bytes run text seen same report = tt
-seen_report (Some known) (Some known_run) bytes run text seen same report = record {
-  image = report.image;
-  gives = seen_whole known report.image (subst (λ bytes. Gives bytes report.image) seen report.gives);
-  run_file = report.run_file;
-  says = subst (λ run. Answers (Ok report.run_file) (run_of_text run)) same report.says;
-  is_text = report.is_text;
+seen_image : (hex : Bool) (bytes : List ℕ) (image : List (ℕ × ℕ)) → GivesImage hex (seen_of hex bytes) image → GivesImage hex bytes image
+seen_image true bytes image gives = gives
+seen_image false bytes image gives = seen_whole bytes image gives
+
+-- the board of the bytes that were seen is the board of the whole file
+pub seen_ready : (file said : Option (List ℕ)) (hex : Bool) (bytes run : List ℕ) (board : BoardState) (run_file : RunFile)
+    → IfSome file (λ known. bytes ≡ seen_of hex known) → IfSome said (λ known. run ≡ known) → IsReady hex bytes run board run_file
+    → IfSome file (λ known. IfSome said (λ known_run. IsReady hex known known_run board run_file))
+seen_ready None said hex bytes run board run_file seen same ready = tt
+seen_ready (Some known) None hex bytes run board run_file seen same ready = tt
+seen_ready (Some known) (Some known_run) hex bytes run board run_file seen same ready = record {
+  image = ready.image;
+  gives = seen_image hex known ready.image (subst (λ bytes. GivesImage hex bytes ready.image) seen ready.gives);
+  says = subst (λ run. Answers (Ok run_file) (run_of_text run)) same ready.says;
+  start = ready.start;
 }
 
--- so is the board
-pub seen_board : (source said : Option (List ℕ)) (bytes run : List ℕ) (board : BoardState)
-    → IfSome source (λ known. bytes ≡ take 1048577 known) → IfSome said (λ known. run ≡ known) → IsBoardOf false bytes run board
-    → IfSome source (λ known. IfSome said (λ known_run. IsBoardOf false known known_run board))
-seen_board None said bytes run board seen same is_board = tt
-seen_board (Some known) None bytes run board seen same is_board = tt
-seen_board (Some known) (Some known_run) bytes run board seen same is_board = record {
-  image = is_board.image;
-  gives = seen_whole known is_board.image (subst (λ bytes. Gives bytes is_board.image) seen is_board.gives);
-  run_file = is_board.run_file;
-  says = subst (λ run. Answers (Ok is_board.run_file) (run_of_text run)) same is_board.says;
-  plain = is_board.plain;
-  changes = is_board.changes;
-  trail = is_board.trail;
-}
-
--- so is the HEX text
-pub seen_hex : (source old mid new : Option (List ℕ)) (bytes : List ℕ) (image : List (ℕ × ℕ))
-    → IfSome source (λ known. bytes ≡ take 1048577 known) → Gives bytes image → Appends old mid (hex_text image) → Keeps mid new
+-- the HEX text of the image that was seen is that of the whole source
+pub seen_hex : (source old new : Option (List ℕ)) (bytes : List ℕ) (image : List (ℕ × ℕ))
+    → IfSome source (λ known. bytes ≡ take 1048577 known) → Gives bytes image → Appends old new (hex_text image)
     → IfSome source (λ known. AppendsA (IsHexOf known) old new)
-seen_hex None old mid new bytes image seen gives appends keeps = tt
-seen_hex (Some known) old mid new bytes image seen gives appends keeps = (
+seen_hex None old new bytes image seen gives appends = tt
+seen_hex (Some known) old new bytes image seen gives appends = (
   hex_text image,
   record { image = image; gives = seen_whole known image (subst (λ bytes. Gives bytes image) seen gives); is_text = refl },
-  stay_appended old mid new (hex_text image) appends keeps,
+  appends,
 )
 
 -- and so is the listing
-pub seen_listing : (source old new : Option (List ℕ)) (bytes text : List ℕ)
-    → IfSome source (λ known. bytes ≡ take 1048577 known) → IsListingOf bytes text → Appends old new text
+pub seen_listing : (source old new : Option (List ℕ)) (bytes listed : List ℕ)
+    → IfSome source (λ known. bytes ≡ take 1048577 known) → listed ≡ bytes → AppendsA (IsListingOf listed) old new
     → IfSome source (λ known. AppendsA (IsListingOf known) old new)
-seen_listing None old new bytes text seen listing appends = tt
-seen_listing (Some known) old new bytes text seen listing appends =
-    let cut : IsListingOf (take 1048577 known) text = subst (λ bytes. IsListingOf bytes text) seen listing in
+seen_listing None old new bytes listed seen same listing = tt
+seen_listing (Some known) old new bytes listed seen same listing =
+    let cut : IsListingOf (take 1048577 known) listing.0 = subst (λ bytes. IsListingOf bytes listing.0) (same ∙ seen) listing.1 in
     let within : length (take 1048577 known) < 1048577 = omega (arith, cut.gives.within) in
-    (text, subst (λ bytes. IsListingOf bytes text) (shorter 1048577 known within) cut, appends)
+    (listing.0, subst (λ bytes. IsListingOf bytes listing.0) (shorter 1048577 known within) cut, listing.2)

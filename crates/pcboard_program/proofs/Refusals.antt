@@ -1,32 +1,22 @@
--- When a refusal is true: of an image that fits the board, of the bytes that were read, and of the files.
-use Rattle.std.proofs.Common.{◌≡◌, ◌∙◌, ℕ, ◌<◌, false, List, length, take, ap, arith, subst, inr, length-take, Option, None, Some, Result, Ok, Err, IfErr, IfSome}
+-- When a refusal is true: of the bytes that were read, and of the files.
+use Rattle.std.proofs.Common.{◌≡◌, ◌∙◌, ℕ, ◌<◌, Bool, true, false, List, length, take, ap, arith, subst, inr, length-take, Option, None, Some, Result, Ok, Err, IfErr, IfSome}
 use Rattle.std.specs.Prelude.{IsErrAnd}
 use Rattle.assembler.specs.FirstFault.{IsFirst}
 use Rattle.assembler.specs.declared.fault.AsmFault.{AsmFault}
 use Rattle.assembler.specs.declared.fault.AsmFault.TheVariants as asm
-use Rattle.board.specs.declared.board.BoardFault.{BoardFault}
-use Rattle.board.specs.declared.board.BoardFault.TheVariants.{RamSize, Memory, ClockLimit}
-use Rattle.loader.specs.declared.run_file.RunFile.{RunFile}
 use Rattle.pcboard_program.specs.declared.fault.Fault.{Fault}
 use Rattle.pcboard_program.specs.declared.fault.Fault.TheVariants.{Source, Hex, Run, Board}
-use Rattle.pcboard_program.specs.declared.stop.Stop.{Stop}
-use Rattle.pcboard_program.specs.declared.stop.Stop.TheVariants.{Failed, Refused}
-use Rattle.pcboard_program.specs.Report.{FitsBoard}
-use Rattle.pcboard_program.specs.Faults.{IsTrueOfBoard, IsWantOfMemory}
+use Rattle.pcboard_program.specs.declared.unanswered.Unanswered.{Unanswered}
+use Rattle.pcboard_program.specs.declared.unanswered.Unanswered.TheVariants.{Failed, Refused}
 use Rattle.pcboard_program.specs.Answer.{IsTrueRefusal, run_text_of, source_of}
+use Rattle.pcboard_program.specs.Ready.{seen_of}
 use Rattle.pcboard_program.specs.Refusal.{IsTrueOfFiles, IsTrueOfText}
-use Rattle.pcboard_program.specs.Stops.{Stops}
+use Rattle.pcboard_program.specs.Unanswered.{EndsFor}
 use Rattle.pcboard_program.proofs.Reading.{seen_whole, shorter}
 
--- where an image fits the board, the board is refused for want of memory alone
-pub memory_alone : (image : List (ℕ × ℕ)) (run : RunFile) (fault : BoardFault) → IsTrueOfBoard image run fault → FitsBoard image run → IsWantOfMemory (Board fault)
-memory_alone image run RamSize refused fits = absurd (refused fits)
-memory_alone image run Memory refused fits = tt
-memory_alone image run ClockLimit refused fits = refused
-
--- a fault that is passed on stops the program
-pub passed_on : {A : Type 0} (result : Result A Stop) (fault : Fault) (Is : Fault → Type 0) → IsErrAnd result (λ stop. stop ≡ Refused fault) → Is fault
-    → IfErr result (Stops Is)
+-- the program ends for a fault that is passed on
+pub passed_on : {A : Type 0} (result : Result A Unanswered) (fault : Fault) (Is : Fault → Type 0) → IsErrAnd result (λ end. end ≡ Refused fault) → Is fault
+    → IfErr result (EndsFor Is)
 passed_on (Ok value) fault Is given is = tt
 passed_on (Err Failed) fault Is given is = let never : Failed ≡ Refused fault = given in cc
 passed_on (Err (Refused other)) fault Is given is =
@@ -48,11 +38,12 @@ seen_text source (Hex fault) never = absurd never
 seen_text source (Run fault) never = absurd never
 seen_text source (Board fault) never = absurd never
 
-seen_refusal : (source run : List ℕ) (fault : Fault) → IsTrueRefusal false (take 1048577 source) run fault → IsTrueRefusal false source run fault
-seen_refusal source run (Source fault) first = seen_first source fault first
-seen_refusal source run (Hex fault) never = absurd never
-seen_refusal source run (Run fault) refused = (refused.0, (refused.1.0, seen_whole source refused.1.0 refused.1.1))
-seen_refusal source run (Board fault) refused = (refused.0, refused.1, (refused.2.0, seen_whole source refused.2.0 refused.2.1, refused.2.2))
+seen_refusal : (hex : Bool) (bytes run : List ℕ) (fault : Fault) → IsTrueRefusal hex (seen_of hex bytes) run fault → IsTrueRefusal hex bytes run fault
+seen_refusal true bytes run fault refused = refused
+seen_refusal false source run (Source fault) first = seen_first source fault first
+seen_refusal false source run (Hex fault) never = absurd never
+seen_refusal false source run (Run fault) refused = (refused.0, (refused.1.0, seen_whole source refused.1.0 refused.1.1))
+seen_refusal false source run (Board fault) refused = (refused.0, refused.1, (refused.2.0, seen_whole source refused.2.0 refused.2.1, refused.2.2))
 
 -- what refuses the bytes that were read refuses the files
 pub refused_text : (file : Option (List ℕ)) (bytes : List ℕ) (fault : Fault) → IfSome file (λ known. bytes ≡ take 1048577 known) → IsTrueOfText bytes fault
@@ -60,14 +51,14 @@ pub refused_text : (file : Option (List ℕ)) (bytes : List ℕ) (fault : Fault)
 refused_text None bytes fault seen refused = tt
 refused_text (Some known) bytes fault seen refused = seen_text known fault (subst (λ source. IsTrueOfText source fault) seen refused)
 
-pub refused_source : (file said : Option (List ℕ)) (bytes run : List ℕ) (fault : Fault)
-    → IfSome file (λ known. bytes ≡ take 1048577 known) → IfSome said (λ known. run ≡ known) → IsTrueRefusal false bytes run fault
-    → IsTrueOfFiles false file said fault
-refused_source None said bytes run fault seen same refused = tt
-refused_source (Some known) None bytes run fault seen same refused = tt
-refused_source (Some known) (Some known_run) bytes run fault seen same refused =
-    let cut = subst (λ source. IsTrueRefusal false source run fault) seen refused in
-    seen_refusal known known_run fault (subst (λ text. IsTrueRefusal false (take 1048577 known) text fault) same cut)
+pub refused_files : (file said : Option (List ℕ)) (hex : Bool) (bytes run : List ℕ) (fault : Fault)
+    → IfSome file (λ known. bytes ≡ seen_of hex known) → IfSome said (λ known. run ≡ known) → IsTrueRefusal hex bytes run fault
+    → IsTrueOfFiles hex file said fault
+refused_files None said hex bytes run fault seen same refused = tt
+refused_files (Some known) None hex bytes run fault seen same refused = tt
+refused_files (Some known) (Some known_run) hex bytes run fault seen same refused =
+    let cut = subst (λ bytes. IsTrueRefusal hex bytes run fault) seen refused in
+    seen_refusal hex known known_run fault (subst (λ text. IsTrueRefusal hex (seen_of hex known) text fault) same cut)
 
 pub refused_stored : (input : Option (List ℕ)) (text source run : List ℕ) (fault : Fault)
     → IfSome input (λ known. text ≡ known) → source ≡ source_of text → run ≡ run_text_of text → IsTrueRefusal false source run fault

@@ -11,7 +11,8 @@ use Rattle.debugger.specs.declared.fault.DebugFault.{DebugFault}
 use Rattle.debugger.specs.Commands.{command_of, is_quit}
 use Rattle.debugger.specs.Session.{AnswersLine, SessionState}
 use Rattle.pcboard_program.specs.Answer.{AppendsA}
-use Rattle.pcboard_program.specs.Transcript.{Replies, TakesByte, TakesLine, Transcript, ends_session, input_lines, reply_text, typed_command}
+use Rattle.pcboard_program.specs.Taking.{TakesByte, TakesLine}
+use Rattle.pcboard_program.specs.Transcript.{Replies, Transcript, ends_session, input_lines, reply_text, typed_command}
 
 -- what one read takes
 pub keeps_first : (known : Option (List ℕ)) → Keeps known known

@@ -3,9 +3,8 @@
 use Rattle.std.specs.Prelude.{ℕ, ◌≡◌, ◌+◌, ◌==◌, Bool, true, false, List, [], ◌∷◌, ◌++◌, take, drop, Option, None, Some, IfSome, Ok, Err, position}
 use Rattle.std.specs.Io.KnownBytes.{Appends}
 use Rattle.board_types.specs.TextLines.{text_lines}
-use Rattle.assembler_meaning.specs.Values.{Names}
 use Rattle.assembler.specs.Rows.{Row, names_of}
-use Rattle.assembler.specs.Listing.{listed}
+use Rattle.assembler.specs.Listing.{Names, listed}
 use Rattle.assembler.specs.Gives.{Gives}
 use Rattle.assembler.specs.FirstFault.{IsFirst}
 use Rattle.board.specs.Board.{BoardState}
@@ -104,15 +103,19 @@ AppendsA Is old new = (text : List ℕ) × Is text × Appends old new text
 
 -- what a task's answer adds to the bytes that `out` holds, where the files and the input that it reads are known
 abbrev pub PrintsTask : Task → (List ℕ → Option (List ℕ)) → Option (List ℕ) → Option (List ℕ) → Option (List ℕ) → Type 0
-PrintsTask tasks.Stored files input old new = IfSome input (λ text. AppendsA (IsReport false (source_of text) (run_text_of text)) old new)
-PrintsTask (tasks.Asm file list) files input old new = IfSome (files file.now) (λ source. AppendsA (IsAssembled list source) old new)
+PrintsTask tasks.Stored files input old new =
+    IfSome input (λ text. AppendsA (IsReport false (source_of text) (run_text_of text)) old new)
+PrintsTask (tasks.Asm file list) files input old new =
+    IfSome (files file.now) (λ source. AppendsA (IsAssembled list source) old new)
 PrintsTask (tasks.Run file run hex) files input old new =
     IfSome (files file.now) (λ bytes. IfSome (files run.now) (λ said. AppendsA (IsReport hex bytes said) old new))
 PrintsTask (tasks.Debug file run hex) files input old new =
-    IfSome (files file.now) (λ bytes. IfSome (files run.now) (λ said. IfSome input (λ typed. AppendsA (IsSession hex bytes said typed) old new)))
+    IfSome (files file.now) (λ bytes. IfSome (files run.now)
+    (λ said. IfSome input (λ typed. AppendsA (IsSession hex bytes said typed) old new)))
 
 -- the words name a task, and its answer is added
-abbrev pub Prints : List (List ℕ) → (List ℕ → Option (List ℕ)) → Option (List ℕ) → Option (List ℕ) → Option (List ℕ) → Type 0
+abbrev pub Prints : List (List ℕ) → (List ℕ → Option (List ℕ)) → Option (List ℕ) → Option (List ℕ) → Option (List ℕ)
+    → Type 0
 Prints words files input old new = (task : Task) × AnswersWords words (Ok task) × PrintsTask task files input old new
 
 -- A refusal is true: the first fault of the source or HEX text; or the run file's, where an image was given; or the
@@ -122,6 +125,8 @@ IsTrueRefusal false bytes run (Source fault) = IsFirst bytes fault
 IsTrueRefusal true bytes run (Source fault) = ⊥
 IsTrueRefusal false bytes run (Hex fault) = ⊥
 IsTrueRefusal true bytes run (Hex fault) = Fails fault (image_of bytes)
-IsTrueRefusal hex bytes run (Run fault) = Answers (Err fault) (run_of_text run) × ((image : List (ℕ × ℕ)) × GivesImage hex bytes image)
+IsTrueRefusal hex bytes run (Run fault) =
+    Answers (Err fault) (run_of_text run) × ((image : List (ℕ × ℕ)) × GivesImage hex bytes image)
 IsTrueRefusal hex bytes run (Board fault) =
-    (run_file : RunFile) × Answers (Ok run_file) (run_of_text run) × ((image : List (ℕ × ℕ)) × GivesImage hex bytes image × IsTrueOfBoard image run_file fault)
+    (run_file : RunFile) × Answers (Ok run_file) (run_of_text run)
+    × ((image : List (ℕ × ℕ)) × GivesImage hex bytes image × IsTrueOfBoard image run_file fault)

@@ -41,7 +41,8 @@ line_suffix (Some line) = codes " line " ++ (decimal line ++ codes "\n")
 
 -- the printed line of a fault
 unfoldable pub fault_text : Fault → List ℕ
-fault_text fault = codes "fault " ++ (decimal (number_of fault) ++ (codes " " ++ (name_of fault ++ line_suffix (line_of fault))))
+fault_text fault =
+    codes "fault " ++ (decimal (number_of fault) ++ (codes " " ++ (name_of fault ++ line_suffix (line_of fault))))
 
 -- no memory was found, at whichever part
 abbrev pub IsWantOfMemory : Fault → Type 0

@@ -26,7 +26,8 @@ IsTrueOfFiles hex file run fault = IfSome file (λ bytes. IfSome run (λ said. I
 
 -- a refusal is true of a task, where the files and the input that it is judged by are known
 abbrev pub IsTrueOfTask : Task → (List ℕ → Option (List ℕ)) → Option (List ℕ) → Fault → Type 0
-IsTrueOfTask tasks.Stored files input fault = IfSome input (λ text. IsTrueRefusal false (source_of text) (run_text_of text) fault)
+IsTrueOfTask tasks.Stored files input fault =
+    IfSome input (λ text. IsTrueRefusal false (source_of text) (run_text_of text) fault)
 IsTrueOfTask (tasks.Asm file list) files input fault = IfSome (files file.now) (λ source. IsTrueOfText source fault)
 IsTrueOfTask (tasks.Run file run hex) files input fault = IsTrueOfFiles hex (files file.now) (files run.now) fault
 IsTrueOfTask (tasks.Debug file run hex) files input fault = IsTrueOfFiles hex (files file.now) (files run.now) fault

@@ -30,7 +30,8 @@ pub record ReportsImage (image : List (ℕ × ℕ)) (run : RunFile) (report : Re
   pub plain : report.board.plain ≡ plain_of image run
   pub registers : registers_of report.board.plain ≡ registers_of (plain_of image run)
   pub state : state_of report.board.plain ≡ state_of (plain_of image run)
-  pub bytes : (address : ℕ) → address < 2 ^ 20 → byte_of report.board.plain address ≡ byte_of (plain_of image run) address
+  pub bytes : (address : ℕ) → address < 2 ^ 20
+      → byte_of report.board.plain address ≡ byte_of (plain_of image run) address
   pub screen : screen_of report.board.plain ≡ screen_of (plain_of image run)
   pub changes : report.board.changes ≡ changes_in (power_on image (config_of run) run.keys) run.budget
   pub text : string_bytes report.text ≡ report_of image run

@@ -1,6 +1,6 @@
 -- What a session prints on an input: the replies to its lines.
 -- To be believed: public contracts say what they say by these definitions.
-use Rattle.std.specs.Prelude.{ℕ, ◌≡◌, ◌==◌, ◌&&◌, Bool, if◌then◌else◌, List, [], ◌∷◌, ◌++◌, codes, Option, None, Some, Result, Ok, Err, MatchBool, MatchOption, IfSome}
+use Rattle.std.specs.Prelude.{ℕ, ◌≡◌, ◌==◌, ◌&&◌, Bool, if◌then◌else◌, List, [], ◌∷◌, ◌++◌, codes, Option, None, Some, Result, Ok, Err, MatchBool}
 use Rattle.std.specs.Fmt.{decimal}
 use Rattle.std.specs.Str.{is_utf8}
 use Rattle.board_types.specs.TextLines.{onto_first}
@@ -32,7 +32,9 @@ clock_suffix (Some clock) = codes " clock " ++ (decimal clock ++ codes "\n")
 
 -- `fault 51 BadCommand`
 abbrev pub refusal_text : DebugFault → List ℕ
-refusal_text fault = codes "fault " ++ (decimal (fault_number fault) ++ (codes " " ++ (fault_name fault ++ clock_suffix (fault_clock fault))))
+refusal_text fault =
+    codes "fault " ++ (decimal (fault_number fault) ++ (codes " "
+    ++ (fault_name fault ++ clock_suffix (fault_clock fault))))
 
 -- what is printed of an answer or a refusal
 abbrev pub reply_text : Result Answer DebugFault → List ℕ
@@ -40,7 +42,8 @@ reply_text (Ok answer) = answer_text answer
 reply_text (Err fault) = refusal_text fault
 
 -- A session replies to a line. Behind the reply stands what follows from its state after the line.
-pub record Replies (line : List ℕ) (old : SessionState) (Follows : SessionState → List ℕ → Type 0) (text : List ℕ) : Type 0 where
+pub record Replies (line : List ℕ) (old : SessionState) (Follows : SessionState → List ℕ → Type 0)
+    (text : List ℕ) : Type 0 where
   pub reply : Result Answer DebugFault
   pub new : SessionState
   pub rest : List ℕ
@@ -53,13 +56,3 @@ abbrev pub Transcript : SessionState → List (List ℕ) → List ℕ → Type 0
 Transcript session [] text = text ≡ []
 Transcript session (line ∷ lines) text =
     MatchBool (ends_session line) (text ≡ []) (Replies line session (λ next rest. Transcript next lines rest) text)
-
--- the known bytes of an input lose their first, which is this one; or there is none
-abbrev pub TakesByte : Option (List ℕ) → Option (List ℕ) → Option ℕ → Type 0
-TakesByte old new byte = IfSome old (λ bytes. MatchOption byte ((bytes ≡ []) × (new ≡ Some []))
-    (λ b. (rest : List ℕ) × (bytes ≡ b ∷ rest) × (new ≡ Some rest)))
-
--- the known bytes of an input lose their first line, which is this one; or there is none
-abbrev pub TakesLine : Option (List ℕ) → Option (List ℕ) → Option (List ℕ) → Type 0
-TakesLine old new line = IfSome old (λ bytes. MatchOption line (input_lines bytes ≡ [])
-    (λ text. (rest : List ℕ) × (input_lines bytes ≡ text ∷ input_lines rest) × (new ≡ Some rest)))

@@ -1,6 +1,8 @@
 //! Why a run is refused.
 ghost use Rattle.std.specs.Prelude.{◌≡◌, IfOk};
 ghost use Rattle.std.specs.String.{string_bytes};
+ghost use Rattle.board.specs.declared.board.BoardFault.TheVariants.{Memory};
+ghost use Rattle.pcboard_program.specs.declared.fault.Fault.TheVariants.{Board};
 ghost use Rattle.pcboard_program.specs.Faults.{fault_text, line_of, line_suffix, name_of, number_of};
 
 use assembler::fault::AsmFault;
@@ -16,6 +18,15 @@ pub enum Fault {
     Hex(HexFault),
     Run(RunFault),
     Board(BoardFault),
+}
+
+/// A want of memory that no other part tells is the board's.
+impl From<AllocError> for Fault {
+    ghost from_gives = { λ _ fault. fault ≡ Board Memory };
+
+    fn from(_error: AllocError) -> Self {
+        Fault::Board(BoardFault::Memory)
+    }
 }
 
 impl Fault {

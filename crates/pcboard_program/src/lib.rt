@@ -8,6 +8,7 @@ mod input;
 mod listing;
 pub mod opener;
 pub mod program;
+mod ready;
 pub mod report;
 pub mod run;
-mod stop;
+mod unanswered;

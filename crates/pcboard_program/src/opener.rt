@@ -13,5 +13,6 @@ pub trait Opener {
 
     /// Opens the file `path`.
     fn open(&self, path: &str) -> io::Result<Self::Input>
-        ensures { IfSome (file_bytes self.now path.now) (λ bytes. IfOk result (λ file. Self.Input.remaining file ≡ Some bytes)) };
+        ensures { IfSome (file_bytes self.now path.now)
+            (λ bytes. IfOk result (λ file. Self.Input.remaining file ≡ Some bytes)) };
 }

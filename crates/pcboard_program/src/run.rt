@@ -1,10 +1,10 @@
 //! Running a source or an image for a number of clocks.
-ghost use Rattle.std.specs.Prelude.{◌≡◌, ℕ, List, [], IfOk, MatchResult, ⊤};
-ghost use Rattle.std.specs.Result.{IfErr};
-ghost use Rattle.board.specs.Plain.{changes_in, clock_of, power_on};
+ghost use Rattle.std.specs.Prelude.{◌≡◌, ℕ, List, IfErr, IfOk};
+ghost use Rattle.board.specs.Plain.{clock_of};
 ghost use Rattle.assembler.specs.Gives.{Gives};
-ghost use Rattle.pcboard_program.specs.Report.{FitsBoard, ReportsImage, ReportsSource, config_of, plain_of};
-ghost use Rattle.pcboard_program.specs.Faults.{IsTrueOfBoard, IsTrueOfImage, IsTrueOfSource, IsWantOfMemory};
+ghost use Rattle.pcboard_program.specs.Ready.{IsAtPowerOn};
+ghost use Rattle.pcboard_program.specs.Report.{FitsBoard, ReportsImage, ReportsSource};
+ghost use Rattle.pcboard_program.specs.Faults.{IsTrueOfImage, IsTrueOfSource, IsWantOfMemory};
 
 use crate::fault::Fault;
 use crate::report::Report;
@@ -23,7 +23,8 @@ pub fn run_source(alloc: Global, source: &[u8], run: &RunFile) -> Result<Report,
     ensures fault { IfErr result (λ fault. IsTrueOfSource source.now run.now fault) }
 
     // Where the source gives an image that fits the board, only the want of memory refuses it.
-    ensures accepted { (image : List (ℕ × ℕ)) → Gives source.now image → FitsBoard image run.now → IfErr result IsWantOfMemory }
+    ensures accepted { (image : List (ℕ × ℕ)) → Gives source.now image → FitsBoard image run.now
+        → IfErr result IsWantOfMemory }
 {
     match assemble(alloc, source) {
         Ok(listing) => run_image(alloc, listing.image(), run),
@@ -41,50 +42,37 @@ pub fn run_image(alloc: Global, image: &Image, run: &RunFile) -> Result<Report, 
     // Where the image fits the board, only the want of memory refuses it.
     ensures accepted { FitsBoard image.now run.now → IfErr result IsWantOfMemory }
 {
-    match report_image(alloc, image, run) {
-        Ok(report) => Ok(report),
-        Err(fault) => Err(Fault::Board(fault)),
-    }
-}
-
-fn report_image(alloc: Global, image: &Image, run: &RunFile) -> Result<Report, BoardFault>
-    ensures report { IfOk result (λ report. ReportsImage image.now run.now report) }
-    ensures fault { IfErr result (λ fault. IsTrueOfBoard image.now run.now fault) }
-{
-    let board = run_board(alloc, image, run)?;
-    match report_text(alloc, &board) {
-        Ok(text) => Ok(Report { board, text }),
-        Err(_) => Err(BoardFault::Memory),
-    }
+    let board = new_board(alloc, image, run)?;
+    report_at_budget(alloc, board, run)
 }
 
 /// The board of an image at power-on, as the run file says.
-pub(crate) fn new_board(alloc: Global, image: &Image, run: &RunFile) -> Result<Board, BoardFault>
-    ensures plain { IfOk result (λ board. board.plain ≡ power_on image.now (config_of run.now) run.now.keys) }
+pub(crate) fn new_board(alloc: Global, image: &Image, run: &RunFile) -> Result<Board, Fault>
+    ensures start { IfOk result (IsAtPowerOn image.now run.now) }
     ensures clock { IfOk result (λ board. clock_of board.plain ≡ 0) }
-    ensures changes { IfOk result (λ board. board.changes ≡ []) }
-    ensures trail { IfOk result (λ board. board.trail ≡ []) }
-    ensures fault { IfErr result (λ fault. IsTrueOfBoard image.now run.now fault) }
+    ensures fault { IfErr result (IsTrueOfImage image.now run.now) }
 {
     let config = Config {
         ram_kb: run.ram_kb,
         sw1: run.sw1,
         sw2: run.sw2,
     };
-    match run.keys.copy() {
-        Ok(keys) => Board::new(alloc, image, config, keys),
-        Err(_) => Err(BoardFault::Memory),
-    }
+    let keys = run.keys.copy()?;
+    Board::new(alloc, image, config, keys).map_err(Fault::Board)
 }
 
-/// The board of an image at the run file's budget.
-fn run_board(alloc: Global, image: &Image, run: &RunFile) -> Result<Board, BoardFault>
-    ensures clock { IfOk result (λ board. clock_of board.plain ≡ run.now.budget) }
-    ensures plain { IfOk result (λ board. board.plain ≡ plain_of image.now run.now) }
-    ensures changes { IfOk result (λ board. board.changes ≡ changes_in (power_on image.now (config_of run.now) run.now.keys) run.now.budget) }
-    ensures fault { IfErr result (λ fault. IsTrueOfBoard image.now run.now fault) }
+/// Runs a board at power-on for the run file's budget, and reports it.
+pub(crate) fn report_at_budget(
+    alloc: Global,
+    mut board: Board,
+    run: &RunFile,
+) -> Result<Report, Fault>
+    requires { clock_of board.plain ≡ 0 }
+    ensures report { IfOk result (λ report. (image : List (ℕ × ℕ)) → IsAtPowerOn image run.now board
+        → ReportsImage image run.now report) }
+    ensures fault { IfErr result (λ fault. fault ≡ Fault.Board BoardFault.Memory) }
 {
-    let mut board = new_board(alloc, image, run)?;
-    board.run(run.budget.get())?;
-    Ok(board)
+    board.run(run.budget.get()).map_err(Fault::Board)?;
+    let text = report_text(alloc, &board)?;
+    Ok(Report { board, text })
 }

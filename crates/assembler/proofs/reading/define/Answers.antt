@@ -5,9 +5,9 @@ use Rattle.assembler.specs.FirstPass.{IsNewDefinition, definition_names}
 use Rattle.assembler.proofs.ReadingNames.{none_is}
 use Rattle.assembler.proofs.reading.define.Goals as goal
 
-pub returns-in-Ok : goal.returns-in-Ok
-returns-in-Ok c =
+pub returns : goal.returns
+returns c =
     let fresh : is_defined c.args.symbols.now.entries c.in-Some.name ≡ false = subst (λ d. IsNewDefinition c.args.symbols.now.entries d) c.in-Some.is c.requires in
-    c.in-Ok.ensures.entries
+    c.in_ok-insert.ensures.entries
     ∙ insert_entry-new _ c.args.symbols.now c.in-Some.name c.in-Some.symbol (none_is (meaning c.args.symbols.now.entries c.in-Some.name) fresh)
     ∙ ap (λ d. c.args.symbols.now.entries ++ definition_names d) (sym c.in-Some.is)

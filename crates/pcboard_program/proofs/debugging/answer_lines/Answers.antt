@@ -1,6 +1,7 @@
 use Rattle.std.proofs.Common.{◌≡◌, ◌∙◌, false, true, ap, subst, sym, option_map, vec_items}
 use Rattle.debugger.specs.Session.{AnswersLine}
-use Rattle.pcboard_program.specs.Transcript.{TakesLine, ends_session, typed_command}
+use Rattle.pcboard_program.specs.Taking.{TakesLine}
+use Rattle.pcboard_program.specs.Transcript.{ends_session, typed_command}
 use Rattle.pcboard_program.proofs.Listed.{holds_none}
 use Rattle.pcboard_program.proofs.Sessions.{printed_all, printed_more, printed_quit}
 use Rattle.pcboard_program.proofs.debugging.answer_lines.Goals as goal
@@ -29,4 +30,4 @@ lines-preserved g c =
     c.as_slice-in-lines.ensures.value c.reply_to-reply.ensures in
     printed_more c.args.session.now c.lines.session c.reply_to-reply.new.session (g.I.Read.remaining c.args.input.now) (g.I.Read.remaining c.lines.input)
     (g.I.Read.remaining c.next_line.new.input) (g.O.Write.contents c.args.out.now) (g.O.Write.contents c.lines.out) (g.O.Write.contents c.print_reply.new.out)
-    c.in-Some.line.items c.reply_to-reply.result c.lines.invariant takes goes answers c.in-Ok.ensures
+    c.in-Some.line.items c.reply_to-reply.result c.lines.invariant takes goes answers c.in_ok-print_reply.ensures

@@ -1,5 +1,5 @@
 use Rattle.std.proofs.Common.{◌∙◌, length, subst, sym}
-use Rattle.pcboard_program.specs.Transcript.{TakesByte}
+use Rattle.pcboard_program.specs.Taking.{TakesByte}
 use Rattle.pcboard_program.proofs.Listed.{holds_none}
 use Rattle.pcboard_program.proofs.Sessions.{differs, is_empty_line, isnt_empty_line, line_ends, line_grows, line_last, line_none}
 use Rattle.pcboard_program.proofs.debugging.next_line.Goals as goal
@@ -15,7 +15,7 @@ pub bytes-preserved : goal.bytes-preserved
 bytes-preserved g c =
     let takes = subst (TakesByte (g.I.Read.remaining c.bytes.input) (g.I.Read.remaining c.next_byte.new.input)) c.in-Some.is c.in_ok-byte.ensures.byte in
     line_grows (g.I.Read.remaining c.args.input.now) (g.I.Read.remaining c.bytes.input) (g.I.Read.remaining c.next_byte.new.input)
-    c.bytes.line.items c.push.new.line.items c.in-Some.byte c.bytes.invariant takes (differs c.in-Some.byte 10 c.if-byte-eq10.false) c.in_ok-push.ensures.pushed
+    c.bytes.line.items c.push.new.self.items c.in-Some.byte c.bytes.invariant takes (differs c.in-Some.byte 10 c.if-byte-eq10.false) c.in_ok-push.ensures.items
 
 pub returns-in_default-clause-line : goal.returns-in_default-clause-line
 returns-in_default-clause-line g c =

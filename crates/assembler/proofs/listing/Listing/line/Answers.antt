@@ -45,12 +45,12 @@ line_text-requires-clause-ends c =
     own_ends c.self.inside.reading.source.items c.self.inside.reading.symbols.entries c.self.inside.reading.rows.items c.self.inside.image
     c.self.invariant.0 c.self.invariant.1 c.args.i c.in-Some.row.now (kept_is c)
 
-pub returns-in-Ok-clause-line : goal.returns-in-Ok-clause-line
-returns-in-Ok-clause-line c =
+pub returns-clause-line : goal.returns-clause-line
+returns-clause-line c =
     let kept : slice_get c.self.inside.reading.rows.items c.args.i ≡ Some c.in-Some.row.now =
     found_is c.self.inside.reading.rows.items c.as_slice.result.now c.args.i c.in-Some.row.now c.as_slice.ensures.value
     c.in-Some.ensures.lookup.3.0 c.in-Some.ensures.lookup.1 in
-    let shown = c.in-Ok.ensures ∙ ap (λ (s : List ℕ). shown_line s c.self.inside.image c.in-Some.row.now) c.as_slice-2.ensures.value in
-    subst (λ (l : ListingState). (rows : List Row) → AreRows [] (text_lines l.source) rows → Some (string_bytes c.in-Ok.text) ≡ line_at l.names (text_lines l.source) rows c.args.i) c.self.view_is
+    let shown = c.in_ok-text.ensures ∙ ap (λ (s : List ℕ). shown_line s c.self.inside.image c.in-Some.row.now) c.as_slice-2.ensures.value in
+    subst (λ (l : ListingState). (rows : List Row) → AreRows [] (text_lines l.source) rows → Some (string_bytes c.in_ok-text.text) ≡ line_at l.names (text_lines l.source) rows c.args.i) c.self.view_is
     (λ rows are. ap (λ (s : List ℕ). Some s) shown ∙ own_line c.self.inside.reading.source.items c.self.inside.reading.symbols.entries c.self.inside.reading.rows.items c.self.inside.image
     c.self.invariant.0 c.self.invariant.1 c.args.i c.in-Some.row.now kept rows are)

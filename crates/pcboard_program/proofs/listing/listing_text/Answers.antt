@@ -5,8 +5,8 @@ use Rattle.assembler.specs.Rows.{Row, names_of}
 use Rattle.pcboard_program.specs.Answer.{listing_text}
 use Rattle.board_types.proofs.LineCounting.{few_lines}
 use Rattle.pcboard_program.proofs.Listed.{all_shown, holds_none, line_none, shows_all, shows_more}
-use Rattle.pcboard_program.proofs.listing.lines_text.Goals as goal
-use Rattle.pcboard_program.proofs.listing.lines_text.Goals.{else-loop-i-test, then-loop-i-test+in_ok-line+in_default}
+use Rattle.pcboard_program.proofs.listing.listing_text.Goals as goal
+use Rattle.pcboard_program.proofs.listing.listing_text.Goals.{else-loop-i-test, then-loop-i-test+in_ok-line+in_default}
 
 pub loop-i-init : goal.loop-i-init
 loop-i-init c = λ rows are. ap (λ (l : List _). l ++ listing_text c.args.listing.now.names (text_lines c.args.listing.now.source) rows) c.new-text.ensures.bytes
@@ -17,7 +17,7 @@ loop-i-preserved c = λ rows are.
     sym (c.in_ok-line.ensures.line rows are) ∙ ap (option_map string_bytes) c.in-Some.is in
     shows_more c.args.listing.now.names (text_lines c.args.listing.now.source) rows c.loop-i.i (string_bytes c.loop-i.text) (string_bytes c.in-Some.line)
     (string_bytes c.push_line.new.text) (listing_text c.args.listing.now.names (text_lines c.args.listing.now.source) rows) is
-    (c.in_ok-push_line.ensures.line ∙ ap (λ (l : List ℕ). string_bytes c.loop-i.text ++ (l ++ 10 ∷ [])) c.deref.ensures) (c.loop-i.invariant rows are)
+    (c.in_ok-push_line.ensures ∙ ap (λ (l : List ℕ). string_bytes c.loop-i.text ++ (l ++ 10 ∷ [])) c.deref.ensures) (c.loop-i.invariant rows are)
 
 pub returns-clause-listing : goal.returns-clause-listing
 returns-clause-listing c =

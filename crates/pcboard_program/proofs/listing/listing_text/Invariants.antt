@@ -2,7 +2,7 @@ use Rattle.std.proofs.Common.{◌≡◌, ◌++◌, [], List, string_bytes, drop}
 use Rattle.board_types.specs.TextLines.{text_lines}
 use Rattle.assembler.specs.Rows.{AreRows, Row}
 use Rattle.pcboard_program.specs.Answer.{listing_text}
-use Rattle.pcboard_program.proofs.listing.lines_text.Given as goal
+use Rattle.pcboard_program.proofs.listing.listing_text.Given as goal
 
 abbrev pub invariant-loop-i : goal.invariant-loop-i
 invariant-loop-i l = (rows : List Row) → AreRows [] (text_lines l.fn.listing.source) rows

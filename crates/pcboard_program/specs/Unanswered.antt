@@ -1,0 +1,17 @@
+-- Why the program gives no answer, as its functions tell each other.
+-- For proofs alone: no public contract rests on it.
+use Rattle.std.specs.Prelude.{◌⊎◌}
+use Rattle.pcboard_program.specs.declared.fault.Fault.{Fault}
+use Rattle.pcboard_program.specs.declared.unanswered.Unanswered.{Unanswered}
+use Rattle.pcboard_program.specs.declared.unanswered.Unanswered.TheVariants.{Failed, Refused}
+use Rattle.pcboard_program.specs.Faults.{IsWantOfMemory}
+
+-- the program ends for such a refusal, or for want of memory, or for a failure
+abbrev pub EndsFor : (Fault → Type 0) → Unanswered → Type 0
+EndsFor Is Failed = Unit {0}
+EndsFor Is (Refused fault) = IsWantOfMemory fault ⊎ Is fault
+
+-- the program ends for want of memory, or for a failure: nothing was judged
+abbrev pub IsUnjudged : Unanswered → Type 0
+IsUnjudged Failed = Unit {0}
+IsUnjudged (Refused fault) = IsWantOfMemory fault

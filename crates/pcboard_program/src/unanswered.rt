@@ -1,0 +1,42 @@
+//! Why the program ends without an answer.
+ghost use Rattle.std.specs.Prelude.{◌≡◌};
+ghost use Rattle.board.specs.declared.board.BoardFault.TheVariants.{Memory};
+ghost use Rattle.pcboard_program.specs.declared.fault.Fault.TheVariants.{Board};
+ghost use Rattle.pcboard_program.specs.declared.unanswered.Unanswered.TheVariants.{Failed, Refused};
+
+use crate::fault::Fault;
+use board::board::BoardFault;
+use std::alloc::AllocFailed;
+use std::io;
+
+/// Why the program ends without an answer to its task.
+#[derive(Clone, Copy)]
+pub(crate) enum Unanswered {
+    /// An opening, a read or a write failed.
+    Failed,
+    Refused(Fault),
+}
+
+impl From<Fault> for Unanswered {
+    ghost from_gives = { λ fault end. end ≡ Refused fault };
+
+    fn from(fault: Fault) -> Self {
+        Unanswered::Refused(fault)
+    }
+}
+
+impl From<io::Error> for Unanswered {
+    ghost from_gives = { λ _ end. end ≡ Failed };
+
+    fn from(_error: io::Error) -> Self {
+        Unanswered::Failed
+    }
+}
+
+impl<T: Drop> From<AllocFailed<T>> for Unanswered {
+    ghost from_gives = { λ _ end. end ≡ Refused (Board Memory) };
+
+    fn from(_refused: AllocFailed<T>) -> Self {
+        Unanswered::Refused(Fault::Board(BoardFault::Memory))
+    }
+}
