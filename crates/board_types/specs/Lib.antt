@@ -7,3 +7,4 @@ pub mod Bits
 pub mod Lines
 pub mod TextLines
 pub mod Digits
+pub mod Timed

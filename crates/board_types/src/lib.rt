@@ -14,3 +14,4 @@ pub mod line;
 pub mod regs;
 pub mod state;
 pub mod text;
+pub mod timed;

@@ -1,0 +1,25 @@
+//! Parts that go on by themselves as time passes.
+ghost use Rattle.std.specs.Prelude.{◌≡◌, ℕ, ◌+◌};
+ghost use Rattle.board_types.specs.Timed.{IsUntilTurn};
+ghost use Rattle.board_types.specs.declared.line.Line.{Line};
+
+/// What goes on by itself as time passes, and gives out a level. Time is counted in ticks of the clock that drives it.
+pub trait Timed {
+    // the state after so many ticks
+    ghost after: { Self → ℕ → Self };
+
+    // the level that it gives out
+    ghost output: { Self → Line };
+
+    /// Lets `ticks` ticks pass.
+    fn advance(&mut self, ticks: u64)
+        ensures { self.new ≡ after self.old ticks };
+
+    /// After how many ticks, from 1 on, the output first differs from what it is now, as long as nothing else happens;
+    /// `None` where it never does.
+    fn until_change(&self) -> Option<u64>
+        ensures { IsUntilTurn after output self.now result };
+
+    // to let some ticks pass and then more is to let all of them pass
+    ghost adds: { (s : Self) (k m : ℕ) → after (after s k) m ≡ after s (k + m) };
+}
