@@ -1,13 +1,12 @@
 -- The laws of the screen, of text memory and of the beam.
-use Rattle.std.proofs.Common.{◌≡◌, ◌≢◌, ℕ, zero, suc, ◌+◌, ◌-◌, ◌*◌, ◌/◌, ◌%◌, ◌^◌, ◌<◌, ◌≤◌, Bool, true, false, if◌then◌else◌, nat_le, List, length, slice_index, replicate, refl, sym, ap, ◌∙◌, arith, inl, inr, ◌==◌}
-use Rattle.std.proofs.lemmas.Bool.{cases_lt}
+use Rattle.std.proofs.Common.{◌≡◌, ◌≢◌, ℕ, zero, suc, ◌+◌, ◌*◌, ◌/◌, ◌%◌, ◌^◌, ◌<◌, ◌≤◌, Bool, true, false, if◌then◌else◌, nat_le, List, length, slice_index, replicate, refl, sym, ap, ◌∙◌, arith, ◌==◌}
 use Rattle.std.proofs.lemmas.Bool.Decides.{nat_tests}
 use Rattle.board_types.specs.Bits.{has_bit}
 use Rattle.std.proofs.lemmas.List.{get_or-set_same, get_or-set_other, length-set}
 use Rattle.mda_text.specs.Mda.{MdaState, text_size, power_on, text_byte, with_text_byte, byte_at, with_high, with_low, with_register, after_write, after_clocks, status}
 use Rattle.mda_text.specs.Screen.{character_of, character_at, cell}
 use Rattle.mda_text.specs.Marks.{after_mark}
-use Rattle.mda_text.specs.Laws.{with_start, StartsAt, ShowsOnce, ShowsAlike, Scrolls, ChangesOneCell, IsMemory, IsBlank, clocks_until_change, TellsBeam}
+use Rattle.mda_text.specs.Laws.{with_start, StartsAt, ShowsOnce, ShowsAlike, Scrolls, ChangesOneCell, IsMemory, IsBlank, TellsBeam}
 use Rattle.mda_text.proofs.Sizes.{text_size_is}
 use Rattle.mda_text.proofs.Raster.{clocks_move_beam, raster_after}
 
@@ -151,54 +150,9 @@ status_after : (m : MdaState) (n : ℕ) → status (after_clocks m n) ≡ level 
 unfolding level
 status_after m n = ap (λ r. if nat_le 219 r then 0xF1 else 0xF0) (raster_after m n)
 
-status_now : (m : MdaState) → status m ≡ level (m.raster % 259)
-unfolding level
-status_now m = refl
-
-wait_low : (m : MdaState) → m.raster % 259 < 219 → clocks_until_change m ≡ 219 - m.raster % 259
-wait_low m low = grind (arith, nat_tests)
-
-wait_high : (m : MdaState) → 219 ≤ m.raster % 259 → clocks_until_change m ≡ 259 - m.raster % 259
-wait_high m high = grind (arith, nat_tests)
-
-stays_low : (raster n : ℕ) → raster % 259 < 219 → n < 219 - raster % 259 → (raster + n) % 259 < 219
-stays_low raster n low soon = omega arith
-
-stays_high : (raster n : ℕ) → 219 ≤ raster % 259 → n < 259 - raster % 259 → 219 ≤ (raster + n) % 259
-stays_high raster n high soon = omega arith
-
-turns_high : (raster : ℕ) → raster % 259 < 219 → 219 ≤ (raster + (219 - raster % 259)) % 259
-turns_high raster low = omega arith
-
-turns_low : (raster : ℕ) → 219 ≤ raster % 259 → (raster + (259 - raster % 259)) % 259 < 219
-turns_low raster high = omega arith
-
-stays : (m : MdaState) (n : ℕ) → n < clocks_until_change m → status (after_clocks m n) ≡ status m
-stays m n soon =
-    elim (cases_lt (m.raster % 259) 219) [
-      | inl low ↦ status_after m n ∙ level_low _ (stays_low m.raster n low (omega (arith, wait_low m low))) ∙ sym (level_low _ low) ∙ sym (status_now m)
-      | inr high ↦ status_after m n ∙ level_high _ (stays_high m.raster n high (omega (arith, wait_high m high))) ∙ sym (level_high _ high) ∙ sym (status_now m)
-    ]
-
-apart_levels : (a b : ℕ) → a ≡ b → a ≡ 0xF1 → b ≡ 0xF0 → ⊥
-apart_levels a b same high low = omega arith
-
-changes : (m : MdaState) → status (after_clocks m (clocks_until_change m)) ≢ status m
-changes m same =
-    elim (cases_lt (m.raster % 259) 219) [
-      | inl low ↦
-          apart_levels _ _ same (ap (λ n. status (after_clocks m n)) (wait_low m low) ∙ status_after m (219 - m.raster % 259) ∙ level_high _ (turns_high m.raster low))
-          (status_now m ∙ level_low _ low)
-      | inr high ↦
-          apart_levels _ _ (sym same) (status_now m ∙ level_high _ high)
-          (ap (λ n. status (after_clocks m n)) (wait_high m high) ∙ status_after m (259 - m.raster % 259) ∙ level_low _ (turns_low m.raster high))
-    ]
-
 pub tells_beam : (m : MdaState) → TellsBeam m
 tells_beam m = record {
   high = λ n. (λ is. high_level _ (sym (status_after m n) ∙ is), λ at. status_after m n ∙ level_high _ at);
   low = λ n. (λ is. low_level _ (sym (status_after m n) ∙ is), λ at. status_after m n ∙ level_low _ at);
-  stays = stays m;
-  changes = changes m;
   writes = write_keeps (λ s. s.raster) (λ s index start cursor video. refl) m;
 }

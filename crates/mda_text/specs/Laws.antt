@@ -63,18 +63,11 @@ pub record IsBlank (m : MdaState) : Type 0 where
   pub size : length m.bytes ≡ 4096
   pub bytes : (offset : ℕ) → text_byte m offset ≡ 0
 
--- how many clocks pass until the status changes: it stays for 219 and for 40 in turn
-abbrev pub clocks_until_change : MdaState → ℕ
-clocks_until_change m = let raster = m.raster % 259 in if nat_lt raster 219 then 219 - raster else 259 - raster
-
 -- the status over time
 pub record TellsBeam (m : MdaState) : Type 0 where
   -- it is F1h exactly while the raster, which goes round after 259 clocks, is 219 or more, and else F0h
   pub high : (n : ℕ) → (status (after_clocks m n) ≡ 0xF1) ↔ (219 ≤ (m.raster + n) % 259)
   pub low : (n : ℕ) → (status (after_clocks m n) ≡ 0xF0) ↔ ((m.raster + n) % 259 < 219)
-  -- it stays until it changes
-  pub stays : (n : ℕ) → n < clocks_until_change m → status (after_clocks m n) ≡ status m
-  pub changes : status (after_clocks m (clocks_until_change m)) ≢ status m
   -- nothing but clocks moves the beam
   pub writes : (port byte : ℕ) → (after_write m port byte).raster ≡ m.raster
 

@@ -6,6 +6,8 @@
 use Rattle.std.specs.Prelude.{ℕ, ◌+◌, ◌*◌, ◌/◌, ◌%◌, ◌==◌, Bool, false, if◌then◌else◌, nat_le, List, replicate, slice_index, slice_set}
 use Rattle.board_types.specs.Bits.{has_bit}
 use Rattle.board_types.specs.Iterate.{iterate}
+use Rattle.board_types.specs.Lines.{from_bool}
+use Rattle.board_types.specs.declared.line.Line.{Line}
 
 pub record MdaState : Type 0 where
   -- text memory: of each word the code and then the attribute
@@ -81,6 +83,10 @@ with_register m n byte =
 -- (this board's choice)
 abbrev pub status : MdaState → ℕ
 status m = if nat_le 219 (m.raster % 259) then 0xF1 else 0xF0
+
+-- the level of its bit 0: high as the beam goes back
+abbrev pub retrace : MdaState → Line
+retrace m = from_bool (has_bit (status m) 0)
 
 -- the byte that a read of a port gives; a read changes nothing, and FFh is read where nothing answers
 unfoldable pub byte_at : MdaState → ℕ → ℕ

@@ -39,7 +39,7 @@ pub fn is_blank()
     ensures { IsBlank power_on }
 {}
 
-/// The status over time: which it is after any number of clocks, and how long until it changes.
+/// The status over time: which it is after any number of clocks.
 pub fn tells_beam()
     ensures { (m : MdaState) → TellsBeam m }
 {}

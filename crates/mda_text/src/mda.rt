@@ -4,12 +4,13 @@ ghost use Rattle.std.specs.Prelude.{◌≡◌, ◌<◌, ◌≤◌, ◌+◌, ◌+
 ghost use Rattle.std.specs.List.{range_with_len, flat_map};
 ghost use Rattle.std.specs.String.{string_bytes};
 ghost use Rattle.board_types.specs.Bits.{has_bit};
-ghost use Rattle.mda_text.specs.Mda.{MdaState, power_on, text_byte, with_text_byte, with_high, with_low, register_byte, with_register, status, byte_at, after_write, after_clocks};
+ghost use Rattle.mda_text.specs.Mda.{MdaState, power_on, text_byte, with_text_byte, with_high, with_low, register_byte, with_register, status, byte_at, after_write};
 ghost use Rattle.mda_text.specs.Screen.{cell, character_at, character_of, glyph, screen_row, screen_text, nth_character, characters};
 ghost use Rattle.mda_text.specs.Marks.{after_mark, number_after, is_changed, changed_cells};
 
 use crate::changes::ChangedCells;
 use board_types::address::TEXT_SIZE;
+use board_types::timed::Timed;
 use std::alloc::{AllocError, Global};
 use std::marker::Model;
 
@@ -160,15 +161,6 @@ impl Mda {
         self.bytes[offset as usize] = value;
     }
 
-    /// Lets `clocks` processor clocks pass: the beam moves on.
-    #[tactic(auto, using(crate::proofs::Raster::clocks_in_closed_form))]
-    pub fn advance(&mut self, clocks: u64)
-        ensures { self.new ≡ after_clocks self.old clocks }
-    {
-        let ahead = (clocks % u64::from(RASTER_CLOCKS)) as u16;
-        self.raster = (self.raster + ahead) % RASTER_CLOCKS;
-    }
-
     /// The character that the cell at `row`, below 25, and `column`, below 80, shows, an ASCII code.
     #[tactic(auto, unfolding(crate::specs::Screen::cell, crate::specs::Screen::character_at))]
     pub fn cell(&self, row: u8, column: u8) -> u8
@@ -292,6 +284,40 @@ impl Mda {
             0xF0
         }
     }
+}
+
+/// Its tick is a processor clock, and its output bit 0 of the status port.
+impl Timed for Mda {
+    ghost use Rattle.std.proofs.Common.{sym};
+    ghost use Rattle.std.specs.Prelude.{◌≡◌};
+    ghost use Rattle.board_types.proofs.Iterate.{iterate_add};
+    ghost use Rattle.board_types.specs.Timed.{IsUntilTurn};
+    ghost use Rattle.mda_text.specs.Mda.{after_clock, after_clocks, retrace};
+
+    ghost after = { after_clocks };
+
+    ghost output = { retrace };
+
+    /// Lets `ticks` processor clocks pass: the beam moves on.
+    #[tactic(auto, using(crate::proofs::Raster::clocks_in_closed_form))]
+    fn advance(&mut self, ticks: u64)
+        ensures { self.new ≡ after_clocks self.old ticks }
+    {
+        let ahead = (ticks % u64::from(RASTER_CLOCKS)) as u16;
+        self.raster = (self.raster + ahead) % RASTER_CLOCKS;
+    }
+
+    /// After how many processor clocks bit 0 of the status port changes: it is 0 for 219 and 1 for 40 in turn.
+    fn until_change(&self) -> Option<u64>
+        ensures { IsUntilTurn after_clocks retrace self.now result }
+    {
+        if self.raster < RETRACE_START {
+            return Some(u64::from(RETRACE_START - self.raster));
+        }
+        Some(u64::from(RASTER_CLOCKS - self.raster))
+    }
+
+    ghost adds = { λ m k n. sym (iterate_add after_clock k n m) };
 }
 
 // the number with its high part replaced, which has six bits

@@ -1,4 +1,5 @@
 //! The text adapter alone: its registers through their ports, a cell of text memory, and the status.
+use board_types::timed::Timed;
 use mda_text::mda::{INDEX_PORT, MODE_PORT, Mda, REGISTER_PORT, STATUS_PORT};
 use std::alloc::{AllocError, Global};
 
