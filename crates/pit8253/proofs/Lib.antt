@@ -6,3 +6,5 @@ pub mod Ticking
 pub mod Told
 pub mod Waits
 pub mod Waves
+pub mod Ahead
+pub mod Until

@@ -16,16 +16,16 @@ abbrev pub with_count : CounterState → ℕ → Bool → Line → CounterState
 with_count c count due out = record c { count = count; strobe_due = due; out = out }
 
 -- a tick that loads nothing
-counts : (c d : CounterState) → c.load_due ≡ false → d.load_due ≡ c.load_due → after_tick d ≡ after_count d d.mode
+pub tick_counts : (c d : CounterState) → c.load_due ≡ false → d.load_due ≡ c.load_due → after_tick d ≡ after_count d d.mode
 unfolding after_tick
-counts c d none same = ap (λ b. if b then after_load d (out_at_load d.mode d.out) else after_count d d.mode) (same ∙ none)
+tick_counts c d none same = ap (λ b. if b then after_load d (out_at_load d.mode d.out) else after_count d d.mode) (same ∙ none)
 
 -- which rule a tick follows, by the mode
 
 pub tick_terminal_count : (c : CounterState) → Runs c → c.mode ≡ TerminalCount → c.gate ≡ High → c.first_byte ≡ None → (n : ℕ) (due : Bool) (out : Line) → after_tick (with_count c n due out) ≡ after_countdown (with_count c n due out)
 tick_terminal_count c runs mode gate first n due out =
     let d : CounterState = with_count c n due out in
-    counts c d runs.none_due refl ∙ ap (λ m. after_count d m) mode
+    tick_counts c d runs.none_due refl ∙ ap (λ m. after_count d m) mode
     ∙ ap (λ p. if is_loaded p && is_high c.gate && is_none c.first_byte then after_countdown d else d) runs.loaded
     ∙ ap (λ g. if is_high g && is_none c.first_byte then after_countdown d else d) gate
     ∙ ap (λ f. if is_none f then after_countdown d else d) first
@@ -33,34 +33,34 @@ tick_terminal_count c runs mode gate first n due out =
 pub tick_one_shot : (c : CounterState) → Runs c → c.mode ≡ OneShot → (n : ℕ) (due : Bool) (out : Line) → after_tick (with_count c n due out) ≡ after_countdown (with_count c n due out)
 tick_one_shot c runs mode n due out =
     let d : CounterState = with_count c n due out in
-    counts c d runs.none_due refl ∙ ap (λ m. after_count d m) mode
+    tick_counts c d runs.none_due refl ∙ ap (λ m. after_count d m) mode
     ∙ ap (λ p. if is_loaded p then after_countdown d else d) runs.loaded
 
 pub tick_rate : (c : CounterState) → Runs c → c.mode ≡ RateGenerator → c.gate ≡ High → (n : ℕ) (due : Bool) (out : Line) → after_tick (with_count c n due out) ≡ after_rate_count (with_count c n due out)
 tick_rate c runs mode gate n due out =
     let d : CounterState = with_count c n due out in
-    counts c d runs.none_due refl ∙ ap (λ m. after_count d m) mode
+    tick_counts c d runs.none_due refl ∙ ap (λ m. after_count d m) mode
     ∙ ap (λ p. if is_loaded p && is_high c.gate then after_rate_count d else d) runs.loaded
     ∙ ap (λ g. if is_high g then after_rate_count d else d) gate
 
 pub tick_square : (c : CounterState) → Runs c → c.mode ≡ SquareWave → c.gate ≡ High → (n : ℕ) (due : Bool) (out : Line) → after_tick (with_count c n due out) ≡ after_square_count (with_count c n due out)
 tick_square c runs mode gate n due out =
     let d : CounterState = with_count c n due out in
-    counts c d runs.none_due refl ∙ ap (λ m. after_count d m) mode
+    tick_counts c d runs.none_due refl ∙ ap (λ m. after_count d m) mode
     ∙ ap (λ p. if is_loaded p && is_high c.gate then after_square_count d else d) runs.loaded
     ∙ ap (λ g. if is_high g then after_square_count d else d) gate
 
 pub tick_software_strobe : (c : CounterState) → Runs c → c.mode ≡ SoftwareStrobe → c.gate ≡ High → (n : ℕ) (due : Bool) (out : Line) → after_tick (with_count c n due out) ≡ after_strobe_count (with_count c n due out)
 tick_software_strobe c runs mode gate n due out =
     let d : CounterState = with_count c n due out in
-    counts c d runs.none_due refl ∙ ap (λ m. after_count d m) mode
+    tick_counts c d runs.none_due refl ∙ ap (λ m. after_count d m) mode
     ∙ ap (λ p. if is_loaded p && is_high c.gate then after_strobe_count d else after_rest d) runs.loaded
     ∙ ap (λ g. if is_high g then after_strobe_count d else after_rest d) gate
 
 pub tick_hardware_strobe : (c : CounterState) → Runs c → c.mode ≡ HardwareStrobe → (n : ℕ) (due : Bool) (out : Line) → after_tick (with_count c n due out) ≡ after_strobe_count (with_count c n due out)
 tick_hardware_strobe c runs mode n due out =
     let d : CounterState = with_count c n due out in
-    counts c d runs.none_due refl ∙ ap (λ m. after_count d m) mode
+    tick_counts c d runs.none_due refl ∙ ap (λ m. after_count d m) mode
     ∙ ap (λ p. if is_loaded p then after_strobe_count d else after_rest d) runs.loaded
 
 -- what the rules make of it, where the count falls to m

@@ -150,6 +150,10 @@ after_tick c = if c.load_due then after_load c (out_at_load c.mode c.out) else a
 abbrev pub after_ticks : CounterState → ℕ → CounterState
 after_ticks c n = iterate after_tick n c
 
+-- the level that it gives out
+abbrev pub out_of : CounterState → Line
+out_of c = c.out
+
 -- The control word.
 
 -- OUT after a control word

@@ -2,3 +2,4 @@ pub mod Program
 pub mod Counter
 pub mod Pit
 pub mod Laws
+pub mod Ahead

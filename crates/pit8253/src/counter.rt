@@ -1,11 +1,15 @@
 //! One counter of the timer (Intel 8253 data sheet, "Mode Definition").
-ghost use Rattle.std.specs.Prelude.{◌≡◌, ◌≤◌, ◌<◌, ◌/◌, ◌%◌, ◌+◌, ◌*◌};
+ghost use Rattle.std.specs.Prelude.{◌≡◌, ◌≤◌, ◌<◌, ◌/◌, ◌%◌, ◌+◌, ◌*◌, IfSome};
 ghost use Rattle.board_types.specs.declared.line.Line.{Line};
-ghost use Rattle.pit8253.specs.Program.{mode_of, access_of, radix_of, count_of, digits_of, count_minus};
-ghost use Rattle.pit8253.specs.Counter.{power_on, is_awaited, out_at_load, after_load, after_countdown, after_rate_count, half_step, after_square_count, after_strobe_count, after_count, after_tick, after_ticks, out_at_control, reading, after_latch, after_program, after_control_word, loads_when_written, after_full_count, after_first_byte, after_write, next_byte, after_read, rises, is_triggered, out_at_gate, after_gate};
+ghost use Rattle.pit8253.specs.Program.{mode_of, access_of, radix_of, modulus, count_of, digits_of};
+ghost use Rattle.pit8253.specs.Laws.{size, ticks_left, after_fall, after_strobe_fall, after_rate_fall, half_left, after_half_fall};
+ghost use Rattle.pit8253.specs.Ahead.{is_counting, after_rests, after_rate, half_ticks, after_turn, after_halves, after_square, after_run, after_due_load, until_end, until_pulse, until_half, until_strobe, until_rest, until_turn, differ, a_tick_later};
+ghost use Rattle.pit8253.specs.Counter.{power_on, is_awaited, out_at_load, after_load, out_at_control, reading, after_latch, after_program, after_control_word, loads_when_written, after_full_count, after_first_byte, after_write, next_byte, after_read, rises, is_triggered, out_at_gate, after_gate};
 
+use crate::count::{count_after, count_of, digits_of, high_byte, length_of, low_byte, word_of};
 use crate::program::{Access, Mode, Progress, Radix};
 use board_types::line::Line;
+use board_types::timed::Timed;
 use std::marker::Model;
 
 /// A counter: its mode, its count, its latch, its gate and its output.
@@ -28,7 +32,9 @@ pub struct Counter {
 }
 
 impl Model for Counter {
+    ghost use Rattle.std.specs.Prelude.{◌<◌};
     ghost use Rattle.pit8253.specs.Counter.{CounterState};
+    ghost use Rattle.pit8253.specs.Program.{modulus};
 
     ghost Value = { CounterState };
 
@@ -65,6 +71,8 @@ impl Model for Counter {
       gate = c.gate;
       out = c.out;
     } };
+
+    ghost invariant = { λ c. (c.newest < modulus c.radix) × (c.count < modulus c.count_radix) };
 }
 
 impl Counter {
@@ -95,29 +103,6 @@ impl Counter {
         ensures { result ≡ self.now.out }
     {
         self.out
-    }
-
-    /// One tick: a falling edge of CLK.
-    #[tactic(auto, unfolding(crate::specs::Counter::after_tick))]
-    pub fn tick(&mut self)
-        ensures { self.new ≡ after_tick self.old }
-    {
-        if self.load_due {
-            let out = out_at_load(self.mode, self.out);
-            self.load(out);
-        } else {
-            self.count();
-        }
-    }
-
-    /// `ticks` ticks, one after another.
-    #[tactic(auto, using(board_types::proofs::Iterate::iterate_steps))]
-    pub fn advance(&mut self, ticks: u64)
-        ensures { self.new ≡ after_ticks self.old ticks }
-    {
-        for _i in 0..ticks {
-            self.tick();
-        }
     }
 
     /// A control word, of which bits 5 to 0 count here: access 00 latches, any other programs the counter anew.
@@ -256,78 +241,301 @@ impl Counter {
         self.out = out;
     }
 
-    fn count(&mut self)
-        ensures { self.new ≡ after_count self.old self.old.mode }
+    fn load_due_count(&mut self)
+        ensures { self.new ≡ after_due_load self.old }
+    {
+        let out = out_at_load(self.mode, self.out);
+        self.load(out);
+    }
+
+    fn is_counting(&self) -> bool
+        ensures { result ≡ is_counting self.now self.now.mode }
     {
         let loaded = self.progress == Progress::Loaded;
         let enabled = loaded && self.gate == Line::High;
         match self.mode {
-            Mode::TerminalCount if enabled && self.first_byte.is_none() => self.count_down(),
-            Mode::OneShot if loaded => self.count_down(),
-            Mode::RateGenerator if enabled => self.divide(),
-            Mode::SquareWave if enabled => self.square(),
-            Mode::SoftwareStrobe if enabled => self.strobe(),
-            Mode::HardwareStrobe if loaded => self.strobe(),
-            Mode::SoftwareStrobe | Mode::HardwareStrobe => self.out = Line::High,
-            Mode::TerminalCount | Mode::OneShot | Mode::RateGenerator | Mode::SquareWave => (),
+            Mode::TerminalCount => enabled && self.first_byte.is_none(),
+            Mode::RateGenerator | Mode::SquareWave | Mode::SoftwareStrobe => enabled,
+            Mode::OneShot | Mode::HardwareStrobe => loaded,
         }
     }
 
-    fn count_down(&mut self)
-        ensures { self.new ≡ after_countdown self.old }
+    fn ticks_left(&self) -> u64
+        ensures ticks { result ≡ ticks_left self.now }
+        ensures some { 0 < result }
+        ensures bound { result ≤ 65536 }
     {
-        self.count = count_minus(self.count_radix, self.count, 1);
-        if self.count == 0 {
+        length_of(self.count_radix, self.count)
+    }
+
+    // the newest count's length: in modes 2 and 3 OUT comes round after it
+    fn period(&self) -> u64
+        ensures ticks { result ≡ size self.now }
+        ensures some { 0 < result }
+        ensures bound { result ≤ 65536 }
+    {
+        length_of(self.radix, self.newest)
+    }
+
+    // `ticks` ticks with no load due
+    #[tactic(auto, unfolding(crate::specs::Ahead::after_run))]
+    fn run(&mut self, ticks: u64)
+        ensures { self.new ≡ after_run self.old ticks }
+    {
+        if !self.is_counting() {
+            return self.rest(ticks);
+        }
+        match self.mode {
+            Mode::TerminalCount | Mode::OneShot => self.fall(ticks),
+            Mode::RateGenerator => self.divide(ticks),
+            Mode::SquareWave => self.square(ticks),
+            Mode::SoftwareStrobe | Mode::HardwareStrobe => self.strobe(ticks),
+        }
+    }
+
+    fn rest(&mut self, ticks: u64)
+        ensures { self.new ≡ after_rests self.old self.old.mode ticks }
+    {
+        match self.mode {
+            Mode::SoftwareStrobe | Mode::HardwareStrobe if ticks > 0 => self.out = Line::High,
+            _ => (),
+        }
+    }
+
+    fn fall(&mut self, ticks: u64)
+        ensures { self.new ≡ after_fall self.old ticks }
+    {
+        if ticks >= self.ticks_left() {
             self.out = Line::High;
         }
+        self.count = count_after(self.count_radix, self.count, ticks);
     }
 
-    fn divide(&mut self)
-        ensures { self.new ≡ after_rate_count self.old }
+    #[tactic(auto, unfolding(crate::specs::Ahead::after_rate))]
+    fn divide(&mut self, ticks: u64)
+        ensures { self.new ≡ after_rate self.old ticks }
     {
-        if self.count == 1 {
-            self.load(Line::High);
-        } else {
-            self.count = count_minus(self.count_radix, self.count, 1);
-            if self.count == 1 {
-                self.out = Line::Low;
-            }
+        let left = self.ticks_left();
+        if ticks < left {
+            return self.fall_in_period(ticks);
         }
+        self.load(Line::High);
+        self.fall_in_period((ticks - left) % self.period());
     }
 
-    fn square(&mut self)
-        ensures { self.new ≡ after_square_count self.old }
+    fn fall_in_period(&mut self, ticks: u64)
+        ensures { self.new ≡ after_rate_fall self.old ticks }
     {
-        let count = count_minus(
-            self.count_radix,
-            self.count,
-            half_step(self.count, self.out),
-        );
-        if self.count == 1 {
-            self.load(Line::High);
-        } else if count == 0 {
-            let out = if self.newest == 1 {
-                Line::High
-            } else {
-                self.out.opposite()
-            };
-            self.load(out);
-        } else {
-            self.count = count;
-        }
-    }
-
-    fn strobe(&mut self)
-        ensures { self.new ≡ after_strobe_count self.old }
-    {
-        self.count = count_minus(self.count_radix, self.count, 1);
-        if self.count == 0 && self.strobe_due {
-            self.strobe_due = false;
+        let last = self.ticks_left() - 1;
+        if ticks > 0 && ticks == last {
             self.out = Line::Low;
-        } else {
-            self.out = Line::High;
+        }
+        self.count = count_after(self.count_radix, self.count, ticks);
+    }
+
+    #[tactic(auto, unfolding(crate::specs::Ahead::after_square))]
+    fn square(&mut self, ticks: u64)
+        ensures { self.new ≡ after_square self.old ticks }
+    {
+        let half = self.half_ticks();
+        if ticks < half {
+            return self.fall_in_half(ticks);
+        }
+        let period = self.period();
+        self.turn();
+        self.run_halves((ticks - half) % period);
+    }
+
+    // `ticks` ticks with at most one turn of OUT
+    #[tactic(auto, unfolding(crate::specs::Ahead::after_halves))]
+    fn run_halves(&mut self, ticks: u64)
+        ensures { self.new ≡ after_halves self.old ticks }
+    {
+        let half = self.half_ticks();
+        if ticks < half {
+            return self.fall_in_half(ticks);
+        }
+        self.turn();
+        self.fall_in_half(ticks - half);
+    }
+
+    // the ticks to the end of the half, where an odd count has one more in the high one
+    fn half_left(&self) -> u64
+        ensures ticks { result ≡ half_left self.now }
+        ensures bound { 2 * result ≤ modulus self.now.count_radix }
+    {
+        let left = self.ticks_left();
+        match self.out {
+            Line::High => (left + 1) / 2,
+            Line::Low => left / 2,
         }
     }
+
+    fn half_ticks(&self) -> u64
+        ensures ticks { result ≡ half_ticks self.now }
+        ensures bound { result ≤ 32768 }
+    {
+        if self.count == 1 { 1 } else { self.half_left() }
+    }
+
+    fn fall_in_half(&mut self, ticks: u64)
+        ensures { self.new ≡ after_half_fall self.old ticks }
+    {
+        if ticks > 0 {
+            let left = self.half_left().saturating_sub(ticks);
+            self.count = (2 * left) as u16;
+        }
+    }
+
+    #[tactic(auto, unfolding(crate::specs::Ahead::after_turn))]
+    fn turn(&mut self)
+        ensures { self.new ≡ after_turn self.old }
+    {
+        let out = if self.count == 1 || self.newest == 1 {
+            Line::High
+        } else {
+            self.out.opposite()
+        };
+        self.load(out);
+    }
+
+    fn strobe(&mut self, ticks: u64)
+        ensures { self.new ≡ after_strobe_fall self.old ticks }
+    {
+        let left = self.ticks_left();
+        if ticks > 0 {
+            self.out = if ticks == left && self.strobe_due {
+                Line::Low
+            } else {
+                Line::High
+            };
+        }
+        self.strobe_due = self.strobe_due && ticks < left;
+        self.count = count_after(self.count_radix, self.count, ticks);
+    }
+
+    // the first change of OUT where no load is due
+    #[tactic(auto, unfolding(crate::specs::Ahead::until_turn))]
+    fn until_turn(&self) -> Option<u64>
+        ensures turn { result ≡ until_turn self.now }
+        ensures bound { IfSome result (λ ticks. ticks ≤ 65536) }
+    {
+        if !self.is_counting() {
+            return self.until_rest();
+        }
+        match self.mode {
+            Mode::TerminalCount | Mode::OneShot => self.until_end(),
+            Mode::RateGenerator => self.until_pulse(),
+            Mode::SquareWave => self.until_half(),
+            Mode::SoftwareStrobe | Mode::HardwareStrobe => self.until_strobe(),
+        }
+    }
+
+    fn until_rest(&self) -> Option<u64>
+        ensures turn { result ≡ until_rest self.now self.now.mode }
+        ensures bound { IfSome result (λ ticks. ticks ≤ 65536) }
+    {
+        match self.mode {
+            Mode::SoftwareStrobe | Mode::HardwareStrobe if self.out == Line::Low => Some(1),
+            _ => None,
+        }
+    }
+
+    fn until_end(&self) -> Option<u64>
+        ensures turn { result ≡ until_end self.now }
+        ensures bound { IfSome result (λ ticks. ticks ≤ 65536) }
+    {
+        match self.out {
+            Line::High => None,
+            Line::Low => Some(self.ticks_left()),
+        }
+    }
+
+    fn until_pulse(&self) -> Option<u64>
+        ensures turn { result ≡ until_pulse self.now }
+        ensures bound { IfSome result (λ ticks. ticks ≤ 65536) }
+    {
+        let left = self.ticks_left();
+        let period = self.period();
+        match self.out {
+            Line::Low => Some(left),
+            Line::High if left > 1 => Some(left - 1),
+            Line::High if period > 1 => Some(period),
+            Line::High => None,
+        }
+    }
+
+    fn until_half(&self) -> Option<u64>
+        ensures turn { result ≡ until_half self.now }
+        ensures bound { IfSome result (λ ticks. ticks ≤ 65536) }
+    {
+        let period = self.period();
+        match self.out {
+            Line::High if self.newest == 1 => None,
+            Line::High if self.count == 1 => Some(1 + (period + 1) / 2),
+            Line::High | Line::Low => Some(self.half_ticks()),
+        }
+    }
+
+    fn until_strobe(&self) -> Option<u64>
+        ensures turn { result ≡ until_strobe self.now }
+        ensures bound { IfSome result (λ ticks. ticks ≤ 65536) }
+    {
+        let left = self.ticks_left();
+        match self.out {
+            Line::High if self.strobe_due => Some(left),
+            Line::High => None,
+            Line::Low if left == 1 && self.strobe_due => Some(2),
+            Line::Low => Some(1),
+        }
+    }
+}
+
+/// Its output is OUT.
+impl Timed for Counter {
+    ghost use Rattle.std.proofs.Common.{sym};
+    ghost use Rattle.std.specs.Prelude.{◌≡◌, ◌≤◌, IfSome};
+    ghost use Rattle.board_types.proofs.Iterate.{iterate_add};
+    ghost use Rattle.board_types.specs.Timed.{IsUntilTurn};
+    ghost use Rattle.pit8253.specs.Counter.{after_tick, after_ticks, out_of};
+
+    ghost after = { after_ticks };
+
+    ghost output = { out_of };
+
+    /// Lets `ticks` ticks pass: falling edges of CLK. Takes as long whatever their number.
+    fn advance(&mut self, ticks: u64)
+        ensures { self.new ≡ after_ticks self.old ticks }
+    {
+        if ticks == 0 {
+            return;
+        }
+        if self.load_due {
+            self.load_due_count();
+            self.run(ticks - 1);
+        } else {
+            self.run(ticks);
+        }
+    }
+
+    /// After how many ticks, from 1 on, OUT first changes as long as nothing is written and the gate stays; `None`
+    /// where it never does, and else at most 65,537.
+    fn until_change(&self) -> Option<u64>
+        ensures turn { IsUntilTurn after_ticks out_of self.now result }
+        ensures bound { IfSome result (λ ticks. ticks ≤ 65537) }
+    {
+        if !self.load_due {
+            return self.until_turn();
+        }
+        let mut loaded = *self;
+        loaded.load_due_count();
+        if differ(self.out, loaded.out) {
+            return Some(1);
+        }
+        a_tick_later(loaded.until_turn())
+    }
+
+    ghost adds = { λ c k m. sym (iterate_add after_tick k m c) };
 }
 
 fn out_at_load(mode: Mode, out: Line) -> Line
@@ -338,33 +546,6 @@ fn out_at_load(mode: Mode, out: Line) -> Line
         Mode::OneShot => Line::Low,
         Mode::RateGenerator | Mode::SquareWave | Mode::SoftwareStrobe | Mode::HardwareStrobe =>
             Line::High,
-    }
-}
-
-fn half_step(count: u16, out: Line) -> u16
-    ensures step { result ≡ half_step count out }
-    ensures bound { result ≤ 3 }
-{
-    if count % 2 == 0 {
-        2
-    } else if out == Line::High {
-        1
-    } else {
-        3
-    }
-}
-
-fn count_minus(radix: Radix, count: u16, by: u16) -> u16
-    requires { by ≤ 3 }
-    ensures { result ≡ count_minus radix count by }
-{
-    if by <= count {
-        count - by
-    } else {
-        match radix {
-            Radix::Binary => u16::MAX - by + 1 + count,
-            Radix::Decimal => 10_000 - by + count,
-        }
     }
 }
 
@@ -401,6 +582,23 @@ fn rises(before: Line, after: Line) -> bool
     ensures { result ≡ rises before after }
 {
     before == Line::Low && after == Line::High
+}
+
+fn differ(before: Line, after: Line) -> bool
+    ensures { result ≡ differ before after }
+{
+    before != after
+}
+
+fn a_tick_later(turn: Option<u64>) -> Option<u64>
+    requires { IfSome turn (λ ticks. ticks ≤ 65536) }
+    ensures later { result ≡ a_tick_later turn }
+    ensures bound { IfSome result (λ ticks. ticks ≤ 65537) }
+{
+    match turn {
+        Some(ticks) => Some(1 + ticks),
+        None => None,
+    }
 }
 
 fn is_awaited(progress: Progress) -> bool
@@ -440,47 +638,4 @@ fn radix_of(bit: u8) -> Radix
     } else {
         Radix::Decimal
     }
-}
-
-fn count_of(radix: Radix, word: u16) -> u16
-    ensures { result ≡ count_of radix word }
-{
-    match radix {
-        Radix::Binary => word,
-        Radix::Decimal => (1000 * (word / 4096)
-            + 100 * (word / 256 % 16)
-            + 10 * (word / 16 % 16)
-            + word % 16)
-            % 10_000,
-    }
-}
-
-fn digits_of(radix: Radix, count: u16) -> u16
-    ensures { result ≡ digits_of radix count }
-{
-    match radix {
-        Radix::Binary => count,
-        Radix::Decimal => 4096 * (count / 1000 % 10)
-            + 256 * (count / 100 % 10)
-            + 16 * (count / 10 % 10)
-            + count % 10,
-    }
-}
-
-fn word_of(low: u8, high: u8) -> u16
-    ensures { result ≡ low + 256 * high }
-{
-    u16::from(low) + 256 * u16::from(high)
-}
-
-fn low_byte(word: u16) -> u8
-    ensures { result ≡ word % 256 }
-{
-    (word % 256) as u8
-}
-
-fn high_byte(word: u16) -> u8
-    ensures { result ≡ word / 256 }
-{
-    (word / 256) as u8
 }

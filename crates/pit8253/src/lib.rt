@@ -3,6 +3,7 @@
 //! A usage of its calls stands in the program parts_alone.
 #![tactic(auto)]
 
+mod count;
 pub mod counter;
 pub mod laws;
 pub mod pit;

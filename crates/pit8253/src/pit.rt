@@ -1,11 +1,14 @@
 //! The timer: three counters behind four ports (Intel 8253 data sheet, "Block Diagram").
-ghost use Rattle.std.specs.Prelude.{◌≡◌, ◌≤◌, ◌<◌};
+ghost use Rattle.std.specs.Prelude.{◌≡◌, ◌≤◌, ◌<◌, IfSome};
+ghost use Rattle.board_types.specs.Timed.{IsUntilTurn};
 ghost use Rattle.board_types.specs.declared.line.Line.{Line};
-ghost use Rattle.pit8253.specs.Counter.{CounterState};
+ghost use Rattle.pit8253.specs.Counter as one;
+ghost use Rattle.pit8253.specs.Counter.{CounterState, out_of};
 ghost use Rattle.pit8253.specs.Pit.{power_on, counter, after_ticks, after_control_word, after_write, byte_at, after_read, after_gate};
 
 use crate::counter::Counter;
 use board_types::line::Line;
+use board_types::timed::Timed;
 use std::marker::Model;
 
 /// The 8253: counters 0, 1 and 2. Its ports are numbered by A1 and A0, from 0 to 3.
@@ -102,7 +105,17 @@ impl Pit {
         }
     }
 
-    /// `ticks` ticks of the three counters.
+    /// After how many ticks, from 1 on, OUT `n` first changes as long as nothing is written and gate `n` stays; `None`
+    /// where it never does, and else at most 65,537; `n` is below 3.
+    pub fn until_change(&self, n: u8) -> Option<u64>
+        requires { n < 3 }
+        ensures turn { IsUntilTurn one.after_ticks out_of (counter self.now n) result }
+        ensures bound { IfSome result (λ ticks. ticks ≤ 65537) }
+    {
+        self.counter(n).until_change()
+    }
+
+    /// `ticks` ticks of the three counters. Takes as long whatever their number.
     #[tactic(auto, using(crate::proofs::PitTicks::each_counter))]
     pub fn advance(&mut self, ticks: u64)
         ensures { self.new ≡ after_ticks self.old ticks }

@@ -1,0 +1,77 @@
+//! Counts: how they are written, how long they are and how they fall (Intel 8253 data sheet, "Programming the 8253").
+ghost use Rattle.std.specs.Prelude.{◌≡◌, ◌+◌, ◌*◌, ◌/◌, ◌%◌, ◌<◌, ◌≤◌};
+ghost use Rattle.pit8253.specs.Program.{modulus, count_of, digits_of};
+ghost use Rattle.pit8253.specs.Laws.{length_of, count_after};
+
+use crate::program::Radix;
+
+// how many ticks bring a count to 0: 0 itself is the largest count
+pub(crate) fn length_of(radix: Radix, count: u16) -> u64
+    requires { count < modulus radix }
+    ensures ticks { result ≡ length_of radix count }
+    ensures some { 0 < result }
+    ensures bound { result ≤ modulus radix }
+{
+    match (count, radix) {
+        (0, Radix::Binary) => 65_536,
+        (0, Radix::Decimal) => 10_000,
+        _ => u64::from(count),
+    }
+}
+
+// a count that falls by 1 at each of so many ticks, round below 0
+pub(crate) fn count_after(radix: Radix, count: u16, ticks: u64) -> u16
+    requires { count < modulus radix }
+    ensures after { result ≡ count_after radix count ticks }
+    ensures within { result < modulus radix }
+{
+    let count = u32::from(count);
+    match radix {
+        Radix::Binary => ((count + 65_536 - (ticks % 65_536) as u32) % 65_536) as u16,
+        Radix::Decimal => ((count + 10_000 - (ticks % 10_000) as u32) % 10_000) as u16,
+    }
+}
+
+pub(crate) fn count_of(radix: Radix, word: u16) -> u16
+    ensures count { result ≡ count_of radix word }
+    ensures within { result < modulus radix }
+{
+    match radix {
+        Radix::Binary => word,
+        Radix::Decimal => (1000 * (word / 4096)
+            + 100 * (word / 256 % 16)
+            + 10 * (word / 16 % 16)
+            + word % 16)
+            % 10_000,
+    }
+}
+
+pub(crate) fn digits_of(radix: Radix, count: u16) -> u16
+    ensures { result ≡ digits_of radix count }
+{
+    match radix {
+        Radix::Binary => count,
+        Radix::Decimal => 4096 * (count / 1000 % 10)
+            + 256 * (count / 100 % 10)
+            + 16 * (count / 10 % 10)
+            + count % 10,
+    }
+}
+
+pub(crate) fn word_of(low: u8, high: u8) -> u16
+    ensures { result ≡ low + 256 * high }
+{
+    u16::from(low) + 256 * u16::from(high)
+}
+
+pub(crate) fn low_byte(word: u16) -> u8
+    ensures { result ≡ word % 256 }
+{
+    (word % 256) as u8
+}
+
+pub(crate) fn high_byte(word: u16) -> u8
+    ensures { result ≡ word / 256 }
+{
+    (word / 256) as u8
+}
