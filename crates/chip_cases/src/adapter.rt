@@ -2,6 +2,7 @@
 ghost use Rattle.std.specs.Prelude.{◌<◌, IfSome};
 
 use anyhow::{Result, ensure};
+use board_types::timed::Timed;
 use mda_text::mda::{COLUMNS, Mda, ROWS};
 use std::alloc::Global;
 use std::str::SplitWhitespace;

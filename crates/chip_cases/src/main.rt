@@ -32,6 +32,12 @@
 //! `segment WORD` and `physical OFFSET ADDRESS`, `set FLAG ..` (from `carry` to `overflow`) and `flags WORD`,
 //! `clock CLOCK CLOCK` or `clock CLOCK none` (decimal: whether there is such a clock).
 //!
+//! `counter`, counter 0 of an 8253 at power-on, its case in parts parted by `|`: first operations, `Cxx` (a control word),
+//! `Wxx` (a byte written), `Rxx` (a byte read), `G0` and `G1` (its gate), `Tn` (n ticks, decimal), `P` (none); then
+//! `OUT COUNT UNTIL` (0 or 1; four digits as it reads; the ticks until OUT changes, decimal, or `none`), and parts
+//! `TICKS OUT COUNT UNTIL`, each so many ticks (decimal) after the operations. `raster`, the one of an adapter at
+//! power-on: parts `CLOCKS STATUS UNTIL`, each so many clocks (decimal) after the one before.
+//!
 //! `mda`, a text adapter that goes on from case to case. A case is one command, its numbers hexadecimal: `new` (an
 //! adapter at power-on), `copy` (goes on with a copy), `out PORT BYTE`, `in PORT BYTE`, `poke OFFSET BYTE` and `peek
 //! OFFSET BYTE` (of text memory), `clocks N` (they pass), `cell ROW COLUMN BYTE` (the character that it shows), `mark
@@ -40,12 +46,14 @@
 #![tactic(auto)]
 
 mod adapter;
+mod ahead;
 mod bench;
 mod chips;
 mod memories;
 mod verb;
 mod words;
 
+use ahead::{follow_counter, follow_raster};
 use anyhow::{Context, Result, bail};
 use bench::follow;
 use cases::judge_cases;
@@ -74,6 +82,8 @@ fn judge(mda: &mut Mda, alloc: Global, case: &str) -> Result<()> {
         "memory" => follow(&mut Memories::new(alloc), steps),
         "keys" => follow(&mut KeyCodes::new(alloc), steps),
         "words" => follow(&mut Words::new(), steps),
+        "counter" => follow_counter(steps),
+        "raster" => follow_raster(alloc, steps),
         "mda" => adapter::obey(mda, alloc, steps),
         _ => bail!("nothing has this name"),
     }
