@@ -9,9 +9,9 @@ use Rattle.assembler_lexeme.specs.declared.fault.SyntaxFault.{SyntaxFault}
 use Rattle.assembler_syntax.specs.declared.statement.Line.{Line}
 use Rattle.assembler_syntax.specs.declared.statement.Statement.{Statement}
 use Rattle.assembler_syntax.specs.declared.statement.Statement.TheVariants.{Empty, Segment, Ends, Equ, Org, Data, Instruction}
-use Rattle.assembler_meaning.specs.declared.asked.Asked.{Asked}
-use Rattle.assembler_meaning.specs.Choice.{IsChosen, NoneTakes}
-use Rattle.assembler_meaning.proofs.First.{one_form}
+use Rattle.assembler_form.specs.declared.asked.Asked.{Asked}
+use Rattle.assembler_form.specs.Choice.{IsChosen, NoneTakes}
+use Rattle.assembler_form.proofs.First.{one_form}
 use Rattle.assembler_meaning.specs.declared.symbol.Location.{Location}
 use Rattle.assembler_meaning.specs.Values.{Names}
 use Rattle.assembler_meaning.specs.Instructions.{instruction_asked, IsChosenFor, IsFormFor}

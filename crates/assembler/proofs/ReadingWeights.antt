@@ -14,8 +14,8 @@ use Rattle.assembler_syntax.specs.declared.statement.Piece.{Piece}
 use Rattle.assembler_syntax.specs.declared.statement.Piece.TheVariants as pieces
 use Rattle.assembler_syntax.specs.declared.statement.Statement.{Statement}
 use Rattle.assembler_syntax.specs.declared.statement.Statement.TheVariants.{Empty, Segment, Ends, Equ, Org, Data, Instruction}
-use Rattle.assembler_meaning.specs.declared.asked.Asked.{Asked}
-use Rattle.assembler_meaning.specs.Asked.{asked}
+use Rattle.assembler_form.specs.declared.asked.Asked.{Asked}
+use Rattle.assembler_form.specs.Asked.{asked}
 use Rattle.assembler_meaning.specs.Values.{Names}
 use Rattle.assembler_meaning.specs.Instructions.{IsFormFor, instruction_asked, known_operands, prefixes_of}
 use Rattle.assembler_syntax.specs.Weights.{are_terms_within, is_displacement_within, is_expression_within, is_item_within, is_operand_within, is_piece_within}

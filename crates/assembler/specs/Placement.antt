@@ -9,8 +9,8 @@ use Rattle.isa.specs.declared.form.Values.{Values}
 use Rattle.assembler_syntax.specs.declared.statement.Statement.{Statement}
 use Rattle.assembler_syntax.specs.declared.statement.Statement.TheVariants as statements
 use Rattle.assembler_syntax.specs.declared.statement.Instruction.{Instruction}
-use Rattle.assembler_meaning.specs.declared.fields.Numbers.{Numbers}
-use Rattle.assembler_meaning.specs.Fields.{values_of}
+use Rattle.assembler_form.specs.declared.fields.Numbers.{Numbers}
+use Rattle.assembler_form.specs.Fields.{values_of}
 use Rattle.assembler.specs.declared.fault.SourceFault.{SourceFault}
 use Rattle.assembler.specs.declared.fault.SourceFault.TheVariants.{Undefined, OutOfRange, OutOfSegment, Overlap, NotLoadable}
 use Rattle.assembler.specs.declared.row.Content.{Content}

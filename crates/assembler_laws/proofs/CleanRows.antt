@@ -11,11 +11,11 @@ use Rattle.isa.specs.Table.{rows as table}
 use Rattle.assembler_syntax.specs.declared.statement.Line.{Line}
 use Rattle.assembler_syntax.specs.declared.statement.Instruction.{Instruction as Written}
 use Rattle.assembler_syntax.specs.declared.statement.Statement.TheVariants.{Instruction}
-use Rattle.assembler_meaning.specs.declared.asked.Asked.{Asked}
-use Rattle.assembler_meaning.specs.declared.fields.Numbers.{Numbers}
-use Rattle.assembler_meaning.specs.Choice.{IsChosen}
-use Rattle.assembler_meaning.proofs.FieldRanges.{values_fit}
-use Rattle.assembler_meaning.proofs.Shapes.{form_of_first}
+use Rattle.assembler_form.specs.declared.asked.Asked.{Asked}
+use Rattle.assembler_form.specs.declared.fields.Numbers.{Numbers}
+use Rattle.assembler_form.specs.Choice.{IsChosen}
+use Rattle.assembler_form.proofs.FieldRanges.{values_fit}
+use Rattle.assembler_form.proofs.Shapes.{form_of_first}
 use Rattle.assembler_meaning.specs.declared.symbol.Location.{Location}
 use Rattle.assembler_meaning.specs.Instructions.{instruction_asked, instruction_size, prefixes_of, IsFormFor}
 use Rattle.assembler_meaning.specs.Values.{Names}

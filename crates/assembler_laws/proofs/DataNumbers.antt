@@ -5,7 +5,7 @@ use Rattle.std.proofs.lemmas.Int.{ints}
 use Rattle.std.proofs.lemmas.Bool.Decides.{nat_tests}
 use Rattle.assembler_syntax.specs.declared.statement.DataWidth.{DataWidth}
 use Rattle.assembler_syntax.specs.declared.statement.DataWidth.TheVariants.{Byte, Word, Double}
-use Rattle.assembler_meaning.specs.Fields.{modulo}
+use Rattle.assembler_form.specs.Fields.{modulo}
 use Rattle.assembler_meaning.specs.Data.{fits_width, number_bytes, width_size}
 
 -- the number of this many bytes that a value is

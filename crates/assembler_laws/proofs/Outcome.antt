@@ -6,10 +6,10 @@ use Rattle.isa.specs.declared.form.Form.{Form}
 use Rattle.isa.specs.declared.row.Row.{Row as TableRow}
 use Rattle.isa.specs.Row.{first_of, operation_of, second_of}
 use Rattle.isa.specs.Table.{rows as table}
-use Rattle.assembler_meaning.specs.declared.asked.Asked.{Asked}
-use Rattle.assembler_meaning.specs.Choice.{IsFirst as IsFirstRow, NoneTakes}
-use Rattle.assembler_meaning.specs.Parts.{form_with}
-use Rattle.assembler_meaning.specs.Takes.{is_of, Takes}
+use Rattle.assembler_form.specs.declared.asked.Asked.{Asked}
+use Rattle.assembler_form.specs.Choice.{IsFirst as IsFirstRow, NoneTakes}
+use Rattle.assembler_form.specs.Parts.{form_with}
+use Rattle.assembler_form.specs.Takes.{is_of, Takes}
 use Rattle.assembler_lexeme.specs.declared.fault.SyntaxFault.{SyntaxFault}
 use Rattle.assembler_syntax.specs.declared.statement.Line.{Line}
 use Rattle.assembler_syntax.specs.declared.statement.Statement.{Statement}

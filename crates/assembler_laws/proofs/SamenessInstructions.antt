@@ -9,10 +9,10 @@ use Rattle.assembler_syntax.specs.declared.expression.Term.{Term}
 use Rattle.assembler_syntax.specs.declared.operand.Operand.{Operand}
 use Rattle.assembler_syntax.specs.declared.operand.Operand.TheVariants.{Register, One, Value, Memory, Short, FarLabel, FarPointer}
 use Rattle.assembler_syntax.specs.declared.statement.Instruction.{Instruction}
-use Rattle.assembler_meaning.specs.declared.operand.KnownOperand.{KnownOperand}
-use Rattle.assembler_meaning.specs.declared.operand.KnownOperand.TheVariants as operands
-use Rattle.assembler_meaning.specs.declared.fields.Numbers.{Numbers}
-use Rattle.assembler_meaning.specs.Asked.{asked}
+use Rattle.assembler_form.specs.declared.operand.KnownOperand.{KnownOperand}
+use Rattle.assembler_form.specs.declared.operand.KnownOperand.TheVariants as operands
+use Rattle.assembler_form.specs.declared.fields.Numbers.{Numbers}
+use Rattle.assembler_form.specs.Asked.{asked}
 use Rattle.assembler_meaning.specs.Values.{Names}
 use Rattle.assembler_meaning.specs.Instructions.{or_else, operand_override, override_of, override_prefix, prefixes_of, number_by, known_number, known_displacement, known_operand, known_operands, instruction_asked, instruction_size, no_numbers, with_number, with_displacement, with_label, with_pointer, displacement_value, numbers_with, numbers_behind, numbers_of, code_bytes}
 use Rattle.assembler_laws.specs.Sameness.{IsOneToOne, renamed_terms, renamed_operand, renamed_instruction}

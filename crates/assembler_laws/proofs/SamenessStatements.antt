@@ -8,7 +8,7 @@ use Rattle.assembler_syntax.specs.declared.expression.Term.{Term}
 use Rattle.assembler_syntax.specs.declared.statement.Line.{Line}
 use Rattle.assembler_syntax.specs.declared.statement.Statement.{Statement}
 use Rattle.assembler_syntax.specs.declared.statement.Statement.TheVariants.{Empty, Segment, Ends, Equ, Org, Data, Instruction}
-use Rattle.assembler_meaning.specs.declared.asked.Asked.{Asked}
+use Rattle.assembler_form.specs.declared.asked.Asked.{Asked}
 use Rattle.assembler_meaning.specs.declared.symbol.Location.{Location}
 use Rattle.assembler_meaning.specs.Values.{Names, constant_of, is_defined}
 use Rattle.assembler_meaning.specs.Instructions.{IsFormFor}

@@ -1,6 +1,3 @@
-pub mod First
-pub mod Shapes
-pub mod FieldRanges
 pub mod LeavesLength
 pub mod LeavesValues
 pub mod LeavesSizes

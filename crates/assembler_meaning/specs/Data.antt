@@ -10,8 +10,8 @@ use Rattle.assembler_syntax.specs.declared.statement.Piece.{Piece}
 use Rattle.assembler_syntax.specs.declared.statement.Piece.TheVariants.{Value, Text}
 use Rattle.assembler_syntax.specs.declared.statement.Item.{Item}
 use Rattle.assembler_syntax.specs.declared.statement.Item.TheVariants.{Once, Repeated}
-use Rattle.assembler_meaning.specs.Takes.{is_within}
-use Rattle.assembler_meaning.specs.Fields.{modulo}
+use Rattle.assembler_form.specs.Takes.{is_within}
+use Rattle.assembler_form.specs.Fields.{modulo}
 use Rattle.assembler_meaning.specs.Values.{Names, value_of, constant_of}
 
 abbrev pub width_size : DataWidth → ℕ

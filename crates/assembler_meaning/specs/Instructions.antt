@@ -14,15 +14,15 @@ use Rattle.assembler_syntax.specs.declared.operand.Address.{Address}
 use Rattle.assembler_syntax.specs.declared.operand.Operand.{Operand}
 use Rattle.assembler_syntax.specs.declared.operand.Operand.TheVariants.{Register, One, Value, Memory, Short, FarLabel, FarPointer}
 use Rattle.assembler_syntax.specs.declared.statement.Instruction.{Instruction}
-use Rattle.assembler_meaning.specs.declared.operand.Number.{Number}
-use Rattle.assembler_meaning.specs.declared.operand.Number.TheVariants as numbers
-use Rattle.assembler_meaning.specs.declared.operand.KnownMemory.{KnownMemory}
-use Rattle.assembler_meaning.specs.declared.operand.KnownOperand.{KnownOperand}
-use Rattle.assembler_meaning.specs.declared.operand.KnownOperand.TheVariants as known
-use Rattle.assembler_meaning.specs.declared.asked.Asked.{Asked}
-use Rattle.assembler_meaning.specs.declared.fields.Numbers.{Numbers}
-use Rattle.assembler_meaning.specs.Asked.{asked}
-use Rattle.assembler_meaning.specs.Choice.{IsChosen, NoneTakes}
+use Rattle.assembler_form.specs.declared.operand.Number.{Number}
+use Rattle.assembler_form.specs.declared.operand.Number.TheVariants as numbers
+use Rattle.assembler_form.specs.declared.operand.KnownMemory.{KnownMemory}
+use Rattle.assembler_form.specs.declared.operand.KnownOperand.{KnownOperand}
+use Rattle.assembler_form.specs.declared.operand.KnownOperand.TheVariants as known
+use Rattle.assembler_form.specs.declared.asked.Asked.{Asked}
+use Rattle.assembler_form.specs.declared.fields.Numbers.{Numbers}
+use Rattle.assembler_form.specs.Asked.{asked}
+use Rattle.assembler_form.specs.Choice.{IsChosen, NoneTakes}
 use Rattle.assembler_meaning.specs.declared.symbol.Location.{Location}
 use Rattle.assembler_meaning.specs.Values.{Names, value_of, constant_of, label_of}
 

@@ -1,9 +1,3 @@
 pub mod Values
-pub mod Asked
-pub mod Takes
-pub mod Parts
-pub mod Choice
-pub mod Fields
 pub mod Instructions
 pub mod Data
-pub mod Laws

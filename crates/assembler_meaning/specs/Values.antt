@@ -9,8 +9,8 @@ use Rattle.assembler_lexeme.specs.declared.name.Name.{Name}
 use Rattle.assembler_syntax.specs.declared.expression.Atom.{Atom}
 use Rattle.assembler_syntax.specs.declared.expression.Atom.TheVariants.{Number, Named, Here, SegmentOf}
 use Rattle.assembler_syntax.specs.declared.expression.Term.{Term}
-use Rattle.assembler_meaning.specs.Takes.{is_within}
 use Rattle.assembler_syntax.specs.Weights.{is_expression_within}
+use Rattle.assembler_form.specs.Takes.{is_within}
 use Rattle.assembler_meaning.specs.declared.symbol.Location.{Location}
 use Rattle.assembler_meaning.specs.declared.symbol.Symbol.{Symbol}
 use Rattle.assembler_meaning.specs.declared.symbol.Symbol.TheVariants.{Label, Constant}

@@ -6,9 +6,9 @@ ghost use Rattle.assembler_meaning.specs.Instructions.{known_number};
 ghost use Rattle.assembler_meaning.specs.Data.{is_other};
 ghost use Rattle.assembler_meaning.specs.Values.{AreSmall, IsShort, constant_of, is_constant_atom};
 
-use crate::operand::Number;
 use crate::symbol::{Symbols, is_constant_name};
 use crate::value::value_of;
+use assembler_form::operand::Number;
 use assembler_syntax::expression::{Atom, Expression};
 
 /// The value of a constant: an expression without `$` and SEG, whose names are constants. `None` where it is none.

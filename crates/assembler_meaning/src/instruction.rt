@@ -6,12 +6,12 @@ ghost use Rattle.assembler_syntax.specs.Weights.{is_displacement_within, is_oper
 ghost use Rattle.assembler_meaning.specs.Instructions.{IsFormFor, displacement_value, instruction_asked, instruction_size, known_memory, numbers_of, numbers_with, known_operand, override_of, prefixes_of};
 ghost use Rattle.assembler_meaning.specs.Values.{AreSmall, term_limit};
 
-use crate::choose::choose;
 use crate::constant::known_number;
-use crate::fields::Numbers;
-use crate::operand::{KnownMemory, KnownOperand, Number};
 use crate::symbol::{Symbols, label};
 use crate::value::value_of;
+use assembler_form::choose::choose;
+use assembler_form::fields::Numbers;
+use assembler_form::operand::{KnownMemory, KnownOperand, Number};
 use assembler_syntax::operand::{Address, Operand};
 use assembler_syntax::statement::Instruction;
 use isa::form::Form;

@@ -11,11 +11,11 @@ use Rattle.dialect.specs.declared.meaning.Meaning.TheVariants.{Keyword, Register
 use Rattle.dialect.specs.declared.register.Register.{Register as RegisterType}
 use Rattle.dialect.specs.declared.register.Register.TheVariants as registers
 use Rattle.dialect.specs.declared.keyword.Keyword.TheVariants as keywords
+use Rattle.dialect.specs.declared.size.Size.{Size}
+use Rattle.dialect.specs.declared.size.Size.TheVariants as sizes
 use Rattle.assembler_lexeme.specs.declared.fault.SyntaxFault.{SyntaxFault}
 use Rattle.assembler_lexeme.specs.declared.fault.SyntaxFault.TheVariants.{BadLine}
 use Rattle.assembler_syntax.specs.declared.expression.Term.{Term}
-use Rattle.assembler_syntax.specs.declared.operand.Size.{Size}
-use Rattle.assembler_syntax.specs.declared.operand.Size.TheVariants as sizes
 use Rattle.assembler_syntax.specs.declared.operand.Address.{Address}
 use Rattle.assembler_syntax.specs.declared.operand.Operand.{Operand}
 use Rattle.assembler_syntax.specs.declared.operand.Operand.TheVariants as operands

@@ -3,17 +3,9 @@
 use crate::expression::Expression;
 use assembler_lexeme::name::Name;
 use dialect::register::Register;
+use dialect::size::Size;
 use isa::form::Base;
 use isa::register::SegmentRegister;
-
-/// A size word before memory.
-#[derive(Clone, Copy)]
-pub enum Size {
-    Byte,
-    Word,
-    /// An offset and a segment.
-    Far,
-}
 
 /// A place in memory: `[BYTE|WORD|FAR] [sr:] [ .. ]`. Registers or an expression stand in the brackets, or both.
 #[derive(Drop)]

@@ -8,3 +8,4 @@ pub mod meaning;
 pub mod mnemonic;
 pub mod name;
 pub mod register;
+pub mod size;

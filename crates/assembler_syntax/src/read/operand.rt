@@ -6,7 +6,7 @@ ghost use Rattle.assembler_syntax.specs.Parts.{parts, signed_part, signed_parts}
 ghost use Rattle.assembler_syntax.specs.Operands.{base_with, behind_segment, brackets_by, brackets_of, brackets_view, empty_address, far_label, far_of, far_pointer, far_target, led_operand, memory_in, memory_of, operand_of, operands_of, place_or_value, register_of, short_of, single_label, single_operand, single_register, terms_with, value_of, with_part, with_parts, with_register, with_term};
 
 use crate::expression::{Expression, Term};
-use crate::operand::{Address, Operand, Size};
+use crate::operand::{Address, Operand};
 use crate::part::{
     Parts, SignedParts, around, before_last, close_bracket_place, colon_place, is_colon,
     is_open_bracket,
@@ -18,6 +18,7 @@ use assembler_lexeme::token::{Mark, Token};
 use dialect::keyword::Keyword;
 use dialect::meaning::Meaning;
 use dialect::register::Register;
+use dialect::size::Size;
 use isa::form::Base;
 use isa::register::{SegmentRegister, WordRegister};
 use std::alloc::Global;

@@ -1,7 +1,7 @@
 use Rattle.std.proofs.Common.{◌≡◌, ℤ, to_z, of_z, w64, arith, ap, pos, rules, sym, ◌∙◌, Some}
 use Rattle.std.specs.Option.{option_map}
 use Rattle.std.proofs.lemmas.Int.{ints}
-use Rattle.assembler_meaning.specs.declared.fields.Numbers.{Numbers}
+use Rattle.assembler_form.specs.declared.fields.Numbers.{Numbers}
 use Rattle.assembler_meaning.specs.declared.symbol.Location.{Location}
 use Rattle.assembler_meaning.specs.Instructions.{numbers_with, with_label}
 use Rattle.assembler_meaning.proofs.LeavesValues.{label_small}

@@ -1,0 +1,77 @@
+-- The numbers in a form's fields, once the operands' numbers are known. They are whole numbers: none is cut.
+-- To be believed: public contracts say what they say by these definitions.
+use Rattle.std.specs.Prelude.{ℕ, ℤ, pos, negsuc, ◌-◌, ◌%◌, ◌-ℤ◌, if◌then◌else◌, Option, Some, None}
+use Rattle.isa.specs.declared.layout.Field.{Field}
+use Rattle.isa.specs.declared.layout.Field.TheVariants.{Absent, Byte}
+use Rattle.isa.specs.declared.row.Kind.{Kind}
+use Rattle.isa.specs.declared.row.Kind.TheVariants as kinds
+use Rattle.isa.specs.declared.row.Row.{Row}
+use Rattle.isa.specs.declared.form.Form.{Form}
+use Rattle.isa.specs.declared.form.Values.{Values}
+use Rattle.isa.specs.Row.{first_of, second_of}
+use Rattle.isa.specs.Encoding.{displacement_field}
+use Rattle.assembler_form.specs.declared.fields.Numbers.{Numbers}
+use Rattle.assembler_form.specs.Takes.{is_within}
+
+-- a whole number modulo m
+abbrev pub modulo : ℕ → ℤ → ℕ
+modulo m (pos n) = n % m
+modulo m (negsuc n) = m - 1 - n % m
+
+-- the byte or word that stands for a number in range
+abbrev pub byte_of : ℤ → Option ℕ
+byte_of n = if is_within (negsuc 127) (pos 255) n then Some (modulo 256 n) else None
+
+abbrev pub signed_byte_of : ℤ → Option ℕ
+signed_byte_of n = if is_within (negsuc 127) (pos 127) n then Some (modulo 256 n) else None
+
+abbrev pub word_of : ℤ → Option ℕ
+word_of n = if is_within (negsuc 32767) (pos 65535) n then Some (modulo 65536 n) else None
+
+-- the displacement behind the addressing byte
+abbrev pub displacement_in : Field → ℤ → Option ℕ
+displacement_in Absent displacement = Some 0
+displacement_in Byte displacement = signed_byte_of displacement
+displacement_in _ displacement = word_of displacement
+
+-- the operand in the row's own field
+abbrev pub field_kind_of : Kind → Kind → Kind
+field_kind_of kinds.Imm8 _ = kinds.Imm8
+field_kind_of kinds.Imm16 _ = kinds.Imm16
+field_kind_of kinds.Signed8 _ = kinds.Signed8
+field_kind_of kinds.Rel8 _ = kinds.Rel8
+field_kind_of kinds.Rel16 _ = kinds.Rel16
+field_kind_of kinds.At8 _ = kinds.At8
+field_kind_of kinds.At16 _ = kinds.At16
+field_kind_of kinds.Far _ = kinds.Far
+field_kind_of _ second = second
+
+abbrev pub field_kind : Row → Kind
+field_kind r = field_kind_of (first_of r) (second_of r)
+
+-- what stands there: a number, the offset of memory without registers, or a target, told from the next instruction on
+abbrev pub number_in : Kind → ℤ → Numbers → Option ℕ
+number_in kinds.Imm8 next n = byte_of n.number
+number_in kinds.Signed8 next n = signed_byte_of n.number
+number_in kinds.Imm16 next n = word_of n.number
+number_in kinds.Far next n = word_of n.number
+number_in kinds.At8 next n = word_of n.displacement
+number_in kinds.At16 next n = word_of n.displacement
+number_in kinds.Rel8 next n = signed_byte_of (n.number -ℤ next)
+number_in kinds.Rel16 next n = Some (modulo 65536 (n.number -ℤ next))
+number_in _ next n = Some 0
+
+abbrev pub segment_in : Kind → ℤ → Option ℕ
+segment_in kinds.Far segment = word_of segment
+segment_in _ segment = Some 0
+
+abbrev pub values_with : Option ℕ → Option ℕ → Option ℕ → Option Values
+values_with (Some displacement) (Some number) (Some segment) =
+    Some (record { displacement = displacement; number = number; segment = segment })
+values_with _ _ _ = None
+
+-- the numbers in the form's fields where the next instruction stands at the offset `next`, if each is in range
+unfoldable pub values_of : Form → ℤ → Numbers → Option Values
+values_of f next n =
+    values_with (displacement_in (displacement_field f.place) n.displacement)
+    (number_in (field_kind f.row) next n) (segment_in (field_kind f.row) n.segment)

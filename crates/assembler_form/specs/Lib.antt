@@ -1,0 +1,6 @@
+pub mod Asked
+pub mod Takes
+pub mod Parts
+pub mod Choice
+pub mod Fields
+pub mod Laws

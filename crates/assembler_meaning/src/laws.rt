@@ -1,7 +1,0 @@
-//! The laws of choosing a row.
-ghost use Rattle.assembler_meaning.specs.Laws.{OneForm};
-
-/// What a line asks has one form.
-pub fn one_form()
-    ensures { OneForm }
-{}
