@@ -1,0 +1,142 @@
+//! Memory and the cache of its instructions, to which each write is told.
+ghost use Rattle.std.specs.Prelude.{◌<◌, ◌^◌};
+
+use crate::judge::judge;
+use crate::memory::Memory;
+use anyhow::{Context, Result, bail};
+use board_types::address::ADDRESS_COUNT;
+use cases::Judged;
+use decode::decoded::Decoded;
+use decode_cache::cache::Cache;
+use disassembler::text::InstrText;
+use std::alloc::{AllocError, Global};
+use std::marker::Model;
+
+/// A memory, and a cache that agrees with it.
+#[derive(Drop)]
+pub struct CachedMemory {
+    memory: Memory,
+    cache: Cache,
+}
+
+impl Model for CachedMemory {
+    ghost use Rattle.std.specs.Prelude.{ℕ, List, slice_index};
+    ghost use Rattle.decode_cache.specs.Cache.{Agrees};
+
+    ghost Value = { List ℕ };
+
+    ghost view = { λ c. c.memory };
+
+    ghost invariant = { λ c. Agrees c.cache (slice_index c.memory) };
+}
+
+impl CachedMemory {
+    /// A clear memory, and an empty cache.
+    pub fn new(alloc: Global) -> Result<CachedMemory, AllocError> {
+        Ok(CachedMemory {
+            memory: Memory::new(alloc)?,
+            cache: Cache::new(alloc)?,
+        })
+    }
+
+    /// Does what a line says. Fails with what differs then, or with why the line can't be read.
+    pub fn follow_line(&mut self, alloc: Global, line: &str) -> Result<Judged> {
+        let words: Vec<&str> = line.split_whitespace().collect(alloc)?;
+        match *words {
+            ["new", ..] => {
+                self.clear(alloc)?;
+                return Ok(Judged::Setting);
+            }
+            ["set", start, digits] => {
+                self.set(start, digits)?;
+                return Ok(Judged::Setting);
+            }
+            ["fetch", cs, ip, length, ..] => {
+                let text = line.splitn(5, ' ').nth(4).unwrap_or("");
+                self.judge_fetch(alloc, cs, ip, length, text)?;
+            }
+            ["rounds", rounds, most, cs, ref offsets @ ..] => {
+                self.judge_reads(rounds.parse()?, most.parse()?, cs, offsets)?;
+            }
+            _ => judge(alloc, line)?,
+        }
+        Ok(Judged::Case)
+    }
+
+    /// Makes the memory clear, with an empty cache.
+    fn clear(&mut self, alloc: Global) -> Result<()> {
+        let cache = Cache::new(alloc)?;
+        self.memory.clear();
+        self.cache = cache;
+        Ok(())
+    }
+
+    /// Writes the byte at `addr`, below 100000h.
+    fn write(&mut self, addr: u32, byte: u8)
+        requires { addr < 2 ^ 20 }
+    {
+        self.memory.put(addr, byte);
+        self.cache.wrote(addr);
+    }
+
+    /// What stands at CS:IP.
+    fn fetch(&mut self, cs: u16, ip: u16) -> Decoded {
+        self.cache.fetch(&self.memory, cs, ip)
+    }
+
+    /// Writes the bytes that a word's digits give, from an address on.
+    fn set(&mut self, start: &str, digits: &str) -> Result<()> {
+        let mut addr = u32::from_str_radix(start, 16)?;
+        for i in 0..digits.len() / 2 {
+            let pair = digits.get(2 * i..2 * i + 2).context("no digits")?;
+            let byte = u8::from_str_radix(pair, 16)?;
+            self.write(addr % ADDRESS_COUNT, byte);
+            addr = addr.wrapping_add(1);
+        }
+        Ok(())
+    }
+
+    /// Fails unless what stands at CS:IP has this length and text, or the length `none`; now, and when it is fetched
+    /// again.
+    fn judge_fetch(
+        &mut self,
+        alloc: Global,
+        cs: &str,
+        ip: &str,
+        length: &str,
+        text: &str,
+    ) -> Result<()> {
+        let cs = u16::from_str_radix(cs, 16)?;
+        let ip = u16::from_str_radix(ip, 16)?;
+        for _ in 0..2 {
+            match self.fetch(cs, ip) {
+                Decoded::NoRow if length == "none" => {}
+                Decoded::NoRow => bail!("no row"),
+                Decoded::Found(instr, found) => {
+                    let shown = InstrText { instr: &instr, ip };
+                    let shown = shown.to_string(alloc)?;
+                    if found != length.parse()? || shown.as_str() != text {
+                        bail!("found {found} bytes, shown as {shown}");
+                    }
+                }
+            }
+        }
+        Ok(())
+    }
+
+    /// Fails if so many rounds of fetches at these offsets read more than so many bytes.
+    fn judge_reads(&mut self, rounds: u32, most: u64, cs: &str, offsets: &[&str]) -> Result<()> {
+        let cs = u16::from_str_radix(cs, 16)?;
+        let before = self.memory.reads();
+        for _ in 0..rounds {
+            for offset in offsets {
+                let _ = self.fetch(cs, u16::from_str_radix(offset, 16)?);
+            }
+        }
+        let reads = self.memory.reads().saturating_sub(before);
+        if reads > most {
+            bail!("{reads} bytes read");
+        }
+        Ok(())
+    }
+}
