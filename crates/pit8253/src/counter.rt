@@ -1,5 +1,5 @@
 //! One counter of the timer (Intel 8253 data sheet, "Mode Definition").
-ghost use Rattle.std.specs.Prelude.{◌≡◌, ◌≤◌, ◌<◌, ◌/◌, ◌%◌, ◌+◌, ◌*◌, IfSome};
+ghost use Rattle.std.specs.Prelude.{◌≡◌, ◌≤◌, ◌<◌, ◌/◌, ◌%◌, ◌+◌, ◌*◌, IfSome, IsTrue};
 ghost use Rattle.board_types.specs.declared.line.Line.{Line};
 ghost use Rattle.pit8253.specs.Program.{mode_of, access_of, radix_of, modulus, count_of, digits_of};
 ghost use Rattle.pit8253.specs.Laws.{size, ticks_left, after_fall, after_strobe_fall, after_rate_fall, half_left, after_half_fall};
@@ -182,6 +182,14 @@ impl Counter {
         self.load_due = self.load_due || triggers;
         self.out = out_at_gate(self.mode, line, self.out);
         self.gate = line;
+    }
+
+    /// Whether the gate has the level `line` already, so that to give it to the gate changes nothing.
+    #[tactic(auto, using(crate::proofs::GateKept::gate_kept))]
+    pub fn keeps_gate(&self, line: Line) -> bool
+        ensures { IsTrue result → after_gate self.now line ≡ self.now }
+    {
+        self.gate == line && out_at_gate(self.mode, line, self.out) == self.out
     }
 
     fn program(&mut self, mode: Mode, access: Access, radix: Radix)

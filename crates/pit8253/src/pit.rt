@@ -1,5 +1,5 @@
 //! The timer: three counters behind four ports (Intel 8253 data sheet, "Block Diagram").
-ghost use Rattle.std.specs.Prelude.{◌≡◌, ◌≤◌, ◌<◌, IfSome};
+ghost use Rattle.std.specs.Prelude.{◌≡◌, ◌≤◌, ◌<◌, IfSome, IsTrue};
 ghost use Rattle.board_types.specs.Timed.{IsUntilTurn};
 ghost use Rattle.board_types.specs.declared.line.Line.{Line};
 ghost use Rattle.pit8253.specs.Counter as one;
@@ -83,6 +83,14 @@ impl Pit {
             1 => self.counter_1.set_gate(line),
             _ => self.counter_2.set_gate(line),
         }
+    }
+
+    /// Whether gate 2 has the level `line` already, so that to give it to the gate changes nothing.
+    #[tactic(auto, unfolding(crate::specs::Pit::after_gate))]
+    pub fn keeps_gate_2(&self, line: Line) -> bool
+        ensures { IsTrue result → after_gate self.now 2 line ≡ self.now }
+    {
+        self.counter_2.keeps_gate(line)
     }
 
     /// The level of OUT `n`; `n` is below 3.

@@ -14,3 +14,5 @@ pub mod Ticks
 pub mod Alike
 pub mod Entries
 pub mod Speaker
+pub mod Behind
+pub mod Leap

@@ -68,11 +68,15 @@ gate_then_tick c line still =
     ap (one.after_gate (one.after_tick c)) level
     ∙ tick_still c (ap (λ l. out_at_gate c.mode l c.out) (sym level) ∙ out)
 
-wire_then_tick : (p : PitState) (ppi : PpiState) → after_gate_wire p ppi ≡ p → after_gate_wire (pit.after_tick p) ppi ≡ pit.after_tick p
+-- so does the timer by its gate 2
+pub line_then_tick : (p : PitState) (line : Line) → pit.after_gate p 2 line ≡ p → pit.after_gate (pit.after_tick p) 2 line ≡ pit.after_tick p
 unfolding pit.after_gate pit.after_tick
-wire_then_tick p ppi still =
+line_then_tick p line still =
     ap (λ c. record { counter_0 = one.after_tick p.counter_0; counter_1 = one.after_tick p.counter_1; counter_2 = c })
-    (gate_then_tick p.counter_2 (port_b_line ppi 0) (ap (λ (q : PitState). q.counter_2) still))
+    (gate_then_tick p.counter_2 line (ap (λ (q : PitState). q.counter_2) still))
+
+wire_then_tick : (p : PitState) (ppi : PpiState) → after_gate_wire p ppi ≡ p → after_gate_wire (pit.after_tick p) ppi ≡ pit.after_tick p
+wire_then_tick p ppi still = line_then_tick p (port_b_line ppi 0) still
 
 wire_then_clock : (b : Bool) (p : PitState) (ppi : PpiState) → after_gate_wire p ppi ≡ p → after_gate_wire (if b then pit.after_tick p else p) ppi ≡ (if b then pit.after_tick p else p)
 wire_then_clock true p ppi still = wire_then_tick p ppi still
@@ -96,11 +100,11 @@ settled_later (suc n) s still =
     ∙ sym (iterate_more after_clock n s) ∙ ap (after_clocks s) (sym more)
 
 -- one tick more where 4 divides the number of the clock
-more_ticks : (b : Bool) (p : PitState) (k : ℕ) → (if b then pit.after_tick (pit.after_ticks p k) else pit.after_ticks p k) ≡ pit.after_ticks p (k + (if b then 1 else 0))
+pub more_ticks : (b : Bool) (p : PitState) (k : ℕ) → (if b then pit.after_tick (pit.after_ticks p k) else pit.after_ticks p k) ≡ pit.after_ticks p (k + (if b then 1 else 0))
 more_ticks true p k = sym (iterate_more pit.after_tick k p)
 more_ticks false p k = let none : k ≡ k + 0 = omega arith in ap (pit.after_ticks p) none
 
-quarter : (c n : ℕ) → (c + n) / 4 - c / 4 + (if (c + n + 1) % 4 == 0 then 1 else 0) ≡ (c + suc n) / 4 - c / 4
+pub quarter : (c n : ℕ) → (c + n) / 4 - c / 4 + (if (c + n + 1) % 4 == 0 then 1 else 0) ≡ (c + suc n) / 4 - c / 4
 quarter c n = grind (arith, nat_tests)
 
 pub clocks_tick : ClocksTick

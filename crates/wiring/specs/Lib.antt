@@ -5,3 +5,5 @@ pub mod Sound
 pub mod Speaker
 pub mod BusLaws
 pub mod Laws
+pub mod Timer
+pub mod Leap

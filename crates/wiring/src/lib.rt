@@ -6,3 +6,4 @@ pub mod chips;
 pub mod laws;
 pub mod port;
 mod sound;
+mod timer;

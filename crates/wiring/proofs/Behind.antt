@@ -1,0 +1,75 @@
+-- What a timer that is some ticks behind has in common with the one that isn't.
+use Rattle.std.proofs.Common.{◌≡◌, ℕ, zero, suc, ◌+◌, ◌-◌, ◌<◌, true, refl, sym, ap, ◌∙◌, subst, arith, nat_lt, Option, None, Some}
+use Rattle.std.proofs.lemmas.Bool.Decides.{nat_tests}
+use Rattle.board_types.proofs.Iterate.{iterate_zero, iterate_more, iterate_add}
+use Rattle.board_types.specs.Timed.{IsUntilTurn}
+use Rattle.board_types.specs.declared.line.Line.{Line}
+use Rattle.pit8253.proofs.PitTicks.{each_counter}
+use Rattle.pit8253.specs.Counter as one
+use Rattle.pit8253.specs.Counter.{CounterState, out_of}
+use Rattle.pit8253.specs.Pit.{PitState, after_gate, after_tick, after_ticks}
+use Rattle.wiring.specs.Timer.{is_before, later_turn, IsBehind}
+use Rattle.wiring.proofs.Ticks.{line_then_tick}
+
+is_less : (a b : ℕ) → nat_lt a b ≡ true → a < b
+is_less a b holds = grind (arith, nat_tests)
+
+is_less_test : (a b : ℕ) → a < b → nat_lt a b ≡ true
+is_less_test a b less = grind (arith, nat_tests)
+
+-- a timer that isn't behind
+pub at_once : (p : PitState) → after_ticks p 0 ≡ p
+at_once p = iterate_zero after_tick p
+
+pub not_behind : (c : CounterState) (turn : Option ℕ) → IsUntilTurn one.after_ticks out_of c turn → IsBehind c turn 0
+not_behind c None never = record { first = never; before = refl }
+not_behind c (Some n) first = record { first = first; before = is_less_test 0 n first.some }
+
+pub later : (p : PitState) (k n : ℕ) → after_ticks (after_ticks p k) n ≡ after_ticks p (k + n)
+later p k n = sym (iterate_add after_tick k n p)
+
+pub still_behind : (c : CounterState) (turn : Option ℕ) (k n : ℕ) → IsBehind c turn k → is_before n turn ≡ true → IsBehind c turn n
+still_behind c turn k n behind before = record { first = behind.first; before = before }
+
+-- the output hasn't turned
+stays : (c : CounterState) (turn : Option ℕ) (k : ℕ) → IsUntilTurn one.after_ticks out_of c turn → is_before k turn ≡ true → (one.after_ticks c k).out ≡ c.out
+stays c None k never before = never k
+stays c (Some n) k first before = first.before k (is_less k n before)
+
+pub out_0_stays : (p : PitState) (turn : Option ℕ) (k : ℕ) → IsBehind p.counter_0 turn k → p.counter_0.out ≡ (after_ticks p k).counter_0.out
+out_0_stays p turn k behind =
+    sym (ap (λ (q : PitState). q.counter_0.out) (each_counter k p) ∙ stays p.counter_0 turn k behind.first behind.before)
+
+pub out_2_stays : (p : PitState) (turn : Option ℕ) (k : ℕ) → IsBehind p.counter_2 turn k → p.counter_2.out ≡ (after_ticks p k).counter_2.out
+out_2_stays p turn k behind =
+    sym (ap (λ (q : PitState). q.counter_2.out) (each_counter k p) ∙ stays p.counter_2 turn k behind.first behind.before)
+
+-- and turns as many ticks later as are left
+turns_later : (c : CounterState) (turn : Option ℕ) (k : ℕ) → IsBehind c turn k → IsUntilTurn one.after_ticks out_of (one.after_ticks c k) (later_turn turn k)
+turns_later c None k behind = λ n.
+    ap (λ (d : CounterState). d.out) (sym (iterate_add one.after_tick k n c)) ∙ behind.first (k + n) ∙ sym (behind.first k)
+turns_later c (Some n) k behind =
+    let soon : k < n = is_less k n behind.before in
+    let now : (one.after_ticks c k).out ≡ c.out = behind.first.before k soon in
+    let whole : k + (n - k) ≡ n = omega arith in
+    record {
+      some = omega arith;
+      before = λ j less. ap (λ (d : CounterState). d.out) (sym (iterate_add one.after_tick k j c)) ∙ behind.first.before (k + j) (omega arith) ∙ sym now;
+      turns = λ same. behind.first.turns (ap (λ j. (one.after_ticks c j).out) (sym whole) ∙ ap (λ (d : CounterState). d.out) (iterate_add one.after_tick k (n - k) c) ∙ same ∙ now);
+    }
+
+pub turns_later_0 : (p : PitState) (turn : Option ℕ) (k : ℕ) → IsBehind p.counter_0 turn k → IsUntilTurn one.after_ticks out_of (after_ticks p k).counter_0 (later_turn turn k)
+turns_later_0 p turn k behind =
+    subst (λ (q : PitState). IsUntilTurn one.after_ticks out_of q.counter_0 (later_turn turn k)) (sym (each_counter k p)) (turns_later p.counter_0 turn k behind)
+
+pub turns_later_2 : (p : PitState) (turn : Option ℕ) (k : ℕ) → IsBehind p.counter_2 turn k → IsUntilTurn one.after_ticks out_of (after_ticks p k).counter_2 (later_turn turn k)
+turns_later_2 p turn k behind =
+    subst (λ (q : PitState). IsUntilTurn one.after_ticks out_of q.counter_2 (later_turn turn k)) (sym (each_counter k p)) (turns_later p.counter_2 turn k behind)
+
+-- a gate that keeps its level keeps it over ticks
+pub gate_stays : (k : ℕ) (p : PitState) (line : Line) → after_gate p 2 line ≡ p → after_gate (after_ticks p k) 2 line ≡ after_ticks p k
+gate_stays zero p line still = ap (λ q. after_gate q 2 line) (iterate_zero after_tick p) ∙ still ∙ sym (iterate_zero after_tick p)
+gate_stays (suc k) p line still =
+    let more : suc k ≡ k + 1 = omega arith in
+    let next : after_ticks p (suc k) ≡ after_tick (after_ticks p k) = ap (λ j. after_ticks p j) more ∙ iterate_more after_tick k p in
+    ap (λ q. after_gate q 2 line) next ∙ line_then_tick (after_ticks p k) line (gate_stays k p line still) ∙ sym next

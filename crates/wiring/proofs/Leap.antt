@@ -1,0 +1,123 @@
+-- Settled wires stay settled while OUT0 stays, so that clocks can be leapt over.
+use Rattle.std.proofs.Common.{◌≡◌, ℕ, zero, suc, ◌+◌, ◌-◌, ◌%◌, ◌≤◌, sym, ap, ◌∙◌, arith}
+use Rattle.std.specs.Prelude.{◌==◌, is_some}
+use Rattle.board_types.proofs.Iterate.{iterate_zero, iterate_more, iterate_add}
+use Rattle.board_types.specs.declared.line.Line.{Line}
+use Rattle.board_types.specs.Lines.{from_bool}
+use Rattle.memory.specs.Map.{MemoryMap}
+use Rattle.mda_text.specs.Mda as mda
+use Rattle.mda_text.specs.Mda.{MdaState}
+use Rattle.pic8259.specs.Pic.{after_line}
+use Rattle.pit8253.proofs.PitTicks.{each_counter}
+use Rattle.pit8253.specs.Counter as one
+use Rattle.pit8253.specs.Counter.{CounterState, out_of}
+use Rattle.pit8253.specs.Pit as pit
+use Rattle.pit8253.specs.Pit.{PitState}
+use Rattle.wiring.specs.Chips.{ChipsState}
+use Rattle.wiring.specs.Leap.{ticks_between, IsStill, leapt}
+use Rattle.wiring.specs.Wires.{port_b_line, after_latch_wire, after_gate_wire, after_request_wires, pit_after_clock, after_settling, after_clock, after_clocks}
+use Rattle.wiring.proofs.Behind.{gate_stays}
+use Rattle.wiring.proofs.Ticks.{more_ticks, quarter}
+
+-- settled wires, one by one
+record Settled (s : ChipsState) : Type 0 where
+  latch : after_latch_wire s.keyboard s.ppi ≡ s.keyboard
+  gate : after_gate_wire s.pit s.ppi ≡ s.pit
+  lines : after_request_wires s.pic s.pit s.keyboard ≡ s.pic
+
+settled_parts : (s : ChipsState) → after_settling s ≡ s → Settled s
+unfolding after_settling
+settled_parts s still =
+    let latch : after_latch_wire s.keyboard s.ppi ≡ s.keyboard = ap (λ (t : ChipsState). t.keyboard) still in
+    let gate : after_gate_wire s.pit s.ppi ≡ s.pit = ap (λ (t : ChipsState). t.pit) still in
+    record {
+      latch = latch;
+      gate = gate;
+      lines = ap (λ p. after_request_wires s.pic p s.keyboard) (sym gate)
+          ∙ ap (λ k. after_request_wires s.pic (after_gate_wire s.pit s.ppi) k) (sym latch)
+          ∙ ap (λ (t : ChipsState). t.pic) still;
+    }
+
+-- with another timer, whose gate 2 keeps its level and whose OUT0 is as it was, they are settled as well
+parts_settled : (s : ChipsState) (p : PitState) (clock : ℕ) (m : MdaState) → Settled s → after_gate_wire p s.ppi ≡ p → p.counter_0.out ≡ s.pit.counter_0.out → after_settling (record s { clock = clock; pit = p; mda = m }) ≡ record s { clock = clock; pit = p; mda = m }
+unfolding after_settling
+parts_settled s p clock m parts gate same =
+    let t : ChipsState = record s { clock = clock; pit = p; mda = m } in
+    let wired : PitState = after_gate_wire p s.ppi in
+    ap (λ k. record t { keyboard = k; pit = wired; pic = after_request_wires s.pic wired k }) parts.latch
+    ∙ ap (λ q. record t { pit = q; pic = after_request_wires s.pic q s.keyboard }) gate
+    ∙ ap (λ (out : Line). record t { pic = after_line (after_line s.pic 0 out) 1 (from_bool (is_some s.keyboard.latch)) }) same
+    ∙ ap (λ c. record t { pic = c }) parts.lines
+
+with_parts : (s : ChipsState) (clock : ℕ) (p : PitState) (m : MdaState) → clock ≡ s.clock → p ≡ s.pit → m ≡ s.mda → record s { clock = clock; pit = p; mda = m } ≡ s
+with_parts s clock p m same_clock same_pit same_mda =
+    ap (λ c. record s { clock = c; pit = p; mda = m }) same_clock
+    ∙ ap (λ q. record s { pit = q; mda = m }) same_pit
+    ∙ ap (λ n. record s { mda = n }) same_mda
+
+-- n clocks, all at once
+pub clocks_leap : (n : ℕ) (s : ChipsState) → after_settling s ≡ s → IsStill s n → after_clocks s n ≡ leapt s n
+unfolding after_clock
+clocks_leap zero s still steady =
+    let none : ticks_between s.clock (s.clock + 0) ≡ 0 = omega arith in
+    iterate_zero after_clock s
+    ∙ sym (with_parts s (s.clock + 0) (pit.after_ticks s.pit (ticks_between s.clock (s.clock + 0))) (mda.after_clocks s.mda 0) (omega arith)
+    (ap (λ k. pit.after_ticks s.pit k) none ∙ iterate_zero pit.after_tick s.pit) (iterate_zero mda.after_clock s.mda))
+clocks_leap (suc n) s still steady =
+    let parts : Settled s = settled_parts s still in
+    let more : suc n ≡ n + 1 = omega arith in
+    let before : ticks_between s.clock (s.clock + n) ≤ ticks_between s.clock (s.clock + suc n) = omega arith in
+    let now : ℕ = ticks_between s.clock (s.clock + n) in
+    let next : ℕ = ticks_between s.clock (s.clock + suc n) in
+    let steady_now : IsStill s n = λ k within. steady k (omega arith) in
+    let ticked : pit_after_clock (pit.after_ticks s.pit now) (s.clock + n + 1) ≡ pit.after_ticks s.pit next =
+    more_ticks ((s.clock + n + 1) % 4 == 0) s.pit now ∙ ap (λ k. pit.after_ticks s.pit k) (quarter s.clock n) in
+    let moved : mda.after_clock (mda.after_clocks s.mda n) ≡ mda.after_clocks s.mda (suc n) =
+    sym (iterate_more mda.after_clock n s.mda) ∙ ap (λ k. mda.after_clocks s.mda k) (sym more) in
+    let gate : after_gate_wire (pit.after_ticks s.pit next) s.ppi ≡ pit.after_ticks s.pit next = gate_stays next s.pit (port_b_line s.ppi 0) parts.gate in
+    let same : (pit.after_ticks s.pit next).counter_0.out ≡ s.pit.counter_0.out =
+    ap (λ (q : PitState). q.counter_0.out) (each_counter next s.pit) ∙ steady next (omega arith) in
+    ap (λ k. after_clocks s k) more ∙ iterate_more after_clock n s ∙ ap after_clock (clocks_leap n s still steady_now)
+    ∙ ap (λ p. after_settling (record s { clock = s.clock + n + 1; pit = p; mda = mda.after_clock (mda.after_clocks s.mda n) })) ticked
+    ∙ ap (λ m. after_settling (record s { clock = s.clock + n + 1; pit = pit.after_ticks s.pit next; mda = m })) moved
+    ∙ parts_settled s (pit.after_ticks s.pit next) (s.clock + n + 1) (mda.after_clocks s.mda (suc n)) parts gate same
+    ∙ ap (λ c. record s { clock = c; pit = pit.after_ticks s.pit next; mda = mda.after_clocks s.mda (suc n) }) (omega arith)
+
+pub settled_leap : (n : ℕ) (s : ChipsState) → after_settling s ≡ s → IsStill s n → after_settling (leapt s n) ≡ leapt s n
+settled_leap n s still steady =
+    let parts : Settled s = settled_parts s still in
+    let ticks : ℕ = ticks_between s.clock (s.clock + n) in
+    let same : (pit.after_ticks s.pit ticks).counter_0.out ≡ s.pit.counter_0.out =
+    ap (λ (q : PitState). q.counter_0.out) (each_counter ticks s.pit) ∙ steady ticks (omega arith) in
+    parts_settled s (pit.after_ticks s.pit ticks) (s.clock + n) (mda.after_clocks s.mda n) parts
+    (gate_stays ticks s.pit (port_b_line s.ppi 0) parts.gate) same
+
+pub still_at_once : (s : ChipsState) → IsStill s 0
+still_at_once s k within =
+    let none : k ≡ 0 = omega arith in
+    ap (λ j. (one.after_ticks s.pit.counter_0 j).out) none ∙ ap (λ (c : CounterState). c.out) (iterate_zero one.after_tick s.pit.counter_0)
+
+-- a byte of memory is no wire
+pub settled_memory : (s : ChipsState) (m : MemoryMap) → after_settling s ≡ s → after_settling (record s { memory = m }) ≡ record s { memory = m }
+unfolding after_settling
+settled_memory s m still = ap (λ (t : ChipsState). record t { memory = m }) still
+
+pub settled_text : (s : ChipsState) (m : MdaState) → after_settling s ≡ s → after_settling (record s { mda = m }) ≡ record s { mda = m }
+unfolding after_settling
+settled_text s m still = ap (λ (t : ChipsState). record t { mda = m }) still
+
+-- clocks, and then more of them
+pub no_clocks : (s : ChipsState) → s ≡ after_clocks s (s.clock - s.clock)
+no_clocks s =
+    let none : s.clock - s.clock ≡ 0 = omega arith in
+    sym (ap (λ k. after_clocks s k) none ∙ iterate_zero after_clock s)
+
+pub more_clocks : (s t u : ChipsState) (n : ℕ) → s.clock ≤ t.clock → t ≡ after_clocks s (t.clock - s.clock) → u ≡ after_clocks t n → u.clock ≡ t.clock + n → u ≡ after_clocks s (u.clock - s.clock)
+more_clocks s t u n before first second clock =
+    let whole : t.clock - s.clock + n ≡ u.clock - s.clock = omega arith in
+    second ∙ ap (λ x. after_clocks x n) first ∙ sym (iterate_add after_clock (t.clock - s.clock) n s) ∙ ap (λ k. after_clocks s k) whole
+
+pub one_more_clock : (s t u : ChipsState) → s.clock ≤ t.clock → t ≡ after_clocks s (t.clock - s.clock) → u ≡ after_clock t → u.clock ≡ t.clock + 1 → u ≡ after_clocks s (u.clock - s.clock)
+one_more_clock s t u before first second clock =
+    let one : after_clocks t 1 ≡ after_clock t = iterate_more after_clock 0 t ∙ ap after_clock (iterate_zero after_clock t) in
+    more_clocks s t u 1 before first (second ∙ sym one) clock

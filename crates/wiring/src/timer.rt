@@ -1,0 +1,172 @@
+//! The timer, which may lag behind: its ticks are counted and made where something asks for more than the levels of its
+//! outputs.
+ghost use Rattle.std.specs.Prelude.{◌≡◌, ◌<◌, IsTrue};
+ghost use Rattle.board_types.specs.Timed.{IsUntilTurn};
+ghost use Rattle.board_types.specs.declared.line.Line.{Line};
+ghost use Rattle.pit8253.specs.Counter as counter;
+ghost use Rattle.pit8253.specs.Counter.{out_of};
+ghost use Rattle.wiring.specs.Timer.{is_before, later_turn};
+ghost use Rattle.pit8253.specs.Pit.{power_on, after_ticks, after_gate, after_write, byte_at, after_read};
+
+use board_types::line::Line;
+use pit8253::pit::Pit;
+use std::marker::Model;
+
+/// The timer as it is now, whose counters may stand some ticks before.
+#[derive(Drop)]
+pub(crate) struct Timer {
+    /// The timer as it was.
+    pit: Pit,
+    /// How many ticks it is behind: OUT0 and OUT2 haven't turned in them.
+    behind: u64,
+    /// After how many ticks from there OUT0 turns.
+    turn_0: Option<u64>,
+    /// After how many ticks from there OUT2 turns.
+    turn_2: Option<u64>,
+}
+
+impl Model for Timer {
+    ghost use Rattle.pit8253.specs.Pit.{PitState, after_ticks};
+    ghost use Rattle.wiring.specs.Timer.{IsBehind};
+
+    ghost Value = { PitState };
+
+    ghost view = { λ t. after_ticks t.pit t.behind };
+
+    ghost invariant = { λ t. IsBehind t.pit.counter_0 t.turn_0 t.behind × IsBehind t.pit.counter_2 t.turn_2 t.behind };
+}
+
+impl Timer {
+    /// The timer at power-on.
+    pub(crate) fn new() -> Timer
+        ensures { result ≡ power_on }
+    {
+        Timer::standing(Pit::new())
+    }
+
+    /// A timer that isn't behind.
+    #[tactic(auto, using(crate::proofs::Behind::at_once, crate::proofs::Behind::not_behind))]
+    pub(crate) fn standing(pit: Pit) -> Timer
+        ensures { result ≡ pit }
+    {
+        let turn_0 = pit.until_change(0);
+        let turn_2 = pit.until_change(2);
+        Timer {
+            pit,
+            behind: 0,
+            turn_0,
+            turn_2,
+        }
+    }
+
+    /// The timer with all its ticks made.
+    pub(crate) fn present(&self) -> Pit
+        ensures { result ≡ self.now }
+    {
+        let mut pit = self.pit;
+        pit.advance(self.behind);
+        pit
+    }
+
+    /// Ticks so often. They are only counted as long as neither OUT0 nor OUT2 turns.
+    #[tactic(auto, using(crate::proofs::Behind::later, crate::proofs::Behind::still_behind))]
+    pub(crate) fn advance(&mut self, ticks: u64)
+        ensures { self.new ≡ after_ticks self.old ticks }
+    {
+        if let Some(behind) = self.behind.checked_add(ticks)
+            && is_before(behind, self.turn_0)
+            && is_before(behind, self.turn_2)
+        {
+            self.behind = behind;
+            return;
+        }
+        let mut pit = self.present();
+        pit.advance(ticks);
+        *self = Timer::standing(pit);
+    }
+
+    /// The level of OUT0.
+    #[tactic(auto, using(crate::proofs::Behind::out_0_stays))]
+    pub(crate) fn out_0(&self) -> Line
+        ensures { result ≡ self.now.counter_0.out }
+    {
+        self.pit.out(0)
+    }
+
+    /// The level of OUT2.
+    #[tactic(auto, using(crate::proofs::Behind::out_2_stays))]
+    pub(crate) fn out_2(&self) -> Line
+        ensures { result ≡ self.now.counter_2.out }
+    {
+        self.pit.out(2)
+    }
+
+    /// After how many ticks, from 1 on, OUT0 turns; `None` where it never does.
+    pub(crate) fn until_turn_0(&self) -> Option<u64>
+        ensures { IsUntilTurn counter.after_ticks out_of self.now.counter_0 result }
+    {
+        later_turn(self.turn_0, self.behind)
+    }
+
+    /// After how many ticks, from 1 on, OUT2 turns; `None` where it never does.
+    pub(crate) fn until_turn_2(&self) -> Option<u64>
+        ensures { IsUntilTurn counter.after_ticks out_of self.now.counter_2 result }
+    {
+        later_turn(self.turn_2, self.behind)
+    }
+
+    /// The byte that a read of `port`, below 4, gives.
+    pub(crate) fn read(&mut self, port: u8) -> u8
+        requires { port < 4 }
+        ensures byte { result ≡ byte_at self.old port }
+        ensures state { self.new ≡ after_read self.old port }
+    {
+        let mut pit = self.present();
+        let byte = pit.read(port);
+        *self = Timer::standing(pit);
+        byte
+    }
+
+    /// Writes `value` to `port`, below 4.
+    pub(crate) fn write(&mut self, port: u8, value: u8)
+        requires { port < 4 }
+        ensures { self.new ≡ after_write self.old port value }
+    {
+        let mut pit = self.present();
+        pit.write(port, value);
+        *self = Timer::standing(pit);
+    }
+
+    /// Gate 2 takes the level `line`. Where it has that level already nothing changes, and the timer stays behind.
+    #[tactic(auto, using(crate::proofs::Behind::gate_stays))]
+    pub(crate) fn set_gate_2(&mut self, line: Line)
+        ensures { self.new ≡ after_gate self.old 2 line }
+    {
+        if self.pit.keeps_gate_2(line) {
+            return;
+        }
+        let mut pit = self.present();
+        pit.set_gate(2, line);
+        *self = Timer::standing(pit);
+    }
+}
+
+fn is_before(ticks: u64, turn: Option<u64>) -> bool
+    ensures { result ≡ is_before ticks turn }
+{
+    match turn {
+        Some(turn) => ticks < turn,
+        None => true,
+    }
+}
+
+/// The ticks to a turn, `behind` ticks later and before it.
+fn later_turn(turn: Option<u64>, behind: u64) -> Option<u64>
+    requires { IsTrue (is_before behind turn) }
+    ensures { result ≡ later_turn turn behind }
+{
+    match turn {
+        Some(turn) => Some(turn - behind),
+        None => None,
+    }
+}
