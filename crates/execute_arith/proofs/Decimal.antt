@@ -3,7 +3,8 @@ use Rattle.std.proofs.Common.{◌≡◌, ℕ, ◌+◌, ◌*◌, ◌/◌, ◌%◌
 use Rattle.std.specs.Int.{from_bool}
 use Rattle.std.proofs.lemmas.Bool.Decides.{nat_tests}
 use Rattle.execute_machine.specs.declared.registers.Registers.{Registers}
-use Rattle.execute_arith.specs.Meaning.{after_aaa, after_aad, after_aam, after_aas, after_daa, after_das, adjusts_low, ah_of, al_of, with_difference, with_sum, with_unpacked}
+use Rattle.execute_machine.specs.Sums.{with_difference, with_sum}
+use Rattle.execute_arith.specs.Meaning.{after_aaa, after_aad, after_aam, after_aas, after_daa, after_das, adjusts_low, ah_of, al_of, with_unpacked}
 use Rattle.execute_arith.specs.Laws.{packed, AaaAdds, AadJoins, AadUndoesAam, AamParts, AasSubtracts, DaaAdds, DasSubtracts, HasDifference, HasSum, LeavesDigit}
 
 -- DAA and DAS on plain numbers: AL, AF and CF as the sum or the difference left them

@@ -11,7 +11,9 @@ use Rattle.execute_machine.specs.declared.location.OperandLocation.TheVariants a
 use Rattle.execute_machine.specs.declared.width.Width.TheVariants.{Byte}
 use Rattle.execute_machine.specs.Locations.{Machine, location_of, operand_at, value_at, with_value_at, width_at}
 use Rattle.execute_machine.specs.Registers.{byte_register, with_byte_register}
-use Rattle.execute_arith.specs.Meaning.{after_arithmetic, al_of, difference_of, keeps_result, result_of, sum_of, with_difference, with_flags, with_flags_of, with_sum}
+use Rattle.execute_machine.specs.Flags.{forgetting, keeping}
+use Rattle.execute_machine.specs.Sums.{difference_of, sum_of, with_difference, with_sum}
+use Rattle.execute_arith.specs.Meaning.{after_arithmetic, al_of, keeps_result, result_of, with_flags, with_flags_of}
 use Rattle.execute_arith.specs.Laws.{HasDifference, HasSum, SumsStandInAl}
 
 -- the same at two locations
@@ -32,33 +34,33 @@ low_half word n = omega arith
 sum_in_al : {S : Type 0} (bus : BusMeaning S) (m : Machine S) (from : OperandLocation) → HasSum (after_at bus m Add (locations.Byte Al) from).registers (al_of m.registers) (operand_at bus m from Byte) 0
 unfolding result_of value_at with_flags_of with_value_at byte_register with_byte_register
 sum_in_al bus m from = record {
-  before = m.registers.flags;
+  before = keeping m.registers.flags (m.registers.ax % 256 % 256) (operand_at bus m from Byte) (sum_of Byte (m.registers.ax % 256 % 256) (operand_at bus m from Byte) 0);
   al = low_half _ _ ∙ ap (λ a. sum_of Byte a (operand_at bus m from Byte) 0) (cut_twice m.registers.ax);
-  flags = ap (λ a. with_sum m.registers.flags Byte a (operand_at bus m from Byte) 0) (cut_twice m.registers.ax);
+  flags = ap (λ a. with_sum (keeping m.registers.flags (m.registers.ax % 256 % 256) (operand_at bus m from Byte) (sum_of Byte (m.registers.ax % 256 % 256) (operand_at bus m from Byte) 0)) Byte a (operand_at bus m from Byte) 0) (cut_twice m.registers.ax);
 }
 
 carried_sum_in_al : {S : Type 0} (bus : BusMeaning S) (m : Machine S) (from : OperandLocation) → HasSum (after_at bus m Adc (locations.Byte Al) from).registers (al_of m.registers) (operand_at bus m from Byte) (from_bool m.registers.flags.carry)
 unfolding result_of value_at with_flags_of with_value_at byte_register with_byte_register
 carried_sum_in_al bus m from = record {
-  before = m.registers.flags;
+  before = forgetting m.registers.flags;
   al = low_half _ _ ∙ ap (λ a. sum_of Byte a (operand_at bus m from Byte) (from_bool m.registers.flags.carry)) (cut_twice m.registers.ax);
-  flags = ap (λ a. with_sum m.registers.flags Byte a (operand_at bus m from Byte) (from_bool m.registers.flags.carry)) (cut_twice m.registers.ax);
+  flags = ap (λ a. with_sum (forgetting m.registers.flags) Byte a (operand_at bus m from Byte) (from_bool m.registers.flags.carry)) (cut_twice m.registers.ax);
 }
 
 difference_in_al : {S : Type 0} (bus : BusMeaning S) (m : Machine S) (from : OperandLocation) → HasDifference (after_at bus m Sub (locations.Byte Al) from).registers (al_of m.registers) (operand_at bus m from Byte) 0
 unfolding result_of value_at with_flags_of with_value_at byte_register with_byte_register
 difference_in_al bus m from = record {
-  before = m.registers.flags;
+  before = keeping m.registers.flags (m.registers.ax % 256 % 256) (operand_at bus m from Byte) (difference_of Byte (m.registers.ax % 256 % 256) (operand_at bus m from Byte) 0);
   al = low_half _ _ ∙ ap (λ a. difference_of Byte a (operand_at bus m from Byte) 0) (cut_twice m.registers.ax);
-  flags = ap (λ a. with_difference m.registers.flags Byte a (operand_at bus m from Byte) 0) (cut_twice m.registers.ax);
+  flags = ap (λ a. with_difference (keeping m.registers.flags (m.registers.ax % 256 % 256) (operand_at bus m from Byte) (difference_of Byte (m.registers.ax % 256 % 256) (operand_at bus m from Byte) 0)) Byte a (operand_at bus m from Byte) 0) (cut_twice m.registers.ax);
 }
 
 borrowed_difference_in_al : {S : Type 0} (bus : BusMeaning S) (m : Machine S) (from : OperandLocation) → HasDifference (after_at bus m Sbb (locations.Byte Al) from).registers (al_of m.registers) (operand_at bus m from Byte) (from_bool m.registers.flags.carry)
 unfolding result_of value_at with_flags_of with_value_at byte_register with_byte_register
 borrowed_difference_in_al bus m from = record {
-  before = m.registers.flags;
+  before = forgetting m.registers.flags;
   al = low_half _ _ ∙ ap (λ a. difference_of Byte a (operand_at bus m from Byte) (from_bool m.registers.flags.carry)) (cut_twice m.registers.ax);
-  flags = ap (λ a. with_difference m.registers.flags Byte a (operand_at bus m from Byte) (from_bool m.registers.flags.carry)) (cut_twice m.registers.ax);
+  flags = ap (λ a. with_difference (forgetting m.registers.flags) Byte a (operand_at bus m from Byte) (from_bool m.registers.flags.carry)) (cut_twice m.registers.ax);
 }
 
 pub sums_stand_in_al : {S : Type 0} (bus : BusMeaning S) → SumsStandInAl bus

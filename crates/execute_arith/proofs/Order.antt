@@ -7,7 +7,8 @@ use Rattle.bus.specs.Bus.{BusMeaning}
 use Rattle.execute_machine.specs.declared.width.Width.{Width}
 use Rattle.execute_machine.specs.declared.width.Width.TheVariants.{Byte, Word}
 use Rattle.execute_machine.specs.Widths.{size_of}
-use Rattle.execute_arith.specs.Meaning.{after_arithmetic, with_flags_of, after_cbw, after_cwd, unary_result_of, with_difference}
+use Rattle.execute_machine.specs.Sums.{with_difference}
+use Rattle.execute_arith.specs.Meaning.{after_arithmetic, with_flags_of, after_cbw, after_cwd, unary_result_of}
 use Rattle.execute_arith.specs.Laws.{CmpTells, ComparisonTells, NotInverts, SignsExtend}
 
 pub comparison_tells : ComparisonTells
@@ -21,7 +22,7 @@ below Word n = omega arith
 
 pub cmp_tells : {S : Type 0} (bus : BusMeaning S) → CmpTells bus
 unfolding after_arithmetic with_flags_of
-cmp_tells bus m i = comparison_tells m.registers.flags _ _ _ (below _ _) (below _ _)
+cmp_tells bus m i = comparison_tells _ _ _ _ (below _ _) (below _ _)
 
 pub signs_extend : SignsExtend
 unfolding after_cbw after_cwd

@@ -17,7 +17,8 @@ use Rattle.execute_machine.specs.FlagState.{FlagState}
 use Rattle.execute_machine.specs.declared.width.Width.{Width}
 use Rattle.execute_machine.specs.declared.width.Width.TheVariants.{Byte, Word}
 use Rattle.execute_machine.specs.Widths.{size_of}
-use Rattle.execute_arith.specs.Meaning.{after_aaa, after_aad, after_aam, after_aas, after_arithmetic, after_cbw, after_cwd, after_daa, after_das, ah_of, al_of, difference_of, signed_of, sum_of, unary_result_of, with_difference, with_sum}
+use Rattle.execute_machine.specs.Sums.{difference_of, signed_of, sum_of, with_difference, with_sum}
+use Rattle.execute_arith.specs.Meaning.{after_aaa, after_aad, after_aam, after_aas, after_arithmetic, after_cbw, after_cwd, after_daa, after_das, ah_of, al_of, unary_result_of}
 
 -- what flags tell of two numbers of a width: whether the first lies below the second, as unsigned and as signed ones
 pub record TellsOrder (f : FlagState) (width : Width) (a b : ℕ) : Type 0 where

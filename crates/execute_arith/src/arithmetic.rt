@@ -1,13 +1,14 @@
 //! Arithmetic and logic on two operands.
 ghost use Rattle.std.specs.Prelude.{◌≡◌, ◌<◌};
-ghost use Rattle.execute_arith.specs.Meaning.{after_arithmetic, keeps_result, result_of, with_flags_of, with_logic};
+ghost use Rattle.execute_arith.specs.Meaning.{after_arithmetic, keeps_result, result_of, with_flags_of};
+ghost use Rattle.execute_machine.specs.Flags.{forgetting};
 ghost use Rattle.execute_machine.specs.Locations.{machine};
+ghost use Rattle.execute_machine.specs.Sums.{with_logic};
 ghost use Rattle.execute_machine.specs.Widths.{size_of};
 
 use crate::sums::{add, subtract};
-use board_types::regs::Flags;
 use bus::Bus;
-use execute_machine::flags::{FlagRegister, with_result};
+use execute_machine::flags::FlagRegister;
 use execute_machine::location::{locate, operand, put};
 use execute_machine::registers::Registers;
 use execute_machine::width::Width;
@@ -45,12 +46,12 @@ fn calculate(flags: &mut FlagRegister, operation: Arithmetic, width: Width, a: u
     ensures flags { flags.new ≡ with_flags_of operation flags.old width a b }
 {
     match operation {
-        Arithmetic::Add => add(flags, width, a, b, false),
+        Arithmetic::Add => flags.add(width, a, b),
         Arithmetic::Adc => {
             let carry = flags.carry();
             add(flags, width, a, b, carry)
         }
-        Arithmetic::Sub | Arithmetic::Cmp => subtract(flags, width, a, b, false),
+        Arithmetic::Sub | Arithmetic::Cmp => flags.subtract(width, a, b),
         Arithmetic::Sbb => {
             let borrow = flags.carry();
             subtract(flags, width, a, b, borrow)
@@ -62,17 +63,11 @@ fn calculate(flags: &mut FlagRegister, operation: Arithmetic, width: Width, a: u
 }
 
 /// The flags of a result of logic.
-#[tactic(auto, unfolding(crate::specs::Meaning::with_logic))]
 fn logical(flags: &mut FlagRegister, width: Width, value: u16) -> u16
     ensures value { result ≡ value }
-    ensures flags { flags.new ≡ with_logic flags.old width value }
+    ensures flags { flags.new ≡ with_logic (forgetting flags.old) width value }
 {
-    flags.set(Flags {
-        carry: false,
-        auxiliary_carry: false,
-        overflow: false,
-        ..with_result(flags.get(), width, value)
-    });
+    flags.set_logic(width, value);
     value
 }
 

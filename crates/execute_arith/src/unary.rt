@@ -4,7 +4,7 @@ ghost use Rattle.execute_arith.specs.Meaning.{after_unary, unary_result_of, with
 ghost use Rattle.execute_machine.specs.Locations.{machine};
 ghost use Rattle.execute_machine.specs.Widths.{size_of};
 
-use crate::sums::{add, subtract};
+use crate::sums::subtract;
 use bus::Bus;
 use execute_machine::flags::FlagRegister;
 use execute_machine::location::{locate, operand, put};
@@ -38,18 +38,9 @@ fn calculate(flags: &mut FlagRegister, operation: Unary, width: Width, a: u16) -
     ensures value { result ≡ unary_result_of operation width a }
     ensures flags { flags.new ≡ with_unary_flags_of operation flags.old width a }
 {
-    let carry = flags.carry();
     match operation {
-        Unary::Inc => {
-            let sum = add(flags, width, a, 1, false);
-            flags.set_carry(carry);
-            sum
-        }
-        Unary::Dec => {
-            let difference = subtract(flags, width, a, 1, false);
-            flags.set_carry(carry);
-            difference
-        }
+        Unary::Inc => flags.increment(width, a),
+        Unary::Dec => flags.decrement(width, a),
         Unary::Not => inverse(width, a),
         Unary::Neg => subtract(flags, width, 0, a, false),
     }

@@ -1,8 +1,8 @@
 -- Flags that are pushed and popped are the same.
-use Rattle.std.proofs.Common.{◌≡◌, ℕ, ◌+◌, ◌*◌, ◌/◌, ◌%◌, ◌^◌, ◌==◌, ◌≤◌, Bool, true, false, refl, ap, ◌∙◌, arith}
+use Rattle.std.proofs.Common.{◌≡◌, ℕ, ◌+◌, ◌*◌, ◌/◌, ◌%◌, ◌^◌, ◌==◌, ◌≤◌, Bool, true, false, None, refl, ap, ◌∙◌, arith}
 use Rattle.board_types.specs.Flags.{flag_bit}
 use Rattle.execute_machine.specs.FlagState.{FlagState}
-use Rattle.execute_machine.specs.Flags.{pushed_word, popped_flags}
+use Rattle.execute_machine.specs.Flags.{forgetting, pushed_word, popped_flags}
 
 -- a flag as a digit
 abbrev digit : Bool → ℕ
@@ -71,12 +71,13 @@ flags_of_nine c p a z s t i d o = record {
   interrupt_enable = i;
   direction = d;
   overflow = o;
+  kept = None;
 }
 
 nine_alike : (f : FlagState) (c p a z s t i d o : Bool) → c ≡ f.carry → p ≡ f.parity → a ≡ f.auxiliary_carry → z ≡ f.zero → s ≡ f.sign → t ≡ f.trap → i ≡ f.interrupt_enable → d ≡ f.direction → o ≡ f.overflow → flags_of_nine c p a z s t i d o ≡ flags_of_nine f.carry f.parity f.auxiliary_carry f.zero f.sign f.trap f.interrupt_enable f.direction f.overflow
 nine_alike f c p a z s t i d o hc hp ha hz hs ht hi hd ho = cc
 
-pub popped_again : (f : FlagState) → popped_flags (pushed_word f) ≡ f
+pub popped_again : (f : FlagState) → popped_flags (pushed_word f) ≡ forgetting f
 unfolding popped_flags flags_of_nine
 popped_again f =
     let read = digits_read (pushed_word f) _ _ _ _ _ _ _ _ _ (word_of_digits f) (digit_bound f.carry) (digit_bound f.parity) (digit_bound f.auxiliary_carry) (digit_bound f.zero) (digit_bound f.sign) (digit_bound f.trap) (digit_bound f.interrupt_enable) (digit_bound f.direction) (digit_bound f.overflow) in

@@ -11,6 +11,7 @@ use Rattle.isa.specs.declared.form.Instr.{Instr}
 use Rattle.bus.specs.Bus.{BusMeaning}
 use Rattle.execute_machine.specs.declared.registers.Registers.{Registers}
 use Rattle.execute_machine.specs.FlagState.{FlagState}
+use Rattle.execute_machine.specs.Flags.{forgetting}
 use Rattle.execute_machine.specs.Locations.{Machine, machine}
 use Rattle.execute_machine.specs.Stack.{after_entry}
 use Rattle.execute_control.specs.Meaning.{holds, is_loop_taken, after_looping, after_control, control_operand}
@@ -99,8 +100,8 @@ FarCallReturns {S} bus =
       sp = offset_after m.registers.sp (control_operand bus n return);
     }) n.bus
 
--- an interrupt of any type, and the IRET of its handler: flags, CS, IP and SP are again what they were; all else is as
--- the handler left it
+-- an interrupt of any type, and the IRET of its handler: flags, CS, IP and SP are again what they were, and nothing is
+-- kept of operands; all else is as the handler left it
 abbrev pub InterruptReturns : {S : Type 0} → BusMeaning S → Type 0
 InterruptReturns {S} bus =
     (m n : Machine S) (kind : ℕ) (return : Instr) → m.registers.sp < 65536 → TakesPushes bus m 6
@@ -109,6 +110,6 @@ InterruptReturns {S} bus =
     ≡ machine (record n.registers {
       ip = m.registers.ip;
       cs = m.registers.cs;
-      flags = m.registers.flags;
+      flags = forgetting m.registers.flags;
       sp = m.registers.sp;
     }) n.bus

@@ -1,6 +1,9 @@
 pub mod FlagState
 pub mod Widths
 pub mod Flags
+pub mod Sums
+pub mod LastOperation
+pub mod Operands
 pub mod Registers
 pub mod Locations
 pub mod Stack

@@ -3,7 +3,9 @@
 #![tactic(auto)]
 
 pub mod flags;
+pub mod last_operation;
 pub mod location;
+pub mod overflow;
 pub mod registers;
 pub mod stack;
 pub mod width;

@@ -1,5 +1,5 @@
 //! The two widths of an operand.
-ghost use Rattle.std.specs.Prelude.{◌≡◌};
+ghost use Rattle.std.specs.Prelude.{◌≡◌, ◌<◌, ◌%◌};
 ghost use Rattle.execute_machine.specs.Widths.{half_size, is_negative, size_of};
 
 /// A byte or a word.
@@ -35,5 +35,16 @@ impl Width {
         ensures { result ≡ is_negative self value }
     {
         value >= self.half_size()
+    }
+
+    /// The number, cut to this width.
+    pub fn cut(self, number: u32) -> u16
+        ensures value { result ≡ number % size_of self }
+        ensures bound { result < size_of self }
+    {
+        match self {
+            Width::Byte => (number % 256) as u16,
+            Width::Word => (number % 65536) as u16,
+        }
     }
 }

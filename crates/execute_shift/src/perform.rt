@@ -1,13 +1,11 @@
 //! What shifts and rotates do.
 ghost use Rattle.std.specs.Prelude.{◌≡◌};
-ghost use Rattle.execute_machine.specs.Flags.{flag_state};
 ghost use Rattle.execute_machine.specs.Locations.{machine};
-ghost use Rattle.execute_shift.specs.Meaning.{after_shift, tells_result, with_shifted};
+ghost use Rattle.execute_shift.specs.Meaning.{after_shift, tells_result, with_shifted, with_told};
 
 use crate::single::{Shifted, shift_by};
-use board_types::regs::Flags;
 use bus::Bus;
-use execute_machine::flags::with_result;
+use execute_machine::flags::{FlagRegister, StatusFlags};
 use execute_machine::location::{get, locate, operand, put};
 use execute_machine::registers::Registers;
 use execute_machine::width::Width;
@@ -20,20 +18,32 @@ fn tells_result(operation: Shift) -> bool
     matches!(operation, Shift::Shl | Shift::Shr | Shift::Sar)
 }
 
-/// The flags after so many single shifts that left this.
-#[tactic(auto, unfolding(crate::specs::Meaning::with_shifted))]
-fn with_shifted(flags: Flags, operation: Shift, width: Width, count: u16, after: Shifted) -> Flags
-    ensures { flag_state result ≡ with_shifted (flag_state flags) operation width count after }
+/// The flags after single shifts that left this.
+fn tell(flags: &mut FlagRegister, operation: Shift, width: Width, after: Shifted)
+    ensures { flags.new ≡ with_told flags.old operation width after }
 {
-    let flags = Flags {
+    let others = if tells_result(operation) {
+        StatusFlags {
+            auxiliary_carry: flags.auxiliary_carry(),
+            ..StatusFlags::of_result(width, after.value)
+        }
+    } else {
+        flags.status()
+    };
+    flags.set_status(StatusFlags {
         carry: after.carry,
         overflow: after.overflow,
-        ..flags
-    };
-    if count > 0 && tells_result(operation) {
-        with_result(flags, width, after.value)
-    } else {
-        flags
+        ..others
+    });
+}
+
+/// The flags after so many single shifts that left this; none are set where there are none.
+#[tactic(auto, unfolding(crate::specs::Meaning::with_shifted))]
+fn set_shifted(flags: &mut FlagRegister, operation: Shift, width: Width, count: u16, after: Shifted)
+    ensures { flags.new ≡ with_shifted flags.old operation width count after }
+{
+    if count > 0 {
+        tell(flags, operation, width, after);
     }
 }
 
@@ -53,15 +63,12 @@ pub fn perform_shift<B: Bus>(
     let counter = locate(registers, instr, instr.form.row.second());
     let count = get(bus, registers, counter);
     let width = place.width();
-    let flags = registers.flags.get();
     let before = Shifted {
         value: operand(bus, registers, place, width),
-        carry: flags.carry,
-        overflow: flags.overflow,
+        carry: registers.flags.carry(),
+        overflow: registers.flags.overflow(),
     };
     let after = shift_by(operation, width, before, count);
-    registers
-        .flags
-        .set(with_shifted(flags, operation, width, count, after));
+    set_shifted(&mut registers.flags, operation, width, count, after);
     put(bus, registers, place, after.value);
 }

@@ -1,4 +1,5 @@
 pub mod Mda
 pub mod Screen
 pub mod Marks
+pub mod Difference
 pub mod Laws

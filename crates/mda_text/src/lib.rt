@@ -3,5 +3,6 @@
 #![tactic(auto)]
 
 pub mod changes;
+pub mod difference;
 pub mod laws;
 pub mod mda;

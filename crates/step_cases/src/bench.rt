@@ -1,6 +1,6 @@
 //! A processor over memory that lines set up and bring forward.
 
-use crate::judge::{Wanted, judge};
+use crate::judge::{Wanted, judge, judge_kept, judge_registers};
 use crate::ram::Ram;
 use crate::words::{read_bytes, read_cell, read_regs, words_in};
 use anyhow::{Context, Result, bail};
@@ -47,6 +47,7 @@ impl Bench {
         match name {
             "begin" => {
                 self.begin(read_regs(rest)?);
+                judge_kept(self, "none")?;
                 return Ok(Judged::Setting);
             }
             "memory" => {
@@ -56,10 +57,10 @@ impl Bench {
             _ => {}
         }
         let fields: Vec<&str> = rest.split('|').collect(alloc)?;
-        if name == "at" {
-            self.pass_boundary(alloc, &fields)?;
-        } else {
-            self.make_step(alloc, name, &fields)?;
+        match name {
+            "at" => self.pass_boundary(alloc, &fields)?,
+            "kept" => self.keep(alloc, &fields)?,
+            _ => self.make_step(alloc, name, &fields)?,
         }
         Ok(Judged::Case)
     }
@@ -117,13 +118,7 @@ impl Bench {
         };
         let regs = read_regs(regs)?;
         let code = read_bytes(alloc, code)?;
-        let boundary = match name {
-            "step" => Boundary::Instruction,
-            "again" => Boundary::Iteration,
-            "request" => Boundary::Request,
-            "single" => Boundary::SingleStep,
-            _ => bail!("no such line"),
-        };
+        let boundary = boundary_named(name)?;
         if boundary != Boundary::Iteration {
             self.begin(regs);
         }
@@ -144,6 +139,29 @@ impl Bench {
         };
         let done = self.make(boundary, kind);
         judge(alloc, self, &done, &wanted)
+    }
+
+    /// `kept OP CODE | KEPT | ..`
+    fn keep(&mut self, alloc: Global, fields: &[&str]) -> Result<()> {
+        let [done, kept, after, ..] = *fields else {
+            bail!("no such line");
+        };
+        let (name, code) = done.trim().split_once(' ').context("no code")?;
+        let boundary = boundary_named(name)?;
+        let code = read_bytes(alloc, code)?;
+        if boundary == Boundary::Instruction {
+            let (cs, ip) = self.next_place();
+            self.put_code(cs, ip, &code)?;
+        }
+        let kind = code.first().copied().unwrap_or(SINGLE_STEP);
+        let _done = self.make(boundary, kind);
+        judge_registers(self, after)?;
+        judge_kept(self, kept)
+    }
+
+    /// CS and IP.
+    fn next_place(&self) -> (u16, u16) {
+        (self.cpu.cs(), self.cpu.ip())
     }
 
     /// Puts an instruction's bytes at CS:IP.
@@ -173,6 +191,17 @@ impl Bench {
         };
         Done { clocks, told }
     }
+}
+
+/// The boundary at which a line's OP is done.
+fn boundary_named(name: &str) -> Result<Boundary> {
+    Ok(match name {
+        "step" => Boundary::Instruction,
+        "again" => Boundary::Iteration,
+        "request" => Boundary::Request,
+        "single" => Boundary::SingleStep,
+        _ => bail!("no such line"),
+    })
 }
 
 /// What a boundary is, as lines name it.

@@ -20,7 +20,7 @@ pub struct Wanted<'a> {
 
 /// Fails with what differs, or with why a field can't be read.
 pub fn judge(alloc: Global, bench: &Bench, done: &Done, wanted: &Wanted) -> Result<()> {
-    judge_registers(&bench.cpu, wanted.after)?;
+    judge_registers(bench, wanted.after)?;
     judge_written(alloc, &bench.ram, wanted.written)?;
     judge_accesses(alloc, bench.ram.accesses(), wanted.ports)?;
     judge_told(bench.ram.accesses(), done.told.as_slice())?;
@@ -30,12 +30,32 @@ pub fn judge(alloc: Global, bench: &Bench, done: &Done, wanted: &Wanted) -> Resu
     judge_due(alloc, &bench.cpu, wanted.due)
 }
 
-fn judge_registers(cpu: &Cpu, text: &str) -> Result<()> {
+/// The registers and the flags word are these.
+pub fn judge_registers(bench: &Bench, text: &str) -> Result<()> {
     let wanted = read_words(text)?;
-    let found = words_of(cpu.regs());
+    let found = words_of(bench.cpu.regs());
     for (i, name) in NAMES.iter().enumerate() {
         if found[i] != wanted[i] {
             bail!("{name} {:04X}", found[i]);
+        }
+    }
+    Ok(())
+}
+
+/// The processor keeps these operands and this result, or `none`.
+pub fn judge_kept(bench: &Bench, text: &str) -> Result<()> {
+    let text = text.trim();
+    let Some((first, second, value)) = bench.cpu.kept() else {
+        if text != "none" {
+            bail!("nothing is kept");
+        }
+        return Ok(());
+    };
+    let mut words = text.split_whitespace();
+    for found in [first, second, value] {
+        let word = words.next().context("fewer than three numbers")?;
+        if u16::from_str_radix(word, 16)? != found {
+            bail!("keeps {first:04X} {second:04X} {value:04X}");
         }
     }
     Ok(())

@@ -22,7 +22,12 @@
 //!
 //! `at R TYPE | TAKEN | REGS AFTER | WRITTEN | PORTS | COST | DUE`
 //!
-//! where R is 1 if an interrupt of that TYPE is requested, and TAKEN what the boundary is.
+//! where R is 1 if an interrupt of that TYPE is requested, and TAKEN what the boundary is; or
+//!
+//! `kept OP CODE | KEPT | REGS AFTER`
+//!
+//! where OP is as above, of the processor that stands there, and KEPT are the operands and the result that it keeps
+//! then, or `none`. A new processor keeps none.
 #![tactic(auto)]
 
 mod bench;
