@@ -14,7 +14,8 @@ use Rattle.pit8253.specs.Counter.{CounterState, out_of}
 use Rattle.pit8253.specs.Pit as pit
 use Rattle.pit8253.specs.Pit.{PitState}
 use Rattle.wiring.specs.Chips.{ChipsState}
-use Rattle.wiring.specs.Leap.{ticks_between, IsStill, leapt}
+use Rattle.wiring.specs.Edges.{ticks_between}
+use Rattle.wiring.specs.Leap.{IsStill, leapt}
 use Rattle.wiring.specs.Wires.{port_b_line, after_latch_wire, after_gate_wire, after_request_wires, pit_after_clock, after_settling, after_clock, after_clocks}
 use Rattle.wiring.proofs.Behind.{gate_stays}
 use Rattle.wiring.proofs.Ticks.{more_ticks, quarter}

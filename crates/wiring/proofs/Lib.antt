@@ -16,3 +16,4 @@ pub mod Entries
 pub mod Speaker
 pub mod Behind
 pub mod Leap
+pub mod Edges

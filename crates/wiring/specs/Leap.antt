@@ -1,17 +1,14 @@
 -- Clocks in which nothing happens but that the beam moves and the counters tick.
 -- For proofs alone: no public contract rests on it.
-use Rattle.std.specs.Prelude.{◌≡◌, ℕ, ◌+◌, ◌-◌, ◌/◌, Bool, true}
+use Rattle.std.specs.Prelude.{◌≡◌, ℕ, ◌+◌, Bool, true}
 use Rattle.board_types.specs.Timed.{IsSteady}
 use Rattle.mda_text.specs.Mda as mda
 use Rattle.pit8253.specs.Counter as counter
 use Rattle.pit8253.specs.Counter.{out_of}
 use Rattle.pit8253.specs.Pit as pit
 use Rattle.wiring.specs.Chips.{ChipsState}
+use Rattle.wiring.specs.Edges.{ticks_between}
 use Rattle.wiring.specs.Wires.{after_settling}
-
--- how often the counters tick from one clock to a later one
-abbrev pub ticks_between : ℕ → ℕ → ℕ
-ticks_between first last = last / 4 - first / 4
 
 -- OUT0 stays for n clocks
 abbrev pub IsStill : ChipsState → ℕ → Type 0

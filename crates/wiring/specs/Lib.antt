@@ -6,4 +6,5 @@ pub mod Speaker
 pub mod BusLaws
 pub mod Laws
 pub mod Timer
+pub mod Edges
 pub mod Leap
