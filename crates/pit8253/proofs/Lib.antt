@@ -8,3 +8,4 @@ pub mod Waits
 pub mod Waves
 pub mod Ahead
 pub mod Until
+pub mod Shorter
