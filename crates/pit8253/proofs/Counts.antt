@@ -46,7 +46,7 @@ pub length_none : (radix : Radix) (count : ℕ) → count ≡ 0 → length_of ra
 length_none radix count none = if_yes (count == 0) (modulus radix) count (same count 0 none)
 
 -- a count that is so much less, by whether it goes round
-high_part : (m count r : ℕ) → count < m → r ≤ count → (count + m - r) % m ≡ count - r
+pub high_part : (m count r : ℕ) → count < m → r ≤ count → (count + m - r) % m ≡ count - r
 high_part m count r within le =
     let parts : count + m - r ≡ (count - r) + m = omega arith in
     let small : count - r < m = omega arith in

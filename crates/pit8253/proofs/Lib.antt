@@ -9,3 +9,4 @@ pub mod Waves
 pub mod Ahead
 pub mod Until
 pub mod GateKept
+pub mod Shorter

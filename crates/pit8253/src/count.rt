@@ -1,9 +1,11 @@
 //! Counts: how they are written, how long they are and how they fall (Intel 8253 data sheet, "Programming the 8253").
-ghost use Rattle.std.specs.Prelude.{◌≡◌, ◌+◌, ◌*◌, ◌/◌, ◌%◌, ◌<◌, ◌≤◌};
+ghost use Rattle.std.specs.Prelude.{◌≡◌, ◌+◌, ◌*◌, ◌/◌, ◌%◌, ◌-◌, ◌<◌, ◌≤◌, if◌then◌else◌};
+ghost use Rattle.board_types.specs.Lines.{is_high};
 ghost use Rattle.pit8253.specs.Program.{modulus, count_of, digits_of};
 ghost use Rattle.pit8253.specs.Laws.{length_of, count_after};
 
 use crate::program::Radix;
+use board_types::line::Line;
 
 // how many ticks bring a count to 0: 0 itself is the largest count
 pub(crate) fn length_of(radix: Radix, count: u16) -> u64
@@ -29,6 +31,25 @@ pub(crate) fn count_after(radix: Radix, count: u16, ticks: u64) -> u16
     match radix {
         Radix::Binary => ((count + 65_536 - (ticks % 65_536) as u32) % 65_536) as u16,
         Radix::Decimal => ((count + 10_000 - (ticks % 10_000) as u32) % 10_000) as u16,
+    }
+}
+
+// what is left of a count after so many ticks, at least 0
+pub(crate) fn left_after(count: u16, ticks: u64) -> u16
+    ensures left { result ≡ count - ticks }
+    ensures bound { result ≤ count }
+{
+    u64::from(count).saturating_sub(ticks) as u16
+}
+
+// half a count: of an odd one the high half has one more
+pub(crate) fn half_of(count: u16, out: Line) -> u16
+    ensures half { result ≡ (if is_high out then (count + 1) / 2 else count / 2) }
+    ensures bound { result ≤ 32768 }
+{
+    match out {
+        Line::High => count / 2 + count % 2,
+        Line::Low => count / 2,
     }
 }
 

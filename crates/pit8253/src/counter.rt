@@ -6,7 +6,9 @@ ghost use Rattle.pit8253.specs.Laws.{size, ticks_left, after_fall, after_strobe_
 ghost use Rattle.pit8253.specs.Ahead.{is_counting, after_rests, after_rate, half_ticks, after_turn, after_halves, after_square, after_run, after_due_load, until_end, until_pulse, until_half, until_strobe, until_rest, until_turn, differ, a_tick_later};
 ghost use Rattle.pit8253.specs.Counter.{power_on, is_awaited, out_at_load, after_load, out_at_control, reading, after_latch, after_program, after_control_word, loads_when_written, after_full_count, after_first_byte, after_write, next_byte, after_read, rises, is_triggered, out_at_gate, after_gate};
 
-use crate::count::{count_after, count_of, digits_of, high_byte, length_of, low_byte, word_of};
+use crate::count::{
+    count_after, count_of, digits_of, half_of, high_byte, left_after, length_of, low_byte, word_of,
+};
 use crate::program::{Access, Mode, Progress, Radix};
 use board_types::line::Line;
 use board_types::timed::Timed;
@@ -290,14 +292,18 @@ impl Counter {
     fn run(&mut self, ticks: u64)
         ensures { self.new ≡ after_run self.old ticks }
     {
-        if !self.is_counting() {
+        if self.progress != Progress::Loaded {
             return self.rest(ticks);
         }
+        let enabled = self.gate == Line::High;
         match self.mode {
-            Mode::TerminalCount | Mode::OneShot => self.fall(ticks),
-            Mode::RateGenerator => self.divide(ticks),
-            Mode::SquareWave => self.square(ticks),
-            Mode::SoftwareStrobe | Mode::HardwareStrobe => self.strobe(ticks),
+            Mode::TerminalCount if enabled && self.first_byte.is_none() => self.fall(ticks),
+            Mode::OneShot => self.fall(ticks),
+            Mode::RateGenerator if enabled => self.divide(ticks),
+            Mode::SquareWave if enabled => self.square(ticks),
+            Mode::SoftwareStrobe if enabled => self.strobe(ticks),
+            Mode::HardwareStrobe => self.strobe(ticks),
+            _ => self.rest(ticks),
         }
     }
 
@@ -310,19 +316,31 @@ impl Counter {
         }
     }
 
+    // Where the count stays above 0 neither its length nor a remainder is needed: so most calls are short.
+    #[tactic(auto, using(crate::proofs::Shorter::falls_short))]
     fn fall(&mut self, ticks: u64)
         ensures { self.new ≡ after_fall self.old ticks }
     {
+        let left = left_after(self.count, ticks);
+        if left > 0 {
+            self.count = left;
+            return;
+        }
         if ticks >= self.ticks_left() {
             self.out = Line::High;
         }
         self.count = count_after(self.count_radix, self.count, ticks);
     }
 
-    #[tactic(auto, unfolding(crate::specs::Ahead::after_rate))]
+    #[tactic(auto, unfolding(crate::specs::Ahead::after_rate), using(crate::proofs::Shorter::divides_short))]
     fn divide(&mut self, ticks: u64)
         ensures { self.new ≡ after_rate self.old ticks }
     {
+        let short = left_after(self.count, ticks);
+        if short > 1 {
+            self.count = short;
+            return;
+        }
         let left = self.ticks_left();
         if ticks < left {
             return self.fall_in_period(ticks);
@@ -341,10 +359,15 @@ impl Counter {
         self.count = count_after(self.count_radix, self.count, ticks);
     }
 
-    #[tactic(auto, unfolding(crate::specs::Ahead::after_square))]
+    #[tactic(auto, unfolding(crate::specs::Ahead::after_square), using(crate::proofs::Shorter::squares_short))]
     fn square(&mut self, ticks: u64)
         ensures { self.new ≡ after_square self.old ticks }
     {
+        let short = left_after(half_of(self.count, self.out), ticks);
+        if short > 0 && ticks > 0 {
+            self.count = 2 * short;
+            return;
+        }
         let half = self.half_ticks();
         if ticks < half {
             return self.fall_in_half(ticks);
@@ -407,9 +430,16 @@ impl Counter {
         self.load(out);
     }
 
+    #[tactic(auto, using(crate::proofs::Shorter::strobes_short))]
     fn strobe(&mut self, ticks: u64)
         ensures { self.new ≡ after_strobe_fall self.old ticks }
     {
+        let short = left_after(self.count, ticks);
+        if short > 0 && ticks > 0 {
+            self.count = short;
+            self.out = Line::High;
+            return;
+        }
         let left = self.ticks_left();
         if ticks > 0 {
             self.out = if ticks == left && self.strobe_due {
