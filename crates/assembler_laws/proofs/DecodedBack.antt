@@ -4,8 +4,8 @@ use Rattle.std.specs.Option.{option_map_or}
 use Rattle.isa.specs.declared.form.Form.{Form}
 use Rattle.isa.specs.declared.form.Instr.{Instr}
 use Rattle.isa.specs.Encoding.{form_length, spelling, IsInstr}
-use Rattle.decode.specs.declared.decoded.Decoded.{Decoded}
-use Rattle.decode.specs.declared.decoded.Decoded.TheVariants.{Found, NoRow}
+use Rattle.decode.specs.declared.decoding.Decoding.{Decoding as Decoded}
+use Rattle.decode.specs.declared.decoding.Decoding.TheVariants.{Found, NoRow}
 use Rattle.decode.specs.Decoding.{code_at, decoded_from, IsDecoded, StandsIn}
 use Rattle.decode.proofs.Exact.{exact, none_is_longer}
 use Rattle.assembler_syntax.specs.declared.statement.Instruction.{Instruction as Written}

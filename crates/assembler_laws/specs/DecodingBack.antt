@@ -5,7 +5,7 @@ use Rattle.board_types.specs.Image.{image_byte}
 use Rattle.isa.specs.declared.form.Form.{Form}
 use Rattle.isa.specs.declared.form.Values.{Values}
 use Rattle.isa.specs.declared.form.Instr.{Instr}
-use Rattle.decode.specs.declared.decoded.Decoded.TheVariants.{Found}
+use Rattle.decode.specs.declared.decoding.Decoding.TheVariants.{Found}
 use Rattle.decode.specs.Decoding.{code_at, decoded_from}
 use Rattle.assembler_syntax.specs.declared.statement.Instruction.{Instruction as Written}
 use Rattle.assembler_syntax.specs.declared.statement.Statement.TheVariants.{Instruction}

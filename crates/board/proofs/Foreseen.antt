@@ -3,7 +3,7 @@ use Rattle.std.proofs.Common.{◌≡◌, ℕ, ◌+◌, ◌-◌, Bool, true, fals
 use Rattle.board_types.specs.Lines.{from_bool}
 use Rattle.board_types.specs.declared.keys.StampedKey.{StampedKey}
 use Rattle.bus.specs.PortWrites.{after_port_writes}
-use Rattle.decode.specs.declared.decoded.Decoded.{Decoded}
+use Rattle.decode.specs.declared.decoding.Decoding.{Decoding as Decoded}
 use Rattle.execute.specs.Cpu.{CpuState}
 use Rattle.execute.specs.Meaning.{after_step}
 use Rattle.execute.specs.Boundaries.{after_enter}

@@ -8,7 +8,7 @@ use Rattle.board_types.specs.declared.keys.StampedKey.{StampedKey}
 use Rattle.board_types.specs.declared.line.Line.{Line}
 use Rattle.board_types.specs.declared.regs.Regs.{Regs}
 use Rattle.board_types.specs.declared.state.State.{State}
-use Rattle.decode.specs.declared.decoded.Decoded.{Decoded}
+use Rattle.decode.specs.declared.decoding.Decoding.{Decoding as Decoded}
 use Rattle.decode.specs.Decoding.{code_at, decoded_from}
 use Rattle.execute.specs.Cpu.{CpuState, initial_cpu, regs_of}
 use Rattle.execute.specs.Meaning.{StepResult, step_result, after_step, after_again}

@@ -4,8 +4,8 @@ use Rattle.std.specs.Prelude.{ℕ, ◌-◌, List, [], ◌∷◌, length, map, dr
 use Rattle.std.specs.List.{range_with_len}
 use Rattle.board_types.specs.Address.{physical, offset_after}
 use Rattle.board_types.specs.Iterate.{gathered}
-use Rattle.decode.specs.declared.decoded.Decoded.{Decoded}
-use Rattle.decode.specs.declared.decoded.Decoded.TheVariants.{Found, NoRow}
+use Rattle.decode.specs.declared.decoding.Decoding.{Decoding as Decoded}
+use Rattle.decode.specs.declared.decoding.Decoding.TheVariants.{Found, NoRow}
 use Rattle.execute.specs.Cpu.{CpuState}
 use Rattle.wiring.specs.Chips.{ChipsState}
 use Rattle.wiring.specs.Ports.{byte_at}

@@ -1,2 +1,4 @@
 pub mod Decoding
 pub mod Laws
+pub mod Fields
+pub mod FieldsAgain

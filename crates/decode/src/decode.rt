@@ -102,9 +102,9 @@ fn decode_behind(prefixes: ArrayVec<Prefix, 7>, code: &[u8]) -> Decoded
                 values,
             };
             let length = instr.length();
-            Decoded::Found(instr, length)
+            Decoded::found(&instr, length)
         }
-        None => Decoded::NoRow,
+        None => Decoded::no_row(),
     }
 }
 

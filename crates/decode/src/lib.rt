@@ -4,5 +4,6 @@
 
 pub mod decode;
 pub mod decoded;
+pub mod decoding;
 pub mod laws;
 pub mod parts;

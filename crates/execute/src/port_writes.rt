@@ -5,6 +5,7 @@ ghost use Rattle.execute.specs.PortWrites.{port_writes_of};
 use crate::cpu::Cpu;
 use arrayvec::ArrayVec;
 use decode::decoded::Decoded;
+use decode::decoding::Decoding;
 use execute_transfer::ports::outputs;
 use isa::operation::{Operation, Transfer};
 
@@ -13,11 +14,11 @@ use isa::operation::{Operation, Transfer};
 pub fn port_writes(cpu: &Cpu, decoded: &Decoded) -> ArrayVec<(u16, u8), 2>
     ensures { result.items ≡ port_writes_of cpu.now decoded.now }
 {
-    match decoded {
-        Decoded::Found(instr, _) => match instr.form.row.operation() {
-            Operation::Transfer(Transfer::Out) => outputs(&cpu.registers, instr),
+    match decoded.unpack() {
+        Decoding::Found(instr, _) => match instr.form.row.operation() {
+            Operation::Transfer(Transfer::Out) => outputs(&cpu.registers, &instr),
             _ => ArrayVec::new(),
         },
-        Decoded::NoRow => ArrayVec::new(),
+        Decoding::NoRow => ArrayVec::new(),
     }
 }

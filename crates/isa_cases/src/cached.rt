@@ -7,6 +7,7 @@ use anyhow::{Context, Result, bail};
 use board_types::address::ADDRESS_COUNT;
 use cases::Judged;
 use decode::decoded::Decoded;
+use decode::decoding::Decoding;
 use decode_cache::cache::Cache;
 use disassembler::text::InstrText;
 use std::alloc::{AllocError, Global};
@@ -109,10 +110,10 @@ impl CachedMemory {
         let cs = u16::from_str_radix(cs, 16)?;
         let ip = u16::from_str_radix(ip, 16)?;
         for _ in 0..2 {
-            match self.fetch(cs, ip) {
-                Decoded::NoRow if length == "none" => {}
-                Decoded::NoRow => bail!("no row"),
-                Decoded::Found(instr, found) => {
+            match self.fetch(cs, ip).unpack() {
+                Decoding::NoRow if length == "none" => {}
+                Decoding::NoRow => bail!("no row"),
+                Decoding::Found(instr, found) => {
                     let shown = InstrText { instr: &instr, ip };
                     let shown = shown.to_string(alloc)?;
                     if found != length.parse()? || shown.as_str() != text {

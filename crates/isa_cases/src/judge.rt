@@ -3,7 +3,7 @@
 use crate::code::{Code, SEGMENT};
 use anyhow::{Context, Result, bail};
 use decode::decode::decode;
-use decode::decoded::Decoded;
+use decode::decoding::Decoding;
 use disassembler::text::InstrText;
 use isa::clocks::cost;
 use isa::encoding::encode;
@@ -27,16 +27,16 @@ pub fn judge(alloc: Global, case: &str) -> Result<()> {
 }
 
 fn judge_none(code: &Code) -> Result<()> {
-    match decode(code, SEGMENT, code.ip) {
-        Decoded::NoRow => Ok(()),
-        Decoded::Found(_, length) => bail!("found {length} bytes"),
+    match decode(code, SEGMENT, code.ip).unpack() {
+        Decoding::NoRow => Ok(()),
+        Decoding::Found(_, length) => bail!("found {length} bytes"),
     }
 }
 
 fn judge_found(code: &Code, length: &str) -> Result<()> {
-    match decode(code, SEGMENT, code.ip) {
-        Decoded::NoRow => bail!("no row"),
-        Decoded::Found(instr, found) => {
+    match decode(code, SEGMENT, code.ip).unpack() {
+        Decoding::NoRow => bail!("no row"),
+        Decoding::Found(instr, found) => {
             if found != length.parse()? {
                 bail!("found {found} bytes");
             }
@@ -61,9 +61,9 @@ fn judge_found(code: &Code, length: &str) -> Result<()> {
 }
 
 fn judge_text(alloc: Global, code: &Code, text: &str) -> Result<()> {
-    match decode(code, SEGMENT, code.ip) {
-        Decoded::NoRow => bail!("no row"),
-        Decoded::Found(instr, _) => {
+    match decode(code, SEGMENT, code.ip).unpack() {
+        Decoding::NoRow => bail!("no row"),
+        Decoding::Found(instr, _) => {
             let shown = InstrText {
                 instr: &instr,
                 ip: code.ip,
@@ -86,9 +86,9 @@ fn judge_cost(bytes: &str, cl: &str, found: &str, clocks: &str) -> Result<()> {
         cx_zero: found.contains('z'),
         fault: found.contains('d'),
     };
-    match decode(&code, SEGMENT, code.ip) {
-        Decoded::NoRow => bail!("no row"),
-        Decoded::Found(instr, _) => {
+    match decode(&code, SEGMENT, code.ip).unpack() {
+        Decoding::NoRow => bail!("no row"),
+        Decoding::Found(instr, _) => {
             let taken = cost(&instr, &outcome).0;
             if taken != clocks.parse()? {
                 bail!("costs {taken}");

@@ -5,7 +5,7 @@ use board_types::address::physical;
 use board_types::bytes::Bytes;
 use board_types::image::Image;
 use decode::decode::decode;
-use decode::decoded::Decoded;
+use decode::decoding::Decoding;
 use isa::form::Instr;
 
 /// The segment in which an instruction stands.
@@ -45,9 +45,9 @@ impl Code {
 
     /// The instruction that stands there, if one does.
     pub fn instruction(&self) -> Option<Instr> {
-        match decode(self, SEGMENT, OFFSET) {
-            Decoded::Found(instr, _) => Some(instr),
-            Decoded::NoRow => None,
+        match decode(self, SEGMENT, OFFSET).unpack() {
+            Decoding::Found(instr, _) => Some(instr),
+            Decoding::NoRow => None,
         }
     }
 }
