@@ -15,6 +15,10 @@ pub same_characters : (m : MdaState) (kept : List ℕ) (n : ℕ) → nth_charact
 unfolding nth_character cell character_at text_byte
 same_characters m kept n = refl
 
+pub kept_shown : (m s : MdaState) → s ≡ with_kept m (characters m) → s.kept ≡ characters s
+unfolding characters nth_character cell character_at text_byte
+kept_shown m s is = ap (λ t. t.kept) is ∙ ap characters (sym is)
+
 -- n characters of m are kept, and nothing else has changed
 pub record IsKeptTo (m s : MdaState) (n : ℕ) : Type 0 where
   pub others : s ≡ with_kept m s.kept

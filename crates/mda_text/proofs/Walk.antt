@@ -31,6 +31,17 @@ ends m mark n past =
     let none : cell_count - n ≡ 0 = omega (arith, cell_count_is) in
     ap (λ k. map place (filter (is_changed m mark) (range_with_len n k))) none
 
+-- cells that haven't changed are passed over
+pub skips_all : (m : MdaState) (mark n count : ℕ) → n + count ≤ 2000 → ((k : ℕ) → n ≤ k → k < n + count → is_changed m mark k ≡ false) → changed_among m mark n (cell_count - n) ≡ changed_among m mark (n + count) (cell_count - (n + count))
+skips_all m mark n zero within same = ap (λ k. changed_among m mark k (cell_count - k)) (omega arith)
+skips_all m mark n (suc count) within same =
+    skips m mark n (omega arith) (same n (omega arith) (omega arith))
+    ∙ skips_all m mark (n + 1) count (omega arith) (λ k from below. same k (omega arith) (omega arith))
+    ∙ ap (λ k. changed_among m mark k (cell_count - k)) (omega arith)
+
+-- each step of the walk
+pub ruleset walk_steps = (skips, skips_all, names, ends)
+
 chosen : (b : Bool) (x : ℕ × ℕ) (xs : List (ℕ × ℕ)) → length (cond b (x ∷ xs) xs) ≤ length xs + 1
 chosen true x xs = omega arith
 chosen false x xs = omega arith

@@ -1,5 +1,6 @@
 pub mod Mda
 pub mod Screen
 pub mod Marks
+pub mod Snapshot
 pub mod Difference
 pub mod Laws

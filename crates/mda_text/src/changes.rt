@@ -42,10 +42,15 @@ impl<'a> Iterator for ChangedCells<'a> {
 
     ghost remaining = { item_count (λ cells. cells) };
 
-    #[tactic(auto, using(crate::proofs::Walk::skips, crate::proofs::Walk::names, crate::proofs::Walk::ends))]
+    #[tactic(auto, using(crate::proofs::Walk::walk_steps))]
     fn next(&mut self) -> Option<(u8, u8)> {
         while self.next < CELL_COUNT {
             let n = self.next;
+            let unchanged = self.mda.unchanged_from(self.mark, n);
+            if unchanged > 0 {
+                self.next += unchanged;
+                continue;
+            }
             self.next += 1;
             if self.mda.is_changed(self.mark, n) {
                 let columns = u16::from(COLUMNS);

@@ -6,3 +6,4 @@ pub mod changes;
 pub mod difference;
 pub mod laws;
 pub mod mda;
+mod snapshot;

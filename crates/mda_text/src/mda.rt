@@ -9,6 +9,7 @@ ghost use Rattle.mda_text.specs.Screen.{cell, character_at, character_of, glyph,
 ghost use Rattle.mda_text.specs.Marks.{after_mark, number_after, is_changed, changed_cells};
 
 use crate::changes::ChangedCells;
+use crate::snapshot::{BLOCK_BYTES, Snapshot};
 use board_types::address::TEXT_SIZE;
 use board_types::timed::Timed;
 use std::alloc::{AllocError, Global};
@@ -36,7 +37,7 @@ pub const COLUMNS: u8 = 80;
 pub const CELL_COUNT: u16 = 2000;
 
 /// How many words text memory has: a code and an attribute each.
-const WORD_COUNT: u32 = 2048;
+pub(crate) const WORD_COUNT: u32 = 2048;
 
 /// After so many processor clocks the beam is where it was.
 const RASTER_CLOCKS: u16 = 259;
@@ -44,23 +45,25 @@ const RASTER_CLOCKS: u16 = 259;
 /// In the clocks of the raster from this one on the beam goes back.
 const RETRACE_START: u16 = 219;
 
-/// The adapter, with the characters that its last mark kept.
+/// The adapter, with the characters that its last mark kept, and what that mark found them in.
 #[derive(Drop)]
 pub struct Mda {
-    bytes: Vec<u8>,
+    pub(crate) bytes: Vec<u8>,
     index: u8,
-    start: u16,
+    pub(crate) start: u16,
     cursor: u16,
-    video: bool,
+    pub(crate) video: bool,
     raster: u16,
     kept: Vec<u8>,
-    last_mark: u64,
+    pub(crate) last_mark: u64,
     next_mark: u64,
+    pub(crate) snapshot: Snapshot,
 }
 
 impl Model for Mda {
-    ghost use Rattle.std.specs.Prelude.{◌≡◌, ◌<◌, length};
+    ghost use Rattle.std.specs.Prelude.{◌≡◌, ◌<◌, IsTrue, length};
     ghost use Rattle.mda_text.specs.Mda.{MdaState};
+    ghost use Rattle.mda_text.specs.Snapshot.{Recalls};
 
     ghost Value = { MdaState };
 
@@ -76,12 +79,15 @@ impl Model for Mda {
       next_mark = m.next_mark;
     } };
 
-    ghost invariant = { λ m. (length m.bytes.items ≡ 4096) × (length m.kept.items ≡ 2000) × (m.raster < 259) };
+    ghost invariant = { λ m. (length m.bytes.items ≡ 4096) × (length m.kept.items ≡ 2000) × (m.raster < 259)
+        × (length m.snapshot.bytes.items ≡ 4096)
+        × (IsTrue m.snapshot.taken → Recalls m.bytes.items m.kept.items m.snapshot.bytes.items m.snapshot.start
+        m.snapshot.video m.snapshot.written) };
 }
 
 impl Mda {
-    /// The adapter at power-on. Fails only where there is no memory for its 4,096 bytes and the 2,000 characters
-    /// that a mark keeps.
+    /// The adapter at power-on. Fails only where there is no memory for its 4,096 bytes, and for the 2,000 characters
+    /// and the 4,096 bytes that a mark keeps.
     #[tactic(auto, unfolding(crate::specs::Mda::power_on))]
     pub fn new(alloc: Global) -> Result<Mda, AllocError>
         ensures { IfOk result (λ mda. mda ≡ power_on) }
@@ -96,6 +102,13 @@ impl Mda {
             kept: vec![in alloc; 0; CELL_COUNT as usize]?,
             last_mark: 0,
             next_mark: 1,
+            snapshot: Snapshot {
+                bytes: vec![in alloc; 0; TEXT_SIZE as usize]?,
+                start: 0,
+                video: false,
+                written: [false; 128],
+                taken: false,
+            },
         })
     }
 
@@ -113,6 +126,13 @@ impl Mda {
             kept: self.kept.clone()?,
             last_mark: self.last_mark,
             next_mark: self.next_mark,
+            snapshot: Snapshot {
+                bytes: self.snapshot.bytes.clone()?,
+                start: self.snapshot.start,
+                video: self.snapshot.video,
+                written: self.snapshot.written,
+                taken: self.snapshot.taken,
+            },
         })
     }
 
@@ -159,6 +179,7 @@ impl Mda {
         ensures { self.new ≡ with_text_byte self.old offset value }
     {
         self.bytes[offset as usize] = value;
+        self.snapshot.written[offset as usize / BLOCK_BYTES] = true;
     }
 
     /// The character that the cell at `row`, below 25, and `column`, below 80, shows, an ASCII code.
@@ -183,6 +204,7 @@ impl Mda {
         ensures state { self.new ≡ after_mark self.old }
     {
         self.keep_characters();
+        self.take_snapshot();
         self.last_mark = self.next_mark;
         if self.next_mark != 0 {
             self.next_mark = self.next_mark.wrapping_add(1);
@@ -250,6 +272,8 @@ impl Mda {
         let _ = &self.kept;
         for n in 0..CELL_COUNT {
             self.kept[n as usize] = self.nth_character(n);
+            // those that are kept are no longer the snapshot's
+            self.snapshot.taken = false;
         }
     }
 

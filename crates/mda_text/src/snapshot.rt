@@ -1,0 +1,84 @@
+//! What the last mark found in text memory, so that cells that can't have changed are passed over.
+ghost use Rattle.std.specs.Prelude.{ℕ, ◌≡◌, ◌≤◌, ◌<◌, ◌+◌, false, length};
+ghost use Rattle.mda_text.specs.Marks.{is_changed};
+ghost use Rattle.mda_text.specs.Screen.{characters};
+ghost use Rattle.mda_text.specs.Snapshot.{IsCopied, SameWord};
+
+use crate::difference::first_difference;
+use crate::mda::{CELL_COUNT, Mda, WORD_COUNT};
+
+/// How many bytes of text memory are marked as written at once.
+pub(crate) const BLOCK_BYTES: usize = 32;
+
+/// How many words they are.
+const BLOCK_WORDS: usize = BLOCK_BYTES / 2;
+
+/// What the last mark found.
+#[derive(Drop)]
+pub struct Snapshot {
+    pub(crate) bytes: Vec<u8>,
+    pub(crate) start: u16,
+    pub(crate) video: bool,
+    /// The blocks of text memory that were written since.
+    pub(crate) written: [bool; 128],
+    /// Not before the first mark.
+    pub(crate) taken: bool,
+}
+
+impl Mda {
+    /// Takes what text memory, start and video enable are now, where their characters are those that are kept.
+    pub(crate) fn take_snapshot(&mut self)
+        requires { self.old.kept ≡ characters self.old }
+        ensures { self.new ≡ self.old }
+    {
+        self.snapshot.bytes.copy_from_slice(&self.bytes);
+        self.snapshot.start = self.start;
+        self.snapshot.video = self.video;
+        self.snapshot.written = [false; 128];
+        self.snapshot.taken = true;
+    }
+
+    /// How many cells from the `n`-th on, below 2,000, can't have changed since `mark`, as far as their block of text
+    /// memory tells; 0 where that isn't known.
+    pub(crate) fn unchanged_from(&self, mark: u64, n: u16) -> u16
+        requires { n < 2000 }
+        ensures within { n + result ≤ 2000 }
+        ensures unchanged { (k : ℕ) → n ≤ k → k < n + result → is_changed self.now mark k ≡ false }
+    {
+        let snapshot = &self.snapshot;
+        if !snapshot.taken || snapshot.start != self.start || snapshot.video != self.video {
+            return 0;
+        }
+        if mark != self.last_mark || mark == 0 {
+            return 0;
+        }
+        let word = (u32::from(self.start) + u32::from(n)) % WORD_COUNT;
+        let same = same_words(&self.bytes, snapshot, word as usize) as u16;
+        same.min(CELL_COUNT - n)
+    }
+}
+
+/// How many words from this one on, below 2,048, have the bytes that the mark found, as far as their block tells.
+fn same_words(bytes: &[u8], snapshot: &Snapshot, word: usize) -> usize
+    requires below { word < 2048 }
+    requires bytes { length bytes.now ≡ 4096 }
+    requires copy { length snapshot.now.bytes.items ≡ 4096 }
+    requires unwritten { IsCopied bytes.now snapshot.now.bytes.items snapshot.now.written }
+    ensures within { word + result ≤ 2048 }
+    ensures same { (k : ℕ) → word ≤ k → k < word + result → SameWord bytes.now snapshot.now.bytes.items k }
+{
+    let block = word / BLOCK_WORDS;
+    let end = (block + 1) * BLOCK_WORDS;
+    if !snapshot.written[block] {
+        return end - word;
+    }
+    let (from, to) = (2 * word, 2 * end);
+    // where the code differs, as it mostly does in a word that has changed, the rest isn't compared
+    if bytes[from] != snapshot.bytes[from] {
+        return 0;
+    }
+    match first_difference(&bytes[from..to], &snapshot.bytes[from..to]) {
+        Some(at) => at / 2,
+        None => end - word,
+    }
+}
