@@ -50,7 +50,7 @@ fn comes_out(mda: &mut Mda, alloc: Global, command: &str) -> Option<bool> {
         "new" => *mda = Mda::new(alloc).ok()?,
         "copy" => *mda = mda.copy().ok()?,
         "out" => mda.write_port(words.word()?, words.byte()?),
-        "poke" => mda.write_mem(words.offset()?, words.byte()?),
+        "poke" => poke(mda, words)?,
         "clocks" => mda.advance(words.number()?),
         "in" => return Some(mda.read_port(words.word()?) == words.byte()?),
         "peek" => return Some(mda.read_mem(words.offset()?) == words.byte()?),
@@ -62,6 +62,19 @@ fn comes_out(mda: &mut Mda, alloc: Global, command: &str) -> Option<bool> {
         _ => return None,
     }
     Some(true)
+}
+
+/// Writes bytes from an offset of text memory on, one by one.
+fn poke(mda: &mut Mda, mut words: Operands) -> Option<()> {
+    let mut offset = words.offset()?;
+    for word in words.0 {
+        if offset >= TEXT_SIZE {
+            return None;
+        }
+        mda.write_mem(offset, u8::from_str_radix(word, 16).ok()?);
+        offset += 1;
+    }
+    Some(())
 }
 
 fn shows(mda: &Mda, row: u8, column: u8, character: u8) -> Option<bool> {

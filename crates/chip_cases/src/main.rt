@@ -39,10 +39,10 @@
 //! power-on: parts `CLOCKS STATUS UNTIL`, each so many clocks (decimal) after the one before.
 //!
 //! `mda`, a text adapter that goes on from case to case. A case is one command, its numbers hexadecimal: `new` (an
-//! adapter at power-on), `copy` (goes on with a copy), `out PORT BYTE`, `in PORT BYTE`, `poke OFFSET BYTE` and `peek
-//! OFFSET BYTE` (of text memory), `clocks N` (they pass), `cell ROW COLUMN BYTE` (the character that it shows), `mark
-//! NUMBER` (a mark, with its number), `changed MARK ROW COLUMN ..` (all cells that have changed since), `all MARK` (all
-//! 2,000 have), `line ROW TEXT` (the screen's text there, but for the blanks at its end).
+//! adapter at power-on), `copy` (goes on with a copy), `out PORT BYTE`, `in PORT BYTE`, `poke OFFSET BYTE ..` (to text
+//! memory, from the offset on) and `peek OFFSET BYTE`, `clocks N` (they pass), `cell ROW COLUMN BYTE` (the character
+//! that it shows), `mark NUMBER` (a mark, with its number), `changed MARK ROW COLUMN ..` (all cells that have changed
+//! since), `all MARK` (all 2,000 have), `line ROW TEXT` (the screen's text there, but for the blanks at its end).
 #![tactic(auto)]
 
 mod adapter;
