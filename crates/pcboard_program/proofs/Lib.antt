@@ -2,4 +2,5 @@ pub mod Reading
 pub mod Refusals
 pub mod Listed
 pub mod Sessions
+pub mod Tasks
 mod Rows
