@@ -34,7 +34,7 @@ at_is a k = elim (cases_lt a k) [
   ]
 ]
 
-first_byte : (a : ℕ) (e : ℕ × ℕ) (es : List (ℕ × ℕ)) → image_byte (e ∷ es) a ≡ (if e.0 == a then Some e.1 else image_byte es a)
+pub first_byte : (a : ℕ) (e : ℕ × ℕ) (es : List (ℕ × ℕ)) → image_byte (e ∷ es) a ≡ (if e.0 == a then Some e.1 else image_byte es a)
 first_byte a e es = ap (λ t. if t then Some e.1 else image_byte es a) (at_is a e.0)
 
 swapped : (t u : Bool) (x y z : Option ℕ) → (t ≡ true → u ≡ true → ⊥) → (if t then x else (if u then y else z)) ≡ (if u then y else (if t then x else z))

@@ -1,5 +1,5 @@
 //! The bytes that a program brings to the board's memory.
-ghost use Rattle.std.specs.Prelude.{◌≡◌, [], ◌↔◌, IsTrue, None, OnOk, OnErr};
+ghost use Rattle.std.specs.Prelude.{◌≡◌, [], ◌↔◌, All, IsTrue, None, OnOk, OnErr, Some};
 ghost use Rattle.std.specs.Ordering.{nat_cmp};
 ghost use Rattle.std.specs.BTreeMap.{insert_entry};
 ghost use Rattle.board_types.specs.Image.{IsImage, IsLoadable, image_byte};
@@ -7,6 +7,7 @@ ghost use Rattle.board_types.specs.Image.{IsImage, IsLoadable, image_byte};
 use crate::address::{ADDRESS_COUNT, RAM_LIMIT, ROM_START};
 use std::alloc::{AllocError, Global};
 use std::collections::BTreeMap;
+use std::collections::btree_map::Iter;
 use std::marker::Model;
 
 /// Bytes at loadable addresses, those below A0000h and from F0000h to FFFFFh.
@@ -50,6 +51,15 @@ impl Image {
         ensures is_image { IsImage self.now }
     {
         self.bytes.get(&addr).copied()
+    }
+
+    /// The addresses that have a byte, rising, each with its byte.
+    pub fn iter(&self) -> Iter<'_, u32, u8>
+        ensures entries { result ≡ self.now }
+        ensures found { All (λ e. image_byte self.now e.0 ≡ Some e.1) self.now }
+        ensures is_image { IsImage self.now }
+    {
+        self.bytes.iter()
     }
 
     /// Places `byte` at the loadable address `addr`, in place of a byte that was there. Fails only where the

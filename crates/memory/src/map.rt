@@ -1,13 +1,14 @@
 //! The memory map, and what a board's memory holds at power-on.
-ghost use Rattle.std.specs.Prelude.{◌≡◌, ◌<◌, ◌*◌, ◌^◌, IfOk, OnOk, IsTrue, ◌↔◌, length, map};
+ghost use Rattle.std.specs.Prelude.{ℕ, ◌≡◌, ◌<◌, ◌≤◌, ◌*◌, ◌^◌, IfOk, OnOk, IsTrue, ◌↔◌, None, length, map, slice_index, unwrap_or};
 ghost use Rattle.std.specs.List.{range_with_len};
 ghost use Rattle.std.specs.Result.{IsErrOf};
-ghost use Rattle.memory.specs.Regions.{IsTextAddress};
+ghost use Rattle.board_types.specs.Image.{image_byte, IsImage};
+ghost use Rattle.memory.specs.Regions.{IsTextAddress, region_of};
 ghost use Rattle.memory.specs.declared.map.MemoryFault.TheVariants.{OutOfMemory};
-ghost use Rattle.memory.specs.Map.{address_count, byte_at, with_byte, power_on, power_on_byte, memory_fault_number, IsRamSize, FitsRam, IsMap};
+ghost use Rattle.memory.specs.Map.{address_count, byte_at, byte_of_region, with_byte, power_on, power_on_byte, memory_fault_number, IsRamSize, FitsRam, IsMap};
 
 use crate::region::{Region, region_of};
-use board_types::address::RAM_LIMIT;
+use board_types::address::{ADDRESS_COUNT, RAM_LIMIT, TEXT_SIZE, TEXT_START};
 use board_types::image::Image;
 use std::alloc::{AllocError, Global};
 use std::marker::Model;
@@ -78,7 +79,7 @@ impl Memory {
         if !fits_ram(image, ram_size) {
             return Err(MemoryFault::RamSize);
         }
-        let cells = power_on_cells(alloc, ram_size, image, address_count())?;
+        let cells = power_on_cells(alloc, ram_size, image)?;
         Ok(Memory { ram_size, cells })
     }
 
@@ -132,50 +133,52 @@ fn is_ram_size(ram_kb: u16) -> bool
 fn fits_ram(image: &Image, ram_size: u32) -> bool
     ensures { IsTrue result ↔ FitsRam image.now ram_size }
 {
-    for addr in ram_size..RAM_LIMIT {
-        if image.get(addr).is_some() {
+    for (addr, _) in image.iter() {
+        if ram_size <= *addr && *addr < RAM_LIMIT {
             return false;
         }
     }
     true
 }
 
-/// How many addresses the 8086 has.
-#[tactic(auto, unfolding(crate::specs::Map::address_count))]
-fn address_count() -> u32
-    ensures value { result ≡ address_count }
-    ensures number { result ≡ 1048576 }
+/// The bytes at power-on of a board with `ram_size` bytes of RAM, which the image fits.
+fn power_on_cells(alloc: Global, ram_size: u32, image: &Image) -> Result<Vec<u8>, AllocError>
+    requires size { ram_size ≤ 0xA0000 }
+    requires fits { FitsRam image.now ram_size }
+    ensures cells { IfOk result
+        (λ cells. cells.items ≡ map (power_on_byte image.now ram_size) (range_with_len 0 address_count)) }
+    ensures length { IfOk result (λ cells. length cells.items ≡ 1048576) }
 {
-    1 << 20
+    let cells = bare_cells(alloc, ram_size as usize)?;
+    Ok(with_image(cells, image))
 }
 
-/// The bytes at power-on of the addresses below `count`.
-fn power_on_cells(
-    alloc: Global,
-    ram_size: u32,
-    image: &Image,
-    count: u32,
-) -> Result<Vec<u8>, AllocError>
-    ensures cells { IfOk result
-        (λ cells. cells.items ≡ map (power_on_byte image.now ram_size) (range_with_len 0 count)) }
-    ensures length { IfOk result (λ cells. length cells.items ≡ count) }
+/// The bytes at power-on without an image's: RAM and text memory 0, the ROM FFh, and FFh where nothing answers.
+fn bare_cells(alloc: Global, ram_size: usize) -> Result<Vec<u8>, AllocError>
+    requires { ram_size ≤ 0xA0000 }
+    ensures cells { IfOk result (λ cells. (addr : ℕ) → addr < 1048576
+        → slice_index cells.items addr ≡ byte_of_region (region_of ram_size addr) None) }
+    ensures length { IfOk result (λ cells. length cells.items ≡ 1048576) }
 {
-    let mut cells = Vec::with_capacity(alloc, count as usize)?;
-    for addr in 0..count {
-        cells.push(power_on_byte(image, ram_size, addr))?;
-    }
+    let mut cells = Vec::with_capacity(alloc, ADDRESS_COUNT as usize)?;
+    cells.resize(ram_size, 0)?;
+    cells.resize(TEXT_START as usize, 0xFF)?;
+    cells.resize((TEXT_START + TEXT_SIZE) as usize, 0)?;
+    cells.resize(ADDRESS_COUNT as usize, 0xFF)?;
     Ok(cells)
 }
 
-/// The byte at `addr` at power-on.
-fn power_on_byte(image: &Image, ram_size: u32, addr: u32) -> u8
-    ensures { result ≡ power_on_byte image.now ram_size addr }
+/// The cells with the image's bytes at their addresses.
+fn with_image(mut cells: Vec<u8>, image: &Image) -> Vec<u8>
+    requires { length cells.items ≡ 1048576 }
+    ensures cells { (addr : ℕ)
+        → slice_index result.items addr ≡ unwrap_or (image_byte image.now addr) (slice_index cells.items addr) }
+    ensures length { length result.items ≡ 1048576 }
+    ensures is_image { IsImage image.now }
 {
-    let given = image.get(addr);
-    match region_of(ram_size, addr) {
-        Region::Ram => given.unwrap_or(0),
-        Region::Text => 0,
-        Region::Rom => given.unwrap_or(0xFF),
-        Region::Nothing => 0xFF,
+    for (addr, byte) in image.iter() {
+        let byte = *byte;
+        cells[*addr as usize] = byte;
     }
+    cells
 }

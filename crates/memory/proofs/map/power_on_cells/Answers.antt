@@ -1,16 +1,14 @@
-use Rattle.std.proofs.Common.{◌≡◌, length, ap, ◌∙◌, arith}
-use Rattle.std.proofs.lemmas.List.FromFn.{length-map-range_with_len}
-use Rattle.memory.specs.Map.{power_on_byte}
-use Rattle.memory.proofs.Cells.{cells_more}
+use Rattle.std.proofs.Common.{◌∙◌, ap, unwrap_or}
+use Rattle.std.proofs.lemmas.List.FromFn.{fill_by_all}
+use Rattle.board_types.specs.Image.{image_byte}
+use Rattle.memory.specs.Map.{address_count, power_on_byte}
+use Rattle.memory.proofs.Laying.{power_on_laid}
 use Rattle.memory.proofs.map.power_on_cells.Goals as goal
 
-pub loop-addr-preserved : goal.loop-addr-preserved
-loop-addr-preserved c =
-    cells_more (power_on_byte c.args.image.now c.args.ram_size) _ _ _ _ c.in_ok-push.ensures.items c.loop-addr.invariant c.power_on_byte.ensures
-
-pub returns-clause-length : goal.returns-clause-length
-returns-clause-length c =
-    let at_end : c.loop-addr.addr ≡ c.args.count = omega arith in
-    ap length c.loop-addr.invariant
-    ∙ length-map-range_with_len (power_on_byte c.args.image.now c.args.ram_size) 0 c.loop-addr.addr
-    ∙ at_end
+pub returns-clause-cells : goal.returns-clause-cells
+unfolding address_count
+returns-clause-cells c =
+    fill_by_all (power_on_byte c.args.image.now c.args.ram_size) _ address_count 0 c.with_image.ensures.length
+    (λ k below. c.with_image.ensures.cells k
+    ∙ ap (unwrap_or (image_byte c.args.image.now k)) (c.in_ok-cells.ensures.cells k below)
+    ∙ power_on_laid c.args.image.now c.args.ram_size k c.with_image.ensures.is_image.loadable c.requires.fits c.requires.size)
