@@ -72,7 +72,7 @@ size_here : (names : Names) (row : Row) (here : Option Location) → row.locatio
 size_here names row None at each = tt
 size_here names row (Some location) at each = each location
 
-rows_sized : (names : Names) (before : List Row) (texts : List (List ℕ)) (rows : List Row) → AreRows before texts rows → names ≡ names_of (before ++ rows) → AllByRecursion (RowHasSize names) rows
+pub rows_sized : (names : Names) (before : List Row) (texts : List (List ℕ)) (rows : List Row) → AreRows before texts rows → names ≡ names_of (before ++ rows) → AllByRecursion (RowHasSize names) rows
 rows_sized names before [] [] are is = tt
 rows_sized names before [] (row ∷ rows) are is = absurd are
 rows_sized names before (text ∷ texts) [] are is = absurd are
@@ -212,7 +212,7 @@ unfolding IsDistinct
 none_differ = tt
 
 -- ---- the image of all rows
-are_placed : (names : Names) (rows : List Row) → AreFaultless names [] rows → AllByRecursion (RowHasSize names) rows → names ≡ names_of rows → IsImage (with_entries [] (placed_by_all names rows))
+pub are_placed : (names : Names) (rows : List Row) → AreFaultless names [] rows → AllByRecursion (RowHasSize names) rows → names ≡ names_of rows → IsImage (with_entries [] (placed_by_all names rows))
     → ArePlaced rows (with_entries [] (placed_by_all names rows))
 are_placed names rows free sized is is_image =
     let differ : IsDistinct (λ a b. a == b) (keys_of (placed_by_all names rows)) = all_differ names [] rows free sized none_differ in

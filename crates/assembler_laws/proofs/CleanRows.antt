@@ -47,7 +47,7 @@ pub record IsClean (row : Row) : Type 0 where
   pub text : List ℕ
   pub clean : IsCleanRow before text row
 
-all_clean : (before : List Row) (texts : List (List ℕ)) (rows : List Row) → AreRows before texts rows → AllByRecursion IsClean rows
+pub all_clean : (before : List Row) (texts : List (List ℕ)) (rows : List Row) → AreRows before texts rows → AllByRecursion IsClean rows
 all_clean before [] [] are = tt
 all_clean before [] (row ∷ rows) are = absurd are
 all_clean before (text ∷ texts) [] are = absurd are

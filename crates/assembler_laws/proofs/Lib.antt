@@ -18,4 +18,6 @@ pub mod Uniqueness
 pub mod FaultOrder
 pub mod LinesBefore
 pub mod Operations
+pub mod TextBytes
+pub mod PlacedBytes
 pub mod Outcome

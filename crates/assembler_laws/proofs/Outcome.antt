@@ -1,4 +1,4 @@
--- Each source has an outcome: rows without a fault, or a first fault.
+-- Each source has an outcome: an image that it gives, or a first fault.
 use Rattle.std.proofs.Common.{◌≡◌, ◌∙◌, ℕ, zero, suc, ◌+◌, ◌<◌, ◌≤◌, List, [], ◌∷◌, ◌++◌, length, get_or, refl, sym, ap, subst, arith, inl, inr, Bool, true, false, Option, None, Some, Result, Ok, Err, append_assoc, append-nil}
 use Rattle.std.specs.Prelude.{◌⊎◌, ◌≢◌, slice_get, IsTrue}
 use Rattle.std.proofs.lemmas.Bool.{cases_lt}
@@ -23,12 +23,16 @@ use Rattle.assembler.specs.declared.fault.AsmFault.TheVariants.{SourceTooLong, I
 use Rattle.assembler.specs.declared.fault.SourceFault.{SourceFault}
 use Rattle.assembler.specs.FirstFault.{AreFaultless, IsFirst, IsTextFault, fault_of_line}
 use Rattle.assembler.specs.FirstPass.{row_of}
-use Rattle.assembler.specs.Gives.{source_limit}
-use Rattle.assembler.specs.Placement.{row_fault}
+use Rattle.assembler.specs.Gives.{source_limit, Gives}
+use Rattle.assembler.specs.Placement.{placed_by_all, row_fault}
 use Rattle.assembler.specs.Rows.{Row, AreRows, IsCleanRow, IsFormOf, IsRow, early_fault, names_of, location_behind}
+use Rattle.assembler.specs.SecondPass.{with_entries}
+use Rattle.assembler.proofs.PlacingWhole.{are_placed, no_entries, rows_sized}
 use Rattle.assembler.proofs.ReadingFaults.{is_row}
 use Rattle.assembler_laws.specs.FirstFaults.{EachSourceHasAnOutcome}
+use Rattle.assembler_laws.proofs.CleanRows.{all_clean}
 use Rattle.assembler_laws.proofs.Operations.{one_or_other}
+use Rattle.assembler_laws.proofs.PlacedBytes.{all_place_bytes, image_of_rows}
 
 -- ---- a form of the table, or none
 test_or : (b : Bool) → IsTrue b ⊎ (IsTrue b → ⊥)
@@ -219,7 +223,7 @@ rows_outcome names before (row ∷ rows) = rows_by names before row rows (row_fa
 abbrev Outcome : List ℕ → Type 0
 Outcome source =
     ((fault : AsmFault) × (fault ≢ Memory) × IsFirst source fault)
-    ⊎ ((rows : List Row) × AreRows [] (text_lines source) rows × AreFaultless (names_of rows) [] rows)
+    ⊎ ((image : List (ℕ × ℕ)) × Gives source image)
 
 in_line : (fault : SourceFault) (number : ℕ) → InLine fault number ≢ Memory
 in_line fault number is = cc
@@ -227,8 +231,19 @@ in_line fault number is = cc
 too_long : SourceTooLong ≢ Memory
 too_long is = cc
 
+-- clean rows that can all be placed place an image
+gives_image : (source : List ℕ) (rows : List Row) → length source ≤ source_limit → AreRows [] (text_lines source) rows → AreFaultless (names_of rows) [] rows
+    → (image : List (ℕ × ℕ)) × Gives source image
+gives_image source rows within are free =
+    let names : Names = names_of rows in
+    let sized = rows_sized names [] (text_lines source) rows are refl in
+    let is_image = image_of_rows names [] rows [] no_entries free sized (all_place_bytes names rows (all_clean [] (text_lines source) rows are)) in (
+      with_entries [] (placed_by_all names rows),
+      record { within = within; rows = rows; are_rows = are; placed = are_placed names rows free sized refl is_image },
+    )
+
 late_outcome : (source : List ℕ) (rows : List Row) → length source ≤ source_limit → AreRows [] (text_lines source) rows → CanBePlaced (names_of rows) [] rows → Outcome source
-late_outcome source rows within are (inl free) = inr (rows, are, free)
+late_outcome source rows within are (inl free) = inr (gives_image source rows within are free)
 late_outcome source rows within are (inr late) = inl (
   InLine late.fault (length late.front + 1),
   in_line late.fault (length late.front + 1),

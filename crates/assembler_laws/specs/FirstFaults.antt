@@ -12,21 +12,21 @@ use Rattle.assembler.specs.declared.fault.AsmFault.TheVariants.{InLine, Memory}
 use Rattle.assembler.specs.declared.fault.SourceFault.{SourceFault}
 use Rattle.assembler.specs.declared.fault.SourceFault.TheVariants.{BadLine, UnknownName, BadForm, TwiceDefined, Undefined, OutOfRange, OutOfSegment, Overlap, NoSegment, NotLoadable}
 use Rattle.assembler.specs.declared.row.Content.{Content}
-use Rattle.assembler.specs.FirstFault.{AreFaultless, IsEarlyFault, IsFirst, IsLateFault, source_fault_number}
+use Rattle.assembler.specs.FirstFault.{IsEarlyFault, IsFirst, IsLateFault, source_fault_number}
 use Rattle.assembler.specs.Gives.{source_limit, Gives}
 use Rattle.assembler.specs.Placement.{addresses_from, fault_at, has_wrong_number, is_loadable, is_past_end, lacks_name}
-use Rattle.assembler.specs.Rows.{AreRows, Row, defines_again, early_fault, has_unknown_constant, has_wrong_constant, lacks_form, names_of, opens_within, stands_outside}
+use Rattle.assembler.specs.Rows.{AreRows, Row, defines_again, early_fault, has_unknown_constant, has_wrong_constant, lacks_form, opens_within, stands_outside}
 
 -- but for want of memory one fault alone is first
 abbrev pub OneFaultIsFirst : Type 0
 OneFaultIsFirst =
     (source : List ℕ) (a b : AsmFault) → a ≢ Memory → b ≢ Memory → IsFirst source a → IsFirst source b → a ≡ b
 
--- one there is, or all lines are clean and each can be placed behind those before it
+-- one there is, or an image that the source gives
 abbrev pub EachSourceHasAnOutcome : Type 0
 EachSourceHasAnOutcome =
     (source : List ℕ) → ((fault : AsmFault) × (fault ≢ Memory) × IsFirst source fault)
-    ⊎ ((rows : List Row) × AreRows [] (text_lines source) rows × AreFaultless (names_of rows) [] rows)
+    ⊎ ((image : List (ℕ × ℕ)) × Gives source image)
 
 -- a source that gives an image has none
 abbrev pub NoFaultBesideImage : Type 0

@@ -6,7 +6,7 @@ pub fn one_fault_is_first()
     ensures { OneFaultIsFirst }
 {}
 
-/// Each source has a first fault, or all its lines are clean and each of them can be placed behind those before it.
+/// Each source has a first fault that is no want of memory, or it gives an image.
 pub fn each_source_has_an_outcome()
     ensures { EachSourceHasAnOutcome }
 {}

@@ -7,3 +7,6 @@ mod SpelledOperands
 mod SpelledLists
 mod SpelledLines
 mod Rows
+mod BackTerms
+mod BackOperands
+mod BackLines

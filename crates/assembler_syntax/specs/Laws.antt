@@ -3,9 +3,11 @@
 use Rattle.std.specs.Prelude.{ℕ, ◌≡◌, List, length, map, Ok}
 use Rattle.std.specs.List.{list_all}
 use Rattle.assembler_lexeme.specs.Lexemes.{folded, is_character, lexemes}
+use Rattle.assembler_lexeme.specs.declared.token.Token.{Token}
 use Rattle.assembler_syntax.specs.declared.statement.Line.{Line}
 use Rattle.assembler_syntax.specs.Lines.{line_of, read_line}
 use Rattle.assembler_syntax.specs.Spelling.{line_tokens, IsStatement}
+use Rattle.assembler_syntax.specs.Spellings.{SpellsLine}
 use Rattle.assembler_syntax.specs.Weights.{IsWithin}
 
 -- two lines whose lexemes differ in case outside quotes alone say the same
@@ -21,3 +23,7 @@ EachLineIsRead = (l : Line) → IsStatement l.statement → line_of (line_tokens
 -- what a line holds is no longer than its text
 abbrev pub HoldsNoMore : Type 0
 HoldsNoMore = (text : List ℕ) (line : Line) → read_line text ≡ Ok line → IsWithin (length text) line.statement
+
+-- what is read of tokens is a line that they spell
+abbrev pub EachLineReadIsSpelled : Type 0
+EachLineReadIsSpelled = (ts : List Token) (l : Line) → line_of ts ≡ Ok l → SpellsLine l ts

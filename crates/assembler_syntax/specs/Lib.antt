@@ -7,3 +7,4 @@ pub mod Lines
 pub mod Weights
 pub mod Spelling
 pub mod Laws
+pub mod Spellings

@@ -10,3 +10,4 @@ pub mod ReadBack
 pub mod Rows
 pub mod Runs
 pub mod LineEnds
+mod LongestRuns

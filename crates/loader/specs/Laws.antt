@@ -1,12 +1,12 @@
 -- What holds of HEX texts and images whatever they are.
 -- Laws: claims above the definitions, each proved as the contract of a function.
-use Rattle.std.specs.Prelude.{◌≢◌, ℕ, ◌≡◌, ◌↔◌, ◌++◌, Bool, true, false, not, filter, map, List, [], ◌∷◌, Ok, Option, None, Some, ◌==◌, if◌then◌else◌}
-use Rattle.std.specs.List.{AllByRecursion}
+use Rattle.std.specs.Prelude.{◌≢◌, ℕ, ◌≡◌, ◌⊎◌, ◌<◌, ◌≤◌, ◌+◌, ◌/◌, ◌%◌, ◌↔◌, ◌++◌, Bool, true, false, not, filter, length, map, List, [], ◌∷◌, Ok, Option, None, Some, ◌==◌, if◌then◌else◌}
+use Rattle.std.specs.List.{AllByRecursion, flat_map}
 use Rattle.std.specs.List.Sorted.{IsStrictlySortedBy}
 use Rattle.std.specs.Map.{keys_of}
 use Rattle.std.specs.Ordering.{nat_cmp}
 use Rattle.board_types.specs.Image.{image_byte}
-use Rattle.loader.specs.HexText.{hex_text}
+use Rattle.loader.specs.HexText.{end_line, hex_text, row_lines}
 use Rattle.loader.specs.declared.hex_record.Extension.{Extension}
 use Rattle.loader.specs.declared.hex_record.Extension.TheVariants.{Segment}
 use Rattle.loader.specs.Lines.{without_spaces}
@@ -77,6 +77,37 @@ LaterBytesWin =
 -- the text that is written for an image loads that image and no other
 abbrev pub LoadsAlone : List (ℕ × ℕ) → Type 0
 LoadsAlone image = (other : List (ℕ × ℕ)) → Rises other → Loads (hex_text image) other ↔ (image ≡ other)
+
+-- bytes that stand one after another, the first of them at an address
+pub record Run : Type 0 where
+  pub address : ℕ
+  pub bytes : List ℕ
+
+abbrev pub entries_from : ℕ → List ℕ → List (ℕ × ℕ)
+entries_from address [] = []
+entries_from address (b ∷ bs) = (address, b) ∷ entries_from (address + 1) bs
+
+-- A run of 1 to 16 bytes within a bank of 65,536 that could be no longer: it has 16, or the bank ends behind it, or the
+-- image has no byte there.
+pub record IsLongest (image : List (ℕ × ℕ)) (run : Run) : Type 0 where
+  pub some : 0 < length run.bytes
+  pub few : length run.bytes ≤ 16
+  pub one_bank : run.address % 65536 + length run.bytes ≤ 65536
+  pub ends : (length run.bytes ≡ 16)
+      ⊎ (((run.address + length run.bytes) % 65536 ≡ 0) ⊎ (image_byte image (run.address + length run.bytes) ≡ None))
+
+-- the lines of runs, behind one in this bank
+abbrev pub lines_of_runs : Option ℕ → List Run → List ℕ
+lines_of_runs last [] = end_line
+lines_of_runs last (run ∷ runs) =
+    row_lines last run.address run.bytes ++ lines_of_runs (Some (run.address / 65536)) runs
+
+-- the text that is written for an image is the lines of runs which are its bytes in their order, each the longest
+pub record HasLongestRuns (image : List (ℕ × ℕ)) : Type 0 where
+  pub runs : List Run
+  pub text : hex_text image ≡ lines_of_runs None runs
+  pub bytes : flat_map (λ run. entries_from run.address run.bytes) runs ≡ image
+  pub longest : AllByRecursion (IsLongest image) runs
 
 -- no byte of the one stands at an address of the other
 abbrev pub AreApart : List (ℕ × ℕ) → List (ℕ × ℕ) → Type 0

@@ -1,5 +1,5 @@
 //! What holds of HEX texts and images whatever they are. Each is the contract of a function that does nothing.
-ghost use Rattle.loader.specs.Laws.{BytesChangePlaces, LaterBytesWin, LinesChangePlaces, LoadsAlone, LoadsRecords, ReadsBack, RecordsChangePlaces};
+ghost use Rattle.loader.specs.Laws.{BytesChangePlaces, HasLongestRuns, LaterBytesWin, LinesChangePlaces, LoadsAlone, LoadsRecords, ReadsBack, RecordsChangePlaces};
 
 use board_types::image::Image;
 
@@ -27,6 +27,15 @@ pub fn later_bytes_win()
 /// The text that is written for an image is made of records whose bytes that image holds, and no other image does.
 pub fn one_image(image: &Image)
     ensures { LoadsAlone image.now }
+{
+    // a read tells what every image keeps
+    let _ = image.get(0);
+}
+
+/// The text that is written for an image has its bytes in the order of their addresses, each record the longest run:
+/// up to 16 bytes, to the end of their bank of 65,536, or to an address without a byte.
+pub fn longest_runs(image: &Image)
+    ensures { HasLongestRuns image.now }
 {
     // a read tells what every image keeps
     let _ = image.get(0);

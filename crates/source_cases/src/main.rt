@@ -1,6 +1,6 @@
 //! Cases of outside values for the assembler. Of a case that differs the answer that it got is printed.
 //!
-//! A case is one line, in one of three forms:
+//! A case is one line, in one of four forms:
 //!
 //! `TEXT => ANSWER`, a line of a whole source: TEXT is line 8 of a source whose other lines define names and place it
 //! at 1000:1000 (`BEFORE` and `BEHIND` in src/placed.rt). The answer is the bytes that stand there in hexadecimal,
@@ -8,6 +8,9 @@
 //!
 //! `TEXT => alone ANSWER`, a line by itself: `2`, `3` or `4` where the text has that fault whatever the other lines
 //! are, `-` where it is a line of the dialect. In TEXT `^` stands for a carriage return.
+//!
+//! `front SIZE => front ANSWER`, the first SIZE bytes of examples/hello.asm (`SOURCE` in src/front.rt). The answer is
+//! `fault N line M`, or the bytes of the image, behind the address of the first of each run and a colon.
 //!
 //! `back PREFIX TAIL STEP => same COUNT`, from bytes to text and back: each opcode stands behind the byte PREFIX, or
 //! behind none where it is `none`, and before each addressing byte, or number below 16, that is a multiple of STEP, and
@@ -20,6 +23,7 @@
 mod alone;
 mod back;
 mod code;
+mod front;
 mod placed;
 mod trip;
 
@@ -37,6 +41,8 @@ fn judge(alloc: Global, case: &str) -> Result<()> {
     let (text, wanted) = case.split_once(" => ").context("no answer")?;
     let answer = if wanted.starts_with("alone ") {
         alone::answer_to(alloc, text)?
+    } else if wanted.starts_with("front") {
+        front::answer_to(alloc, text)?
     } else if wanted.starts_with("same ") {
         back::answer_to(alloc, text)?
     } else {
