@@ -7,7 +7,7 @@ use Rattle.isa.specs.declared.operation.Shift.TheVariants.{Rol, Ror, Rcl, Rcr, S
 use Rattle.execute_machine.specs.FlagState.{FlagState}
 use Rattle.execute_machine.specs.declared.width.Width.TheVariants.{Byte, Word}
 use Rattle.execute_shift.specs.declared.single.Shifted.{Shifted}
-use Rattle.execute_shift.specs.Meaning.{after_shifts, tells_result, with_shifted}
+use Rattle.execute_shift.specs.Meaning.{after_shifts, with_shifted}
 use Rattle.execute_shift.specs.Single.{after_left, after_right, after_right_rotation, after_single}
 
 -- what a row unfolds
