@@ -3,3 +3,4 @@ pub mod Loops
 pub mod FlagsWord
 pub mod StackWords
 pub mod Returns
+mod Rows

@@ -3,3 +3,4 @@ pub mod Runs
 pub mod Powers
 pub mod Turns
 pub mod Rotations
+mod Rows

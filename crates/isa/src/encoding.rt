@@ -10,6 +10,8 @@ use crate::layout::{CodePart, Field, RegPart, Second};
 use arrayvec::ArrayVec;
 
 /// The bytes of the instruction of this form with these numbers in its fields, without its prefixes.
+/// The caller sees to it that the form is one of the table's, its row with what the row's parts take, and that each
+/// number fits its field and is 0 where the form has no such field.
 #[tactic(auto, unfolding(crate::specs::Encoding::encoding))]
 pub fn encode(form: &Form, values: Values) -> ArrayVec<u8, 14>
     requires form { IsForm form.now }

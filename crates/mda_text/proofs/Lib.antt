@@ -7,3 +7,4 @@ pub mod Lanes
 pub mod Keeping
 pub mod ScreenLaws
 pub mod MarkLaws
+mod Rows

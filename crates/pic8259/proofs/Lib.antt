@@ -6,3 +6,4 @@ pub mod Taking
 pub mod Masks
 pub mod Edges
 pub mod Words
+mod Rows

@@ -10,3 +10,4 @@ pub mod Ahead
 pub mod Until
 pub mod GateKept
 pub mod Shorter
+mod Rows

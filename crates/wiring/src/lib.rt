@@ -1,5 +1,6 @@
-//! The system board without its processor: memory, the interrupt controller, the timer, the parallel port and the
-//! keyboard, and the wires between them (IBM PC Technical Reference, "System Board").
+//! What stands on the bus beside the processor: memory, the interrupt controller, the timer, the parallel port, the
+//! keyboard and the text adapter, and the wires between them (IBM PC Technical Reference, "System Board" and "IBM
+//! Monochrome Display and Parallel Printer Adapter").
 #![tactic(auto)]
 
 pub mod chips;
