@@ -1,5 +1,6 @@
 -- Keys that arrive one by one: those before a place in the list, and those from it on.
-use Rattle.std.proofs.Common.{◌≡◌, ◌≢◌, ℕ, suc, ◌+◌, ◌-◌, ◌<◌, ◌≤◌, inl, inr, List, [], ◌∷◌, ◌++◌, length, take, drop, map, filter, get_or, nat_eq, min, refl, sym, ap, ◌∙◌, subst, arith, append-nil}
+use Rattle.std.proofs.Common.{◌≡◌, ◌≢◌, ℕ, suc, ◌+◌, ◌-◌, ◌<◌, ◌≤◌, ◌⊎◌, inl, inr, List, [], ◌∷◌, ◌++◌, length, take, drop, map, filter, get_or, nat_eq, min, refl, sym, ap, ◌∙◌, subst, arith, append-nil}
+use Rattle.std.specs.Prelude.{All}
 use Rattle.std.proofs.lemmas.Grind.{common_steps}
 use Rattle.std.proofs.lemmas.Bool.Decides.{eqb_tells}
 use Rattle.std.proofs.lemmas.List.Sums.{fold-append}
@@ -19,7 +20,7 @@ none_due c (k ∷ ks) all =
     let rest : codes_at ks c ≡ [] = none_due c ks (λ i d within. all (suc i) d (omega (arith, within))) in
     grind (arith, common_steps)
 
-codes_append : (c : ℕ) (xs ys : List StampedKey) → codes_at (xs ++ ys) c ≡ codes_at xs c ++ codes_at ys c
+pub codes_append : (c : ℕ) (xs ys : List StampedKey) → codes_at (xs ++ ys) c ≡ codes_at xs c ++ codes_at ys c
 codes_append c xs ys =
     ap (map (λ (k : StampedKey). k.code)) (filter-append (λ (k : StampedKey). nat_eq k.stamp c) xs ys)
     ∙ map-append (λ (k : StampedKey). k.code) (filter (λ (k : StampedKey). nat_eq k.stamp c) xs) (filter (λ (k : StampedKey). nat_eq k.stamp c) ys)
@@ -45,11 +46,11 @@ in_take n j ks within long = let size = length-take n ks in let least : min n (l
 in_drop : (n j : ℕ) (ks : List StampedKey) → n ≤ j → j < length ks → j - n < length (drop n ks)
 in_drop n j ks from within = let size = length-drop n ks in omega arith
 
-past_at : (next clock : ℕ) (keys : List StampedKey) → Awaits next clock keys → (j : ℕ) (d : StampedKey) → j < next → (get_or keys j d).stamp < clock
+pub past_at : (next clock : ℕ) (keys : List StampedKey) → Awaits next clock keys → (j : ℕ) (d : StampedKey) → j < next → (get_or keys j d).stamp < clock
 past_at next clock keys awaits j d within =
     subst (λ (k : StampedKey). k.stamp < clock) (get_or-take next keys j d within) (awaits.past j d (in_take next j keys within awaits.within))
 
-to_come_at : (next clock : ℕ) (keys : List StampedKey) → Awaits next clock keys → (j : ℕ) (d : StampedKey) → next ≤ j → j < length keys → clock ≤ (get_or keys j d).stamp
+pub to_come_at : (next clock : ℕ) (keys : List StampedKey) → Awaits next clock keys → (j : ℕ) (d : StampedKey) → next ≤ j → j < length keys → clock ≤ (get_or keys j d).stamp
 to_come_at next clock keys awaits j d from within =
     let place : next + (j - next) ≡ j = omega (arith, from) in
     subst (λ (k : StampedKey). clock ≤ k.stamp) (get_or-drop next keys (j - next) d ∙ ap (λ i. get_or keys i d) place) (awaits.to_come (j - next) d (in_drop next j keys from within))
@@ -146,3 +147,15 @@ arrived_after s t codes code so_far = ap (λ u. after_arrival u code) so_far ∙
 -- what awaits a clock, said of the clock before it
 pub awaits_on : (next clock late : ℕ) (keys other : List StampedKey) → Awaits next late keys → keys ≡ other → late ≡ clock + 1 → Awaits next (clock + 1) other
 awaits_on next clock late keys other awaits same is = subst (λ ks. Awaits next (clock + 1) ks) same (subst (λ c. Awaits next c keys) is awaits)
+
+-- clocks at which none comes
+pub awaits_later : (next clock n late : ℕ) (keys : List StampedKey) → Awaits next (clock + 1) keys → All (λ k. (k.stamp ≤ clock) ⊎ (clock + n < k.stamp)) keys → late ≡ clock + n → Awaits next (late + 1) keys
+awaits_later next clock n late keys awaits no_key is =
+    awaits_from next (late + 1) keys awaits.within
+    (λ j d within. let past = past_at next (clock + 1) keys awaits j d within in omega (arith, past, is))
+    (λ j d from within.
+    let later = to_come_at next (clock + 1) keys awaits j d from within in
+    elim (no_key j d within) [
+      | inl before ↦ absurd (omega (arith, later, before))
+      | inr after ↦ omega (arith, after, is)
+    ])

@@ -3,10 +3,15 @@ pub mod Entries
 pub mod Foreseen
 pub mod KeyOrder
 pub mod Lasts
+pub mod Leap
 pub mod LeastNumbers
 pub mod Quiet
 pub mod Requests
+pub mod Rooms
 pub mod Runs
+pub mod Search
 pub mod Stopping
+pub mod Turns
 pub mod Wires
+pub mod Works
 pub mod Writable

@@ -12,15 +12,8 @@ use Rattle.board.specs.Laws.{RunsJoin}
 use Rattle.board_types.specs.Lines.{from_bool, is_high}
 use Rattle.board.specs.Plain.{Plain, clock_of, after_clock, after_clocks, change_next, changes_in, speaker_level}
 use Rattle.board.specs.Trail.{last, trail_in, trail_next}
+use Rattle.board.specs.Turns.{IsTickOn}
 use Rattle.board.proofs.Lasts.{last_again, nothing_added}
-
--- one clock of a board, with the change and the entry that it brings in the lists
-pub record IsClockOn (old new : BoardState) : Type 0 where
-  pub plain : new.plain ≡ after_clock old.plain
-  pub clock : clock_of new.plain ≡ clock_of old.plain + 1
-  pub changes : new.changes ≡ old.changes ++ change_next old.plain
-  pub trail : new.trail ≡ last 32 (old.trail ++ trail_next old.plain)
-  pub room : old.room + length old.changes ≤ new.room + length new.changes
 
 pub ran_none : (s : BoardState) → length s.trail ≤ 32 → Ran 0 s s
 ran_none s few = record {
@@ -32,7 +25,7 @@ ran_none s few = record {
   room = omega arith;
 }
 
-pub ran_more : (n : ℕ) (s t u : BoardState) → Ran n s t → IsClockOn t u → Ran (n + 1) s u
+pub ran_more : (n : ℕ) (s t u : BoardState) → Ran n s t → IsTickOn t u → Ran (n + 1) s u
 ran_more n s t u so_far on = record {
   plain = on.plain ∙ ap after_clock so_far.plain ∙ sym (iterate_more after_clock n s.plain);
   clock = let c = on.clock in let d = so_far.clock in omega arith;
@@ -134,6 +127,10 @@ same_to High High e = refl
 pub nothing_listed : (changes : List SpeakerChange) (p : Plain) → speaker_level (after_clock p) ≡ speaker_level p → changes ≡ changes ++ change_next p
 unfolding change_next
 nothing_listed changes p same = rw (same_to _ _ same) (sym (append-nil changes))
+
+pub no_change : (p : Plain) → speaker_level (after_clock p) ≡ speaker_level p → change_next p ≡ []
+unfolding change_next
+no_change p same = rw (same_to _ _ same) refl
 
 -- it changes: the clock and the level are listed
 pub change_listed : (p : Plain) (level : Line) → speaker_level (after_clock p) ≢ speaker_level p → level ≡ speaker_level (after_clock p) → (record { clock = clock_of p + 1; level = level }) ∷ [] ≡ change_next p

@@ -1,5 +1,5 @@
 -- What a board shows: the plain board at its clock, the speaker's changes so far, the room that is kept for further
--- ones, and the last entries of the trail.
+-- ones, the last entries of the trail, and the turns that it has made.
 -- To be believed: public contracts say what they say by these definitions.
 use Rattle.std.specs.Prelude.{ℕ, ◌+◌, ◌<◌, ◌≤◌, ◌≡◌, ◌≢◌, List, ◌++◌, codes, length}
 use Rattle.board.specs.declared.board.BoardFault.{BoardFault}
@@ -14,6 +14,8 @@ pub record BoardState : Type 0 where
   pub changes : List SpeakerChange
   pub room : ℕ
   pub trail : List TrailEntry
+  -- how often time went on since power-on: by a leap, or by a clock
+  pub turns : ℕ
 
 -- n clocks have gone by, with the changes that they bring and what they add to the trail; no more room has gone than
 -- changes have come

@@ -6,3 +6,6 @@ pub mod Board
 pub mod Stops
 pub mod Laws
 pub mod HeldBack
+pub mod Work
+pub mod Leap
+pub mod Turns

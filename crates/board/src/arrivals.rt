@@ -1,7 +1,7 @@
 //! Keys that reach the keyboard at their clocks.
-ghost use Rattle.std.specs.Prelude.{◌≡◌, ◌+◌, ◌<◌, ◌^◌};
+ghost use Rattle.std.specs.Prelude.{ℕ, ◌≡◌, ◌+◌, ◌<◌, ◌^◌};
 ghost use Rattle.board_types.specs.Keys.{IsInOrder};
-ghost use Rattle.board.specs.Arrivals.{Awaits};
+ghost use Rattle.board.specs.Arrivals.{Awaits, IsNextStamp};
 ghost use Rattle.wiring.specs.Wires.{after_arrivals};
 ghost use Rattle.board.specs.Plain.{chips_after_clock, codes_at};
 
@@ -42,4 +42,15 @@ pub(crate) fn pass_clock(chips: &mut Chips, keys: &[StampedKey], next: usize) ->
     let arrived = arrive_at(chips, keys, next, clock);
     chips.settle();
     arrived
+}
+
+/// The next stamp at which keys arrive, of which the first `next` have arrived; none where all have.
+pub(crate) fn next_stamp(keys: &[StampedKey], next: usize) -> Option<Clock>
+    requires { IsInOrder keys.now }
+    ensures { (clock : ℕ) → Awaits next (clock + 1) keys.now → IsNextStamp clock keys.now result }
+{
+    match keys.get(next) {
+        Some(key) => Some(key.stamp),
+        None => None,
+    }
 }

@@ -6,12 +6,16 @@ ghost use Rattle.memory.specs.Map.{IsRamSize, FitsRam};
 ghost use Rattle.board.specs.declared.board.BoardFault.TheVariants.{Memory};
 ghost use Rattle.board.specs.Board.{Ran, StoppedEarly, board_fault_name, board_fault_number};
 ghost use Rattle.board.specs.HeldBack.{IsHeldBack};
-ghost use Rattle.board.specs.Plain.{after_clock, after_clocks, byte_of, change_next, changes_in, clock_of, lost_codes, power_on, registers_of, screen_of, speaker_level, state_of};
+ghost use Rattle.board.specs.Leap.{IsQuiet, leapt};
+ghost use Rattle.board.specs.Plain.{after_clock, after_clocks, byte_of, change_next, changes_in, clock_of, lost_codes, next_act, power_on, registers_of, screen_of, speaker_level, state_of};
 ghost use Rattle.board.specs.Stops.{FitsRoom, HasAddress, IsStopOf, NoStop, run_length};
 ghost use Rattle.board.specs.Trail.{last, trail_in, trail_next};
+ghost use Rattle.board.specs.Turns.{IsTickOn, IsTurnOn};
+ghost use Rattle.board.specs.Work.{steps_in, work_in};
 ghost use Rattle.std.specs.Option.{option_copied};
 ghost use Rattle.board_types.specs.Lines.{from_bool};
 
+use crate::act::Act;
 use crate::plain::PlainBoard;
 use crate::stop::{Stop, Stopped, Stops};
 use crate::trail::{Trail, TrailEntry};
@@ -95,6 +99,8 @@ pub struct Board<A: Allocator = Global> {
     plain: PlainBoard,
     changes: Vec<SpeakerChange, A>,
     trail: Trail,
+    /// The leaps of time and the clocks that were made by themselves since power-on; each is a clock at least.
+    turns: u64,
 }
 
 impl<A: Allocator> Model for Board<A> {
@@ -110,9 +116,10 @@ impl<A: Allocator> Model for Board<A> {
       changes = b.changes.items;
       room = vec_capacity b.changes - length b.changes.items;
       trail = b.trail;
+      turns = b.turns;
     } };
 
-    ghost invariant = { λ b. (clock_of b.plain ≤ 2 ^ 40) × (length b.trail ≤ 32) };
+    ghost invariant = { λ b. (clock_of b.plain ≤ 2 ^ 40) × (length b.trail ≤ 32) × (b.turns ≤ clock_of b.plain) };
 }
 
 impl Board {
@@ -130,6 +137,7 @@ impl Board {
         ensures clock { IfOk result (λ board. clock_of board.plain ≡ 0) }
         ensures changes { IfOk result (λ board. board.changes ≡ []) }
         ensures trail { IfOk result (λ board. board.trail ≡ []) }
+        ensures turns { IfOk result (λ board. board.turns ≡ 0) }
         ensures size { OnOk result (IsRamSize config.ram_kb × FitsRam image.now (1024 * config.ram_kb)) }
         ensures ram_size { IsErrOf result BoardFault.RamSize
             ↔ (¬ (IsRamSize config.ram_kb × FitsRam image.now (1024 * config.ram_kb))) }
@@ -144,6 +152,7 @@ impl Board {
             plain,
             changes: Vec::new(alloc),
             trail: Trail::new(alloc)?,
+            turns: 0,
         })
     }
 
@@ -152,12 +161,14 @@ impl Board {
         ensures plain { IfOk result (λ board. board.plain ≡ self.now.plain) }
         ensures changes { IfOk result (λ board. board.changes ≡ self.now.changes) }
         ensures trail { IfOk result (λ board. board.trail ≡ self.now.trail) }
+        ensures turns { IfOk result (λ board. board.turns ≡ self.now.turns) }
         ensures err { IfErr result (λ fault. fault ≡ BoardFault.Memory) }
     {
         Ok(Board {
             plain: self.plain.copy()?,
             changes: self.changes.clone()?,
             trail: self.trail.copy()?,
+            turns: self.turns,
         })
     }
 
@@ -173,6 +184,7 @@ impl Board {
             plain: self.plain,
             changes,
             trail: self.trail,
+            turns: self.turns,
         }
     }
 }
@@ -194,12 +206,17 @@ impl<A: Allocator> Board<A> {
         ensures succeeds { clock_of self.old.plain + count ≤ 2 ^ 40
             → length (changes_in self.old.plain count) ≤ self.old.room → IsOk result }
         ensures room { self.old.room + length self.old.changes ≤ self.new.room + length self.new.changes }
+        ensures turns_least { self.old.turns + steps_in self.old.plain (clock_of self.new.plain - clock_of self.old.plain)
+            ≤ self.new.turns }
+        ensures turns_most { self.new.turns
+            ≤ self.old.turns + 3 * work_in self.old.plain (clock_of self.new.plain - clock_of self.old.plain) + 3 }
     {
         if self.is_past_limit(count) {
             return Err(BoardFault::ClockLimit);
         }
-        for _passed in 0..count {
-            self.run_clock()?;
+        let end = self.clock().get() + count;
+        'turns: while self.clock().get() < end {
+            self.turn(end)?;
         }
         Ok(())
     }
@@ -222,18 +239,31 @@ impl<A: Allocator> Board<A> {
         ensures succeeds_to_stop { clock_of self.old.plain + count ≤ 2 ^ 40 → FitsRoom stops.now.items count self.old
             → IsOk result }
         ensures room { self.old.room + length self.old.changes ≤ self.new.room + length self.new.changes }
+        ensures turns_least { self.old.turns + steps_in self.old.plain (clock_of self.new.plain - clock_of self.old.plain)
+            ≤ self.new.turns }
+        ensures turns_most { self.new.turns
+            ≤ self.old.turns + 3 * work_in self.old.plain (clock_of self.new.plain - clock_of self.old.plain) + 3 }
     {
         if self.is_past_limit(count) {
             return Err(BoardFault::ClockLimit);
         }
-        for _gone in 0..count {
-            self.run_clock()?;
+        if count == 0 {
+            return Ok(None);
+        }
+        let end = self.clock().get() + count;
+        // a stop that holds at the start is none there, so the first clock is made by itself
+        let next = self.plain.next_act();
+        self.run_clock(&next)?;
+        'turns: loop {
             if let Some(number) = self.plain.holding(stops.as_slice()) {
                 let clock = self.clock();
                 return Ok(Some(Stop { number, clock }));
             }
+            if self.clock().get() == end {
+                return Ok(None);
+            }
+            self.turn(end)?;
         }
-        Ok(None)
     }
 
     /// Makes room for `n` more changes of the speaker's level. Refused as `Memory`, with nothing changed, where
@@ -243,6 +273,7 @@ impl<A: Allocator> Board<A> {
         ensures plain { self.new.plain ≡ self.old.plain }
         ensures changes { self.new.changes ≡ self.old.changes }
         ensures trail { self.new.trail ≡ self.old.trail }
+        ensures turns { self.new.turns ≡ self.old.turns }
         ensures room { self.old.room ≤ self.new.room }
         ensures err { IfErr result (λ fault. fault ≡ BoardFault.Memory) }
         ensures err_kept { OnErr result (self.new ≡ self.old) }
@@ -261,23 +292,61 @@ impl<A: Allocator> Board<A> {
         Clock::LAST - self.plain.chips.clock().get() < count
     }
 
-    /// One processor clock. The list of changes grows before anything else changes.
-    fn run_clock(&mut self) -> Result<(), BoardFault>
-        requires { clock_of self.old.plain < 2 ^ 40 }
+    /// One turn of a run that ends at the clock `end`: time leaps to the next clock at which something is due, or, where
+    /// that is this one, goes on by a clock. No condition changes on the way of a leap, short of its last clock.
+    fn turn(&mut self, end: u64) -> Result<(), BoardFault>
+        requires before_end { clock_of self.old.plain < end }
+        requires within { end ≤ 2 ^ 40 }
+        ensures ok { OnOk result (IsTurnOn end self.old self.new) }
+        ensures err { OnErr result (IsHeldBack self.old self.new) }
+        ensures fault { IfErr result (λ fault. fault ≡ BoardFault.Memory) }
+    {
+        let next = self.plain.next_act();
+        let quiet = self.plain.quiet_clocks(&next, end - self.clock().get());
+        if quiet == 0 {
+            self.run_clock(&next)?;
+            return Ok(());
+        }
+        self.leap(quiet);
+        Ok(())
+    }
+
+    /// Time leaps over `clocks` clocks.
+    fn leap(&mut self, clocks: u64)
+        requires within { clock_of self.old.plain + clocks ≤ 2 ^ 40 }
+        requires some { 1 ≤ clocks }
+        requires quiet { IsQuiet self.old.plain clocks }
+        ensures plain { self.new.plain ≡ leapt self.old.plain clocks }
+        ensures clock { clock_of self.new.plain ≡ clock_of self.old.plain + clocks }
+        ensures changes { self.new.changes ≡ self.old.changes }
+        ensures trail { self.new.trail ≡ self.old.trail }
+        ensures room { self.new.room ≡ self.old.room }
+        ensures turns { self.new.turns ≡ self.old.turns + 1 }
+    {
+        self.plain.leap(clocks);
+        self.turns += 1;
+    }
+
+    /// One processor clock, `next` being what the processor does in it. The list of changes grows before anything else
+    /// changes.
+    fn run_clock(&mut self, next: &Act) -> Result<(), BoardFault>
+        requires within { clock_of self.old.plain < 2 ^ 40 }
+        requires next { next.now ≡ next_act self.old.plain }
         ensures plain { OnOk result (self.new.plain ≡ after_clock self.old.plain) }
         ensures clock { OnOk result (clock_of self.new.plain ≡ clock_of self.old.plain + 1) }
         ensures changes { OnOk result (self.new.changes ≡ self.old.changes ++ change_next self.old.plain) }
         ensures trail { OnOk result (self.new.trail ≡ last 32 (self.old.trail ++ trail_next self.old.plain)) }
         ensures room { OnOk result (self.old.room + length self.old.changes ≤ self.new.room + length self.new.changes) }
+        ensures turns { OnOk result (self.new.turns ≡ self.old.turns + 1) }
         ensures err { OnErr result (IsHeldBack self.old self.new) }
         ensures fault { IfErr result (λ fault. fault ≡ BoardFault.Memory) }
     {
-        let next = self.plain.next_act();
-        let high = self.plain.is_high_next(&next);
+        let high = self.plain.is_high_next(next);
         self.list_change(high)?;
-        let entry = self.plain.next_entry(&next);
+        let entry = self.plain.next_entry(next);
         self.trail.extend(entry);
-        self.plain.tick(&next);
+        self.plain.tick(next);
+        self.turns += 1;
         Ok(())
     }
 
@@ -287,6 +356,7 @@ impl<A: Allocator> Board<A> {
         requires next { from_bool high ≡ speaker_level (after_clock self.old.plain) }
         ensures plain { self.new.plain ≡ self.old.plain }
         ensures trail { self.new.trail ≡ self.old.trail }
+        ensures turns { self.new.turns ≡ self.old.turns }
         ensures changes { OnOk result (self.new.changes ≡ self.old.changes ++ change_next self.old.plain) }
         ensures room { OnOk result (self.old.room + length self.old.changes ≤ self.new.room + length self.new.changes) }
         ensures err { OnErr result (IsHeldBack self.old self.new) }
@@ -303,6 +373,7 @@ impl<A: Allocator> Board<A> {
         requires { clock_of self.old.plain < 2 ^ 40 }
         ensures plain { self.new.plain ≡ self.old.plain }
         ensures trail { self.new.trail ≡ self.old.trail }
+        ensures turns { self.new.turns ≡ self.old.turns }
         ensures ok { OnOk result
             (self.new.changes
             ≡ self.old.changes ++ (record { clock = clock_of self.old.plain + 1; level = from_bool high }) ∷ []) }
@@ -359,6 +430,14 @@ impl<A: Allocator> Board<A> {
         ensures { result ≡ lost_codes self.now.plain }
     {
         self.plain.chips.lost()
+    }
+
+    /// How many turns the board has made since power-on, at most one a clock: each leap of time is one, and each clock
+    /// that was made by itself.
+    pub fn turns(&self) -> u64
+        ensures { result ≡ self.now.turns }
+    {
+        self.turns
     }
 
     /// The changes of the speaker's level since power-on, where it is low.

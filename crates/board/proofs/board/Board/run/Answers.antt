@@ -1,13 +1,23 @@
-use Rattle.board.proofs.Runs.{ran_none, ran_more, not_held}
+use Rattle.std.proofs.Common.{◌≡◌, ◌<◌, ◌+◌, refl, ap, ◌∙◌, arith}
+use Rattle.board.specs.Plain.{clock_of}
+use Rattle.board.proofs.Turns.{HeldRun, held_run, not_counted, so_far_none, so_far_turn, turn_moves}
 use Rattle.board.proofs.board.Board.run.Goals as goal
 
-pub loop-passed-init : goal.loop-passed-init
-loop-passed-init g c = ran_none _ c.is_past_limit.ensures.trail
+pub returns-then-is_past_limit-clause-turns_least : goal.returns-then-is_past_limit-clause-turns_least
+returns-then-is_past_limit-clause-turns_least g c = (not_counted c.args.self.now c.args.self.now refl).least
 
-pub loop-passed-preserved : goal.loop-passed-preserved
-loop-passed-preserved g c =
-    let on = c.in_ok-run_clock.ensures in
-    ran_more _ _ _ _ c.loop-passed.invariant (record { plain = on.plain; clock = on.clock; changes = on.changes; trail = on.trail; room = on.room })
+pub turns-init : goal.turns-init
+turns-init g c = so_far_none _ _ c.is_past_limit.ensures.trail (omega (arith, c.clock.ensures, c.get.ensures.value))
 
-pub returns-in_err-run_clock-clause-succeeds : goal.returns-in_err-run_clock-clause-succeeds
-returns-in_err-run_clock-clause-succeeds g c = λ within enough. absurd (not_held _ _ _ _ _ c.loop-passed-test.true c.loop-passed.invariant c.in_err-run_clock.ensures.err enough)
+pub turns-smaller : goal.turns-smaller
+turns-smaller g c =
+    turn_moves _ _ _ (omega (arith, c.turns-test.true, c.clock-in-turns.ensures, c.get-in-turns.ensures.value)) c.in_ok-turn.ensures.ok
+
+pub turns-preserved : goal.turns-preserved
+turns-preserved g c =
+    so_far_turn 1 _ _ _ _ c.turns.invariant (omega (arith, c.turns-test.true, c.clock-in-turns.ensures, c.get-in-turns.ensures.value)) c.in_ok-turn.ensures.ok
+
+pub returns-in_err-turn-clause-succeeds : goal.returns-in_err-turn-clause-succeeds
+returns-in_err-turn-clause-succeeds g c = λ within enough.
+    absurd ((held_run 1 _ c.args.count _ _ _ c.turns.invariant (omega arith) (omega (arith, c.clock.ensures, c.get.ensures.value))
+    (omega (arith, c.turns-test.true, c.clock-in-turns.ensures, c.get-in-turns.ensures.value)) c.in_err-turn.ensures.err).enough enough)

@@ -1,42 +1,90 @@
-use Rattle.std.proofs.Common.{◌∙◌, sym, ap, ◌≡◌, ◌+◌, None, Some}
-use Rattle.board.specs.Plain.{after_clocks}
-use Rattle.board.specs.Board.{BoardState, Ran}
+use Rattle.std.proofs.Common.{◌≡◌, ◌<◌, ◌+◌, None, Some, refl, sym, ap, ◌∙◌, arith}
+use Rattle.board.specs.Board.{BoardState}
+use Rattle.board.specs.Plain.{clock_of}
 use Rattle.board.specs.Stops.{holding}
-use Rattle.board.proofs.Runs.{ran_none, ran_more, not_held}
-use Rattle.board.proofs.Stopping.{no_stop_none, no_stop_more, stops_here, ran_to_stop, not_held_before_stop}
+use Rattle.board.specs.Turns.{IsTickOn}
+use Rattle.board.proofs.Search.{HeldSearch, found, held_at_once, held_search, not_found, nothing_found, searched_first, searched_turn}
+use Rattle.board.proofs.Turns.{not_counted, turn_moves}
 use Rattle.board.proofs.board.Board.run_until.Goals as goal
 
-pub loop-gone-init : goal.loop-gone-init
-loop-gone-init g c = record { ran = ran_none _ c.is_past_limit.ensures.trail; none = no_stop_none _ _ }
+pub returns-then-is_past_limit-clause-turns_least : goal.returns-then-is_past_limit-clause-turns_least
+returns-then-is_past_limit-clause-turns_least g c = (not_counted c.args.self.now c.args.self.now refl).least
+
+pub returns-then-count-eq0-clause-ran : goal.returns-then-count-eq0-clause-ran
+returns-then-count-eq0-clause-ran g c =
+    (nothing_found c.args.stops.now.items c.args.count c.args.self.now c.args.self.now c.is_past_limit.ensures.trail c.if-count-eq0.true refl).ran
+
+pub returns-then-count-eq0-clause-turns_least : goal.returns-then-count-eq0-clause-turns_least
+returns-then-count-eq0-clause-turns_least g c = (not_counted c.args.self.now c.args.self.now refl).least
+
+pub returns-in_err-run_clock-clause-memory : goal.returns-in_err-run_clock-clause-memory
+returns-in_err-run_clock-clause-memory g c = λ _.
+    (held_at_once c.args.stops.now.items (c.get.result + c.args.count) c.args.count c.args.self.now c.run_clock.new.self c.is_past_limit.ensures.trail
+    (omega (arith, c.clock.ensures, c.get.ensures.value)) (omega (arith, c.clock.ensures, c.get.ensures.value, c.if-count-eq0.false)) c.in_err-run_clock.ensures.err).run.early
 
 pub returns-in_err-run_clock-clause-succeeds : goal.returns-in_err-run_clock-clause-succeeds
-returns-in_err-run_clock-clause-succeeds g c = λ within enough. absurd (not_held _ _ _ _ _ c.loop-gone-test.true c.loop-gone.invariant.ran c.in_err-run_clock.ensures.err enough)
+returns-in_err-run_clock-clause-succeeds g c = λ within enough.
+    absurd ((held_at_once c.args.stops.now.items (c.get.result + c.args.count) c.args.count c.args.self.now c.run_clock.new.self c.is_past_limit.ensures.trail
+    (omega (arith, c.clock.ensures, c.get.ensures.value)) (omega (arith, c.clock.ensures, c.get.ensures.value, c.if-count-eq0.false)) c.in_err-run_clock.ensures.err).run.enough enough)
 
 pub returns-in_err-run_clock-clause-succeeds_to_stop : goal.returns-in_err-run_clock-clause-succeeds_to_stop
-returns-in_err-run_clock-clause-succeeds_to_stop g c = λ within enough. absurd (not_held_before_stop c.args.stops.now.items _ _ _ _ _ c.loop-gone-test.true c.loop-gone.invariant.ran c.loop-gone.invariant.none c.in_err-run_clock.ensures.err enough)
+returns-in_err-run_clock-clause-succeeds_to_stop g c = λ within enough.
+    absurd ((held_at_once c.args.stops.now.items (c.get.result + c.args.count) c.args.count c.args.self.now c.run_clock.new.self c.is_past_limit.ensures.trail
+    (omega (arith, c.clock.ensures, c.get.ensures.value)) (omega (arith, c.clock.ensures, c.get.ensures.value, c.if-count-eq0.false)) c.in_err-run_clock.ensures.err).fits enough)
+
+pub returns-in_err-run_clock-clause-turns_least : goal.returns-in_err-run_clock-clause-turns_least
+returns-in_err-run_clock-clause-turns_least g c =
+    (held_at_once c.args.stops.now.items (c.get.result + c.args.count) c.args.count c.args.self.now c.run_clock.new.self c.is_past_limit.ensures.trail
+    (omega (arith, c.clock.ensures, c.get.ensures.value)) (omega (arith, c.clock.ensures, c.get.ensures.value, c.if-count-eq0.false)) c.in_err-run_clock.ensures.err).run.counts.least
+
+pub turns-init : goal.turns-init
+turns-init g c =
+    let on = c.in_ok-run_clock.ensures in
+    searched_first c.args.stops.now.items (c.get.result + c.args.count) c.args.self.now c.run_clock.new.self c.is_past_limit.ensures.trail
+    (omega (arith, c.clock.ensures, c.get.ensures.value, c.if-count-eq0.false))
+    (record { plain = on.plain; clock = on.clock; changes = on.changes; trail = on.trail; room = on.room; turns = on.turns })
+
+pub turns-smaller : goal.turns-smaller
+turns-smaller g c =
+    let x = c.turns in
+    let within = c.turns.invariant.so_far.within in
+    turn_moves _ _ _ (omega (arith, within, c.clock-in-turns.ensures, c.get-in-turns.ensures.value, c.if-get-end.false)) c.in_ok-turn.ensures.ok
+
+pub turns-preserved : goal.turns-preserved
+turns-preserved g c =
+    let now : c.self-in-turns.inside.plain ≡ c.turns.self.plain = ap (λ (b : BoardState). b.plain) c.self-in-turns.view_is in
+    let here : holding c.args.stops.now.items c.turns.self.plain ≡ None =
+    ap (holding c.args.stops.now.items) (sym now) ∙ ap (λ stops. holding stops c.self-in-turns.inside.plain) (sym c.as_slice.ensures.value) ∙ sym c.holding.ensures ∙ c.in_default.is in
+    let within = c.turns.invariant.so_far.within in
+    let before : clock_of c.turns.self.plain < c.get.result + c.args.count = omega (arith, within, c.clock-in-turns.ensures, c.get-in-turns.ensures.value, c.if-get-end.false) in
+    searched_turn c.args.stops.now.items (c.get.result + c.args.count) c.args.self.now c.turns.self c.turn.new.self c.turns.invariant here before c.in_ok-turn.ensures.ok
+
+pub returns-in_err-turn-clause-succeeds : goal.returns-in_err-turn-clause-succeeds
+returns-in_err-turn-clause-succeeds g c = λ within_limit enough.
+    let now : c.self-in-turns.inside.plain ≡ c.turns.self.plain = ap (λ (b : BoardState). b.plain) c.self-in-turns.view_is in
+    let here : holding c.args.stops.now.items c.turns.self.plain ≡ None =
+    ap (holding c.args.stops.now.items) (sym now) ∙ ap (λ stops. holding stops c.self-in-turns.inside.plain) (sym c.as_slice.ensures.value) ∙ sym c.holding.ensures ∙ c.in_default.is in
+    let within = c.turns.invariant.so_far.within in
+    let before : clock_of c.turns.self.plain < c.get.result + c.args.count = omega (arith, within, c.clock-in-turns.ensures, c.get-in-turns.ensures.value, c.if-get-end.false) in
+    let held = held_search c.args.stops.now.items (c.get.result + c.args.count) c.args.count c.args.self.now c.turns.self c.turn.new.self c.turns.invariant here
+    (omega (arith, c.clock.ensures, c.get.ensures.value)) before c.in_err-turn.ensures.err in
+    absurd (held.run.enough enough)
+
+pub returns-in_err-turn-clause-succeeds_to_stop : goal.returns-in_err-turn-clause-succeeds_to_stop
+returns-in_err-turn-clause-succeeds_to_stop g c = λ within_limit enough.
+    let now : c.self-in-turns.inside.plain ≡ c.turns.self.plain = ap (λ (b : BoardState). b.plain) c.self-in-turns.view_is in
+    let here : holding c.args.stops.now.items c.turns.self.plain ≡ None =
+    ap (holding c.args.stops.now.items) (sym now) ∙ ap (λ stops. holding stops c.self-in-turns.inside.plain) (sym c.as_slice.ensures.value) ∙ sym c.holding.ensures ∙ c.in_default.is in
+    let within = c.turns.invariant.so_far.within in
+    let before : clock_of c.turns.self.plain < c.get.result + c.args.count = omega (arith, within, c.clock-in-turns.ensures, c.get-in-turns.ensures.value, c.if-get-end.false) in
+    let held = held_search c.args.stops.now.items (c.get.result + c.args.count) c.args.count c.args.self.now c.turns.self c.turn.new.self c.turns.invariant here
+    (omega (arith, c.clock.ensures, c.get.ensures.value)) before c.in_err-turn.ensures.err in
+    absurd (held.fits enough)
 
 pub returns-in-Some-clause-stop : goal.returns-in-Some-clause-stop
 returns-in-Some-clause-stop g c =
-    let on = c.in_ok-run_clock.ensures in
-    let ran : Ran (c.loop-gone._gone + 1) c.args.self.now c.run_clock.new.self =
-    ran_more _ _ _ _ c.loop-gone.invariant.ran (record { plain = on.plain; clock = on.clock; changes = on.changes; trail = on.trail; room = on.room }) in
-    let now : c.self.inside.plain ≡ c.run_clock.new.self.plain = ap (λ (b : BoardState). b.plain) c.self.view_is in
-    let here : holding c.args.stops.now.items c.run_clock.new.self.plain ≡ Some c.in-Some.number =
-    ap (holding c.args.stops.now.items) (sym now) ∙ ap (λ stops. holding stops c.self.inside.plain) (sym c.as_slice.ensures.value) ∙ sym c.holding.ensures ∙ c.in-Some.is in
-    stops_here c.args.stops.now.items c.args.count c.loop-gone._gone c.args.self.now c.run_clock.new.self c.in-Some.number c.clock-clock.result c.loop-gone-test.true c.loop-gone.invariant.none ran here c.clock-clock.ensures
-
-pub returns-in-Some-clause-ran : goal.returns-in-Some-clause-ran
-returns-in-Some-clause-ran g c =
-    let on = c.in_ok-run_clock.ensures in
-    ran_to_stop (c.loop-gone._gone + 1) c.args.self.now c.run_clock.new.self c.clock-clock.result
-    (ran_more _ _ _ _ c.loop-gone.invariant.ran (record { plain = on.plain; clock = on.clock; changes = on.changes; trail = on.trail; room = on.room })) c.clock-clock.ensures
-
-pub loop-gone-preserved : goal.loop-gone-preserved
-loop-gone-preserved g c =
-    let on = c.in_ok-run_clock.ensures in
-    let ran : Ran (c.loop-gone._gone + 1) c.args.self.now c.run_clock.new.self =
-    ran_more _ _ _ _ c.loop-gone.invariant.ran (record { plain = on.plain; clock = on.clock; changes = on.changes; trail = on.trail; room = on.room }) in
-    let now : c.self.inside.plain ≡ c.run_clock.new.self.plain = ap (λ (b : BoardState). b.plain) c.self.view_is in
-    let here : holding c.args.stops.now.items (after_clocks c.args.self.now.plain (c.loop-gone._gone + 1)) ≡ None =
-    ap (holding c.args.stops.now.items) (sym ran.plain ∙ sym now) ∙ ap (λ stops. holding stops c.self.inside.plain) (sym c.as_slice.ensures.value) ∙ sym c.holding.ensures ∙ c.in_default.is in
-    record { ran = ran; none = no_stop_more c.args.stops.now.items c.loop-gone._gone c.args.self.now.plain c.loop-gone.invariant.none here }
+    let now : c.self-in-turns.inside.plain ≡ c.turns.self.plain = ap (λ (b : BoardState). b.plain) c.self-in-turns.view_is in
+    let here : holding c.args.stops.now.items c.turns.self.plain ≡ Some c.in-Some.number =
+    ap (holding c.args.stops.now.items) (sym now) ∙ ap (λ stops. holding stops c.self-in-turns.inside.plain) (sym c.as_slice.ensures.value) ∙ sym c.holding.ensures ∙ c.in-Some.is in
+    (found c.args.stops.now.items (c.get.result + c.args.count) c.args.count c.args.self.now c.turns.self c.in-Some.number c.clock-clock.result c.turns.invariant
+    (omega (arith, c.clock.ensures, c.get.ensures.value)) here c.clock-clock.ensures).stop

@@ -1,9 +1,10 @@
-use Rattle.board.specs.Board.{Ran}
-use Rattle.board.specs.Stops.{NoStop}
+use Rattle.std.proofs.Common.{◌-◌}
+use Rattle.board.specs.Plain.{clock_of}
+use Rattle.board.proofs.Search.{Searched}
 use Rattle.board.proofs.board.Board.run_until.Given as goal
 
-abbrev pub invariant-loop-gone : goal.invariant-loop-gone
-invariant-loop-gone g l = record {
-  ran : Ran l._gone l.fn.self l.self;
-  none : NoStop l.stops.items l._gone l.fn.self.plain;
-}
+abbrev pub invariant-turns : goal.invariant-turns
+invariant-turns g l = Searched l.stops.items l.end l.fn.self l.self
+
+abbrev pub decreases-turns : goal.decreases-turns
+decreases-turns g l = l.end - clock_of l.self.plain

@@ -1,0 +1,209 @@
+-- Quiet clocks: what a board is after them, and that nothing is told of them.
+use Rattle.std.proofs.Common.{◌≡◌, ℕ, zero, suc, ◌+◌, ◌-◌, ◌<◌, ◌≤◌, inl, inr, Bool, true, false, if◌then◌else◌, List, [], ◌∷◌, ◌++◌, Some, refl, sym, ap, ◌∙◌, subst, arith}
+use Rattle.std.specs.Prelude.{◌&&◌, ◌==◌, cond, nat_eq}
+use Rattle.std.specs.List.{position_from}
+use Rattle.std.proofs.lemmas.Bool.Decides.{nat_tests}
+use Rattle.board_types.proofs.Iterate.{iterate_more, gathered_zero, gathered_more}
+use Rattle.board_types.specs.Bits.{has_bit}
+use Rattle.board_types.specs.Iterate.{iterate, gathered}
+use Rattle.board_types.specs.Lines.{from_bool, is_high}
+use Rattle.board_types.specs.declared.line.Line.{Line}
+use Rattle.execute.specs.Boundaries.{boundary_of}
+use Rattle.execute.specs.Meaning.{StepResult}
+use Rattle.mda_text.proofs.Raster.{clocks_move_beam}
+use Rattle.mda_text.specs.Mda.{MdaState, text_byte}
+use Rattle.memory.specs.Map as map
+use Rattle.memory.specs.Regions.{is_text_address}
+use Rattle.pit8253.proofs.PitTicks.{each_counter}
+use Rattle.pit8253.specs.Pit.{PitState}
+use Rattle.ppi8255.specs.Ppi.{lines_b}
+use Rattle.wiring.proofs.Clocks.{clock_of_clocks}
+use Rattle.wiring.proofs.Leap.{clocks_leap}
+use Rattle.wiring.specs.Chips.{ChipsState}
+use Rattle.wiring.specs.Edges.{ticks_between}
+use Rattle.wiring.specs.Leap as leaps
+use Rattle.wiring.specs.Leap.{IsStill}
+use Rattle.wiring.specs.Ports.{byte_at}
+use Rattle.wiring.specs.Speaker.{is_speaker_high}
+use Rattle.wiring.specs.Wires as wires
+use Rattle.wiring.specs.Wires.{after_settling, is_requested}
+use Rattle.board.specs.declared.act.Act.{Act}
+use Rattle.board.specs.declared.act.Act.TheVariants.{Nothing}
+use Rattle.board.specs.declared.stop.Condition.{Condition}
+use Rattle.board.specs.declared.stop.Condition.TheVariants.{Free, At, Byte, Sound, Halted}
+use Rattle.board.specs.Laws.{NoKeyComes, WiresHold}
+use Rattle.board.specs.Leap.{IsQuiet, StaysIdle, leapt}
+use Rattle.board.specs.Plain.{Plain, act_at, after_act, after_clock, after_clocks, byte_of, change_next, changes_in, chips_after_clock, clock_of, codes_at, is_free, next_act, speaker_level, state_of}
+use Rattle.board.specs.Stops.{holding, holds}
+use Rattle.board.specs.Trail.{entry_at, event_of, trail_in, trail_next}
+use Rattle.board.proofs.Quiet.{clock_alone, holds_later, none_comes, nothing_by}
+use Rattle.board.proofs.Runs.{no_change}
+
+-- the processor does nothing where it is busy or idle
+
+not_free : (n : ℕ) → 1 ≤ n → nat_eq n 0 ≡ false
+not_free n some = grind (arith, nat_tests)
+
+busy_by : (free : Bool) (a : Act) → free ≡ false → (if free then a else Nothing) ≡ Nothing
+busy_by free a is = ap (λ f. if f then a else Nothing) is
+
+idle_clock : (s : Plain) (b : ℕ) (c : ChipsState) → next_act (record s { busy = b; chips = c }) ≡ Nothing → chips_after_clock c s.keys ≡ wires.after_clock c → after_clock (record s { busy = b; chips = c }) ≡ record s { busy = b - 1; chips = wires.after_clock c }
+unfolding after_clock
+idle_clock s b c nothing alone =
+    ap (λ (a : Act). let acted : StepResult ChipsState = after_act s.cpu b c a in record { cpu = acted.cpu; busy = acted.clocks - 1; chips = chips_after_clock acted.bus s.keys; keys = s.keys }) nothing
+    ∙ ap (λ t. record s { busy = b - 1; chips = t }) alone
+
+-- clocks in each of which it does nothing, while no key comes; `most` is their number at the end
+idle_clocks : (most n : ℕ) (s : Plain) → n ≤ most → WiresHold s.chips → NoKeyComes s most → ((i : ℕ) → i < n → next_act (record s { busy = s.busy - i; chips = wires.after_clocks s.chips i }) ≡ Nothing) → after_clocks s n ≡ record s { busy = s.busy - n; chips = wires.after_clocks s.chips n }
+unfolding iterate clock_of
+idle_clocks most zero s within holds no_key nothing =
+    let same : s.busy ≡ s.busy - 0 = omega arith in ap (λ b. record s { busy = b }) same
+idle_clocks most (suc n) s within holds no_key nothing =
+    let c : ChipsState = wires.after_clocks s.chips n in
+    let less : s.busy - n - 1 ≡ s.busy - suc n = omega arith in
+    let no_codes : codes_at s.keys (c.clock + 1) ≡ [] =
+    ap (λ clock. codes_at s.keys (clock + 1)) (clock_of_clocks n s.chips) ∙ none_comes s.keys s.chips.clock most n (omega (arith, within)) no_key in
+    ap after_clock (idle_clocks most n s (omega (arith, within)) holds no_key (λ i before. nothing i (omega (arith, before))))
+    ∙ idle_clock s (s.busy - n) c (nothing n (omega arith)) (clock_alone c s.keys (holds_later n s.chips holds) no_codes)
+    ∙ ap (λ b. record s { busy = b; chips = wires.after_clock c }) less
+
+-- fewer clocks are quiet too
+
+idle_for : (s : Plain) (n k : ℕ) → k ≤ n → StaysIdle s n → StaysIdle s k
+idle_for s n k within (inl busy) = inl (omega (arith, within, busy))
+idle_for s n k within (inr idle) = inr idle
+
+pub quiet_for : (s : Plain) (n k : ℕ) → k ≤ n → IsQuiet s n → IsQuiet s k
+quiet_for s n k within quiet = record {
+  idle = idle_for s n k within quiet.idle;
+  no_key = λ j d inside.
+      elim (quiet.no_key j d inside) [
+        | inl before ↦ inl before
+        | inr later ↦ inr (omega (arith, within, later))
+      ];
+  out_0 = λ j few. quiet.out_0 j (omega (arith, few, within));
+  out_2 = λ j few. quiet.out_2 j (omega (arith, few, within));
+}
+
+requests_stay : (s : Plain) (n : ℕ) → WiresHold s.chips → IsQuiet s n → is_requested (wires.after_clocks s.chips n) ≡ is_requested s.chips
+requests_stay s n holds quiet = ap (λ (c : ChipsState). is_requested c) (clocks_leap n s.chips holds.settled quiet.out_0)
+
+idle_act : (s : Plain) (n i : ℕ) → WiresHold s.chips → IsQuiet s n → i < n → StaysIdle s n → next_act (record s { busy = s.busy - i; chips = wires.after_clocks s.chips i }) ≡ Nothing
+unfolding next_act
+idle_act s n i holds quiet before (inl busy) =
+    busy_by (nat_eq (s.busy - i) 0) _ (not_free (s.busy - i) (omega (arith, before, busy)))
+idle_act s n i holds quiet before (inr idle) =
+    nothing_by (nat_eq (s.busy - i) 0) s.cpu (wires.after_clocks s.chips i) _
+    (ap (boundary_of s.cpu) (requests_stay s i holds (quiet_for s n i (omega (arith, before)) quiet)) ∙ idle.1)
+
+idle_then : (s : Plain) (n k : ℕ) → k ≤ n → WiresHold s.chips → IsQuiet s n → after_clocks s k ≡ record s { busy = s.busy - k; chips = wires.after_clocks s.chips k }
+idle_then s n k within holds quiet =
+    idle_clocks n k s within holds quiet.no_key (λ i before. idle_act s n i holds quiet (omega (arith, before, within)) quiet.idle)
+
+pub does_nothing : (s : Plain) (n i : ℕ) → WiresHold s.chips → IsQuiet s n → i < n → next_act (after_clocks s i) ≡ Nothing
+does_nothing s n i holds quiet before =
+    ap next_act (idle_then s n i (omega (arith, before)) holds quiet) ∙ idle_act s n i holds quiet before quiet.idle
+
+-- n quiet clocks, all at once
+pub board_leaps : (n : ℕ) (s : Plain) → WiresHold s.chips → IsQuiet s n → after_clocks s n ≡ leapt s n
+unfolding leapt
+board_leaps n s holds quiet =
+    idle_then s n n (omega arith) holds quiet
+    ∙ ap (λ c. record s { busy = s.busy - n; chips = c }) (clocks_leap n s.chips holds.settled quiet.out_0)
+
+pub clock_of_leap : (s : Plain) (n : ℕ) → clock_of (leapt s n) ≡ clock_of s + n
+unfolding clock_of leapt
+clock_of_leap s n = refl
+
+-- OUT0 and OUT2 stay
+
+pub out_0_stays : (s : Plain) (n : ℕ) → IsQuiet s n → (leapt s n).chips.pit.counter_0.out ≡ s.chips.pit.counter_0.out
+unfolding leapt
+out_0_stays s n quiet =
+    let ticks : ℕ = ticks_between s.chips.clock (s.chips.clock + n) in
+    ap (λ (q : PitState). q.counter_0.out) (each_counter ticks s.chips.pit) ∙ quiet.out_0 ticks (omega arith)
+
+pub out_2_stays : (s : Plain) (n : ℕ) → IsQuiet s n → (leapt s n).chips.pit.counter_2.out ≡ s.chips.pit.counter_2.out
+unfolding leapt
+out_2_stays s n quiet =
+    let ticks : ℕ = ticks_between s.chips.clock (s.chips.clock + n) in
+    ap (λ (q : PitState). q.counter_2.out) (each_counter ticks s.chips.pit) ∙ quiet.out_2 ticks (omega arith)
+
+level_with : (s : Plain) (n : ℕ) → (leapt s n).chips.pit.counter_2.out ≡ s.chips.pit.counter_2.out → speaker_level (leapt s n) ≡ speaker_level s
+unfolding speaker_level is_speaker_high leapt
+level_with s n same = ap (λ (out : Line). from_bool (has_bit (lines_b s.chips.ppi) 1 && is_high out)) same
+
+pub level_stays : (s : Plain) (n k : ℕ) → k ≤ n → WiresHold s.chips → IsQuiet s n → speaker_level (after_clocks s k) ≡ speaker_level s
+level_stays s n k within holds quiet =
+    let less : IsQuiet s k = quiet_for s n k within quiet in
+    ap speaker_level (board_leaps k s holds less) ∙ level_with s k (out_2_stays s k less)
+
+-- nothing is listed
+
+none_gathered : {S A : Type 0} (step : S → S) (seen : S → List A) (n : ℕ) (s : S) → ((i : ℕ) → i < n → seen (iterate step i s) ≡ []) → gathered step seen n s ≡ []
+none_gathered step seen zero s none = gathered_zero step seen s
+none_gathered step seen (suc n) s none =
+    let more : suc n ≡ n + 1 = omega arith in
+    ap (λ k. gathered step seen k s) more ∙ gathered_more step seen n s
+    ∙ ap (λ xs. xs ++ seen (iterate step n s)) (none_gathered step seen n s (λ i before. none i (omega (arith, before))))
+    ∙ none n (omega arith)
+
+pub no_changes : (s : Plain) (n : ℕ) → WiresHold s.chips → IsQuiet s n → changes_in s n ≡ []
+no_changes s n holds quiet =
+    none_gathered after_clock change_next n s (λ i before.
+    no_change (after_clocks s i)
+    (ap speaker_level (sym (iterate_more after_clock i s)) ∙ level_stays s n (i + 1) (omega (arith, before)) holds quiet
+    ∙ sym (level_stays s n i (omega (arith, before)) holds quiet)))
+
+nothing_begins : (p : Plain) → next_act p ≡ Nothing → trail_next p ≡ []
+unfolding trail_next
+nothing_begins p nothing = ap (λ (a : Act). entry_at p (event_of p.cpu p.chips a)) nothing
+
+pub no_entries : (s : Plain) (n : ℕ) → WiresHold s.chips → IsQuiet s n → trail_in s n ≡ []
+no_entries s n holds quiet =
+    none_gathered after_clock trail_next n s (λ i before. nothing_begins (after_clocks s i) (does_nothing s n i holds quiet before))
+
+-- no condition changes, short of the end
+
+free_by : (s : Plain) (n k : ℕ) → k < n → StaysIdle s n → nat_eq (s.busy - k) 0 ≡ nat_eq s.busy 0
+free_by s n k before (inl busy) = not_free (s.busy - k) (omega (arith, before, busy)) ∙ sym (not_free s.busy (omega (arith, before, busy)))
+free_by s n k before (inr idle) = let same : s.busy - k ≡ s.busy = omega (arith, idle.0) in ap (λ b. nat_eq b 0) same
+
+byte_with : (c : ChipsState) (n address : ℕ) → byte_at (leaps.leapt c n) address ≡ byte_at c address
+unfolding byte_at text_byte
+byte_with c n address =
+    ap (λ (m : MdaState). if is_text_address address then text_byte m (address - 0xB0000) else map.byte_at c.memory address) (clocks_move_beam c.mda n)
+
+one_stays : (condition : Condition) (s : Plain) (n k : ℕ) → k < n → IsQuiet s n → speaker_level (leapt s k) ≡ speaker_level s → holds condition (leapt s k) ≡ holds condition s
+unfolding holds leapt byte_of state_of
+one_stays Free s n k before quiet level = free_by s n k before quiet.idle
+one_stays (At cs ip) s n k before quiet level =
+    ap (λ free. free && (s.cpu.registers.cs == cs) && (s.cpu.registers.ip == ip)) (free_by s n k before quiet.idle)
+one_stays (Byte address value) s n k before quiet level = ap (λ b. b == value) (byte_with s.chips k address)
+one_stays Sound s n k before quiet level = ap is_high level
+one_stays Halted s n k before quiet level = refl
+
+same_position : {K : Type 0} (t u : K → Bool) (i : ℕ) (xs : List K) → ((x : K) → t x ≡ u x) → position_from t i xs ≡ position_from u i xs
+same_position t u i [] same = refl
+same_position t u i (x ∷ xs) same =
+    ap (λ here. cond here (Some i) (position_from t (i + 1) xs)) (same x) ∙ ap (λ rest. cond (u x) (Some i) rest) (same_position t u (i + 1) xs same)
+
+pub holding_stays : (stops : List Condition) (s : Plain) (n k : ℕ) → k < n → WiresHold s.chips → IsQuiet s n → holding stops (after_clocks s k) ≡ holding stops s
+unfolding holding
+holding_stays stops s n k before wired quiet =
+    let less : IsQuiet s k = quiet_for s n k (omega (arith, before)) quiet in
+    let level : speaker_level (leapt s k) ≡ speaker_level s = level_with s k (out_2_stays s k less) in
+    ap (holding stops) (board_leaps k s wired less)
+    ∙ same_position (λ condition. holds condition (leapt s k)) (λ condition. holds condition s) 1 stops (λ condition. one_stays condition s n k before quiet level)
+
+-- the parts after a leap
+
+pub synced : (s : Plain) (n to busy : ℕ) (c : ChipsState) → WiresHold s.chips → IsQuiet s n → to ≡ s.chips.clock + n → c ≡ wires.after_clocks s.chips (to - s.chips.clock) → busy ≡ s.busy - n → record s { busy = busy; chips = c } ≡ leapt s n
+unfolding leapt
+synced s n to busy c wired quiet is after less =
+    let whole : to - s.chips.clock ≡ n = omega (arith, is) in
+    ap (λ b. record s { busy = b; chips = c }) less
+    ∙ ap (λ x. record s { busy = s.busy - n; chips = x }) (after ∙ ap (λ k. wires.after_clocks s.chips k) whole ∙ clocks_leap n s.chips wired.settled quiet.out_0)
+
+pub wires_later : (s t : ChipsState) (n : ℕ) → WiresHold s → t ≡ wires.after_clocks s n → WiresHold t
+wires_later s t n wired after = subst (λ (c : ChipsState). WiresHold c) (sym after) (holds_later n s wired)

@@ -1,0 +1,146 @@
+-- A run that looks for its stop at the end of each turn.
+use Rattle.std.proofs.Common.{◌≡◌, ℕ, ◌+◌, ◌-◌, ◌<◌, ◌≤◌, inl, inr, List, length, Option, None, Some, refl, sym, ap, ◌∙◌, subst, arith}
+use Rattle.std.proofs.lemmas.Bool.Decides.{leb_tells}
+use Rattle.board_types.proofs.Iterate.{iterate_add}
+use Rattle.board.specs.declared.stop.Condition.{Condition}
+use Rattle.board.specs.Board.{BoardState, Ran}
+use Rattle.board.specs.HeldBack.{IsHeldBack}
+use Rattle.board.specs.Plain.{Plain, after_clock, after_clocks, clock_of}
+use Rattle.board.specs.Stops.{holding, FitsRoom, NoStop, StopsAt}
+use Rattle.board.specs.Turns.{IsLeapOn, IsTickOn, IsTurnOn}
+use Rattle.board.proofs.Leap.{holding_stays}
+use Rattle.board.proofs.Runs.{ran_more, ran_none}
+use Rattle.board.proofs.Stopping.{no_stop_more, no_stop_none, none_passed, not_held_before_stop, ran_to_stop, stops_here}
+use Rattle.board.proofs.Turns.{Counts, HeldRun, SoFar, counted, held_run, not_counted, ran_whole, so_far_first, so_far_leap, so_far_none, so_far_tick}
+
+-- a run so far that passed no stop; at its clock it hasn't looked for one
+pub record Searched (stops : List Condition) (end : ℕ) (s t : BoardState) : Type 0 where
+  pub so_far : SoFar 2 end s t
+  pub some : 1 ≤ so_far.passed
+  pub none : NoStop stops (so_far.passed - 1) s.plain
+
+pub searched_first : (stops : List Condition) (end : ℕ) (s u : BoardState) → length s.trail ≤ 32 → clock_of s.plain < end → IsTickOn s u → Searched stops end s u
+unfolding so_far_first
+searched_first stops end s u few before on = record {
+  so_far = so_far_first end s u few before on;
+  some = omega arith;
+  none = subst (λ n. NoStop stops n s.plain) (omega arith) (no_stop_none stops s.plain);
+}
+
+-- nothing holds where it looks
+pub none_here : (stops : List Condition) (end : ℕ) (s t : BoardState) → (searched : Searched stops end s t) → holding stops t.plain ≡ None → NoStop stops searched.so_far.passed s.plain
+none_here stops end s t searched here =
+    let some = searched.some in
+    let n : ℕ = searched.so_far.passed in
+    let whole : n - 1 + 1 ≡ n = omega (arith, some) in
+    subst (λ k. NoStop stops k s.plain) whole
+    (no_stop_more stops (n - 1) s.plain searched.none
+    (ap (λ k. holding stops (after_clocks s.plain k)) whole ∙ ap (holding stops) (sym searched.so_far.ran.plain) ∙ here))
+
+-- nor in a leap, short of its end
+none_in_leap : (stops : List Condition) (n end : ℕ) (s t u : BoardState) → Ran n s t → NoStop stops n s.plain → holding stops t.plain ≡ None → (leap : IsLeapOn end t u) → NoStop stops (n + leap.clocks - 1) s.plain
+none_in_leap stops n end s t u ran none here leap j first within =
+    elim (leb_tells j n) [
+      | inl before ↦ none j first before.1
+      | inr after ↦
+          let later = after.1 in
+          let some = leap.some in
+          let place : n + (j - n) ≡ j = omega (arith, later) in
+          ap (λ k. holding stops (after_clocks s.plain k)) (sym place)
+          ∙ ap (holding stops) (iterate_add after_clock n (j - n) s.plain ∙ ap (λ p. after_clocks p (j - n)) (sym ran.plain))
+          ∙ holding_stays stops t.plain leap.clocks (j - n) (omega (arith, later, within, some)) leap.wires leap.quiet
+          ∙ here
+    ]
+
+pub searched_turn : (stops : List Condition) (end : ℕ) (s t u : BoardState) → Searched stops end s t → holding stops t.plain ≡ None → clock_of t.plain < end → IsTurnOn end t u → Searched stops end s u
+unfolding so_far_leap so_far_tick
+searched_turn stops end s t u searched here before (inl leap) = record {
+  so_far = so_far_leap 2 end s t u searched.so_far before leap;
+  some = let some = searched.some in omega (arith, some);
+  none = none_in_leap stops searched.so_far.passed end s t u searched.so_far.ran (none_here stops end s t searched here) here leap;
+}
+searched_turn stops end s t u searched here before (inr tick) = record {
+  so_far = so_far_tick 2 end s t u searched.so_far before tick.0 tick.1;
+  some = omega arith;
+  none = subst (λ n. NoStop stops n s.plain) (omega arith) (none_here stops end s t searched here);
+}
+
+-- a condition holds where it looks
+pub stop_found : (stops : List Condition) (end count : ℕ) (s t : BoardState) (number clock : ℕ) → Searched stops end s t → end ≡ clock_of s.plain + count → holding stops t.plain ≡ Some number → clock ≡ clock_of t.plain → StopsAt stops count s.plain (record { number = number; clock = clock })
+stop_found stops end count s t number clock searched is here at =
+    let n : ℕ = searched.so_far.passed in
+    let some = searched.some in
+    let gone = searched.so_far.ran.clock in
+    let within = searched.so_far.within in
+    stops_here stops count (n - 1) s t number clock (omega (arith, some, gone, within, is)) searched.none
+    (subst (λ k. Ran k s t) (omega (arith, some)) searched.so_far.ran) here at
+
+-- none does up to the end
+pub none_found : (stops : List Condition) (end count : ℕ) (s t : BoardState) → (searched : Searched stops end s t) → end ≡ clock_of s.plain + count → end ≤ clock_of t.plain → holding stops t.plain ≡ None → NoStop stops count s.plain
+none_found stops end count s t searched is past here =
+    let gone = searched.so_far.ran.clock in
+    let within = searched.so_far.within in
+    subst (λ k. NoStop stops k s.plain) (omega (arith, gone, within, is, past)) (none_here stops end s t searched here)
+
+-- a search that is held back
+pub record HeldSearch (stops : List Condition) (count : ℕ) (s u : BoardState) : Type 0 where
+  pub run : HeldRun count s u
+  pub none : NoStop stops (clock_of u.plain - clock_of s.plain) s.plain
+  pub fits : FitsRoom stops count s → ⊥
+
+pub held_search : (stops : List Condition) (end count : ℕ) (s t u : BoardState) → Searched stops end s t → holding stops t.plain ≡ None → end ≡ clock_of s.plain + count → clock_of t.plain < end → IsHeldBack t u → HeldSearch stops count s u
+held_search stops end count s t u searched here is before held =
+    let n : ℕ = searched.so_far.passed in
+    let clear = none_here stops end s t searched here in
+    let clock = searched.so_far.ran.clock in record {
+      run = held_run 2 end count s t u searched.so_far (omega arith) is before held;
+      none = none_passed stops n s t u clear searched.so_far.ran held;
+      fits = λ enough. not_held_before_stop stops count n s t u (omega (arith, clock, is, before)) searched.so_far.ran clear held enough;
+    }
+
+-- nor is there a stop before the first clock
+pub held_at_once : (stops : List Condition) (end count : ℕ) (s u : BoardState) → length s.trail ≤ 32 → end ≡ clock_of s.plain + count → clock_of s.plain < end → IsHeldBack s u → HeldSearch stops count s u
+held_at_once stops end count s u few is before held =
+    let so_far = so_far_none end s few (omega (arith, before)) in
+    let ran = ran_none s few in
+    let none = no_stop_none stops s.plain in record {
+      run = held_run 1 end count s s u so_far (omega arith) is before held;
+      none = none_passed stops 0 s s u none ran held;
+      fits = λ enough. not_held_before_stop stops count 0 s s u (omega (arith, is, before)) ran none held enough;
+    }
+
+-- a search that ends at a stop
+pub record Found (stops : List Condition) (count number clock : ℕ) (s t : BoardState) : Type 0 where
+  pub stop : StopsAt stops count s.plain (record { number = number; clock = clock })
+  pub ran : Ran (clock - clock_of s.plain) s t
+  pub counts : Counts s t
+
+pub found : (stops : List Condition) (end count : ℕ) (s t : BoardState) (number clock : ℕ) → Searched stops end s t → end ≡ clock_of s.plain + count → holding stops t.plain ≡ Some number → clock ≡ clock_of t.plain → Found stops count number clock s t
+found stops end count s t number clock searched is here at = record {
+  stop = stop_found stops end count s t number clock searched is here at;
+  ran = ran_to_stop searched.so_far.passed s t clock searched.so_far.ran at;
+  counts = counted 2 end s t searched.so_far (omega arith);
+}
+
+-- and one that finds none
+pub record NotFound (stops : List Condition) (count : ℕ) (s t : BoardState) : Type 0 where
+  pub none : NoStop stops count s.plain
+  pub ran : Ran count s t
+  pub counts : Counts s t
+
+pub not_found : (stops : List Condition) (end count : ℕ) (s t : BoardState) → Searched stops end s t → end ≡ clock_of s.plain + count → end ≤ clock_of t.plain → holding stops t.plain ≡ None → NotFound stops count s t
+not_found stops end count s t searched is past here = record {
+  none = none_found stops end count s t searched is past here;
+  ran = ran_whole 2 end count s t searched.so_far is past;
+  counts = counted 2 end s t searched.so_far (omega arith);
+}
+
+-- no clocks
+pub nothing_found : (stops : List Condition) (count : ℕ) (s t : BoardState) → length s.trail ≤ 32 → count ≡ 0 → t ≡ s → NotFound stops count s t
+nothing_found stops count s t few none same =
+    subst (λ b. NotFound stops count s b) (sym same)
+    (subst (λ n. NotFound stops n s s) (sym none) (record {
+      none = no_stop_none stops s.plain;
+      ran = ran_none s few;
+      counts = not_counted s s refl;
+    }))

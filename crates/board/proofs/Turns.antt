@@ -1,0 +1,247 @@
+-- The turns of a run against its work: a clock with work pays for three, and the run for what is left.
+use Rattle.std.proofs.Common.{◌≡◌, ℕ, ◌+◌, ◌-◌, ◌*◌, ◌<◌, ◌≤◌, min, inl, inr, List, ◌++◌, length, refl, sym, ap, ◌∙◌, subst, arith, append-nil}
+use Rattle.board_types.proofs.Iterate.{iterate_zero, total_zero, total_more, total_add}
+use Rattle.board.specs.Board.{BoardState, Ran, StoppedEarly}
+use Rattle.board.specs.HeldBack.{IsHeldBack}
+use Rattle.board.specs.Laws.{WiresHold}
+use Rattle.board.specs.Leap.{IsQuiet, IsTight, leapt}
+use Rattle.board.specs.Plain.{Plain, after_clock, after_clocks, changes_in, clock_of}
+use Rattle.board.specs.Trail.{last}
+use Rattle.board.specs.Turns.{IsLeapOn, IsTickOn, IsTurnOn}
+use Rattle.board.specs.Work.{steps_in, steps_next, work_in, work_next}
+use Rattle.board.proofs.Lasts.{last_within, nothing_added}
+use Rattle.board.proofs.Leap.{board_leaps, clock_of_leap, no_changes, no_entries}
+use Rattle.board.proofs.Rooms.{works_at_once}
+use Rattle.board.proofs.Runs.{not_held, ran_more, ran_none, runs_join, stopped}
+use Rattle.board.proofs.Works.{first_has_none, none_to_do, none_to_step, busy_of_leap, one_step_at_most}
+
+-- a leap is a run
+
+few_of_run : (n : ℕ) (s t : BoardState) → Ran n s t → length t.trail ≤ 32
+few_of_run n s t ran = subst (λ xs. length xs ≤ 32) (sym ran.trail) (last_within 32 _)
+
+leap_runs : (end : ℕ) (t u : BoardState) → (leap : IsLeapOn end t u) → length t.trail ≤ 32 → Ran leap.clocks t u
+leap_runs end t u leap few = record {
+  plain = leap.plain ∙ sym (board_leaps leap.clocks t.plain leap.wires leap.quiet);
+  clock = ap clock_of leap.plain ∙ clock_of_leap t.plain leap.clocks;
+  changes =
+      leap.changes ∙ sym (append-nil t.changes) ∙ ap (λ xs. t.changes ++ xs) (sym (no_changes t.plain leap.clocks leap.wires leap.quiet));
+  trail =
+      leap.trail ∙ nothing_added 32 t.trail few
+      ∙ ap (λ xs. last 32 (t.trail ++ xs)) (sym (no_entries t.plain leap.clocks leap.wires leap.quiet));
+  room = let same = leap.room in let size : length u.changes ≡ length t.changes = ap length leap.changes in omega (arith, same, size);
+}
+
+pub ran_leap : (n end : ℕ) (s t u : BoardState) → Ran n s t → (leap : IsLeapOn end t u) → Ran (n + leap.clocks) s u
+ran_leap n end s t u ran leap = runs_join n leap.clocks s t u ran (leap_runs end t u leap (few_of_run n s t ran))
+
+-- work and steps, a clock more or a leap more
+
+pub work_more : (n : ℕ) (s t : BoardState) → Ran n s t → work_in s.plain (n + 1) ≡ work_in s.plain n + work_next t.plain
+work_more n s t ran = total_more after_clock work_next n s.plain ∙ ap (λ p. work_in s.plain n + work_next p) (sym ran.plain)
+
+pub steps_more : (n : ℕ) (s t : BoardState) → Ran n s t → steps_in s.plain (n + 1) ≡ steps_in s.plain n + steps_next t.plain
+steps_more n s t ran = total_more after_clock steps_next n s.plain ∙ ap (λ p. steps_in s.plain n + steps_next p) (sym ran.plain)
+
+pub work_leap : (n end : ℕ) (s t u : BoardState) → Ran n s t → (leap : IsLeapOn end t u) → work_in s.plain (n + leap.clocks) ≡ work_in s.plain n
+work_leap n end s t u ran leap =
+    let none = none_to_do t.plain leap.clocks leap.wires leap.quiet in
+    let parts : work_in s.plain (n + leap.clocks) ≡ work_in s.plain n + work_in t.plain leap.clocks =
+    total_add after_clock work_next n leap.clocks s.plain ∙ ap (λ p. work_in s.plain n + work_in p leap.clocks) (sym ran.plain) in
+    omega (arith, none, parts)
+
+pub steps_leap : (n end : ℕ) (s t u : BoardState) → Ran n s t → (leap : IsLeapOn end t u) → steps_in s.plain (n + leap.clocks) ≡ steps_in s.plain n
+steps_leap n end s t u ran leap =
+    let none = none_to_step t.plain leap.clocks leap.wires leap.quiet in
+    let parts : steps_in s.plain (n + leap.clocks) ≡ steps_in s.plain n + steps_in t.plain leap.clocks =
+    total_add after_clock steps_next n leap.clocks s.plain ∙ ap (λ p. steps_in s.plain n + steps_in p leap.clocks) (sym ran.plain) in
+    omega (arith, none, parts)
+
+-- what a busy processor still owes: the leap to the end of its step
+abbrev pub owed : Plain → ℕ
+owed p = min p.busy 1
+
+-- what the next clock pays for, if it has work
+abbrev pub paid : Plain → ℕ
+paid p = min (work_next p) 1
+
+-- A run so far, with the turns that it may spare beside those that are paid for.
+pub record SoFar (spare end : ℕ) (s t : BoardState) : Type 0 where
+  pub passed : ℕ
+  pub ran : Ran passed s t
+  pub within : clock_of t.plain ≤ end
+  pub before_end : clock_of t.plain < end → t.turns + owed t.plain ≤ s.turns + 3 * work_in s.plain passed + spare + paid t.plain
+  pub whole : t.turns ≤ s.turns + 3 * work_in s.plain passed + spare + 1
+  pub least : s.turns + steps_in s.plain passed ≤ t.turns
+
+pub so_far_none : (end : ℕ) (s : BoardState) → length s.trail ≤ 32 → clock_of s.plain ≤ end → SoFar 1 end s s
+so_far_none end s few within =
+    let none = total_zero after_clock steps_next s.plain in record {
+      passed = 0;
+      ran = ran_none s few;
+      within = within;
+      before_end = λ _. omega arith;
+      whole = omega arith;
+      least = omega (arith, none);
+    }
+
+unfoldable pub so_far_first : (end : ℕ) (s u : BoardState) → length s.trail ≤ 32 → clock_of s.plain < end → IsTickOn s u → SoFar 2 end s u
+so_far_first end s u few before on =
+    let ran = ran_none s few in
+    let clock = on.clock in
+    let turns = on.turns in
+    let steps = steps_more 0 s s ran in
+    let none = total_zero after_clock steps_next s.plain in
+    let one = one_step_at_most s.plain in record {
+      passed = 0 + 1;
+      ran = ran_more 0 s s u ran on;
+      within = omega (arith, clock, before);
+      before_end = λ _. omega (arith, turns);
+      whole = omega (arith, turns);
+      least = omega (arith, turns, steps, none, one);
+    }
+
+unfoldable pub so_far_tick : (spare end : ℕ) (s t u : BoardState) → SoFar spare end s t → clock_of t.plain < end → IsTickOn t u → 1 ≤ work_next t.plain → SoFar spare end s u
+so_far_tick spare end s t u so_far before on some =
+    let n : ℕ = so_far.passed in
+    let clock = on.clock in
+    let turns = on.turns in
+    let work = work_more n s t so_far.ran in
+    let steps = steps_more n s t so_far.ran in
+    let one = one_step_at_most t.plain in
+    let spent = so_far.before_end before in
+    let least = so_far.least in record {
+      passed = n + 1;
+      ran = ran_more n s t u so_far.ran on;
+      within = omega (arith, clock, before);
+      before_end = λ _. omega (arith, turns, work, spent, some);
+      whole = omega (arith, turns, work, spent, some);
+      least = omega (arith, turns, steps, one, least);
+    }
+
+-- what is owed and paid after a leap that ends before the run
+pub after_leap : (limit n : ℕ) (p q : Plain) → IsTight limit p n → n < limit → 1 ≤ n → q ≡ leapt p n → work_next p ≡ 0 → owed q + 1 ≤ owed p + paid q
+after_leap limit n p q (inl all) less some is none = absurd (omega (arith, all, less))
+after_leap limit n p q (inr (inl ends)) less some is none =
+    let busy : q.busy ≡ p.busy - n = ap (λ (x : Plain). x.busy) is ∙ busy_of_leap p n in
+    let first = ends.0 in
+    let last = ends.1 in omega (arith, busy, first, last)
+after_leap limit n p q (inr (inr works)) less some is none =
+    let busy : q.busy ≡ p.busy - n = ap (λ (x : Plain). x.busy) is ∙ busy_of_leap p n in
+    let work : 1 ≤ work_next q = subst (λ x. 1 ≤ work_next x) (sym is) works in omega (arith, busy, work)
+
+unfoldable pub so_far_leap : (spare end : ℕ) (s t u : BoardState) → SoFar spare end s t → clock_of t.plain < end → IsLeapOn end t u → SoFar spare end s u
+so_far_leap spare end s t u so_far before leap =
+    let n : ℕ = so_far.passed in
+    let clock : clock_of u.plain ≡ clock_of t.plain + leap.clocks = ap clock_of leap.plain ∙ clock_of_leap t.plain leap.clocks in
+    let turns = leap.turns in
+    let fits = leap.within in
+    let work = work_leap n end s t u so_far.ran leap in
+    let steps = steps_leap n end s t u so_far.ran leap in
+    let none = first_has_none t.plain leap.clocks leap.some leap.wires leap.quiet in
+    let spent = so_far.before_end before in
+    let least = so_far.least in record {
+      passed = n + leap.clocks;
+      ran = ran_leap n end s t u so_far.ran leap;
+      within = omega (arith, clock, before, fits);
+      before_end = λ on.
+          let then = after_leap (end - clock_of t.plain) leap.clocks t.plain u.plain leap.tight (omega (arith, clock, on, before)) leap.some leap.plain none in
+          omega (arith, turns, work, spent, none, then);
+      whole = omega (arith, turns, work, spent, none);
+      least = omega (arith, turns, steps, least);
+    }
+
+pub so_far_turn : (spare end : ℕ) (s t u : BoardState) → SoFar spare end s t → clock_of t.plain < end → IsTurnOn end t u → SoFar spare end s u
+so_far_turn spare end s t u so_far before (inl leap) = so_far_leap spare end s t u so_far before leap
+so_far_turn spare end s t u so_far before (inr tick) = so_far_tick spare end s t u so_far before tick.0 tick.1
+
+-- at the end of a run, or where it stands
+
+pub ran_whole : (spare end count : ℕ) (s t : BoardState) → (so_far : SoFar spare end s t) → end ≡ clock_of s.plain + count → end ≤ clock_of t.plain → Ran count s t
+ran_whole spare end count s t so_far is past =
+    let clock = so_far.ran.clock in
+    let within = so_far.within in
+    subst (λ n. Ran n s t) (omega (arith, clock, within, is, past)) so_far.ran
+
+pub record Counts (s t : BoardState) : Type 0 where
+  pub least : s.turns + steps_in s.plain (clock_of t.plain - clock_of s.plain) ≤ t.turns
+  pub most : t.turns ≤ s.turns + 3 * work_in s.plain (clock_of t.plain - clock_of s.plain) + 3
+
+pub counted : (spare end : ℕ) (s t : BoardState) → SoFar spare end s t → spare ≤ 2 → Counts s t
+counted spare end s t so_far few =
+    let clock = so_far.ran.clock in
+    let gone : so_far.passed ≡ clock_of t.plain - clock_of s.plain = omega (arith, clock) in
+    let whole = so_far.whole in record {
+      least = subst (λ n. s.turns + steps_in s.plain n ≤ t.turns) gone so_far.least;
+      most = subst (λ n. t.turns ≤ s.turns + 3 * work_in s.plain n + 3) gone (omega (arith, whole, few));
+    }
+
+pub counted_held : (spare end : ℕ) (s t u : BoardState) → SoFar spare end s t → spare ≤ 2 → IsHeldBack t u → Counts s u
+counted_held spare end s t u so_far few held = subst (λ b. Counts s b) (sym held.kept) (counted spare end s t so_far few)
+
+pub not_counted : (s u : BoardState) → u ≡ s → Counts s u
+not_counted s u same =
+    let none : clock_of s.plain - clock_of s.plain ≡ 0 = omega arith in
+    let steps : steps_in s.plain (clock_of s.plain - clock_of s.plain) ≡ 0 = ap (steps_in s.plain) none ∙ total_zero after_clock steps_next s.plain in
+    subst (λ b. Counts s b) (sym same) (record { least = omega (arith, steps); most = omega arith })
+
+-- a run that is held back after some turns
+pub record HeldRun (count : ℕ) (s u : BoardState) : Type 0 where
+  pub early : StoppedEarly count s u
+  pub counts : Counts s u
+  pub room : s.room + length s.changes ≤ u.room + length u.changes
+  pub enough : length (changes_in s.plain count) ≤ s.room → ⊥
+
+room_held : (n : ℕ) (s t u : BoardState) → Ran n s t → IsHeldBack t u → s.room + length s.changes ≤ u.room + length u.changes
+room_held n s t u ran held = subst (λ b. s.room + length s.changes ≤ b.room + length b.changes) (sym held.kept) ran.room
+
+passed_before : (n end count : ℕ) (s t : BoardState) → Ran n s t → end ≡ clock_of s.plain + count → clock_of t.plain < end → n < count
+passed_before n end count s t ran is before = let clock = ran.clock in omega (arith, clock, is, before)
+
+pub held_run : (spare end count : ℕ) (s t u : BoardState) → SoFar spare end s t → spare ≤ 2 → end ≡ clock_of s.plain + count → clock_of t.plain < end → IsHeldBack t u → HeldRun count s u
+held_run spare end count s t u so_far few is before held =
+    let n : ℕ = so_far.passed in
+    let less : n < count = passed_before n end count s t so_far.ran is before in record {
+      early = stopped count n s t u less so_far.ran held;
+      counts = counted_held spare end s t u so_far few held;
+      room = room_held n s t u so_far.ran held;
+      enough = λ fits. not_held count n s t u less so_far.ran held fits;
+    }
+
+-- a run to its end
+pub record WholeRun (count : ℕ) (s t : BoardState) : Type 0 where
+  pub ran : Ran count s t
+  pub counts : Counts s t
+
+pub whole_run : (spare end count : ℕ) (s t : BoardState) → SoFar spare end s t → spare ≤ 2 → end ≡ clock_of s.plain + count → end ≤ clock_of t.plain → WholeRun count s t
+whole_run spare end count s t so_far few is past = record {
+  ran = ran_whole spare end count s t so_far is past;
+  counts = counted spare end s t so_far few;
+}
+
+-- a turn, told of the plain board within
+pub leap_turn : (end limit n : ℕ) (p : Plain) (old new : BoardState) → p ≡ old.plain → limit ≡ end - clock_of old.plain → 1 ≤ n → n ≤ limit → IsQuiet p n → IsTight limit p n → WiresHold p.chips → new.plain ≡ leapt old.plain n → new.changes ≡ old.changes → new.trail ≡ old.trail → new.room ≡ old.room → new.turns ≡ old.turns + 1 → IsTurnOn end old new
+leap_turn end limit n p old new now most some within quiet tight wires plain changes trail room turns = inl (record {
+  clocks = n;
+  some = some;
+  within = omega (arith, within, most);
+  wires = subst (λ (q : Plain). WiresHold q.chips) now wires;
+  quiet = subst (λ (q : Plain). IsQuiet q n) now quiet;
+  tight = subst (λ l. IsTight l old.plain n) most (subst (λ (q : Plain). IsTight limit q n) now tight);
+  plain = plain;
+  changes = changes;
+  trail = trail;
+  room = room;
+  turns = turns;
+})
+
+pub tick_turn : (end limit n : ℕ) (p : Plain) (old new : BoardState) → p ≡ old.plain → limit ≡ end - clock_of old.plain → clock_of old.plain < end → n ≡ 0 → IsTight limit p n → WiresHold p.chips → IsTickOn old new → IsTurnOn end old new
+tick_turn end limit n p old new now most before none tight wires tick =
+    inr (tick, subst (λ (q : Plain). 1 ≤ work_next q) now (works_at_once limit n p wires tight none (omega (arith, most, before))))
+
+-- it goes on
+pub turn_moves : (end : ℕ) (t u : BoardState) → clock_of t.plain < end → IsTurnOn end t u → end - clock_of u.plain < end - clock_of t.plain
+turn_moves end t u before (inl leap) =
+    let clock : clock_of u.plain ≡ clock_of t.plain + leap.clocks = ap clock_of leap.plain ∙ clock_of_leap t.plain leap.clocks in
+    let some = leap.some in omega (arith, clock, some, before)
+turn_moves end t u before (inr tick) = let clock = tick.0.clock in omega (arith, clock, before)

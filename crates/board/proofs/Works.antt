@@ -1,0 +1,251 @@
+-- Work: none in quiet clocks, and some in the clock at which they end.
+use Rattle.std.proofs.Common.{◌≡◌, ◌≢◌, ℕ, zero, suc, ◌+◌, ◌-◌, ◌/◌, ◌<◌, ◌≤◌, Bool, true, false, List, [], ◌∷◌, length, refl, sym, ap, ◌∙◌, subst, arith}
+use Rattle.board_types.proofs.Iterate.{iterate_more, iterate_zero, iterate_add, total_zero, total_more}
+use Rattle.board_types.specs.Iterate.{iterate, total}
+use Rattle.board_types.specs.declared.keys.StampedKey.{StampedKey}
+use Rattle.board_types.specs.declared.line.Line.{Line}
+use Rattle.board_types.specs.declared.line.Line.TheVariants.{Low, High}
+use Rattle.decode.specs.declared.decoding.Decoding.TheVariants.{Found, NoRow}
+use Rattle.execute.specs.Meaning.{StepResult}
+use Rattle.pit8253.proofs.PitTicks.{each_counter}
+use Rattle.pit8253.specs.Counter as one
+use Rattle.pit8253.specs.Pit as pit
+use Rattle.pit8253.specs.Pit.{PitState}
+use Rattle.wiring.proofs.Leap.{settled_leap}
+use Rattle.wiring.proofs.Settling.{settles_once}
+use Rattle.wiring.proofs.Ticks.{clocks_tick}
+use Rattle.wiring.specs.Chips.{ChipsState}
+use Rattle.wiring.specs.Edges.{ticks_between, TurnsIn}
+use Rattle.wiring.specs.Leap as leaps
+use Rattle.wiring.specs.Wires as wires
+use Rattle.wiring.specs.Wires.{after_arrival, after_arrivals, after_gate_wire, after_key_settling, after_settling}
+use Rattle.board.specs.declared.act.Act.{Act}
+use Rattle.board.specs.declared.act.Act.TheVariants.{Nothing, Request, SingleStep, Iteration, Instruction}
+use Rattle.board.specs.Laws.{NoKeyComes, WiresHold}
+use Rattle.board.specs.Leap.{IsQuiet, is_idle, leapt}
+use Rattle.board.specs.Plain.{Plain, after_act, after_clock, after_clocks, chips_after_clock, clock_of, codes_at, next_act}
+use Rattle.board.specs.Work.{edges_next, edges_of, jams_of, keys_next, steps_in, steps_next, steps_of, work_in, work_next}
+use Rattle.board.proofs.Leap.{board_leaps, clock_of_leap, does_nothing, out_0_stays, out_2_stays, quiet_for}
+use Rattle.board.proofs.Quiet.{none_comes}
+
+-- none in a quiet clock
+
+same_level : (a b : Line) → b ≡ a → edges_of a b ≡ 0
+same_level Low Low same = refl
+same_level Low High same = absurd (cc)
+same_level High Low same = absurd (cc)
+same_level High High same = refl
+
+no_work : (p : Plain) → next_act p ≡ Nothing → (after_clock p).chips.pit.counter_0.out ≡ p.chips.pit.counter_0.out → (after_clock p).chips.pit.counter_2.out ≡ p.chips.pit.counter_2.out → codes_at p.keys (clock_of p + 1) ≡ [] → work_next p ≡ 0
+unfolding work_next steps_next edges_next keys_next
+no_work p nothing same_0 same_2 no_codes =
+    let steps : steps_of (next_act p) ≡ 0 = ap steps_of nothing in
+    let jams : jams_of (next_act p) ≡ 0 = ap jams_of nothing in
+    let edge_0 = same_level p.chips.pit.counter_0.out (after_clock p).chips.pit.counter_0.out same_0 in
+    let edge_2 = same_level p.chips.pit.counter_2.out (after_clock p).chips.pit.counter_2.out same_2 in
+    let codes : length (codes_at p.keys (clock_of p + 1)) ≡ 0 = ap length no_codes in
+    omega (arith, steps, jams, edge_0, edge_2, codes)
+
+no_step : (p : Plain) → next_act p ≡ Nothing → steps_next p ≡ 0
+unfolding steps_next
+no_step p nothing = ap steps_of nothing
+
+none_in_all : {S : Type 0} (step : S → S) (cost : S → ℕ) (n : ℕ) (s : S) → ((i : ℕ) → i < n → cost (iterate step i s) ≡ 0) → total step cost n s ≡ 0
+none_in_all step cost zero s none = total_zero step cost s
+none_in_all step cost (suc n) s none =
+    let more : suc n ≡ n + 1 = omega arith in
+    let before = none_in_all step cost n s (λ i less. none i (omega (arith, less))) in
+    let last = none n (omega arith) in
+    ap (λ k. total step cost k s) more ∙ total_more step cost n s ∙ omega (arith, before, last)
+
+out_0_at : (s : Plain) (n k : ℕ) → k ≤ n → WiresHold s.chips → IsQuiet s n → (after_clocks s k).chips.pit.counter_0.out ≡ s.chips.pit.counter_0.out
+out_0_at s n k within holds quiet =
+    let less = quiet_for s n k within quiet in
+    ap (λ (p : Plain). p.chips.pit.counter_0.out) (board_leaps k s holds less) ∙ out_0_stays s k less
+
+out_2_at : (s : Plain) (n k : ℕ) → k ≤ n → WiresHold s.chips → IsQuiet s n → (after_clocks s k).chips.pit.counter_2.out ≡ s.chips.pit.counter_2.out
+out_2_at s n k within holds quiet =
+    let less = quiet_for s n k within quiet in
+    ap (λ (p : Plain). p.chips.pit.counter_2.out) (board_leaps k s holds less) ∙ out_2_stays s k less
+
+keys_of_leap : (s : Plain) (n : ℕ) → (leapt s n).keys ≡ s.keys
+unfolding leapt
+keys_of_leap s n = refl
+
+codes_then : (p : Plain) (keys : List StampedKey) (clock : ℕ) → p.keys ≡ keys → clock_of p ≡ clock → codes_at keys (clock + 1) ≡ [] → codes_at p.keys (clock_of p + 1) ≡ []
+codes_then p keys clock same is none = ap (λ ks. codes_at ks (clock_of p + 1)) same ∙ ap (λ c. codes_at keys (c + 1)) is ∙ none
+
+no_codes : (s : Plain) (n i : ℕ) → i < n → NoKeyComes s n → codes_at s.keys (clock_of s + i + 1) ≡ []
+unfolding clock_of
+no_codes s n i before no_key = none_comes s.keys s.chips.clock n i before no_key
+
+codes_in_leap : (s : Plain) (n i : ℕ) → i < n → WiresHold s.chips → IsQuiet s n → codes_at (after_clocks s i).keys (clock_of (after_clocks s i) + 1) ≡ []
+codes_in_leap s n i before holds quiet =
+    let leap = board_leaps i s holds (quiet_for s n i (omega (arith, before)) quiet) in
+    codes_then (after_clocks s i) s.keys (clock_of s + i)
+    (ap (λ (p : Plain). p.keys) leap ∙ keys_of_leap s i) (ap clock_of leap ∙ clock_of_leap s i) (no_codes s n i before quiet.no_key)
+
+one_quiet : (s : Plain) (n i : ℕ) → WiresHold s.chips → IsQuiet s n → i < n → work_next (after_clocks s i) ≡ 0
+one_quiet s n i holds quiet before =
+    let next = iterate_more after_clock i s in
+    no_work (after_clocks s i) (does_nothing s n i holds quiet before)
+    (ap (λ (p : Plain). p.chips.pit.counter_0.out) (sym next) ∙ out_0_at s n (i + 1) (omega (arith, before)) holds quiet ∙ sym (out_0_at s n i (omega (arith, before)) holds quiet))
+    (ap (λ (p : Plain). p.chips.pit.counter_2.out) (sym next) ∙ out_2_at s n (i + 1) (omega (arith, before)) holds quiet ∙ sym (out_2_at s n i (omega (arith, before)) holds quiet))
+    (codes_in_leap s n i before holds quiet)
+
+pub none_to_do : (s : Plain) (n : ℕ) → WiresHold s.chips → IsQuiet s n → work_in s n ≡ 0
+none_to_do s n holds quiet = none_in_all after_clock work_next n s (λ i before. one_quiet s n i holds quiet before)
+
+pub none_to_step : (s : Plain) (n : ℕ) → WiresHold s.chips → IsQuiet s n → steps_in s n ≡ 0
+none_to_step s n holds quiet = none_in_all after_clock steps_next n s (λ i before. no_step (after_clocks s i) (does_nothing s n i holds quiet before))
+
+pub first_has_none : (s : Plain) (n : ℕ) → 1 ≤ n → WiresHold s.chips → IsQuiet s n → work_next s ≡ 0
+first_has_none s n some holds quiet = ap work_next (sym (iterate_zero after_clock s)) ∙ one_quiet s n 0 holds quiet (omega (arith, some))
+
+-- what the processor does is work
+
+act_works : (a : Act) → is_idle a ≡ false → 1 ≤ steps_of a + jams_of a
+act_works Nothing not = absurd (cc)
+act_works Request not = omega arith
+act_works SingleStep not = omega arith
+act_works Iteration not = omega arith
+act_works (Instruction (Found instr size)) not = omega arith
+act_works (Instruction NoRow) not = omega arith
+
+pub acts_now : (p : Plain) → is_idle (next_act p) ≡ false → 1 ≤ work_next p
+unfolding work_next steps_next
+acts_now p not = let some = act_works (next_act p) not in omega (arith, some)
+
+pub nothing_done : (a : Act) → is_idle a ≡ true → a ≡ Nothing
+nothing_done Nothing is = refl
+nothing_done Request is = absurd (cc)
+nothing_done SingleStep is = absurd (cc)
+nothing_done Iteration is = absurd (cc)
+nothing_done (Instruction decoded) is = absurd (cc)
+
+unless_it_acts : (p : Plain) (idle : Bool) → is_idle (next_act p) ≡ idle → (next_act p ≡ Nothing → 1 ≤ work_next p) → 1 ≤ work_next p
+unless_it_acts p false is works = acts_now p is
+unless_it_acts p true is works = works (nothing_done (next_act p) is)
+
+-- so are keys
+
+pub keys_come : (p : Plain) → 1 ≤ length (codes_at p.keys (clock_of p + 1)) → 1 ≤ work_next p
+unfolding work_next keys_next
+keys_come p some = omega (arith, some)
+
+-- and a turn of OUT0 or OUT2
+
+level_turns : (a b : Line) → b ≢ a → edges_of a b ≡ 1
+level_turns Low Low differs = absurd (differs refl)
+level_turns Low High differs = refl
+level_turns High Low differs = refl
+level_turns High High differs = absurd (differs refl)
+
+turn_0_works : (p : Plain) → (after_clock p).chips.pit.counter_0.out ≢ p.chips.pit.counter_0.out → 1 ≤ work_next p
+unfolding work_next edges_next
+turn_0_works p turns =
+    let one = level_turns p.chips.pit.counter_0.out (after_clock p).chips.pit.counter_0.out turns in omega (arith, one)
+
+turn_2_works : (p : Plain) → (after_clock p).chips.pit.counter_2.out ≢ p.chips.pit.counter_2.out → 1 ≤ work_next p
+unfolding work_next edges_next
+turn_2_works p turns =
+    let one = level_turns p.chips.pit.counter_2.out (after_clock p).chips.pit.counter_2.out turns in omega (arith, one)
+
+-- the timer after a clock in which the processor does nothing
+
+pit_of_arrivals : (codes : List ℕ) (s : ChipsState) → (after_arrivals s codes).pit ≡ s.pit
+unfolding after_arrival
+pit_of_arrivals [] s = refl
+pit_of_arrivals (code ∷ codes) s = pit_of_arrivals codes (after_arrival s code)
+
+ppi_of_arrivals : (codes : List ℕ) (s : ChipsState) → (after_arrivals s codes).ppi ≡ s.ppi
+unfolding after_arrival
+ppi_of_arrivals [] s = refl
+ppi_of_arrivals (code ∷ codes) s = ppi_of_arrivals codes (after_arrival s code)
+
+pit_of_keys : (s : ChipsState) → (after_key_settling s).pit ≡ after_gate_wire s.pit s.ppi
+unfolding after_key_settling after_settling
+pit_of_keys s = refl
+
+gate_settled : (s : ChipsState) → after_settling s ≡ s → after_gate_wire s.pit s.ppi ≡ s.pit
+unfolding after_settling
+gate_settled s still = ap (λ (t : ChipsState). t.pit) still
+
+settled_next : (s : ChipsState) → after_settling (wires.after_clock s) ≡ wires.after_clock s
+unfolding wires.after_clock
+settled_next s = settles_once _
+
+one_ticks : (s : ChipsState) → after_settling s ≡ s → (wires.after_clock s).pit ≡ pit.after_ticks s.pit (ticks_between s.clock (s.clock + 1))
+one_ticks s still =
+    ap (λ (t : ChipsState). t.pit) (sym (iterate_more wires.after_clock 0 s ∙ ap wires.after_clock (iterate_zero wires.after_clock s)))
+    ∙ clocks_tick s 1 still
+
+pit_of_clock : (s : ChipsState) (keys : List StampedKey) → after_settling s ≡ s → (chips_after_clock s keys).pit ≡ pit.after_ticks s.pit (ticks_between s.clock (s.clock + 1))
+unfolding chips_after_clock
+pit_of_clock s keys still =
+    let c : ChipsState = wires.after_clock s in
+    let codes : List ℕ = codes_at keys (s.clock + 1) in
+    pit_of_keys (after_arrivals c codes)
+    ∙ ap (λ p. after_gate_wire p (after_arrivals c codes).ppi) (pit_of_arrivals codes c)
+    ∙ ap (λ ppi. after_gate_wire c.pit ppi) (ppi_of_arrivals codes c)
+    ∙ gate_settled c (settled_next s)
+    ∙ one_ticks s still
+
+chips_next : (p : Plain) → next_act p ≡ Nothing → (after_clock p).chips ≡ chips_after_clock p.chips p.keys
+unfolding after_clock
+chips_next p nothing =
+    ap (λ (a : Act). let acted : StepResult ChipsState = after_act p.cpu p.busy p.chips a in chips_after_clock acted.bus p.keys) nothing
+
+ticks_add : (p : PitState) (a b c : ℕ) → a + b ≡ c → pit.after_ticks (pit.after_ticks p a) b ≡ pit.after_ticks p c
+ticks_add p a b c is = sym (iterate_add pit.after_tick a b p) ∙ ap (λ k. pit.after_ticks p k) is
+
+-- the timer at the end of the clock after quiet ones
+pit_then : (s : Plain) (n : ℕ) → WiresHold s.chips → IsQuiet s n → next_act (leapt s n) ≡ Nothing → (after_clock (leapt s n)).chips.pit ≡ pit.after_ticks s.chips.pit (ticks_between s.chips.clock (s.chips.clock + n + 1))
+unfolding leapt
+pit_then s n holds quiet nothing =
+    let c : ChipsState = leaps.leapt s.chips n in
+    ap (λ (t : ChipsState). t.pit) (chips_next (leapt s n) nothing)
+    ∙ pit_of_clock c s.keys (settled_leap n s.chips holds.settled quiet.out_0)
+    ∙ ticks_add s.chips.pit (ticks_between s.chips.clock (s.chips.clock + n)) (ticks_between (s.chips.clock + n) (s.chips.clock + n + 1))
+    (ticks_between s.chips.clock (s.chips.clock + n + 1)) (omega arith)
+
+pub edge_0_works : (s : Plain) (n at : ℕ) → WiresHold s.chips → IsQuiet s n → at ≡ s.chips.clock + n + 1 → TurnsIn s.chips.pit.counter_0 s.chips.clock at → 1 ≤ work_next (leapt s n)
+edge_0_works s n at holds quiet is edge =
+    unless_it_acts (leapt s n) (is_idle (next_act (leapt s n))) refl (λ nothing.
+    turn_0_works (leapt s n) (λ same.
+    edge.turns.turns
+    (ap (λ k. (one.after_ticks s.chips.pit.counter_0 (ticks_between s.chips.clock k)).out) is
+    ∙ sym (ap (λ (q : PitState). q.counter_0.out) (each_counter (ticks_between s.chips.clock (s.chips.clock + n + 1)) s.chips.pit))
+    ∙ sym (ap (λ (q : PitState). q.counter_0.out) (pit_then s n holds quiet nothing))
+    ∙ same ∙ out_0_stays s n quiet)))
+
+pub edge_2_works : (s : Plain) (n at : ℕ) → WiresHold s.chips → IsQuiet s n → at ≡ s.chips.clock + n + 1 → TurnsIn s.chips.pit.counter_2 s.chips.clock at → 1 ≤ work_next (leapt s n)
+edge_2_works s n at holds quiet is edge =
+    unless_it_acts (leapt s n) (is_idle (next_act (leapt s n))) refl (λ nothing.
+    turn_2_works (leapt s n) (λ same.
+    edge.turns.turns
+    (ap (λ k. (one.after_ticks s.chips.pit.counter_2 (ticks_between s.chips.clock k)).out) is
+    ∙ sym (ap (λ (q : PitState). q.counter_2.out) (each_counter (ticks_between s.chips.clock (s.chips.clock + n + 1)) s.chips.pit))
+    ∙ sym (ap (λ (q : PitState). q.counter_2.out) (pit_then s n holds quiet nothing))
+    ∙ same ∙ out_2_stays s n quiet)))
+
+-- a leap over no clocks
+pub no_leap : (s : Plain) → WiresHold s.chips → IsQuiet s 0 → leapt s 0 ≡ s
+no_leap s holds quiet = sym (board_leaps 0 s holds quiet) ∙ iterate_zero after_clock s
+
+-- a clock has one step at most
+one_of_act : (a : Act) → steps_of a ≤ 1
+one_of_act Nothing = omega arith
+one_of_act Request = omega arith
+one_of_act SingleStep = omega arith
+one_of_act Iteration = omega arith
+one_of_act (Instruction (Found instr size)) = omega arith
+one_of_act (Instruction NoRow) = omega arith
+
+pub one_step_at_most : (p : Plain) → steps_next p ≤ 1
+unfolding steps_next
+one_step_at_most p = one_of_act (next_act p)
+
+pub busy_of_leap : (s : Plain) (n : ℕ) → (leapt s n).busy ≡ s.busy - n
+unfolding leapt
+busy_of_leap s n = refl

@@ -1,0 +1,81 @@
+-- Clocks in which nothing happens but that the beam moves, the counters tick and the processor is busy or idle: how
+-- many there are at least, and what is left of a board after them.
+-- For proofs alone: no public contract rests on it.
+use Rattle.std.specs.Prelude.{ℕ, ◌≡◌, ◌≢◌, ◌+◌, ◌-◌, ◌<◌, ◌≤◌, ◌^◌, ◌⊎◌, Bool, true, false, Option, None, Some, MatchOption}
+use Rattle.board_types.specs.Timed.{IsSteady}
+use Rattle.execute.specs.Boundaries.{boundary_of}
+use Rattle.execute.specs.declared.boundary.Boundary.TheVariants as boundaries
+use Rattle.pit8253.specs.Counter.{after_ticks, out_of}
+use Rattle.scheduler.specs.declared.deadlines.Source.{Source}
+use Rattle.scheduler.specs.declared.deadlines.Source.TheVariants.{Counter0, Counter2, Keys, Processor, End}
+use Rattle.scheduler.specs.Deadlines.{DeadlinesState, IsNext}
+use Rattle.wiring.specs.Edges.{ticks_between, IsEdgeOf}
+use Rattle.wiring.specs.Leap as wires
+use Rattle.wiring.specs.Wires.{is_requested}
+use Rattle.board.specs.declared.act.Act.{Act}
+use Rattle.board.specs.declared.act.Act.TheVariants.{Nothing}
+use Rattle.board.specs.Arrivals.{IsNextStamp}
+use Rattle.board.specs.Laws.{NoKeyComes}
+use Rattle.board.specs.Plain.{Plain}
+use Rattle.board.specs.Work.{work_next}
+
+-- an act that does nothing
+abbrev pub is_idle : Act → Bool
+is_idle Nothing = true
+is_idle _ = false
+
+-- the processor does nothing for n clocks: it is busy in them, or it is free and stays idle
+abbrev pub StaysIdle : Plain → ℕ → Type 0
+StaysIdle s n = (n ≤ s.busy) ⊎ ((s.busy ≡ 0) × (boundary_of s.cpu (is_requested s.chips) ≡ boundaries.Nothing))
+
+pub record IsQuiet (s : Plain) (n : ℕ) : Type 0 where
+  pub idle : StaysIdle s n
+  pub no_key : NoKeyComes s n
+  pub out_0 : IsSteady after_ticks out_of s.chips.pit.counter_0 (ticks_between s.chips.clock (s.chips.clock + n))
+  pub out_2 : IsSteady after_ticks out_of s.chips.pit.counter_2 (ticks_between s.chips.clock (s.chips.clock + n))
+
+-- n such clocks at once
+unfoldable pub leapt : Plain → ℕ → Plain
+leapt s n = record s { busy = s.busy - n; chips = wires.leapt s.chips n }
+
+-- they can't be more: they are all that are asked for, or the processor is free at their end, or the clock after them
+-- has work
+abbrev pub IsTight : ℕ → Plain → ℕ → Type 0
+IsTight limit s n = (n ≡ limit) ⊎ (((1 ≤ s.busy) × (n ≡ s.busy)) ⊎ (1 ≤ work_next (leapt s n)))
+
+-- the clock at which a busy processor is free, where there is such a clock
+abbrev pub IsFreeClock : Plain → Option ℕ → Type 0
+IsFreeClock s None = (s.busy ≡ 0) ⊎ (2 ^ 40 < s.chips.clock + s.busy)
+IsFreeClock s (Some at) = (1 ≤ s.busy) × (at ≡ s.chips.clock + s.busy)
+
+-- when the parts of a board are due next, its processor doing nothing now
+pub record AreDeadlines (s : Plain) (until : ℕ) (d : DeadlinesState) : Type 0 where
+  pub counter_0 : IsEdgeOf s.chips.pit.counter_0 s.chips.clock d.counter_0
+  pub counter_2 : IsEdgeOf s.chips.pit.counter_2 s.chips.clock d.counter_2
+  pub keys : IsNextStamp s.chips.clock s.keys d.keys
+  pub processor : IsFreeClock s d.processor
+  pub end : d.end ≡ Some until
+
+-- some source is due
+abbrev pub IsSomethingDue : DeadlinesState → Type 0
+IsSomethingDue d = d.end ≢ None
+
+-- whether a source that is due at a clock does something on the way to it
+abbrev pub acts_before : Source → Bool
+acts_before Counter0 = true
+acts_before Counter2 = true
+acts_before Keys = true
+acts_before Processor = false
+acts_before End = false
+
+-- the last clock up to which a source does nothing
+abbrev pub last_of : Bool → ℕ → ℕ
+last_of true at = at - 1
+last_of false at = at
+
+-- the last clock up to which nothing is due
+pub record IsLastQuiet (d : DeadlinesState) (last : ℕ) : Type 0 where
+  pub source : Source
+  pub at : ℕ
+  pub next : IsNext d at source
+  pub is : last ≡ last_of (acts_before source) at

@@ -1,0 +1,36 @@
+-- Turns: time goes on by a clock that has work, or leaps.
+-- For proofs alone: no public contract rests on it.
+use Rattle.std.specs.Prelude.{ℕ, ◌≡◌, ◌+◌, ◌-◌, ◌<◌, ◌≤◌, ◌⊎◌, ◌++◌, length}
+use Rattle.board.specs.Board.{BoardState}
+use Rattle.board.specs.Laws.{WiresHold}
+use Rattle.board.specs.Leap.{IsQuiet, IsTight, leapt}
+use Rattle.board.specs.Plain.{after_clock, change_next, clock_of}
+use Rattle.board.specs.Trail.{last, trail_next}
+use Rattle.board.specs.Work.{work_next}
+
+-- one clock of a board, with the change and the entry that it brings in the lists
+pub record IsTickOn (old new : BoardState) : Type 0 where
+  pub plain : new.plain ≡ after_clock old.plain
+  pub clock : clock_of new.plain ≡ clock_of old.plain + 1
+  pub changes : new.changes ≡ old.changes ++ change_next old.plain
+  pub trail : new.trail ≡ last 32 (old.trail ++ trail_next old.plain)
+  pub room : old.room + length old.changes ≤ new.room + length new.changes
+  pub turns : new.turns ≡ old.turns + 1
+
+-- a leap of a board, at most to a clock
+pub record IsLeapOn (end : ℕ) (old new : BoardState) : Type 0 where
+  pub clocks : ℕ
+  pub some : 1 ≤ clocks
+  pub within : clocks ≤ end - clock_of old.plain
+  pub wires : WiresHold old.plain.chips
+  pub quiet : IsQuiet old.plain clocks
+  pub tight : IsTight (end - clock_of old.plain) old.plain clocks
+  pub plain : new.plain ≡ leapt old.plain clocks
+  pub changes : new.changes ≡ old.changes
+  pub trail : new.trail ≡ old.trail
+  pub room : new.room ≡ old.room
+  pub turns : new.turns ≡ old.turns + 1
+
+-- a turn of a run that ends at a clock
+abbrev pub IsTurnOn : ℕ → BoardState → BoardState → Type 0
+IsTurnOn end old new = IsLeapOn end old new ⊎ (IsTickOn old new × (1 ≤ work_next old.plain))
