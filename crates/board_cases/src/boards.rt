@@ -15,6 +15,8 @@ use std::alloc::Global;
 pub struct BoardBench {
     parts: Parts,
     board: Option<Board>,
+    /// The turns that were judged already.
+    judged: u64,
 }
 
 impl BoardBench {
@@ -23,6 +25,7 @@ impl BoardBench {
         BoardBench {
             parts: Parts::new(alloc),
             board: None,
+            judged: 0,
         }
     }
 
@@ -42,6 +45,16 @@ impl BoardBench {
             Err(fault) => is_fault(fault, words),
         }
     }
+
+    /// Whether the turns since those that were judged last are at least the steps and at most three times the work and
+    /// three more.
+    fn took_turns(&mut self, mut words: Words) -> Option<bool> {
+        let (steps, work) = (words.count()?, words.count()?);
+        let turns = self.board.as_ref()?.turns();
+        let grown = turns.checked_sub(self.judged)?;
+        self.judged = turns;
+        Some(steps <= grown && grown <= work.saturating_mul(3).saturating_add(3))
+    }
 }
 
 impl Bench for BoardBench {
@@ -51,6 +64,7 @@ impl Bench for BoardBench {
                 *board = board.copy().ok()?;
                 Some(true)
             }
+            Some(_) if verb == "work" => self.took_turns(words),
             Some(board) => act(board, verb, words),
             None if verb == "ram" => self.build(words),
             None => self.parts.set(verb, words),

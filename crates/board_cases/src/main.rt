@@ -1,6 +1,6 @@
 //! Cases of outside values for the system board. Of a case that differs the step that didn't come out is printed.
 //!
-//! A case is one line: `chips` or `board`, a colon, and steps parted by semicolons, each a verb and its words. Ports,
+//! A case is one line: `chips`, `board` or `timer`, a colon, and steps parted by semicolons, each a verb and its words. Ports,
 //! addresses, bytes and registers are hexadecimal; clocks, counts, sizes in KB, fault numbers and the screen's lines,
 //! from 0, are decimal. Levels are `H` and `L`.
 //!
@@ -18,7 +18,14 @@
 //! 76L`), `screen LINE 'TEXT'`, `blank` (the whole screen), `copy` (goes on with a copy), `until CLOCKS CLOCK NUMBER
 //! CONDITION ..` (a run that stops at this clock, by the condition of this number, or that has no stop where it is 0; a
 //! condition is `free`, `at CS IP`, `byte ADDRESS BYTE`, `sound` or `halted`), `trail COUNT` (of entries), `begun INDEX
-//! CLOCK CS IP BYTE ..` (the trail's entry at this index, from 0: an instruction), `entered INDEX CLOCK CS IP TYPE`.
+//! CLOCK CS IP BYTE ..` (the trail's entry at this index, from 0: an instruction), `entered INDEX CLOCK CS IP TYPE`,
+//! `work STEPS WORK` (of the run before it, one run alone: the turns that it took are at least its steps and at most
+//! three times its work and three more).
+//!
+//! `timer`, the chips of a board with 16 KB, which make the timer's ticks late and many at once, beside a timer that makes
+//! each by itself: `out PORT BYTE`, `gate LEVEL` (of counter 2), `pass CLOCKS` (OUT2 has to agree after them), `in PORT`
+//! (the two bytes have to agree), `edge N` (the clock at which OUT 0 or 2 turns next, or none, has to be the one that
+//! single ticks find), `copy`.
 #![tactic(auto)]
 
 mod bench;
@@ -26,6 +33,7 @@ mod boards;
 mod chips;
 mod parts;
 mod stops;
+mod timer;
 mod trail;
 mod words;
 
@@ -36,6 +44,7 @@ use cases::judge_cases;
 use chips::ChipsBench;
 use std::alloc::Global;
 use std::io;
+use timer::TimerBench;
 
 fn main(rt: HostRuntime) -> io::Result<()> {
     judge_cases(&rt, judge)
@@ -47,6 +56,7 @@ fn judge(alloc: Global, case: &str) -> Result<()> {
     match name {
         "chips" => follow(&mut ChipsBench::new(alloc), steps),
         "board" => follow(&mut BoardBench::new(alloc), steps),
+        "timer" => follow(&mut TimerBench::new(alloc).context("no memory")?, steps),
         _ => bail!("nothing has this name"),
     }
 }
