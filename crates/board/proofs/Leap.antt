@@ -1,5 +1,5 @@
 -- Quiet clocks: what a board is after them, and that nothing is told of them.
-use Rattle.std.proofs.Common.{◌≡◌, ℕ, zero, suc, ◌+◌, ◌-◌, ◌<◌, ◌≤◌, inl, inr, Bool, true, false, if◌then◌else◌, List, [], ◌∷◌, ◌++◌, Some, refl, sym, ap, ◌∙◌, subst, arith}
+use Rattle.std.proofs.Common.{◌≡◌, ℕ, zero, suc, ◌+◌, ◌-◌, ◌<◌, ◌≤◌, inl, inr, Bool, false, if◌then◌else◌, List, [], ◌∷◌, ◌++◌, Some, refl, sym, ap, ◌∙◌, subst, arith}
 use Rattle.std.specs.Prelude.{◌&&◌, ◌==◌, cond, nat_eq}
 use Rattle.std.specs.List.{position_from}
 use Rattle.std.proofs.lemmas.Bool.Decides.{nat_tests}
@@ -33,7 +33,7 @@ use Rattle.board.specs.declared.stop.Condition.{Condition}
 use Rattle.board.specs.declared.stop.Condition.TheVariants.{Free, At, Byte, Sound, Halted}
 use Rattle.board.specs.Laws.{NoKeyComes, WiresHold}
 use Rattle.board.specs.Leap.{IsQuiet, StaysIdle, leapt}
-use Rattle.board.specs.Plain.{Plain, act_at, after_act, after_clock, after_clocks, byte_of, change_next, changes_in, chips_after_clock, clock_of, codes_at, is_free, next_act, speaker_level, state_of}
+use Rattle.board.specs.Plain.{Plain, after_act, after_clock, after_clocks, byte_of, change_next, changes_in, chips_after_clock, clock_of, codes_at, next_act, speaker_level, state_of}
 use Rattle.board.specs.Stops.{holding, holds}
 use Rattle.board.specs.Trail.{entry_at, event_of, trail_in, trail_next}
 use Rattle.board.proofs.Quiet.{clock_alone, holds_later, none_comes, nothing_by}

@@ -1,5 +1,5 @@
 -- Up to the least deadline nothing happens, and in the clock after it something does.
-use Rattle.std.proofs.Common.{◌≡◌, ℕ, zero, ◌+◌, ◌-◌, ◌/◌, ◌<◌, ◌≤◌, ◌^◌, inl, inr, Bool, true, false, if◌then◌else◌, List, [], ◌∷◌, ◌++◌, length, take, drop, get_or, Option, None, Some, refl, sym, ap, ◌∙◌, subst, arith}
+use Rattle.std.proofs.Common.{◌≡◌, ℕ, ◌+◌, ◌-◌, ◌<◌, ◌≤◌, ◌^◌, inl, inr, Bool, true, false, if◌then◌else◌, List, [], ◌∷◌, ◌++◌, length, take, drop, get_or, Option, None, Some, refl, sym, ap, ◌∙◌, subst, arith}
 use Rattle.std.specs.Prelude.{All, ◌⊎◌, nat_eq}
 use Rattle.std.proofs.lemmas.Bool.Decides.{eqb_tells, leb_tells}
 use Rattle.std.proofs.lemmas.List.{get_or_default, length-append, take-append-drop}
@@ -14,11 +14,10 @@ use Rattle.execute.specs.declared.boundary.Boundary.TheVariants as boundaries
 use Rattle.pit8253.specs.Counter.{CounterState, after_tick, after_ticks, out_of}
 use Rattle.scheduler.specs.declared.deadlines.Source.{Source}
 use Rattle.scheduler.specs.declared.deadlines.Source.TheVariants.{Counter0, Counter2, Keys, Processor, End}
-use Rattle.scheduler.specs.Deadlines.{DeadlinesState, IsNext, deadline_of, no_deadlines, place_of, with_deadline}
+use Rattle.scheduler.specs.Deadlines.{DeadlinesState, deadline_of, no_deadlines, place_of, with_deadline}
 use Rattle.wiring.specs.Chips.{ChipsState}
 use Rattle.wiring.specs.Edges.{ticks_between, IsEdgeOf, TurnsIn}
 use Rattle.wiring.specs.Wires.{is_requested}
-use Rattle.board.specs.declared.act.Act.{Act}
 use Rattle.board.specs.declared.act.Act.TheVariants.{Nothing}
 use Rattle.board.specs.Arrivals.{Awaits, IsNextStamp}
 use Rattle.board.specs.Laws.{NoKeyComes, WiresHold}

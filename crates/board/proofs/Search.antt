@@ -1,15 +1,15 @@
 -- A run that looks for its stop at the end of each turn.
-use Rattle.std.proofs.Common.{◌≡◌, ℕ, ◌+◌, ◌-◌, ◌<◌, ◌≤◌, inl, inr, List, length, Option, None, Some, refl, sym, ap, ◌∙◌, subst, arith}
+use Rattle.std.proofs.Common.{◌≡◌, ℕ, ◌+◌, ◌-◌, ◌<◌, ◌≤◌, inl, inr, List, length, None, Some, refl, sym, ap, ◌∙◌, subst, arith}
 use Rattle.std.proofs.lemmas.Bool.Decides.{leb_tells}
 use Rattle.board_types.proofs.Iterate.{iterate_add}
 use Rattle.board.specs.declared.stop.Condition.{Condition}
 use Rattle.board.specs.Board.{BoardState, Ran}
 use Rattle.board.specs.HeldBack.{IsHeldBack}
-use Rattle.board.specs.Plain.{Plain, after_clock, after_clocks, clock_of}
+use Rattle.board.specs.Plain.{after_clock, after_clocks, clock_of}
 use Rattle.board.specs.Stops.{holding, FitsRoom, NoStop, StopsAt}
 use Rattle.board.specs.Turns.{IsLeapOn, IsTickOn, IsTurnOn}
 use Rattle.board.proofs.Leap.{holding_stays}
-use Rattle.board.proofs.Runs.{ran_more, ran_none}
+use Rattle.board.proofs.Runs.{ran_none}
 use Rattle.board.proofs.Stopping.{no_stop_more, no_stop_none, none_passed, not_held_before_stop, ran_to_stop, stops_here}
 use Rattle.board.proofs.Turns.{Counts, HeldRun, SoFar, counted, held_run, not_counted, ran_whole, so_far_first, so_far_leap, so_far_none, so_far_tick}
 

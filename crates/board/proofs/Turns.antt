@@ -1,11 +1,11 @@
 -- The turns of a run against its work: a clock with work pays for three, and the run for what is left.
-use Rattle.std.proofs.Common.{◌≡◌, ℕ, ◌+◌, ◌-◌, ◌*◌, ◌<◌, ◌≤◌, min, inl, inr, List, ◌++◌, length, refl, sym, ap, ◌∙◌, subst, arith, append-nil}
-use Rattle.board_types.proofs.Iterate.{iterate_zero, total_zero, total_more, total_add}
+use Rattle.std.proofs.Common.{◌≡◌, ℕ, ◌+◌, ◌-◌, ◌*◌, ◌<◌, ◌≤◌, min, inl, inr, ◌++◌, length, sym, ap, ◌∙◌, subst, arith, append-nil}
+use Rattle.board_types.proofs.Iterate.{total_zero, total_more, total_add}
 use Rattle.board.specs.Board.{BoardState, Ran, StoppedEarly}
 use Rattle.board.specs.HeldBack.{IsHeldBack}
 use Rattle.board.specs.Laws.{WiresHold}
 use Rattle.board.specs.Leap.{IsQuiet, IsTight, leapt}
-use Rattle.board.specs.Plain.{Plain, after_clock, after_clocks, changes_in, clock_of}
+use Rattle.board.specs.Plain.{Plain, after_clock, changes_in, clock_of}
 use Rattle.board.specs.Trail.{last}
 use Rattle.board.specs.Turns.{IsLeapOn, IsTickOn, IsTurnOn}
 use Rattle.board.specs.Work.{steps_in, steps_next, work_in, work_next}

@@ -1,5 +1,5 @@
 -- Work: none in quiet clocks, and some in the clock at which they end.
-use Rattle.std.proofs.Common.{◌≡◌, ◌≢◌, ℕ, zero, suc, ◌+◌, ◌-◌, ◌/◌, ◌<◌, ◌≤◌, Bool, true, false, List, [], ◌∷◌, length, refl, sym, ap, ◌∙◌, subst, arith}
+use Rattle.std.proofs.Common.{◌≡◌, ◌≢◌, ℕ, zero, suc, ◌+◌, ◌-◌, ◌<◌, ◌≤◌, Bool, true, false, List, [], ◌∷◌, length, refl, sym, ap, ◌∙◌, arith}
 use Rattle.board_types.proofs.Iterate.{iterate_more, iterate_zero, iterate_add, total_zero, total_more}
 use Rattle.board_types.specs.Iterate.{iterate, total}
 use Rattle.board_types.specs.declared.keys.StampedKey.{StampedKey}

@@ -1,7 +1,7 @@
 -- Clocks in which nothing happens but that the beam moves, the counters tick and the processor is busy or idle: how
 -- many there are at least, and what is left of a board after them.
 -- For proofs alone: no public contract rests on it.
-use Rattle.std.specs.Prelude.{ℕ, ◌≡◌, ◌≢◌, ◌+◌, ◌-◌, ◌<◌, ◌≤◌, ◌^◌, ◌⊎◌, Bool, true, false, Option, None, Some, MatchOption}
+use Rattle.std.specs.Prelude.{ℕ, ◌≡◌, ◌≢◌, ◌+◌, ◌-◌, ◌<◌, ◌≤◌, ◌^◌, ◌⊎◌, Bool, true, false, Option, None, Some}
 use Rattle.board_types.specs.Timed.{IsSteady}
 use Rattle.execute.specs.Boundaries.{boundary_of}
 use Rattle.execute.specs.declared.boundary.Boundary.TheVariants as boundaries

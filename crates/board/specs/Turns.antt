@@ -1,6 +1,6 @@
 -- Turns: time goes on by a clock that has work, or leaps.
 -- For proofs alone: no public contract rests on it.
-use Rattle.std.specs.Prelude.{ℕ, ◌≡◌, ◌+◌, ◌-◌, ◌<◌, ◌≤◌, ◌⊎◌, ◌++◌, length}
+use Rattle.std.specs.Prelude.{ℕ, ◌≡◌, ◌+◌, ◌-◌, ◌≤◌, ◌⊎◌, ◌++◌, length}
 use Rattle.board.specs.Board.{BoardState}
 use Rattle.board.specs.Laws.{WiresHold}
 use Rattle.board.specs.Leap.{IsQuiet, IsTight, leapt}

@@ -5,12 +5,17 @@ ghost use Rattle.board.specs.Arrivals.{Awaits, IsNextStamp};
 ghost use Rattle.wiring.specs.Wires.{after_arrivals};
 ghost use Rattle.board.specs.Plain.{chips_after_clock, codes_at};
 
+use board_bus::cached::CachedChips;
 use board_types::clock::Clock;
 use board_types::keys::StampedKey;
-use wiring::chips::Chips;
 
 /// The keys that are stamped `clock` arrive; `next` have arrived before. Answers how many have arrived then.
-pub(crate) fn arrive_at(chips: &mut Chips, keys: &[StampedKey], next: usize, clock: u64) -> usize
+pub(crate) fn arrive_at(
+    chips: &mut CachedChips,
+    keys: &[StampedKey],
+    next: usize,
+    clock: u64,
+) -> usize
     requires in_order { IsInOrder keys.now }
     requires awaits { Awaits next clock keys.now }
     ensures chips { chips.new ≡ after_arrivals chips.old (codes_at keys.now clock) }
@@ -29,7 +34,7 @@ pub(crate) fn arrive_at(chips: &mut Chips, keys: &[StampedKey], next: usize, clo
 
 /// The chips' part of a clock; `next` keys have arrived before. Answers how many have arrived then.
 #[tactic(auto, unfolding(crate::specs::Plain::chips_after_clock))]
-pub(crate) fn pass_clock(chips: &mut Chips, keys: &[StampedKey], next: usize) -> usize
+pub(crate) fn pass_clock(chips: &mut CachedChips, keys: &[StampedKey], next: usize) -> usize
     requires within { chips.old.clock < 2 ^ 40 }
     requires in_order { IsInOrder keys.now }
     requires awaits { Awaits next (chips.old.clock + 1) keys.now }

@@ -252,8 +252,7 @@ impl<A: Allocator> Board<A> {
         }
         let end = self.clock().get() + count;
         // a stop that holds at the start is none there, so the first clock is made by itself
-        let next = self.plain.next_act();
-        self.run_clock(&next)?;
+        self.make_clock()?;
         'turns: loop {
             if let Some(number) = self.plain.holding(stops.as_slice()) {
                 let clock = self.clock();
@@ -301,14 +300,45 @@ impl<A: Allocator> Board<A> {
         ensures err { OnErr result (IsHeldBack self.old self.new) }
         ensures fault { IfErr result (λ fault. fault ≡ BoardFault.Memory) }
     {
-        let next = self.plain.next_act();
-        let quiet = self.plain.quiet_clocks(&next, end - self.clock().get());
+        let next = self.next_act();
+        self.turn_by(&next, end)
+    }
+
+    /// That turn, `next` being what the processor does in its first clock.
+    fn turn_by(&mut self, next: &Act, end: u64) -> Result<(), BoardFault>
+        requires next { next.now ≡ next_act self.old.plain }
+        requires before_end { clock_of self.old.plain < end }
+        requires within { end ≤ 2 ^ 40 }
+        ensures ok { OnOk result (IsTurnOn end self.old self.new) }
+        ensures err { OnErr result (IsHeldBack self.old self.new) }
+        ensures fault { IfErr result (λ fault. fault ≡ BoardFault.Memory) }
+    {
+        let quiet = self.plain.quiet_clocks(next, end - self.clock().get());
         if quiet == 0 {
-            self.run_clock(&next)?;
+            self.run_clock(next)?;
             return Ok(());
         }
         self.leap(quiet);
         Ok(())
+    }
+
+    /// What the processor does in this clock.
+    fn next_act(&mut self) -> Act
+        ensures act { result ≡ next_act self.old.plain }
+        ensures kept { self.new ≡ self.old }
+    {
+        self.plain.next_act()
+    }
+
+    /// The next clock, made by itself.
+    fn make_clock(&mut self) -> Result<(), BoardFault>
+        requires { clock_of self.old.plain < 2 ^ 40 }
+        ensures ok { OnOk result (IsTickOn self.old self.new) }
+        ensures err { OnErr result (IsHeldBack self.old self.new) }
+        ensures fault { IfErr result (λ fault. fault ≡ BoardFault.Memory) }
+    {
+        let next = self.next_act();
+        self.run_clock(&next)
     }
 
     /// Time leaps over `clocks` clocks.
@@ -438,6 +468,12 @@ impl<A: Allocator> Board<A> {
         ensures { result ≡ self.now.turns }
     {
         self.turns
+    }
+
+    /// How often an instruction was decoded since power-on.
+    #[cfg(test)]
+    pub(crate) fn decodes(&self) -> u64 {
+        self.plain.chips.decodes()
     }
 
     /// The changes of the speaker's level since power-on, where it is low.

@@ -1,4 +1,5 @@
-//! Runs whose list of speaker changes finds no memory. All other runs are cases of the crate `board_cases`.
+//! Runs whose list of speaker changes finds no memory, and how often a loop is decoded. All other runs are cases of the
+//! crate `board_cases`.
 ghost use Rattle.std.specs.Prelude.{◌≡◌, [], IfOk};
 
 use crate::board::{Board, BoardFault, Config};
@@ -79,13 +80,16 @@ const MULTIPLYING: Tone = Tone {
     state: State::Running,
 };
 
-/// A board with 64 KB of RAM and `tone`'s program, to which the reset vector leads.
-fn tone_board(rt: &impl Abort, alloc: Global, tone: &Tone) -> Result<Board, Fail>
+/// MOV CX, 1000; LOOP to itself; HLT.
+const LOOPING: [u8; 6] = [0xB9, 0xE8, 0x03, 0xE2, 0xFE, 0xF4];
+
+/// A board with 64 KB of RAM and a program at F0000h, to which the reset vector leads.
+fn board_with(rt: &impl Abort, alloc: Global, program: &[u8]) -> Result<Board, Fail>
     ensures { IfOk result (λ board. board.changes ≡ []) }
 {
     let mut image = Image::new(alloc);
     put_all(rt, &mut image, 0xFFFF0, &JUMP)?;
-    put_all(rt, &mut image, 0xF0000, tone.program)?;
+    put_all(rt, &mut image, 0xF0000, program)?;
     let config = Config {
         ram_kb: 64,
         sw1: 0,
@@ -132,7 +136,7 @@ fn assert_changes<A: Allocator>(rt: &impl Abort, board: &Board<A>, wanted: &[(u6
 /// Whether a run of `tone` without memory for its third change is refused before it, and with memory goes on.
 fn assert_held(rt: &impl Abort, alloc: Global, tone: &Tone) -> Result<(), Fail> {
     let heap = LocalHeap::new(alloc, 4_096)?;
-    let board = tone_board(rt, alloc, tone)?;
+    let board = board_with(rt, alloc, tone.program)?;
     let mut board = board.with_changes(Vec::with_capacity(&heap, 2)?);
     // all the rest of the heap is taken but for 32 bytes, and four changes need 64
     let filler: Vec<u8, &LocalHeap> = Vec::with_capacity(&heap, heap.free().saturating_sub(32))?;
@@ -161,12 +165,27 @@ fn a_change_without_memory_stops_the_run_before_it(rt: HostRuntime) -> Result<()
 #[test]
 fn room_that_is_reserved_needs_no_memory(rt: HostRuntime) -> Result<(), Fail> {
     let heap = LocalHeap::new(rt.alloc(), 4_096)?;
-    let board = tone_board(&rt, rt.alloc(), &HALTING)?;
+    let tone = &HALTING;
+    let board = board_with(&rt, rt.alloc(), tone.program)?;
     let mut board = board.with_changes(Vec::new(&heap));
     board.reserve_speaker(8)?;
     let filler: Vec<u8, &LocalHeap> = Vec::with_capacity(&heap, heap.free().saturating_sub(64))?;
     board.run(100)?;
-    assert_tone(&rt, &board, &HALTING);
+    assert_tone(&rt, &board, tone);
     drop(filler);
+    Ok(())
+}
+
+#[test]
+fn a_loop_is_decoded_once(rt: HostRuntime) -> Result<(), Fail> {
+    let mut board = board_with(&rt, rt.alloc(), &LOOPING)?;
+    board.run(17_007)?;
+    assert_eq!(rt; board.state(), State::Running);
+    board.run(1)?;
+    assert_eq!(rt; board.state(), State::Halted);
+    board.run(2_992)?;
+    assert_eq!(rt; board.state(), State::Halted);
+    // JMP FAR, MOV, LOOP and HLT, of which LOOP is made 1,000 times
+    assert!(rt; board.decodes() >= 4 && board.decodes() <= 100);
     Ok(())
 }

@@ -1,6 +1,5 @@
-use Rattle.std.proofs.Common.{◌≡◌, ◌<◌, ◌+◌, refl, ap, ◌∙◌, arith}
-use Rattle.board.specs.Plain.{clock_of}
-use Rattle.board.proofs.Turns.{HeldRun, held_run, not_counted, so_far_none, so_far_turn, turn_moves}
+use Rattle.std.proofs.Common.{refl, arith}
+use Rattle.board.proofs.Turns.{held_run, not_counted, so_far_none, so_far_turn, turn_moves}
 use Rattle.board.proofs.board.Board.run.Goals as goal
 
 pub returns-then-is_past_limit-clause-turns_least : goal.returns-then-is_past_limit-clause-turns_least

@@ -2,8 +2,7 @@ use Rattle.std.proofs.Common.{◌≡◌, ◌<◌, ◌+◌, None, Some, refl, sym
 use Rattle.board.specs.Board.{BoardState}
 use Rattle.board.specs.Plain.{clock_of}
 use Rattle.board.specs.Stops.{holding}
-use Rattle.board.specs.Turns.{IsTickOn}
-use Rattle.board.proofs.Search.{HeldSearch, found, held_at_once, held_search, not_found, nothing_found, searched_first, searched_turn}
+use Rattle.board.proofs.Search.{found, held_at_once, held_search, nothing_found, searched_first, searched_turn}
 use Rattle.board.proofs.Turns.{not_counted, turn_moves}
 use Rattle.board.proofs.board.Board.run_until.Goals as goal
 
@@ -17,32 +16,31 @@ returns-then-count-eq0-clause-ran g c =
 pub returns-then-count-eq0-clause-turns_least : goal.returns-then-count-eq0-clause-turns_least
 returns-then-count-eq0-clause-turns_least g c = (not_counted c.args.self.now c.args.self.now refl).least
 
-pub returns-in_err-run_clock-clause-memory : goal.returns-in_err-run_clock-clause-memory
-returns-in_err-run_clock-clause-memory g c = λ _.
-    (held_at_once c.args.stops.now.items (c.get.result + c.args.count) c.args.count c.args.self.now c.run_clock.new.self c.is_past_limit.ensures.trail
-    (omega (arith, c.clock.ensures, c.get.ensures.value)) (omega (arith, c.clock.ensures, c.get.ensures.value, c.if-count-eq0.false)) c.in_err-run_clock.ensures.err).run.early
+pub returns-in_err-make_clock-clause-memory : goal.returns-in_err-make_clock-clause-memory
+returns-in_err-make_clock-clause-memory g c = λ _.
+    (held_at_once c.args.stops.now.items (c.get.result + c.args.count) c.args.count c.args.self.now c.make_clock.new.self c.is_past_limit.ensures.trail
+    (omega (arith, c.clock.ensures, c.get.ensures.value)) (omega (arith, c.clock.ensures, c.get.ensures.value, c.if-count-eq0.false)) c.in_err-make_clock.ensures.err).run.early
 
-pub returns-in_err-run_clock-clause-succeeds : goal.returns-in_err-run_clock-clause-succeeds
-returns-in_err-run_clock-clause-succeeds g c = λ within enough.
-    absurd ((held_at_once c.args.stops.now.items (c.get.result + c.args.count) c.args.count c.args.self.now c.run_clock.new.self c.is_past_limit.ensures.trail
-    (omega (arith, c.clock.ensures, c.get.ensures.value)) (omega (arith, c.clock.ensures, c.get.ensures.value, c.if-count-eq0.false)) c.in_err-run_clock.ensures.err).run.enough enough)
+pub returns-in_err-make_clock-clause-succeeds : goal.returns-in_err-make_clock-clause-succeeds
+returns-in_err-make_clock-clause-succeeds g c = λ within enough.
+    absurd ((held_at_once c.args.stops.now.items (c.get.result + c.args.count) c.args.count c.args.self.now c.make_clock.new.self c.is_past_limit.ensures.trail
+    (omega (arith, c.clock.ensures, c.get.ensures.value)) (omega (arith, c.clock.ensures, c.get.ensures.value, c.if-count-eq0.false)) c.in_err-make_clock.ensures.err).run.enough enough)
 
-pub returns-in_err-run_clock-clause-succeeds_to_stop : goal.returns-in_err-run_clock-clause-succeeds_to_stop
-returns-in_err-run_clock-clause-succeeds_to_stop g c = λ within enough.
-    absurd ((held_at_once c.args.stops.now.items (c.get.result + c.args.count) c.args.count c.args.self.now c.run_clock.new.self c.is_past_limit.ensures.trail
-    (omega (arith, c.clock.ensures, c.get.ensures.value)) (omega (arith, c.clock.ensures, c.get.ensures.value, c.if-count-eq0.false)) c.in_err-run_clock.ensures.err).fits enough)
+pub returns-in_err-make_clock-clause-succeeds_to_stop : goal.returns-in_err-make_clock-clause-succeeds_to_stop
+returns-in_err-make_clock-clause-succeeds_to_stop g c = λ within enough.
+    absurd ((held_at_once c.args.stops.now.items (c.get.result + c.args.count) c.args.count c.args.self.now c.make_clock.new.self c.is_past_limit.ensures.trail
+    (omega (arith, c.clock.ensures, c.get.ensures.value)) (omega (arith, c.clock.ensures, c.get.ensures.value, c.if-count-eq0.false)) c.in_err-make_clock.ensures.err).fits enough)
 
-pub returns-in_err-run_clock-clause-turns_least : goal.returns-in_err-run_clock-clause-turns_least
-returns-in_err-run_clock-clause-turns_least g c =
-    (held_at_once c.args.stops.now.items (c.get.result + c.args.count) c.args.count c.args.self.now c.run_clock.new.self c.is_past_limit.ensures.trail
-    (omega (arith, c.clock.ensures, c.get.ensures.value)) (omega (arith, c.clock.ensures, c.get.ensures.value, c.if-count-eq0.false)) c.in_err-run_clock.ensures.err).run.counts.least
+pub returns-in_err-make_clock-clause-turns_least : goal.returns-in_err-make_clock-clause-turns_least
+returns-in_err-make_clock-clause-turns_least g c =
+    (held_at_once c.args.stops.now.items (c.get.result + c.args.count) c.args.count c.args.self.now c.make_clock.new.self c.is_past_limit.ensures.trail
+    (omega (arith, c.clock.ensures, c.get.ensures.value)) (omega (arith, c.clock.ensures, c.get.ensures.value, c.if-count-eq0.false)) c.in_err-make_clock.ensures.err).run.counts.least
 
 pub turns-init : goal.turns-init
 turns-init g c =
-    let on = c.in_ok-run_clock.ensures in
-    searched_first c.args.stops.now.items (c.get.result + c.args.count) c.args.self.now c.run_clock.new.self c.is_past_limit.ensures.trail
+    searched_first c.args.stops.now.items (c.get.result + c.args.count) c.args.self.now c.make_clock.new.self c.is_past_limit.ensures.trail
     (omega (arith, c.clock.ensures, c.get.ensures.value, c.if-count-eq0.false))
-    (record { plain = on.plain; clock = on.clock; changes = on.changes; trail = on.trail; room = on.room; turns = on.turns })
+    c.in_ok-make_clock.ensures.ok
 
 pub turns-smaller : goal.turns-smaller
 turns-smaller g c =
@@ -52,18 +50,18 @@ turns-smaller g c =
 
 pub turns-preserved : goal.turns-preserved
 turns-preserved g c =
-    let now : c.self-in-turns.inside.plain ≡ c.turns.self.plain = ap (λ (b : BoardState). b.plain) c.self-in-turns.view_is in
+    let now : c.self.inside.plain ≡ c.turns.self.plain = ap (λ (b : BoardState). b.plain) c.self.view_is in
     let here : holding c.args.stops.now.items c.turns.self.plain ≡ None =
-    ap (holding c.args.stops.now.items) (sym now) ∙ ap (λ stops. holding stops c.self-in-turns.inside.plain) (sym c.as_slice.ensures.value) ∙ sym c.holding.ensures ∙ c.in_default.is in
+    ap (holding c.args.stops.now.items) (sym now) ∙ ap (λ stops. holding stops c.self.inside.plain) (sym c.as_slice.ensures.value) ∙ sym c.holding.ensures ∙ c.in_default.is in
     let within = c.turns.invariant.so_far.within in
     let before : clock_of c.turns.self.plain < c.get.result + c.args.count = omega (arith, within, c.clock-in-turns.ensures, c.get-in-turns.ensures.value, c.if-get-end.false) in
     searched_turn c.args.stops.now.items (c.get.result + c.args.count) c.args.self.now c.turns.self c.turn.new.self c.turns.invariant here before c.in_ok-turn.ensures.ok
 
 pub returns-in_err-turn-clause-succeeds : goal.returns-in_err-turn-clause-succeeds
 returns-in_err-turn-clause-succeeds g c = λ within_limit enough.
-    let now : c.self-in-turns.inside.plain ≡ c.turns.self.plain = ap (λ (b : BoardState). b.plain) c.self-in-turns.view_is in
+    let now : c.self.inside.plain ≡ c.turns.self.plain = ap (λ (b : BoardState). b.plain) c.self.view_is in
     let here : holding c.args.stops.now.items c.turns.self.plain ≡ None =
-    ap (holding c.args.stops.now.items) (sym now) ∙ ap (λ stops. holding stops c.self-in-turns.inside.plain) (sym c.as_slice.ensures.value) ∙ sym c.holding.ensures ∙ c.in_default.is in
+    ap (holding c.args.stops.now.items) (sym now) ∙ ap (λ stops. holding stops c.self.inside.plain) (sym c.as_slice.ensures.value) ∙ sym c.holding.ensures ∙ c.in_default.is in
     let within = c.turns.invariant.so_far.within in
     let before : clock_of c.turns.self.plain < c.get.result + c.args.count = omega (arith, within, c.clock-in-turns.ensures, c.get-in-turns.ensures.value, c.if-get-end.false) in
     let held = held_search c.args.stops.now.items (c.get.result + c.args.count) c.args.count c.args.self.now c.turns.self c.turn.new.self c.turns.invariant here
@@ -72,9 +70,9 @@ returns-in_err-turn-clause-succeeds g c = λ within_limit enough.
 
 pub returns-in_err-turn-clause-succeeds_to_stop : goal.returns-in_err-turn-clause-succeeds_to_stop
 returns-in_err-turn-clause-succeeds_to_stop g c = λ within_limit enough.
-    let now : c.self-in-turns.inside.plain ≡ c.turns.self.plain = ap (λ (b : BoardState). b.plain) c.self-in-turns.view_is in
+    let now : c.self.inside.plain ≡ c.turns.self.plain = ap (λ (b : BoardState). b.plain) c.self.view_is in
     let here : holding c.args.stops.now.items c.turns.self.plain ≡ None =
-    ap (holding c.args.stops.now.items) (sym now) ∙ ap (λ stops. holding stops c.self-in-turns.inside.plain) (sym c.as_slice.ensures.value) ∙ sym c.holding.ensures ∙ c.in_default.is in
+    ap (holding c.args.stops.now.items) (sym now) ∙ ap (λ stops. holding stops c.self.inside.plain) (sym c.as_slice.ensures.value) ∙ sym c.holding.ensures ∙ c.in_default.is in
     let within = c.turns.invariant.so_far.within in
     let before : clock_of c.turns.self.plain < c.get.result + c.args.count = omega (arith, within, c.clock-in-turns.ensures, c.get-in-turns.ensures.value, c.if-get-end.false) in
     let held = held_search c.args.stops.now.items (c.get.result + c.args.count) c.args.count c.args.self.now c.turns.self c.turn.new.self c.turns.invariant here
@@ -83,8 +81,8 @@ returns-in_err-turn-clause-succeeds_to_stop g c = λ within_limit enough.
 
 pub returns-in-Some-clause-stop : goal.returns-in-Some-clause-stop
 returns-in-Some-clause-stop g c =
-    let now : c.self-in-turns.inside.plain ≡ c.turns.self.plain = ap (λ (b : BoardState). b.plain) c.self-in-turns.view_is in
+    let now : c.self.inside.plain ≡ c.turns.self.plain = ap (λ (b : BoardState). b.plain) c.self.view_is in
     let here : holding c.args.stops.now.items c.turns.self.plain ≡ Some c.in-Some.number =
-    ap (holding c.args.stops.now.items) (sym now) ∙ ap (λ stops. holding stops c.self-in-turns.inside.plain) (sym c.as_slice.ensures.value) ∙ sym c.holding.ensures ∙ c.in-Some.is in
+    ap (holding c.args.stops.now.items) (sym now) ∙ ap (λ stops. holding stops c.self.inside.plain) (sym c.as_slice.ensures.value) ∙ sym c.holding.ensures ∙ c.in-Some.is in
     (found c.args.stops.now.items (c.get.result + c.args.count) c.args.count c.args.self.now c.turns.self c.in-Some.number c.clock-clock.result c.turns.invariant
     (omega (arith, c.clock.ensures, c.get.ensures.value)) here c.clock-clock.ensures).stop
