@@ -2,4 +2,3 @@ pub mod Lists
 pub mod Prefixes
 pub mod Pieces
 pub mod Exact
-pub mod Fields

@@ -5,7 +5,6 @@ ghost use Rattle.execute.specs.PortWrites.{port_writes_of};
 use crate::cpu::Cpu;
 use arrayvec::ArrayVec;
 use decode::decoded::Decoded;
-use decode::decoding::Decoding;
 use execute_transfer::ports::outputs;
 use isa::operation::{Operation, Transfer};
 
@@ -14,11 +13,11 @@ use isa::operation::{Operation, Transfer};
 pub fn port_writes(cpu: &Cpu, decoded: &Decoded) -> ArrayVec<(u16, u8), 2>
     ensures { result.items ≡ port_writes_of cpu.now decoded.now }
 {
-    match decoded.unpack() {
-        Decoding::Found(instr, _) => match instr.form.row.operation() {
-            Operation::Transfer(Transfer::Out) => outputs(&cpu.registers, &instr),
+    match decoded.digest() {
+        Some(instr) => match instr.operation() {
+            Operation::Transfer(Transfer::Out) => outputs(&cpu.registers, instr),
             _ => ArrayVec::new(),
         },
-        Decoding::NoRow => ArrayVec::new(),
+        None => ArrayVec::new(),
     }
 }

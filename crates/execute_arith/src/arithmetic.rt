@@ -8,11 +8,11 @@ ghost use Rattle.execute_machine.specs.Widths.{size_of};
 
 use crate::sums::{add, subtract};
 use bus::Bus;
+use digest::digest::Digest;
 use execute_machine::flags::FlagRegister;
-use execute_machine::location::{locate, operand, put};
+use execute_machine::location::{locate_first, locate_second, operand, put};
 use execute_machine::registers::Registers;
 use execute_machine::width::Width;
-use isa::form::Instr;
 use isa::operation::Arithmetic;
 
 /// Performs ADD, OR, ADC, SBB, AND, SUB, XOR, CMP or TEST on the instruction's operands.
@@ -21,13 +21,13 @@ pub fn perform_arithmetic<B: Bus>(
     bus: &mut B,
     registers: &mut Registers,
     operation: Arithmetic,
-    instr: &Instr,
+    instr: &Digest,
 )
     ensures { machine registers.new (B.state bus.new)
         ≡ after_arithmetic B.meaning (machine registers.old (B.state bus.old)) operation instr.now }
 {
-    let to = locate(registers, instr, instr.form.row.first());
-    let from = locate(registers, instr, instr.form.row.second());
+    let to = locate_first(registers, instr);
+    let from = locate_second(registers, instr);
     let width = to.width();
     let a = operand(bus, registers, to, width);
     let b = operand(bus, registers, from, width);

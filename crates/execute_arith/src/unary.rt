@@ -6,11 +6,11 @@ ghost use Rattle.execute_machine.specs.Widths.{size_of};
 
 use crate::sums::subtract;
 use bus::Bus;
+use digest::digest::Digest;
 use execute_machine::flags::FlagRegister;
-use execute_machine::location::{locate, operand, put};
+use execute_machine::location::{locate_first, operand, put};
 use execute_machine::registers::Registers;
 use execute_machine::width::Width;
-use isa::form::Instr;
 use isa::operation::Unary;
 
 /// Performs INC, DEC, NOT or NEG on the instruction's operand.
@@ -19,12 +19,12 @@ pub fn perform_unary<B: Bus>(
     bus: &mut B,
     registers: &mut Registers,
     operation: Unary,
-    instr: &Instr,
+    instr: &Digest,
 )
     ensures { machine registers.new (B.state bus.new)
         ≡ after_unary B.meaning (machine registers.old (B.state bus.old)) operation instr.now }
 {
-    let to = locate(registers, instr, instr.form.row.first());
+    let to = locate_first(registers, instr);
     let width = to.width();
     let a = operand(bus, registers, to, width);
     let result = calculate(&mut registers.flags, operation, width, a);

@@ -6,5 +6,6 @@ pub mod LastOperation
 pub mod Operands
 pub mod Registers
 pub mod Locations
+pub mod LocationsBy
 pub mod Stack
 pub mod Memory

@@ -10,11 +10,11 @@ use crate::numbers::{
 };
 use board_types::regs::Flags;
 use bus::Bus;
-use execute_machine::location::{locate, operand};
+use digest::digest::Digest;
+use execute_machine::location::{locate_first, operand};
 use execute_machine::registers::Registers;
 use execute_machine::stack::enter;
 use execute_machine::width::Width;
-use isa::form::Instr;
 use isa::operation::Product;
 
 fn accumulator(registers: &Registers, width: Width) -> u16
@@ -156,13 +156,13 @@ pub fn perform_product<B: Bus>(
     bus: &mut B,
     registers: &mut Registers,
     operation: Product,
-    instr: &Instr,
+    instr: &Digest,
 ) -> bool
     ensures machine { machine registers.new (B.state bus.new)
         ≡ after_product B.meaning (machine registers.old (B.state bus.old)) operation instr.now }
     ensures fault { result ≡ has_fault B.meaning (machine registers.old (B.state bus.old)) operation instr.now }
 {
-    let place = locate(registers, instr, instr.form.row.first());
+    let place = locate_first(registers, instr);
     let width = place.width();
     let operand = operand(bus, registers, place, width);
     perform_operation(bus, registers, operation, width, operand)

@@ -5,11 +5,11 @@ ghost use Rattle.execute_shift.specs.Meaning.{after_shift, tells_result, with_sh
 
 use crate::single::{Shifted, shift_by};
 use bus::Bus;
+use digest::digest::Digest;
 use execute_machine::flags::{FlagRegister, StatusFlags};
-use execute_machine::location::{get, locate, operand, put};
+use execute_machine::location::{get, locate_first, locate_second, operand, put};
 use execute_machine::registers::Registers;
 use execute_machine::width::Width;
-use isa::form::Instr;
 use isa::operation::Shift;
 
 fn tells_result(operation: Shift) -> bool
@@ -54,13 +54,13 @@ pub fn perform_shift<B: Bus>(
     bus: &mut B,
     registers: &mut Registers,
     operation: Shift,
-    instr: &Instr,
+    instr: &Digest,
 )
     ensures { machine registers.new (B.state bus.new)
         ≡ after_shift B.meaning (machine registers.old (B.state bus.old)) operation instr.now }
 {
-    let place = locate(registers, instr, instr.form.row.first());
-    let counter = locate(registers, instr, instr.form.row.second());
+    let place = locate_first(registers, instr);
+    let counter = locate_second(registers, instr);
     let count = get(bus, registers, counter);
     let width = place.width();
     let before = Shifted {

@@ -2,23 +2,23 @@
 ghost use Rattle.std.specs.Prelude.{◌≡◌};
 ghost use Rattle.execute_transfer.specs.Meaning.{first_place, is_sp, offset_of, second_place};
 
-use execute_machine::location::{OperandLocation, locate};
+use digest::digest::Digest;
+use execute_machine::location::{OperandLocation, locate_first, locate_second};
 use execute_machine::registers::Registers;
-use isa::form::Instr;
 use isa::register::WordRegister;
 
 /// The place of the first operand.
-pub(crate) fn first_place(registers: &Registers, instr: &Instr) -> OperandLocation
+pub(crate) fn first_place(registers: &Registers, instr: &Digest) -> OperandLocation
     ensures { result ≡ first_place registers.now instr.now }
 {
-    locate(registers, instr, instr.form.row.first())
+    locate_first(registers, instr)
 }
 
 /// The place of the second operand.
-pub(crate) fn second_place(registers: &Registers, instr: &Instr) -> OperandLocation
+pub(crate) fn second_place(registers: &Registers, instr: &Digest) -> OperandLocation
     ensures { result ≡ second_place registers.now instr.now }
 {
-    locate(registers, instr, instr.form.row.second())
+    locate_second(registers, instr)
 }
 
 /// The offset of a place in memory.

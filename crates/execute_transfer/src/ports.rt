@@ -5,8 +5,8 @@ ghost use Rattle.execute_transfer.specs.Meaning.{after_byte_input, after_in, aft
 
 use arrayvec::ArrayVec;
 use bus::Bus;
+use digest::digest::Digest;
 use execute_machine::registers::{Registers, set_byte};
-use isa::form::Instr;
 use isa::register::ByteRegister;
 use isa::row::Kind;
 
@@ -46,12 +46,12 @@ fn input_word<B: Bus>(bus: &mut B, registers: &mut Registers, port: u16)
 }
 
 #[tactic(auto, unfolding(crate::specs::Meaning::after_in))]
-pub(crate) fn perform_in<B: Bus>(bus: &mut B, registers: &mut Registers, instr: &Instr)
+pub(crate) fn perform_in<B: Bus>(bus: &mut B, registers: &mut Registers, instr: &Digest)
     ensures { machine registers.new (B.state bus.new)
         ≡ after_in B.meaning (machine registers.old (B.state bus.old)) instr.now }
 {
-    let port = port_of(instr.form.row.second(), registers.dx, instr.values.number);
-    if is_ax(instr.form.row.first()) {
+    let port = port_of(instr.second_kind(), registers.dx, instr.number());
+    if is_ax(instr.first_kind()) {
         input_word(bus, registers, port);
     } else {
         input_byte(bus, registers, port);
@@ -59,26 +59,26 @@ pub(crate) fn perform_in<B: Bus>(bus: &mut B, registers: &mut Registers, instr: 
 }
 
 #[tactic(auto, unfolding(crate::specs::Meaning::after_out, crate::specs::Meaning::outputs_of))]
-pub(crate) fn perform_out<B: Bus>(bus: &mut B, registers: &Registers, instr: &Instr)
+pub(crate) fn perform_out<B: Bus>(bus: &mut B, registers: &Registers, instr: &Digest)
     ensures { machine registers.now (B.state bus.new)
         ≡ after_out B.meaning (machine registers.now (B.state bus.old)) instr.now }
 {
-    let port = port_of(instr.form.row.first(), registers.dx, instr.values.number);
+    let port = port_of(instr.first_kind(), registers.dx, instr.number());
     bus.out8(port, (registers.ax % 256) as u8);
-    if is_ax(instr.form.row.second()) {
+    if is_ax(instr.second_kind()) {
         bus.out8(port.wrapping_add(1), (registers.ax / 256) as u8);
     }
 }
 
 /// The port writes of an OUT, in order: each a port and a byte.
 #[tactic(auto, unfolding(crate::specs::Meaning::outputs_of))]
-pub fn outputs(registers: &Registers, instr: &Instr) -> ArrayVec<(u16, u8), 2>
+pub fn outputs(registers: &Registers, instr: &Digest) -> ArrayVec<(u16, u8), 2>
     ensures { result.items ≡ outputs_of registers.now instr.now }
 {
     let mut writes = ArrayVec::new();
-    let port = port_of(instr.form.row.first(), registers.dx, instr.values.number);
+    let port = port_of(instr.first_kind(), registers.dx, instr.number());
     writes.push((port, (registers.ax % 256) as u8));
-    if is_ax(instr.form.row.second()) {
+    if is_ax(instr.second_kind()) {
         writes.push((port.wrapping_add(1), (registers.ax / 256) as u8));
     }
     writes

@@ -1,17 +1,16 @@
 //! How many processor clocks an instruction takes.
 ghost use Rattle.std.specs.Prelude.{◌≡◌, ◌≤◌, ◌+◌};
-ghost use Rattle.isa.specs.Clocks.{address_clocks, base_clocks, can_repeat, clocks_of, first_clocks, is_repeated, place_clocks, row_clocks};
+ghost use Rattle.isa.specs.Clocks.{address_clocks, base_clocks, can_repeat, clocks_of, first_clocks, is_counted, is_repeated, place_clocks, row_clocks};
 
 use crate::form::{Base, Instr, Place};
 use crate::outcome::{Cost, Outcome};
 use crate::row::Clocks;
 
 /// The clocks that a step of `instr` takes which found `outcome`.
-// Inlined, a step takes 16 host instructions less.
-#[inline(always)]
 #[tactic(auto, unfolding(crate::specs::Clocks::clocks_of))]
 pub fn cost(instr: &Instr, outcome: &Outcome) -> Cost
-    ensures { result.0 ≡ clocks_of instr.now outcome.now }
+    ensures value { result.0 ≡ clocks_of instr.now outcome.now }
+    ensures bound { result.0 ≤ 1374 }
 {
     let repeated = instr.is_repeated();
     if repeated && outcome.cx_zero {
@@ -32,6 +31,13 @@ impl Instr {
         ensures { result ≡ is_repeated self.now }
     {
         self.form.row.clocks.can_repeat() && self.repeat().is_some()
+    }
+
+    /// Whether its clocks go by CL.
+    pub fn is_counted(&self) -> bool
+        ensures { result ≡ is_counted self.now }
+    {
+        matches!(self.form.row.clocks, Clocks::Counted(..))
     }
 }
 
