@@ -2,6 +2,7 @@ pub mod Reset
 pub mod Plain
 pub mod Arrivals
 pub mod Trail
+pub mod Kept
 pub mod Board
 pub mod Stops
 pub mod Laws
