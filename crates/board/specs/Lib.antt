@@ -3,6 +3,7 @@ pub mod Plain
 pub mod Arrivals
 pub mod Trail
 pub mod Kept
+pub mod KeptAgain
 pub mod Board
 pub mod Stops
 pub mod Laws

@@ -6,7 +6,7 @@ ghost use Rattle.memory.specs.Map.{IsRamSize, FitsRam};
 ghost use Rattle.board.specs.declared.board.BoardFault.TheVariants.{Memory};
 ghost use Rattle.board.specs.Board.{Ran, StoppedEarly, board_fault_name, board_fault_number};
 ghost use Rattle.board.specs.HeldBack.{IsHeldBack};
-ghost use Rattle.board.specs.Kept.{IsExact};
+ghost use Rattle.board.specs.KeptAgain.{IsExact};
 ghost use Rattle.board.specs.Leap.{IsQuiet, leapt};
 ghost use Rattle.board.specs.Plain.{after_clock, after_clocks, byte_of, change_next, changes_in, clock_of, lost_codes, next_act, power_on, registers_of, screen_of, speaker_level, state_of};
 ghost use Rattle.board.specs.Stops.{FitsRoom, HasAddress, IsStopOf, NoStop, run_length};
