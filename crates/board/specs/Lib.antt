@@ -2,6 +2,8 @@ pub mod Reset
 pub mod Plain
 pub mod Arrivals
 pub mod Trail
+pub mod Kept
+pub mod KeptAgain
 pub mod Board
 pub mod Stops
 pub mod Laws

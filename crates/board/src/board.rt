@@ -6,13 +6,13 @@ ghost use Rattle.memory.specs.Map.{IsRamSize, FitsRam};
 ghost use Rattle.board.specs.declared.board.BoardFault.TheVariants.{Memory};
 ghost use Rattle.board.specs.Board.{Ran, StoppedEarly, board_fault_name, board_fault_number};
 ghost use Rattle.board.specs.HeldBack.{IsHeldBack};
+ghost use Rattle.board.specs.KeptAgain.{IsExact};
 ghost use Rattle.board.specs.Leap.{IsQuiet, leapt};
 ghost use Rattle.board.specs.Plain.{after_clock, after_clocks, byte_of, change_next, changes_in, clock_of, lost_codes, next_act, power_on, registers_of, screen_of, speaker_level, state_of};
 ghost use Rattle.board.specs.Stops.{FitsRoom, HasAddress, IsStopOf, NoStop, run_length};
 ghost use Rattle.board.specs.Trail.{last, trail_in, trail_next};
 ghost use Rattle.board.specs.Turns.{IsTickOn, IsTurnOn};
 ghost use Rattle.board.specs.Work.{steps_in, work_in};
-ghost use Rattle.std.specs.Option.{option_copied};
 ghost use Rattle.board_types.specs.Lines.{from_bool};
 
 use crate::act::Act;
@@ -307,6 +307,7 @@ impl<A: Allocator> Board<A> {
     /// That turn, `next` being what the processor does in its first clock.
     fn turn_by(&mut self, next: &Act, end: u64) -> Result<(), BoardFault>
         requires next { next.now ≡ next_act self.old.plain }
+        requires exact { IsExact self.old.plain.cpu self.old.plain.chips next.now }
         requires before_end { clock_of self.old.plain < end }
         requires within { end ≤ 2 ^ 40 }
         ensures ok { OnOk result (IsTurnOn end self.old self.new) }
@@ -325,6 +326,7 @@ impl<A: Allocator> Board<A> {
     /// What the processor does in this clock.
     fn next_act(&mut self) -> Act
         ensures act { result ≡ next_act self.old.plain }
+        ensures exact { IsExact self.old.plain.cpu self.old.plain.chips result }
         ensures kept { self.new ≡ self.old }
     {
         self.plain.next_act()
@@ -362,6 +364,7 @@ impl<A: Allocator> Board<A> {
     fn run_clock(&mut self, next: &Act) -> Result<(), BoardFault>
         requires within { clock_of self.old.plain < 2 ^ 40 }
         requires next { next.now ≡ next_act self.old.plain }
+        requires exact { IsExact self.old.plain.cpu self.old.plain.chips next.now }
         ensures plain { OnOk result (self.new.plain ≡ after_clock self.old.plain) }
         ensures clock { OnOk result (clock_of self.new.plain ≡ clock_of self.old.plain + 1) }
         ensures changes { OnOk result (self.new.changes ≡ self.old.changes ++ change_next self.old.plain) }
@@ -373,8 +376,7 @@ impl<A: Allocator> Board<A> {
     {
         let high = self.plain.is_high_next(next);
         self.list_change(high)?;
-        let entry = self.plain.next_entry(next);
-        self.trail.extend(entry);
+        self.plain.note(next, &mut self.trail);
         self.plain.tick(next);
         self.turns += 1;
         Ok(())
@@ -485,8 +487,8 @@ impl<A: Allocator> Board<A> {
 
     /// The entry at `i` of the last 32 of the trail, the oldest being at 0: an instruction that was begun or an
     /// interrupt that was entered at a free boundary.
-    pub fn trail(&self, i: usize) -> Option<&TrailEntry>
-        ensures entry { option_copied result ≡ slice_get self.now.trail i }
+    pub fn trail(&self, i: usize) -> Option<TrailEntry>
+        ensures entry { result ≡ slice_get self.now.trail i }
         ensures length { length self.now.trail ≤ 32 }
     {
         self.trail.get(i)

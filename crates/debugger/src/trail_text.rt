@@ -75,7 +75,7 @@ pub(crate) fn trail_text(alloc: Global, board: &Board) -> Result<String, AllocEr
     let mut text = String::new(alloc);
     let mut index = 0;
     while let Some(entry) = board.trail(index) {
-        let line = entry_line(alloc, entry)?;
+        let line = entry_line(alloc, &entry)?;
         text.push_str(line.as_str())?;
         index += 1;
     }
