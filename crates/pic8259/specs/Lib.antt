@@ -3,3 +3,4 @@ pub mod Masks
 pub mod Pic
 pub mod Laws
 pub mod Edges
+pub mod Image

@@ -2,6 +2,8 @@
 //! 8259A data sheet.
 ghost use Rattle.std.specs.Prelude.{◌≡◌, ◌<◌, ◌≤◌, IfSome, length, slice_index_or, take, ◌+◌, ℕ, All, true, false};
 
+use crate::image;
+use crate::image::PicImage;
 use crate::levels::LevelSet;
 use board_types::bits::bit;
 use board_types::line::Line;
@@ -98,6 +100,7 @@ impl Model for Pic {
 }
 
 impl Pic {
+    ghost use Rattle.pic8259.specs.Image.{pic_of};
     ghost use Rattle.pic8259.specs.Levels.{up_to};
     ghost use Rattle.pic8259.specs.Pic.{power_on, is_requesting, is_ready, asks, is_pending, requests, blocks, level_to_take, after_taking, after_acknowledge, vector, poll_byte, byte_at, after_read, after_line, after_icw1, after_icw2, after_icw3, after_icw4, after_ocw1, after_word, after_end, after_lowering, highest_served, after_ocw2, after_ocw3, after_command, after_write, is_operating, expected_after_icw3};
 
@@ -126,6 +129,60 @@ impl Pic {
             special_mask: false,
             polled: false,
             reads_served: false,
+        }
+    }
+
+    /// The controller that an image stands for; any numbers stand for some controller.
+    #[tactic(auto, unfolding(crate::specs::Image::pic_of))]
+    pub fn from_image(image: &PicImage) -> Pic
+        ensures { result ≡ pic_of image.now }
+    {
+        Pic {
+            lowest: image.lowest % 8,
+            high: LevelSet::from_byte(image.high),
+            risen: LevelSet::from_byte(image.risen),
+            masked: LevelSet::from_byte(image.masked),
+            served: LevelSet::from_byte(image.served),
+            expected: image::expected_of(image.expected),
+            is_cascaded: image::flag_of(image.is_cascaded),
+            asks_icw4: image::flag_of(image.asks_icw4),
+            is_level_triggered: image::flag_of(image.is_level_triggered),
+            vector_base: image::base_of(image.vector_base),
+            slaves: image.slaves,
+            is_8086: image::flag_of(image.is_8086),
+            auto_end: image::flag_of(image.auto_end),
+            is_specially_nested: image::flag_of(image.is_specially_nested),
+            rotates: image::flag_of(image.rotates),
+            special_mask: image::flag_of(image.special_mask),
+            polled: image::flag_of(image.polled),
+            reads_served: image::flag_of(image.reads_served),
+        }
+    }
+
+    /// The controller as numbers, of which `from_image` makes it again.
+    #[tactic(auto, unfolding(crate::specs::Image::pic_of))]
+    pub fn image(&self) -> PicImage
+        ensures { pic_of result ≡ self.now }
+    {
+        PicImage {
+            lowest: self.lowest,
+            high: self.high.byte(),
+            risen: self.risen.byte(),
+            masked: self.masked.byte(),
+            served: self.served.byte(),
+            expected: image::expected_number(self.expected),
+            is_cascaded: image::flag_number(self.is_cascaded),
+            asks_icw4: image::flag_number(self.asks_icw4),
+            is_level_triggered: image::flag_number(self.is_level_triggered),
+            vector_base: self.vector_base(),
+            slaves: self.slaves,
+            is_8086: image::flag_number(self.is_8086),
+            auto_end: image::flag_number(self.auto_end),
+            is_specially_nested: image::flag_number(self.is_specially_nested),
+            rotates: image::flag_number(self.rotates),
+            special_mask: image::flag_number(self.special_mask),
+            polled: image::flag_number(self.polled),
+            reads_served: image::flag_number(self.reads_served),
         }
     }
 

@@ -41,7 +41,8 @@ impl LevelSet {
     /// The byte whose bits at the levels of this set are 1, and the others 0.
     #[tactic(auto, using(crate::proofs::Masks::byte_of_levels))]
     pub fn byte(self) -> u8
-        ensures { result ≡ byte_of self }
+        ensures byte { result ≡ byte_of self }
+        ensures levels { levels_of result ≡ self }
     {
         self.mask
     }

@@ -3,6 +3,7 @@
 #![tactic(auto)]
 
 pub mod controller;
+pub mod image;
 pub mod laws;
 mod levels;
 

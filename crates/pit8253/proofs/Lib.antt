@@ -10,4 +10,5 @@ pub mod Ahead
 pub mod Until
 pub mod GateKept
 pub mod Shorter
+pub mod Numbers
 mod Rows

@@ -3,3 +3,4 @@ pub mod Counter
 pub mod Pit
 pub mod Laws
 pub mod Ahead
+pub mod Image

@@ -4,11 +4,14 @@ ghost use Rattle.board_types.specs.declared.line.Line.{Line};
 ghost use Rattle.pit8253.specs.Program.{mode_of, access_of, radix_of, modulus, count_of, digits_of};
 ghost use Rattle.pit8253.specs.Laws.{size, ticks_left, after_fall, after_strobe_fall, after_rate_fall, half_left, after_half_fall};
 ghost use Rattle.pit8253.specs.Ahead.{is_counting, after_rests, after_rate, half_ticks, after_turn, after_halves, after_square, after_run, after_due_load, until_end, until_pulse, until_half, until_strobe, until_rest, until_turn, differ, a_tick_later};
+ghost use Rattle.pit8253.specs.Image.{counter_of};
 ghost use Rattle.pit8253.specs.Counter.{power_on, is_awaited, out_at_load, after_load, out_at_control, reading, after_latch, after_program, after_control_word, loads_when_written, after_full_count, after_first_byte, after_write, next_byte, after_read, rises, is_triggered, out_at_gate, after_gate};
 
 use crate::count::{
     count_after, count_of, digits_of, half_of, high_byte, left_after, length_of, low_byte, word_of,
 };
+use crate::image;
+use crate::image::CounterImage;
 use crate::program::{Access, Mode, Progress, Radix};
 use board_types::line::Line;
 use board_types::timed::Timed;
@@ -97,6 +100,58 @@ impl Counter {
             high_next: false,
             gate,
             out: Line::Low,
+        }
+    }
+
+    /// The counter that an image stands for; any numbers stand for some counter.
+    #[tactic(auto, unfolding(crate::specs::Image::counter_of))]
+    pub fn from_image(image: &CounterImage) -> Self
+        ensures { result ≡ counter_of image.now }
+    {
+        let radix = radix_of(image.radix);
+        let count_radix = radix_of(image.count_radix);
+        Counter {
+            mode: mode_of(image.mode % 8),
+            access: image::access_of(image.access % 4),
+            radix,
+            first_byte: image::byte_where(image.has_first_byte, image.first_byte),
+            newest: image::count_within(radix, image.newest),
+            progress: image::progress_of(image.progress),
+            load_due: image::flag_of(image.load_due),
+            count: image::count_within(count_radix, image.count),
+            count_radix,
+            strobe_due: image::flag_of(image.strobe_due),
+            latch: image::word_where(image.has_latch, image.latch),
+            high_next: image::flag_of(image.high_next),
+            gate: image::line_of(image.gate),
+            out: image::line_of(image.out),
+        }
+    }
+
+    /// The counter as numbers, of which `from_image` makes it again.
+    #[tactic(auto, unfolding(crate::specs::Image::counter_of))]
+    pub fn image(&self) -> CounterImage
+        ensures { counter_of result ≡ self.now }
+    {
+        let (has_first_byte, first_byte) = image::byte_numbers(self.first_byte);
+        let (has_latch, latch) = image::word_numbers(self.latch);
+        CounterImage {
+            newest: self.newest,
+            count: self.count,
+            latch,
+            mode: image::mode_number(self.mode),
+            access: image::access_number(self.access),
+            radix: image::radix_number(self.radix),
+            count_radix: image::radix_number(self.count_radix),
+            progress: image::progress_number(self.progress),
+            first_byte,
+            has_first_byte,
+            has_latch,
+            load_due: image::flag_number(self.load_due),
+            strobe_due: image::flag_number(self.strobe_due),
+            high_next: image::flag_number(self.high_next),
+            gate: image::line_number(self.gate),
+            out: image::line_number(self.out),
         }
     }
 

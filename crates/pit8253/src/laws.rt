@@ -1,5 +1,6 @@
 //! What the definition of a counter means over time, in the data sheet's terms. Each law is a function that
 //! does nothing: its contract speaks of the definition alone.
+ghost use Rattle.pit8253.specs.Image.{AnyNumbersAreATimer};
 ghost use Rattle.pit8253.specs.Laws.{TicksAdd, CountsDown, CountsToStrobe, CountsPeriod, CountsHalf, ReloadsAtOne, CountsPeriods, CountsHalves, CountsOut, ShootsOnce, Divides, MakesSquares, StaysHigh, StrobesOnce, StrobesOnTrigger, LatchHolds, LatchHoldsBoth, LatchIsHeld, ReadsBoth, CountsInDecimal, GateSetsHigh, RiseReloads, GateStops, GateStopsStrobe, FirstByteStops, NewCountWaits, WaitsForLoad, CountsOutAsTold, ShootsAsTriggered, DividesAsTold, MakesSquaresAsTold, StrobesAsTold, StrobesAsTriggered, CountersTickAlike};
 
 /// Ticks, and then more ticks, are as many ticks together.
@@ -134,4 +135,10 @@ pub fn waves_as_told()
 #[tactic(auto, using(crate::proofs::PitTicks::each_counter))]
 pub fn counters_tick_alike()
     ensures { CountersTickAlike }
+{}
+
+/// Any numbers of an image are a timer that can be.
+#[tactic(auto, using(crate::proofs::Numbers::any_numbers_are_a_timer))]
+pub fn any_numbers_are_a_timer()
+    ensures { AnyNumbersAreATimer }
 {}

@@ -5,6 +5,7 @@
 
 mod count;
 pub mod counter;
+pub mod image;
 pub mod laws;
 pub mod pit;
 pub mod program;

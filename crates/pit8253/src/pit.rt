@@ -2,11 +2,13 @@
 ghost use Rattle.std.specs.Prelude.{◌≡◌, ◌≤◌, ◌<◌, IfSome, IsTrue};
 ghost use Rattle.board_types.specs.Timed.{IsUntilTurn};
 ghost use Rattle.board_types.specs.declared.line.Line.{Line};
+ghost use Rattle.pit8253.specs.Image.{pit_of};
 ghost use Rattle.pit8253.specs.Counter as one;
 ghost use Rattle.pit8253.specs.Counter.{CounterState, out_of};
 ghost use Rattle.pit8253.specs.Pit.{power_on, counter, after_ticks, after_control_word, after_write, byte_at, after_read, after_gate};
 
 use crate::counter::Counter;
+use crate::image::PitImage;
 use board_types::line::Line;
 use board_types::timed::Timed;
 use std::marker::Model;
@@ -39,6 +41,30 @@ impl Pit {
             counter_0: Counter::new(Line::High),
             counter_1: Counter::new(Line::High),
             counter_2: Counter::new(Line::Low),
+        }
+    }
+
+    /// The timer that an image stands for; any numbers stand for some timer.
+    #[tactic(auto, unfolding(crate::specs::Image::pit_of))]
+    pub fn from_image(image: &PitImage) -> Self
+        ensures { result ≡ pit_of image.now }
+    {
+        Pit {
+            counter_0: Counter::from_image(&image.counter_0),
+            counter_1: Counter::from_image(&image.counter_1),
+            counter_2: Counter::from_image(&image.counter_2),
+        }
+    }
+
+    /// The timer as numbers, of which `from_image` makes it again.
+    #[tactic(auto, unfolding(crate::specs::Image::pit_of))]
+    pub fn image(&self) -> PitImage
+        ensures { pit_of result ≡ self.now }
+    {
+        PitImage {
+            counter_0: self.counter_0.image(),
+            counter_1: self.counter_1.image(),
+            counter_2: self.counter_2.image(),
         }
     }
 

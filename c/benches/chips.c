@@ -1,0 +1,157 @@
+/* The chips' calls from C. Expected values were worked out by hand from the data sheets; docs/PARTS.md tells how. Exits
+ * with 0, or prints what failed. `chips seconds` also tells how long calls take; `chips random N` gives N random chips to
+ * every call. */
+#include "../zebludor.h"
+
+#include <stdio.h>
+#include <stdlib.h>
+#include <string.h>
+#include <time.h>
+
+static int failed;
+
+static void expect(const char *what, uint64_t is, uint64_t wanted) {
+    if (is == wanted) return;
+    printf("%s: %llu, and %llu was wanted\n", what, (unsigned long long)is, (unsigned long long)wanted);
+    failed = 1;
+}
+
+/* counter 2 in mode 3 with a count, its gate high */
+static zebludor_pit square(uint16_t count) {
+    zebludor_pit pit;
+    memset(&pit, 0xA5, sizeof pit);
+    zebludor_pit_power_on(&pit);
+    zebludor_pit_set_gate(&pit, 2, 1);
+    zebludor_pit_write(&pit, 3, 0xB6);
+    zebludor_pit_write(&pit, 2, count % 256);
+    zebludor_pit_write(&pit, 2, count / 256);
+    return pit;
+}
+
+/* Count 7: high for 4 ticks from the load at tick 1 on, low for 3. */
+static void timer_makes_squares(void) {
+    static const uint64_t turns[] = {5, 8, 12, 15, 19, 22};
+    zebludor_pit pit = square(7), leaping = pit;
+    uint64_t tick = 0, at = 0;
+    for (unsigned i = 0; i < sizeof turns / sizeof *turns; i++) {
+        uint8_t level = zebludor_pit_out(&pit, 2);
+        do {
+            zebludor_pit_advance(&pit, 1);
+            tick++;
+        } while (zebludor_pit_out(&pit, 2) == level && tick < 100);
+        expect("a turn by ticks", tick, turns[i]);
+        uint64_t leap = zebludor_pit_until_change(&leaping, 2);
+        zebludor_pit_advance(&leaping, leap);
+        at += leap;
+        expect("a turn by leaps", at, turns[i]);
+    }
+}
+
+/* Latched while it counts down from 7 by 2: loaded at tick 1, 6 at tick 2, 4 at tick 3. */
+static void timer_reads(void) {
+    zebludor_pit pit = square(7);
+    zebludor_pit_advance(&pit, 3);
+    zebludor_pit_write(&pit, 3, 0x80);
+    zebludor_pit_advance(&pit, 1000000007);
+    expect("the latch's low byte", zebludor_pit_read(&pit, 2), 4);
+    expect("the latch's high byte", zebludor_pit_read(&pit, 2), 0);
+    expect("port 3", zebludor_pit_read(&pit, 3), 0xFF);
+    expect("port 7 is port 3", zebludor_pit_read(&pit, 7), 0xFF);
+    expect("OUT 0 after power-on never changes", zebludor_pit_until_change(&pit, 0), 0);
+}
+
+/* Base 8, lines 4 and 1: vectors 8 + 1 and, after its end of interrupt, 8 + 4; then none is left, level 7. */
+static void controller_takes(void) {
+    zebludor_pic pic;
+    memset(&pic, 0xA5, sizeof pic);
+    zebludor_pic_power_on(&pic);
+    zebludor_pic_write(&pic, 0, 0x13);
+    zebludor_pic_write(&pic, 1, 8);
+    zebludor_pic_write(&pic, 1, 1);
+    expect("no request", zebludor_pic_request(&pic), 0);
+    zebludor_pic_set_line(&pic, 4, 1);
+    zebludor_pic_set_line(&pic, 1, 255);
+    expect("a request", zebludor_pic_request(&pic), 1);
+    expect("the first vector", zebludor_pic_acknowledge(&pic), 9);
+    zebludor_pic_write(&pic, 0, 0x20);
+    expect("the second vector", zebludor_pic_acknowledge(&pic), 12);
+    expect("the vector of none", zebludor_pic_acknowledge(&pic), 15);
+    zebludor_pic_write(&pic, 1, 0x42);
+    expect("the mask", zebludor_pic_read(&pic, 1), 0x42);
+    expect("the lines that ask", zebludor_pic_read(&pic, 0), 0);
+    zebludor_pic_write(&pic, 0, 0x0B);
+    expect("the level in service", zebludor_pic_read(&pic, 0), 0x10);
+}
+
+static void fill(void *bytes, size_t count) {
+    for (size_t i = 0; i < count; i++) ((unsigned char *)bytes)[i] = (unsigned char)(rand() >> 7);
+}
+
+/* Any bytes through every call: for the sanitizers, and that answers keep their ranges. */
+static void take_any_bytes(long rounds) {
+    srand(1);
+    for (long i = 0; i < rounds; i++) {
+        zebludor_pit pit;
+        zebludor_pic pic;
+        unsigned char any[3];
+        uint64_t ticks;
+        fill(&pit, sizeof pit), fill(&pic, sizeof pic), fill(any, sizeof any), fill(&ticks, sizeof ticks);
+        zebludor_pit_read(&pit, any[0]);
+        zebludor_pit_write(&pit, any[0], any[1]);
+        zebludor_pit_set_gate(&pit, any[1], any[2]);
+        uint64_t change = zebludor_pit_until_change(&pit, any[0]);
+        if (change > 65537) expect("a change within", change, 65537);
+        uint8_t level = zebludor_pit_out(&pit, any[0]);
+        if (change > 1) {
+            zebludor_pit before = pit;
+            zebludor_pit_advance(&before, change - 1);
+            expect("no change before", zebludor_pit_out(&before, any[0]), level);
+        }
+        if (change) {
+            zebludor_pit_advance(&pit, change);
+            expect("a change", zebludor_pit_out(&pit, any[0]), level ^ 1);
+        }
+        zebludor_pit_advance(&pit, ticks);
+        zebludor_pic_set_line(&pic, any[0], any[1]);
+        zebludor_pic_write(&pic, any[1], any[2]);
+        zebludor_pic_read(&pic, any[2]);
+        if (zebludor_pic_request(&pic) > 1) expect("a request within", 2, 1);
+        zebludor_pic_acknowledge(&pic);
+    }
+}
+
+static double seconds(void) {
+    struct timespec now;
+    timespec_get(&now, TIME_UTC);
+    return (double)now.tv_sec + 1e-9 * (double)now.tv_nsec;
+}
+
+#define TELL(what, call)                                                                                              \
+    do {                                                                                                              \
+        double began = seconds();                                                                                     \
+        for (int i = 0; i < 5000000; i++) call;                                                                       \
+        printf("%s %.1f ns\n", what, (seconds() - began) / 5e6 * 1e9);                                                \
+    } while (0)
+
+static void tell_times(void) {
+    zebludor_pit pit = square(1193);
+    zebludor_pic pic;
+    zebludor_pic_power_on(&pic);
+    uint64_t sum = 0;
+    TELL("advance by a tick", zebludor_pit_advance(&pit, 1));
+    TELL("advance by 1,000 ticks", zebludor_pit_advance(&pit, 1000));
+    TELL("OUT", sum += zebludor_pit_out(&pit, 2));
+    TELL("until the next change", sum += zebludor_pit_until_change(&pit, 2));
+    TELL("set a line", zebludor_pic_set_line(&pic, (uint8_t)i, (uint8_t)(i & 8)));
+    TELL("acknowledge", sum += zebludor_pic_acknowledge(&pic));
+    if (sum == 0) printf("\n");
+}
+
+int main(int count, char **words) {
+    timer_makes_squares();
+    timer_reads();
+    controller_takes();
+    take_any_bytes(count > 2 && !strcmp(words[1], "random") ? atol(words[2]) : 10000);
+    if (count > 1 && !strcmp(words[1], "seconds")) tell_times();
+    return failed;
+}

@@ -1,0 +1,171 @@
+/* An IBM PC 5150 for benches in C and C++: the timer (Intel 8253), the interrupt controller (Intel 8259A), and whole
+ * runs of the board. The chips are in libc_interface.a, the runs in libc_run.a.
+ *
+ * A chip is a struct of numbers in the caller's memory, and each call works on that struct alone. Structs may be
+ * copied, compared field by field, kept in files. Any bytes in one are some chip, so no call can be refused: a level or
+ * a flag is 0 for low or no, and any other number for high or yes. A number of a port, a counter or a level is taken
+ * modulo how many there are. No call keeps a pointer, blocks or prints; those of the chips take no memory.
+ *
+ * What the caller owes, and nothing checks: pointers aren't null, also where a length is 0; they are aligned for their
+ * type, and lead to what is declared, as long as the call lasts; what a call writes doesn't overlap with what else it is
+ * given, and no other thread touches it meanwhile.
+ *
+ * What each call does is proved: its clause stands in crates/c_interface/src and crates/c_run/src, and the definitions
+ * that clauses name in the specs/ of the crates below. That this header declares what stands there is only tested.
+ * docs/for-test-benches.md tells how to build and link. */
+#ifndef ZEBLUDOR_H
+#define ZEBLUDOR_H
+
+#include <stddef.h>
+#include <stdint.h>
+
+#ifdef __cplusplus
+#define ZEBLUDOR_ASSERT(holds) static_assert(holds, #holds)
+#define ZEBLUDOR_ALIGNOF(type) alignof(type)
+extern "C" {
+#else
+#define ZEBLUDOR_ASSERT(holds) _Static_assert(holds, #holds)
+#define ZEBLUDOR_ALIGNOF(type) _Alignof(type)
+#endif
+
+/* A counter of the timer. */
+typedef struct zebludor_counter {
+    uint16_t newest;        /* the newest full count, 0 the largest; modulo 10,000 where radix is decimal */
+    uint16_t count;         /* the running count, 0 the largest; modulo 10,000 where count_radix is decimal */
+    uint16_t latch;         /* what a latch holds, where has_latch */
+    uint8_t mode;           /* 0 to 5; 6 and 7 are modes 2 and 3; modulo 8 */
+    uint8_t access;         /* 1 low byte, 2 high byte, 3 and 0 low then high; modulo 4 */
+    uint8_t radix;          /* of the control word: 0 binary, else decimal */
+    uint8_t count_radix;    /* of the running count: 0 binary, else decimal */
+    uint8_t progress;       /* 0 no full count yet, 1 one that waits to be loaded, else a loaded one */
+    uint8_t first_byte;     /* the first byte of two, where has_first_byte */
+    uint8_t has_first_byte; /* a flag, as all below */
+    uint8_t has_latch;
+    uint8_t load_due;       /* the next tick loads the newest count */
+    uint8_t strobe_due;     /* the loaded count's strobe is still to come */
+    uint8_t high_next;      /* the high byte is the next to be read of two */
+    uint8_t gate;
+    uint8_t out;
+} zebludor_counter;
+
+ZEBLUDOR_ASSERT(sizeof(zebludor_counter) == 20);
+ZEBLUDOR_ASSERT(ZEBLUDOR_ALIGNOF(zebludor_counter) == 2);
+ZEBLUDOR_ASSERT(offsetof(zebludor_counter, mode) == 6);
+ZEBLUDOR_ASSERT(offsetof(zebludor_counter, out) == 18);
+
+/* A timer. */
+typedef struct zebludor_pit {
+    zebludor_counter counter_0, counter_1, counter_2;
+} zebludor_pit;
+
+ZEBLUDOR_ASSERT(sizeof(zebludor_pit) == 60);
+ZEBLUDOR_ASSERT(ZEBLUDOR_ALIGNOF(zebludor_pit) == 2);
+
+/* An interrupt controller. In the sets bit n stands for level n. */
+typedef struct zebludor_pic {
+    uint8_t lowest; /* the level with the lowest priority, modulo 8; the one after it has the highest */
+    uint8_t high;   /* the levels whose line is high */
+    uint8_t risen;  /* the levels whose line has risen since they were last taken */
+    uint8_t masked; /* the mask */
+    uint8_t served; /* the levels in service */
+    uint8_t expected;           /* the word that a sequence waits for: 2, 3, 4 for ICW2, ICW3, ICW4; else none */
+    uint8_t is_cascaded;        /* ICW1's bit 1 was clear */
+    uint8_t asks_icw4;          /* ICW1's bit 0 */
+    uint8_t is_level_triggered; /* ICW1's bit 3 */
+    uint8_t vector_base;        /* the vector of level 0; above 248 it counts as 248 */
+    uint8_t slaves;             /* ICW3 as it was written */
+    uint8_t is_8086;            /* ICW4's bit 0; nothing is taken without it */
+    uint8_t auto_end;           /* ICW4's bit 1: automatic end of interrupt */
+    uint8_t is_specially_nested; /* ICW4's bit 4, without effect */
+    uint8_t rotates;            /* rotation under automatic end of interrupt */
+    uint8_t special_mask;
+    uint8_t polled;       /* a poll command waits for its read */
+    uint8_t reads_served; /* a read at A0 = 0 gives the levels in service, else the requests */
+} zebludor_pic;
+
+ZEBLUDOR_ASSERT(sizeof(zebludor_pic) == 18);
+ZEBLUDOR_ASSERT(ZEBLUDOR_ALIGNOF(zebludor_pic) == 1);
+ZEBLUDOR_ASSERT(offsetof(zebludor_pic, reads_served) == 17);
+
+/* The timer. The definitions are those of crates/pit8253/specs/Pit.antt, of the timer that the struct stands for. */
+
+/* Power-on: each counter in mode 0 with no count, OUT low; gates 0 and 1 high, gate 2 low. `*pit` may hold anything
+ * before. Leaves power_on. */
+void zebludor_pit_power_on(zebludor_pit *pit);
+
+/* Reads a byte of counter `port` (modulo 4), by its access and latch; port 3 gives FFh. Answers byte_at, leaves
+ * after_read. */
+uint8_t zebludor_pit_read(zebludor_pit *pit, uint8_t port);
+
+/* Writes a byte of a count to counter `port` (modulo 4), or a control word to port 3. Leaves after_write. */
+void zebludor_pit_write(zebludor_pit *pit, uint8_t port, uint8_t value);
+
+/* Gate `n` (modulo 3) takes a level. Leaves after_gate. */
+void zebludor_pit_set_gate(zebludor_pit *pit, uint8_t n, uint8_t level);
+
+/* The level of OUT `n` (modulo 3), 0 or 1. */
+uint8_t zebludor_pit_out(const zebludor_pit *pit, uint8_t n);
+
+/* `ticks` ticks of the three counters, falling edges of CLK; any number takes as long. Leaves after_ticks, which is
+ * after_tick so many times. */
+void zebludor_pit_advance(zebludor_pit *pit, uint64_t ticks);
+
+/* After how many ticks, from 1 to 65,537, OUT `n` (modulo 3) first changes as long as nothing is written and gate n
+ * stays; 0 where it never does. That is the least such number: OUT is the same at each tick before it. */
+uint64_t zebludor_pit_until_change(const zebludor_pit *pit, uint8_t n);
+
+/* The interrupt controller. The definitions are those of crates/pic8259/specs/Pic.antt. */
+
+/* Power-on: every line low, nothing masked or in service, edge mode, no initialisation begun. `*pic` may hold anything
+ * before. Leaves power_on. */
+void zebludor_pic_power_on(zebludor_pic *pic);
+
+/* Request line `n` (modulo 8) takes a level. Leaves after_line. */
+void zebludor_pic_set_line(zebludor_pic *pic, uint8_t n, uint8_t level);
+
+/* Reads at address line A0 (0, or else 1). A pending poll is answered at either; else A0 = 1 gives the mask, and A0 = 0
+ * the requests or the levels in service. Answers byte_at, leaves after_read. */
+uint8_t zebludor_pic_read(zebludor_pic *pic, uint8_t a0);
+
+/* Writes a command word at address line A0. Leaves after_write. */
+void zebludor_pic_write(zebludor_pic *pic, uint8_t a0, uint8_t value);
+
+/* The interrupt output, 0 or 1: an acknowledge would take a level. */
+uint8_t zebludor_pic_request(const zebludor_pic *pic);
+
+/* The interrupt acknowledge: the vector of the level that is taken, or that of level 7 where none is. Answers vector,
+ * leaves after_acknowledge. */
+uint8_t zebludor_pic_acknowledge(zebludor_pic *pic);
+
+/* Whole runs. */
+
+/* How a run ended. */
+typedef struct zebludor_outcome {
+    uint64_t length; /* how many bytes the report has; 0 at status 1 */
+    uint64_t line;   /* at status 1 the refused line of the program, from 1 on, where the fault has one; else 0 */
+    uint8_t status;  /* 0: `out` begins with the report, and is as it was behind it
+                        1: refused; `out` is as it was
+                        2: the report is longer than `out`, which is as it was */
+    uint8_t fault;   /* at status 1 the fault's number (docs/FORMATS.md); else 0 */
+} zebludor_outcome;
+
+ZEBLUDOR_ASSERT(sizeof(zebludor_outcome) == 24);
+ZEBLUDOR_ASSERT(ZEBLUDOR_ALIGNOF(zebludor_outcome) == 8);
+ZEBLUDOR_ASSERT(offsetof(zebludor_outcome, fault) == 17);
+
+/* Assembles a source, runs its image on the board that the text of a run file describes, for that file's clocks and with
+ * its keys, and reports the board as `pcboard run` prints it. A report (statuses 0 and 2) is that of the plain board of
+ * an image that the encoding table gives the source; a refusal is true of the texts; and where the source gives an image
+ * that fits the run file's board, only a want of memory refuses it. Takes memory by malloc and realloc, and gives all of
+ * it back; not to be called from a signal handler. */
+zebludor_outcome zebludor_run(const uint8_t *source, size_t source_length, const uint8_t *run, size_t run_length,
+                              uint8_t *out, size_t out_length);
+
+/* The same for a text of Intel HEX. */
+zebludor_outcome zebludor_run_hex(const uint8_t *text, size_t text_length, const uint8_t *run, size_t run_length,
+                                  uint8_t *out, size_t out_length);
+
+#ifdef __cplusplus
+}
+#endif
+#endif

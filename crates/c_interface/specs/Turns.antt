@@ -1,0 +1,7 @@
+-- How a number tells when an output changes.
+-- To be believed: public contracts say what they say by these definitions.
+use Rattle.std.specs.Prelude.{ℕ, ◌==◌, if◌then◌else◌, Option, None, Some}
+
+-- 0 is never
+abbrev pub turn_of : ℕ → Option ℕ
+turn_of n = if n == 0 then None else Some n

@@ -1,0 +1,72 @@
+//! The Intel 8259A, alone and in 8086 mode.
+ghost use Rattle.std.specs.Prelude.{◌≡◌, ◌%◌, if◌then◌else◌};
+ghost use Rattle.pic8259.specs.Image.{flag_of, pic_of};
+ghost use Rattle.pic8259.specs.Pic.{power_on, after_acknowledge, after_line, after_read, after_write, byte_at, is_requesting, vector};
+ghost use Rattle.pit8253.specs.Image.{line_of};
+
+use board_types::line::Line;
+use pic8259::controller::Pic;
+use pic8259::image::PicImage;
+
+/// Power-on: every line low, nothing masked or in service, edge mode, no initialisation sequence begun. Any bytes may
+/// stand there.
+#[unsafe(no_mangle)]
+pub extern "C" fn zebludor_pic_power_on(pic: &mut PicImage)
+    ensures { pic_of pic.new ≡ power_on }
+{
+    *pic = Pic::new().image();
+}
+
+/// Sets the request line of level `n` modulo 8.
+#[unsafe(no_mangle)]
+pub extern "C" fn zebludor_pic_set_line(pic: &mut PicImage, n: u8, level: u8)
+    ensures { pic_of pic.new ≡ after_line (pic_of pic.old) (n % 8) (line_of level) }
+{
+    let line = if level == 0 { Line::Low } else { Line::High };
+    let mut chip = Pic::from_image(pic);
+    chip.set_line(n % 8, line);
+    *pic = chip.image();
+}
+
+/// Reads at address line A0. A pending poll is answered at either port; else A0 = 1 gives the mask, and A0 = 0 the
+/// requests or the levels in service.
+#[unsafe(no_mangle)]
+pub extern "C" fn zebludor_pic_read(pic: &mut PicImage, a0: u8) -> u8
+    ensures value { result ≡ byte_at (pic_of pic.old) (flag_of a0) }
+    ensures state { pic_of pic.new ≡ after_read (pic_of pic.old) }
+{
+    let mut chip = Pic::from_image(pic);
+    let value = chip.read(a0 != 0);
+    *pic = chip.image();
+    value
+}
+
+/// Writes a command word at address line A0.
+#[unsafe(no_mangle)]
+pub extern "C" fn zebludor_pic_write(pic: &mut PicImage, a0: u8, value: u8)
+    ensures { pic_of pic.new ≡ after_write (pic_of pic.old) (flag_of a0) value }
+{
+    let mut chip = Pic::from_image(pic);
+    chip.write(a0 != 0, value);
+    *pic = chip.image();
+}
+
+/// Whether the interrupt output is high, 0 or 1: an acknowledge would take a level.
+#[unsafe(no_mangle)]
+pub extern "C" fn zebludor_pic_request(pic: &PicImage) -> u8
+    ensures { result ≡ (if is_requesting (pic_of pic.now) then 1 else 0) }
+{
+    if Pic::from_image(pic).request() { 1 } else { 0 }
+}
+
+/// The processor's interrupt acknowledge: the vector of the level that is taken, or of level 7 where none is.
+#[unsafe(no_mangle)]
+pub extern "C" fn zebludor_pic_acknowledge(pic: &mut PicImage) -> u8
+    ensures vector { result ≡ vector (pic_of pic.old) }
+    ensures state { pic_of pic.new ≡ after_acknowledge (pic_of pic.old) }
+{
+    let mut chip = Pic::from_image(pic);
+    let vector = chip.acknowledge();
+    *pic = chip.image();
+    vector
+}

@@ -1,0 +1,85 @@
+//! The Intel 8253. Ports are numbered by A1 and A0, counters from 0 to 2.
+ghost use Rattle.std.specs.Prelude.{◌≡◌, ◌≤◌, ◌%◌, if◌then◌else◌};
+ghost use Rattle.board_types.specs.Lines.{is_high};
+ghost use Rattle.board_types.specs.Timed.{IsUntilTurn};
+ghost use Rattle.pit8253.specs.Counter as one;
+ghost use Rattle.pit8253.specs.Counter.{out_of};
+ghost use Rattle.pit8253.specs.Image.{line_of, pit_of};
+ghost use Rattle.pit8253.specs.Pit.{power_on, counter, after_gate, after_read, after_ticks, after_write, byte_at};
+ghost use Rattle.c_interface.specs.Turns.{turn_of};
+
+use board_types::line::Line;
+use pit8253::image::PitImage;
+use pit8253::pit::Pit;
+
+/// Power-on: each counter in mode 0 with no count, OUT low; gates 0 and 1 high, gate 2 low. Any bytes may stand there.
+#[unsafe(no_mangle)]
+pub extern "C" fn zebludor_pit_power_on(pit: &mut PitImage)
+    ensures { pit_of pit.new ≡ power_on }
+{
+    *pit = Pit::new().image();
+}
+
+/// Reads a byte of counter `port` modulo 4; port 3 gives FFh.
+#[unsafe(no_mangle)]
+pub extern "C" fn zebludor_pit_read(pit: &mut PitImage, port: u8) -> u8
+    ensures byte { result ≡ byte_at (pit_of pit.old) (port % 4) }
+    ensures state { pit_of pit.new ≡ after_read (pit_of pit.old) (port % 4) }
+{
+    let mut chip = Pit::from_image(pit);
+    let byte = chip.read(port % 4);
+    *pit = chip.image();
+    byte
+}
+
+/// Writes a byte of a count to counter `port` modulo 4, or a control word to port 3.
+#[unsafe(no_mangle)]
+pub extern "C" fn zebludor_pit_write(pit: &mut PitImage, port: u8, value: u8)
+    ensures { pit_of pit.new ≡ after_write (pit_of pit.old) (port % 4) value }
+{
+    let mut chip = Pit::from_image(pit);
+    chip.write(port % 4, value);
+    *pit = chip.image();
+}
+
+/// Gate `n` modulo 3 takes a level.
+#[unsafe(no_mangle)]
+pub extern "C" fn zebludor_pit_set_gate(pit: &mut PitImage, n: u8, level: u8)
+    ensures { pit_of pit.new ≡ after_gate (pit_of pit.old) (n % 3) (line_of level) }
+{
+    let line = if level == 0 { Line::Low } else { Line::High };
+    let mut chip = Pit::from_image(pit);
+    chip.set_gate(n % 3, line);
+    *pit = chip.image();
+}
+
+/// The level of OUT `n` modulo 3: 0 or 1.
+#[unsafe(no_mangle)]
+pub extern "C" fn zebludor_pit_out(pit: &PitImage, n: u8) -> u8
+    ensures { result ≡ (if is_high (counter (pit_of pit.now) (n % 3)).out then 1 else 0) }
+{
+    match Pit::from_image(pit).out(n % 3) {
+        Line::Low => 0,
+        Line::High => 1,
+    }
+}
+
+/// `ticks` ticks of the three counters, falling edges of CLK. Has no loop over them.
+#[unsafe(no_mangle)]
+pub extern "C" fn zebludor_pit_advance(pit: &mut PitImage, ticks: u64)
+    ensures { pit_of pit.new ≡ after_ticks (pit_of pit.old) ticks }
+{
+    let mut chip = Pit::from_image(pit);
+    chip.advance(ticks);
+    *pit = chip.image();
+}
+
+/// After how many ticks, from 1 to 65,537, OUT `n` modulo 3 first changes as long as nothing is written and its gate
+/// stays; 0 where it never does.
+#[unsafe(no_mangle)]
+pub extern "C" fn zebludor_pit_until_change(pit: &PitImage, n: u8) -> u64
+    ensures turn { IsUntilTurn one.after_ticks out_of (counter (pit_of pit.now) (n % 3)) (turn_of result) }
+    ensures bound { result ≤ 65537 }
+{
+    Pit::from_image(pit).until_change(n % 3).unwrap_or(0)
+}

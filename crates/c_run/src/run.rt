@@ -1,0 +1,147 @@
+//! Runs of sources and of HEX texts.
+ghost use Rattle.std.specs.Prelude.{◌≡◌, ◌≤◌, ℕ, Bool, true, false, List, length, Ok, IfOk, IfErr, MatchResult, string_bytes};
+ghost use Rattle.loader.specs.declared.run_file.RunFile.{RunFile};
+ghost use Rattle.loader.specs.RunFile.{Answers, run_of_text};
+ghost use Rattle.pcboard_program.specs.Answer.{GivesImage, IsReport, IsTrueRefusal};
+ghost use Rattle.pcboard_program.specs.Faults.{IsWantOfMemory};
+ghost use Rattle.pcboard_program.specs.Report.{FitsBoard};
+ghost use Rattle.c_run.specs.Outcomes.{Accepts, Tells, buffer_after, fault_outcome, text_outcome};
+
+use assembler::assembly::assemble;
+use board_types::image::Image;
+use loader::hex_reader::read_hex;
+use loader::run_reader::read_run_text;
+use pcboard_program::fault::Fault;
+use pcboard_program::run::run_image;
+use std::alloc::Global;
+
+/// The report is written.
+pub const WRITTEN: u8 = 0;
+
+/// The run was refused.
+pub const REFUSED: u8 = 1;
+
+/// The report is longer than the buffer.
+pub const TOO_LONG: u8 = 2;
+
+/// How a run ended.
+#[repr(C)]
+#[derive(Clone, Copy)]
+pub struct Outcome {
+    /// How many bytes the report has; 0 where the run was refused.
+    pub length: u64,
+    /// The refused line of the source or of the HEX text, from 1 on; 0 where there is none.
+    pub line: u64,
+    /// 0: `out` begins with the report, and is as it was behind it. 1: the run was refused. 2: the report is longer
+    /// than `out`. But at 0 `out` is as it was.
+    pub status: u8,
+    /// The fault's number; 0 where the run wasn't refused.
+    pub fault: u8,
+}
+
+/// Runs a source under the text of a run file, and writes the report into `out`.
+#[unsafe(no_mangle)]
+pub extern "C" fn zebludor_run(alloc: Global, source: &[u8], run: &[u8], out: &mut [u8]) -> Outcome
+    ensures told { Tells (IsReport false source.now run.now) (IsTrueRefusal false source.now run.now) out.old out.new
+        result }
+
+    // Where the source gives an image and the run file a board that can have it, only the want of memory refuses them.
+    ensures accepted { Accepts false source.now run.now → Tells (IsReport false source.now run.now) IsWantOfMemory
+        out.old out.new result }
+{
+    tell(report_of_source(alloc, source, run), out)
+}
+
+/// Runs a text of Intel HEX under the text of a run file, and writes the report into `out`.
+#[unsafe(no_mangle)]
+pub extern "C" fn zebludor_run_hex(
+    alloc: Global,
+    text: &[u8],
+    run: &[u8],
+    out: &mut [u8],
+) -> Outcome
+    ensures told { Tells (IsReport true text.now run.now) (IsTrueRefusal true text.now run.now) out.old out.new result }
+
+    // Where the text gives an image and the run file a board that can have it, only the want of memory refuses them.
+    ensures accepted { Accepts true text.now run.now → Tells (IsReport true text.now run.now) IsWantOfMemory
+        out.old out.new result }
+{
+    tell(report_of_hex(alloc, text, run), out)
+}
+
+fn report_of_source(alloc: Global, source: &[u8], run: &[u8]) -> Result<String, Fault>
+    ensures report { IfOk result (λ text. IsReport false source.now run.now (string_bytes text)) }
+    ensures fault { IfErr result (IsTrueRefusal false source.now run.now) }
+    ensures accepted { Accepts false source.now run.now → IfErr result IsWantOfMemory }
+{
+    match assemble(alloc, source) {
+        Ok(listing) => report_of_image(alloc, listing.image(), run),
+        Err(fault) => Err(Fault::Source(fault)),
+    }
+}
+
+fn report_of_hex(alloc: Global, text: &[u8], run: &[u8]) -> Result<String, Fault>
+    ensures report { IfOk result (λ report. IsReport true text.now run.now (string_bytes report)) }
+    ensures fault { IfErr result (IsTrueRefusal true text.now run.now) }
+    ensures accepted { Accepts true text.now run.now → IfErr result IsWantOfMemory }
+{
+    match read_hex(alloc, text) {
+        Ok(image) => report_of_image(alloc, &image, run),
+        Err(fault) => Err(Fault::Hex(fault)),
+    }
+}
+
+fn report_of_image(alloc: Global, image: &Image, run: &[u8]) -> Result<String, Fault>
+    ensures report { (hex : Bool) (bytes : List ℕ) → GivesImage hex bytes image.now
+        → IfOk result (λ text. IsReport hex bytes run.now (string_bytes text)) }
+    ensures fault { (hex : Bool) (bytes : List ℕ) → GivesImage hex bytes image.now
+        → IfErr result (IsTrueRefusal hex bytes run.now) }
+    ensures accepted { (run_file : RunFile) → Answers (Ok run_file) (run_of_text run.now)
+        → FitsBoard image.now run_file → IfErr result IsWantOfMemory }
+{
+    let run = read_run_text(alloc, run).map_err(Fault::Run)?;
+    let report = run_image(alloc, image, &run)?;
+    Ok(report.text)
+}
+
+fn tell(report: Result<String, Fault>, out: &mut [u8]) -> Outcome
+    ensures outcome { MatchResult report (λ text. result ≡ text_outcome (string_bytes text) (length out.old))
+        (λ fault. result ≡ fault_outcome fault) }
+    ensures buffer { MatchResult report (λ text. out.new ≡ buffer_after (string_bytes text) out.old)
+        (λ fault. out.new ≡ out.old) }
+{
+    match report {
+        Ok(text) => put(text.as_bytes(), out),
+        Err(fault) => refused(fault),
+    }
+}
+
+// The text into the buffer, where it has room for it.
+fn put(text: &[u8], out: &mut [u8]) -> Outcome
+    ensures outcome { result ≡ text_outcome text.now (length out.old) }
+    ensures buffer { out.new ≡ buffer_after text.now out.old }
+{
+    let length = text.len() as u64;
+    let has_room = text.len() <= out.len();
+    if has_room {
+        let (front, _) = out.split_at_mut(text.len());
+        front.copy_from_slice(text);
+    }
+    Outcome {
+        length,
+        line: 0,
+        status: if has_room { WRITTEN } else { TOO_LONG },
+        fault: 0,
+    }
+}
+
+fn refused(fault: Fault) -> Outcome
+    ensures { result ≡ fault_outcome fault }
+{
+    Outcome {
+        length: 0,
+        line: fault.line().unwrap_or(0),
+        status: REFUSED,
+        fault: fault.number(),
+    }
+}

@@ -1,0 +1,192 @@
+//! A timer as plain numbers, laid out as C lays them out: for callers that know no enums, as benches in C.
+ghost use Rattle.std.specs.Prelude.{◌≡◌, ◌<◌, ◌%◌};
+ghost use Rattle.board_types.specs.declared.line.Line.{Line};
+ghost use Rattle.pit8253.specs.Program.{mode_of, access_of, radix_of, modulus};
+ghost use Rattle.pit8253.specs.Image.{flag_of, line_of, option_of, progress_of};
+
+use crate::pit::Pit;
+use crate::program::{Access, Mode, Progress, Radix};
+use board_types::line::Line;
+
+/// A counter in 20 bytes. All numbers stand for something: where a field names its values, any other number stands
+/// for what is said there.
+#[repr(C)]
+#[derive(Clone, Copy)]
+pub struct CounterImage {
+    /// The newest full count; 0 is the largest. Modulo 10,000 where `radix` is decimal.
+    pub newest: u16,
+    /// The running count; 0 is the largest. Modulo 10,000 where `count_radix` is decimal.
+    pub count: u16,
+    /// What a latch holds, as it is read, where `has_latch` isn't 0.
+    pub latch: u16,
+    /// 0 to 5, as in bits 3 to 1 of a control word: 6 and 7 are modes 2 and 3. Modulo 8.
+    pub mode: u8,
+    /// 1 low byte, 2 high byte, 3 (and 0) low then high, as in bits 5 and 4 of a control word. Modulo 4.
+    pub access: u8,
+    /// Of the control word: 0 binary, else decimal.
+    pub radix: u8,
+    /// Of the running count: 0 binary, else decimal.
+    pub count_radix: u8,
+    /// 0 no full count yet, 1 one that waits to be loaded, else a loaded one.
+    pub progress: u8,
+    /// The first byte of two, where `has_first_byte` isn't 0.
+    pub first_byte: u8,
+    pub has_first_byte: u8,
+    pub has_latch: u8,
+    /// Whether the next tick loads the newest count: 0 no, else yes.
+    pub load_due: u8,
+    /// Whether the loaded count's strobe is still to come: 0 no, else yes.
+    pub strobe_due: u8,
+    /// Whether the high byte is the next to be read of two: 0 no, else yes.
+    pub high_next: u8,
+    /// 0 low, else high.
+    pub gate: u8,
+    /// 0 low, else high.
+    pub out: u8,
+}
+
+/// A timer in 60 bytes.
+#[repr(C)]
+#[derive(Clone, Copy)]
+pub struct PitImage {
+    pub counter_0: CounterImage,
+    pub counter_1: CounterImage,
+    pub counter_2: CounterImage,
+}
+
+/// A timer goes through its image and is what it was.
+pub fn goes_through_its_image(pit: &Pit) -> Pit
+    ensures { result ≡ pit.now }
+{
+    Pit::from_image(&pit.image())
+}
+
+pub(crate) fn mode_number(mode: Mode) -> u8
+    ensures { mode_of (result % 8) ≡ mode }
+{
+    match mode {
+        Mode::TerminalCount => 0,
+        Mode::OneShot => 1,
+        Mode::RateGenerator => 2,
+        Mode::SquareWave => 3,
+        Mode::SoftwareStrobe => 4,
+        Mode::HardwareStrobe => 5,
+    }
+}
+
+pub(crate) fn access_of(bits: u8) -> Access
+    ensures { result ≡ access_of bits }
+{
+    match bits {
+        1 => Access::LowByte,
+        2 => Access::HighByte,
+        _ => Access::LowThenHigh,
+    }
+}
+
+pub(crate) fn access_number(access: Access) -> u8
+    ensures { access_of (result % 4) ≡ access }
+{
+    match access {
+        Access::LowByte => 1,
+        Access::HighByte => 2,
+        Access::LowThenHigh => 3,
+    }
+}
+
+pub(crate) fn radix_number(radix: Radix) -> u8
+    ensures { radix_of result ≡ radix }
+{
+    match radix {
+        Radix::Binary => 0,
+        Radix::Decimal => 1,
+    }
+}
+
+pub(crate) fn progress_of(number: u8) -> Progress
+    ensures { result ≡ progress_of number }
+{
+    match number {
+        0 => Progress::Awaited,
+        1 => Progress::Written,
+        _ => Progress::Loaded,
+    }
+}
+
+pub(crate) fn progress_number(progress: Progress) -> u8
+    ensures { progress_of result ≡ progress }
+{
+    match progress {
+        Progress::Awaited => 0,
+        Progress::Written => 1,
+        Progress::Loaded => 2,
+    }
+}
+
+pub(crate) fn line_of(number: u8) -> Line
+    ensures { result ≡ line_of number }
+{
+    if number == 0 { Line::Low } else { Line::High }
+}
+
+pub(crate) fn line_number(line: Line) -> u8
+    ensures { line_of result ≡ line }
+{
+    match line {
+        Line::Low => 0,
+        Line::High => 1,
+    }
+}
+
+pub(crate) fn flag_of(number: u8) -> bool
+    ensures { result ≡ flag_of number }
+{
+    number != 0
+}
+
+pub(crate) fn flag_number(flag: bool) -> u8
+    ensures { flag_of result ≡ flag }
+{
+    if flag { 1 } else { 0 }
+}
+
+pub(crate) fn byte_where(is_there: u8, byte: u8) -> Option<u8>
+    ensures { result ≡ option_of is_there byte }
+{
+    if is_there == 0 { None } else { Some(byte) }
+}
+
+pub(crate) fn byte_numbers(byte: Option<u8>) -> (u8, u8)
+    ensures { option_of result.0 result.1 ≡ byte }
+{
+    match byte {
+        None => (0, 0),
+        Some(byte) => (1, byte),
+    }
+}
+
+pub(crate) fn word_where(is_there: u8, word: u16) -> Option<u16>
+    ensures { result ≡ option_of is_there word }
+{
+    if is_there == 0 { None } else { Some(word) }
+}
+
+pub(crate) fn word_numbers(word: Option<u16>) -> (u8, u16)
+    ensures { option_of result.0 result.1 ≡ word }
+{
+    match word {
+        None => (0, 0),
+        Some(word) => (1, word),
+    }
+}
+
+// a count that any sixteen bits stand for
+pub(crate) fn count_within(radix: Radix, count: u16) -> u16
+    ensures count { result ≡ count % modulus radix }
+    ensures within { result < modulus radix }
+{
+    match radix {
+        Radix::Binary => count,
+        Radix::Decimal => count % 10_000,
+    }
+}
