@@ -5,7 +5,7 @@ import re
 from dataclasses import dataclass
 
 from board.command import Sorry
-from board.listing import Line, Listing, physical
+from board.listing import Line, Listing, code_of, physical
 
 
 @dataclass(frozen=True)
@@ -40,6 +40,14 @@ def line_at(listing: Listing, event: Event) -> Line | None:
     if line is None or event.entry is not None:
         return line
     return line if event.octets[:8] == line.shown[:len(event.octets)] else None
+
+
+def event_text(listing: Listing, event: Event) -> str:
+    """A line of the trail, with label and source line."""
+    label, line = listing.label_before(event.segment, event.offset), line_at(listing, event)
+    what = f'interrupt {event.entry:02X}' if event.entry is not None else event.text
+    source = f'| {line.number}: {code_of(line.text).strip()}' if line and event.entry is None else ''
+    return f'{event.clock:>9} {event.segment:04X}:{event.offset:04X} {label:<12} {what:<28} {source}'.rstrip()
 
 
 def number_of(text: str, most: int = 0xFFFFF) -> int:
