@@ -1,0 +1,2 @@
+"""What the tools beside the program share: running it, its sessions, its texts. Nothing here decides a fact: each comes
+from what the program prints."""

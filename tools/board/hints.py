@@ -1,0 +1,106 @@
+"""What a refused line looks like that was written for another assembler, or for a later processor. A hint is a guess from
+the line's look: that the line is refused, the program says, and nothing here."""
+from __future__ import annotations
+
+import re
+
+from board.listing import code_of
+
+STATEMENTS = frozenset('''AAA AAD AAM AAS ADC ADD AND CALL CBW CLC CLD CLI CMC CMP CMPSB CMPSW CWD DAA DAS DEC DIV ESC HLT
+IDIV IMUL IN INC INT INT3 INTO IRET JA JAE JB JBE JC JCXZ JE JG JGE JL JLE JMP JNA JNAE JNB JNBE JNC JNE JNG JNGE JNL JNLE
+JNO JNP JNS JNZ JO JP JPE JPO JS JZ LAHF LDS LEA LES LODSB LODSW LOOP LOOPE LOOPNE LOOPNZ LOOPZ MOV MOVSB MOVSW MUL NEG
+NOP NOT OR OUT POP POPF PUSH PUSHF RCL RCR RET RETF ROL ROR SAHF SAL SAR SBB SCASB SCASW SHL SHR STC STD STI STOSB STOSW
+SUB TEST WAIT XCHG XLAT XOR'''.split())
+LATER = 'PUSHA|POPA|BOUND|ENTER|LEAVE|INSB|INSW|OUTSB|OUTSW|MOVZX|MOVSX|SET[A-Z]{1,3}|BSF|BSR|BT[CRS]?|SHLD|SHRD|CDQ|CWDE'
+
+# A look (in a line without comment and texts in quotes, in upper case) and what to write.
+LOOKS: tuple[tuple[str, str], ...] = (
+    (r'"', "texts stand in single quotes, and hold none themselves: 'Hello'"),
+    (r'\b0X[0-9A-F]+', 'hexadecimal numbers end with h and begin with a digit: 10h for 0x10, 0B800h for 0xB800'),
+    (r'(?<![\w\'])\$[0-9A-F]+\b', 'hexadecimal numbers end with h and begin with a digit: 0B8h for $B8'),
+    (r'\b0B[01]+\b(?!H)', 'binary numbers end with b: 101b for 0b101'),
+    (r'\[[^\]]*\b[ECSD]S\s*:', 'a segment register stands before the brackets: ES:[BX] for [es:bx]'),
+    (r'\b(BYTE|WORD|FAR|DWORD)\s+PTR\b', 'there is no PTR: WORD [BX] for WORD PTR [BX], JMP FAR label for JMP FAR PTR label'),
+    (r'\bOFFSET\b', "there is no OFFSET: a name alone is its offset, and [name] is memory"),
+    (r'^\s*@@|@[BF]\b|@DATA|@CODE', 'a name has letters, digits and _ alone; for the paragraph of a label write SEG label'),
+    (r'%|^\s*#', 'there is no preprocessor: no %define, no includes, no macros; a constant is name EQU 5'),
+    (r'^\s*(SECTION|BITS|CPU|GLOBAL|EXTERN|EXTRN|PUBLIC|ASSUME|END|ENDP|PROC|MODEL|USE16|ALIGN|EVEN|INCLUDE|NAME|TITLE|PAGE)\b',
+     'there is no such directive; segments are SEGMENT name AT paragraph .. ENDS, and procedures are plain labels'),
+    (r'(^|[\s,\[+])\.\w', 'there are no local labels or directives with a point: write loop_1: for .loop:'),
+    (r'^\s*\w+\s+(PROC|ENDP|LABEL)\b', 'there is no PROC: a procedure begins with a plain label, as print:'),
+    (r'^\s*\w+\s+(SEGMENT|ENDS)\b', 'a segment is SEGMENT name AT paragraph, and ends with ENDS alone'),
+    (r'^\s*SEGMENT\s+\w+\s*$', "a segment says where it stands: SEGMENT name AT 0F000h"),
+    (r'^\s*TIMES\b', 'repeated data is DB 4 DUP(0) for times 4 db 0'),
+    (r'\bDUP\s*\(\s*\?|\bD[BWD]\s+\?', 'there is no ?: give a value, as DB 0'),
+    (r'^\s*RES[BWD]\b', 'there is no RESB: room is DB 16 DUP(0), or ORG further on'),
+    (r'\b(E[ABCD]X|E[SD]I|E[SB]P|[FG]S)\b', 'the 8086 has registers of 8 and 16 bits, and no FS or GS'),
+    (rf'^\s*(\w+:)?\s*({LATER})\b', 'the 8086 has no such instruction; later processors have'),
+    (r'^\s*(\w+:)?\s*(REPN?[EZ]?\s+)?(MOVS|STOS|LODS|CMPS|SCAS)\b', 'string instructions have their size in their name: STOSB, STOSW'),
+    (r'^\s*(\w+:)?\s*(SHL|SHR|SAL|SAR|ROL|ROR|RCL|RCR)\b.*,\s*(?!1\s*$|CL\s*$)\S+\s*$', 'the 8086 shifts by 1 or by CL: MOV CL,4 and SHL AX,CL'),
+    (r'^\s*(\w+:)?\s*PUSH\s+-?\d', 'the 8086 pushes no number: load it into a register first'),
+    (r'^\s*(\w+:)?\s*IMUL\b.*,', 'the 8086 multiplies AL or AX by one operand: IMUL BX'),
+    (r'^\s*(\w+:)?\s*MOV\s+[ECSD]S\s*,\s*(?![A-Z][XLHIP]\s*$|[^,]*\[)\S', 'a segment register takes a register or memory, no number: MOV AX,0B000h and MOV ES,AX'),
+    (r'\][^\[]*,[^\[]*\[', 'an instruction reaches memory once: go through a register'),
+    (r'^\s*(\w+:)?\s*[A-Z]+\s+(ES:|CS:|SS:|DS:)?\[[^\]]*\]\s*,\s*[-0-9\'$]', 'nothing tells the size: write WORD or BYTE before the brackets, as MOV WORD [BX],1'),
+    (r'^\s*(\w+:)?\s*(INC|DEC|NEG|NOT|MUL|IMUL|DIV|IDIV|SHL|SHR|SAR|SAL|ROL|ROR|RCL|RCR)\s+(ES:|CS:|SS:|DS:)?\[', 'nothing tells the size: write WORD or BYTE before the brackets, as INC WORD [BX]'),
+    (r'^\s*(\w+:)?\s*(IN|OUT)\b', 'a port above 0FFh goes through DX: MOV DX,3B8h and OUT DX,AL; data go through AL or AX'),
+    (r'^\s*(\w+:)?\s*J[A-LN-Z]\w*\s+SHORT\b', 'conditional jumps are always short: JZ label'),
+    (r'^\s*(\w+:)?\s*(J(?!MP)\w+|LOOP\w*|JMP\s+SHORT)\s', 'the target may lie 128 bytes before to 127 behind the next instruction: jump the other way round a JMP'),
+    (r'\(|\)|\*|/|\bSHL\b.*\bSHL\b', 'expressions are terms joined by + and -; there are no parentheses, products or shifts'),
+)
+
+
+def bare(line: str) -> str:
+    """A line's code in upper case, with the texts in single quotes made empty."""
+    return re.sub(r"'[^']*'", "''", code_of(line)).upper()
+
+
+def of_a_word_as_label(code: str) -> str | None:
+    """A hint where the label is a word of the dialect."""
+    found = re.match(r'\s*(\w+)\s*:', code)
+    if found and found[1] in STATEMENTS:
+        return f'{found[1]} is an instruction, and no instruction is a name: write {found[1].lower()}_1: for {found[1].lower()}:'
+    return None
+
+
+def of_a_missing_colon(code: str) -> str | None:
+    """A hint where a name stands before a statement without a colon."""
+    found = re.match(r'\s*(\w+)\s+(D[BWD]|\w+)\b', code)
+    if not found or found[1] in STATEMENTS:
+        return None
+    if re.fullmatch(r'D[BWD]', found[2]) or found[2] in STATEMENTS:
+        return f'labels take a colon, those of data too: {found[1].lower()}: {found[2]} ..'
+    return None
+
+
+def of_a_bare_hexadecimal(code: str) -> str | None:
+    """A hint where a hexadecimal number begins with a letter, so that it reads as a name."""
+    found = re.search(r'(?<![\w.])([A-F][0-9A-F]*H)\b(?!\s*:)', code)
+    if found and found[1] not in ('AH', 'BH', 'CH', 'DH'):
+        return f'a hexadecimal number begins with a digit: 0{found[1][:-1]}h for {found[1][:-1]}h'
+    return None
+
+
+def of_characters(line: str) -> str | None:
+    """A hint where a character isn't the dialect's."""
+    for column, sign in enumerate(line, 1):
+        if not (' ' <= sign <= '~' or sign in '\t\r'):
+            return f'column {column} has {sign!r}; only printable ASCII, tabulators and line ends may stand in a source, in comments too'
+    return None
+
+
+def hint_of(line: str, number: int) -> str | None:
+    """A hint for a refused line of a source, by its look and its fault's number."""
+    code = bare(line)
+    if number == 2:
+        return of_characters(line)
+    special = of_a_word_as_label(code) if number == 3 else of_a_missing_colon(code) if number in (3, 4, 11) else None
+    special = special or (of_a_bare_hexadecimal(code) if number in (4, 7) else None)
+    if special:
+        return special
+    if number in (6, 9, 10, 12):
+        return None
+    if number == 11:
+        return 'code, data and labels stand in a segment: SEGMENT MAIN AT 0F000h before them, and ENDS behind'
+    looks = LOOKS if number != 8 else tuple(it for it in LOOKS if 'target' in it[1] or 'port' in it[1])
+    return next((hint for look, hint in looks if re.search(look, code)), None)

@@ -1,0 +1,107 @@
+"""Where a source's lines and labels stand, as the program's listing tells it."""
+from __future__ import annotations
+
+import os
+import re
+import tempfile
+from dataclasses import dataclass, field
+
+from board.program import Files, answer_of, run
+
+ADDRESS_COLUMNS = 28
+PROBE_NAME = 'PROBE_OF_LABELS'
+
+
+def physical(segment: int, offset: int) -> int:
+    """The 20-bit address of an offset in a segment."""
+    return (16 * segment + offset) % (1 << 20)
+
+
+@dataclass(frozen=True)
+class Line:
+    """A line of a source that places bytes, or none (then its address is None)."""
+    number: int
+    text: str
+    address: tuple[int, int] | None
+    shown: bytes
+
+
+@dataclass(frozen=True)
+class Listing:
+    """A source's lines, by physical address too, and its labels."""
+    lines: list[Line] = field(default_factory=list)
+    at: dict[int, Line] = field(default_factory=dict)
+    labels: dict[str, tuple[int, int]] = field(default_factory=dict)
+
+    def label_before(self, segment: int, offset: int) -> str:
+        """`label` or `label+N` for an address: the nearest label at or before it in the same paragraph, or nothing."""
+        best = max(((at, name) for name, (para, at) in self.labels.items() if para == segment and at <= offset),
+                   key=lambda it: it[0], default=None)
+        if best is None:
+            return ''
+        return best[1] if best[0] == offset else f'{best[1]}+{offset - best[0]:X}'
+
+    def label_of(self, name: str) -> tuple[int, int] | None:
+        """A label's segment and offset; upper and lower case are one."""
+        return next((at for it, at in self.labels.items() if it.lower() == name.lower()), None)
+
+
+def code_of(line: str) -> str:
+    """A line without its comment; a `;` in quotes is none."""
+    kept, quote = '', False
+    for sign in line:
+        if sign == ';' and not quote:
+            break
+        quote ^= sign == "'"
+        kept += sign
+    return kept.rstrip()
+
+
+def label_in(line: str) -> str | None:
+    """The label that a line defines, or none. A segment's prefix is no label."""
+    found = re.match(r'\s*([A-Za-z_]\w*)\s*:', code_of(line))
+    return found[1] if found and found[1].upper() not in ('ES', 'CS', 'SS', 'DS') else None
+
+
+def line_of(number: int, row: str) -> Line:
+    """A row of the listing."""
+    found = re.match(r'([0-9A-F]{4}):([0-9A-F]{4}) ([0-9A-F]*)\+? ', row)
+    text = row[ADDRESS_COLUMNS:]
+    if not found:
+        return Line(number, text, None, b'')
+    return Line(number, text, (int(found[1], 16), int(found[2], 16)), bytes.fromhex(found[3]))
+
+
+def probed(source: str, names: list[str]) -> dict[str, tuple[int, int]]:
+    """The labels' addresses, which no listing has. So the program is asked: it lists a copy of the source that ends with
+    a segment of far pointers to them, in a place where the source has nothing."""
+    text = ''.join(f'        DW {name},SEG {name}\n' for name in names)
+    with tempfile.TemporaryDirectory() as room:
+        path = os.path.join(room, 'probe.asm')
+        for closing in ('ENDS\n', ''):
+            for paragraph in (0x9000, 0x8000, 0x7000, 0x6000):
+                with open(path, 'w', encoding='utf-8', errors='surrogateescape', newline='') as file:
+                    file.write(f'{source}\n{closing}SEGMENT {PROBE_NAME} AT {paragraph:05X}h\n{text}')
+                ran = run(['asm', '--list', '--', path])
+                if ran.status == 0:
+                    rows = [line_of(0, it).shown for it in ran.out.splitlines()[-len(names):]]
+                    return {name: (int.from_bytes(row[2:4], 'little'), int.from_bytes(row[:2], 'little'))
+                            for name, row in zip(names, rows)}
+    return {}
+
+
+def listing_of(files: Files) -> Listing:
+    """The listing of a source; of Intel HEX, which has no lines, an empty one."""
+    if files.is_hex:
+        return Listing()
+    rows = answer_of(['asm', '--list', '--', files.file]).split('\n')[:-1]
+    lines = [line_of(number, row) for number, row in enumerate(rows, 1)]
+    found = Listing(lines)
+    for line in lines:
+        if line.address:
+            found.at.setdefault(physical(*line.address), line)
+    names = [name for name in map(label_in, (it.text for it in lines)) if name]
+    if names:
+        with open(files.file, encoding='utf-8', errors='surrogateescape', newline='') as file:
+            found.labels.update(probed(file.read(), names))
+    return found

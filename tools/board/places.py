@@ -1,0 +1,87 @@
+"""Places as a person says them: labels, source lines, segment:offset and physical addresses; and events of the trail."""
+from __future__ import annotations
+
+import re
+from dataclasses import dataclass
+
+from board.command import Sorry
+from board.listing import Line, Listing, code_of, physical
+
+
+@dataclass(frozen=True)
+class Event:
+    """A line of the trail: an instruction's start, or the entry of an interrupt (then its type, and no bytes)."""
+    clock: int
+    segment: int
+    offset: int
+    octets: bytes
+    text: str
+    entry: int | None
+
+    @property
+    def address(self) -> int:
+        """The physical address."""
+        return physical(self.segment, self.offset)
+
+
+def event_of(line: str) -> Event:
+    """A line of the trail, as docs/DEBUGGER.md tells it."""
+    clock, place, rest = line.split(' ', 2)
+    segment, offset = (int(it, 16) for it in place.split(':'))
+    if rest.startswith('entry '):
+        return Event(int(clock), segment, offset, b'', rest, int(rest.split()[1], 16))
+    octets, _, text = rest.partition(' ')
+    return Event(int(clock), segment, offset, bytes.fromhex(octets), text, None)
+
+
+def line_at(listing: Listing, event: Event) -> Line | None:
+    """The source line that placed an event's instruction, or none: also where other bytes stand there by now."""
+    line = listing.at.get(event.address)
+    if line is None or event.entry is not None:
+        return line
+    return line if event.octets[:8] == line.shown[:len(event.octets)] else None
+
+
+def event_text(listing: Listing, event: Event) -> str:
+    """A line of the trail, with label and source line."""
+    label, line = listing.label_before(event.segment, event.offset), line_at(listing, event)
+    what = f'interrupt {event.entry:02X}' if event.entry is not None else event.text
+    source = f'| {line.number}: {code_of(line.text).strip()}' if line and event.entry is None else ''
+    return f'{event.clock:>9} {event.segment:04X}:{event.offset:04X} {label:<12} {what:<28} {source}'.rstrip()
+
+
+def number_of(text: str, most: int = 0xFFFFF) -> int:
+    """A hexadecimal number as a user writes it: 0B8h, B8, 0xB8."""
+    plain = re.sub(r'^0x|h$', '', text, flags=re.I)
+    if not re.fullmatch(r'[0-9A-Fa-f]+', plain) or int(plain, 16) > most:
+        raise Sorry(f'{text} is no hexadecimal number up to {most:X}, and no label')
+    return int(plain, 16)
+
+
+def far_of(listing: Listing, text: str) -> tuple[int, int]:
+    """Segment and offset of a place: a label, label+N, :LINE of the source, or SEGMENT:OFFSET."""
+    if re.fullmatch(r':\d+', text):
+        return of_line(listing, int(text[1:]))
+    if ':' in text:
+        segment, _, offset = text.partition(':')
+        return number_of(segment, 0xFFFF), number_of(offset, 0xFFFF)
+    name, _, more = text.partition('+')
+    label = listing.label_of(name)
+    if label is None:
+        raise Sorry(f'{text} is no label of the source; write a label, label+N, :LINE or SEGMENT:OFFSET')
+    return label[0], (label[1] + (number_of(more, 0xFFFF) if more else 0)) % 0x10000
+
+
+def of_line(listing: Listing, number: int) -> tuple[int, int]:
+    """Where the first bytes of a source line, or of the next one that places some, stand."""
+    found = next((it.address for it in listing.lines[number - 1:] if it.address), None)
+    if number < 1 or found is None:
+        raise Sorry(f'no line of the source from {number} on places bytes')
+    return found
+
+
+def address_of(listing: Listing, text: str) -> int:
+    """The physical address of a place: as for `far_of`, or a hexadecimal number."""
+    if ':' in text or listing.label_of(text.partition('+')[0]):
+        return physical(*far_of(listing, text))
+    return number_of(text)

@@ -1,0 +1,59 @@
+"""Run files: what each field may hold (docs/FORMATS.md), what it is where nothing is said, and copies with another
+budget."""
+from __future__ import annotations
+
+import contextlib
+import json
+import os
+import tempfile
+from typing import Any, Iterator
+
+from board.command import Sorry, read_text
+from board.program import Files, answer_of
+from board.report import Report, report_of
+
+DEFAULTS: dict[str, Any] = {'version': 1, 'ram': 64, 'sw1': 0, 'sw2': 0, 'budget': 100000, 'keys': []}
+
+
+def read_run_file(path: str) -> dict[str, Any]:
+    """A run file's fields. What the values may be is judged by the program."""
+    try:
+        fields = json.loads(read_text(path))
+    except ValueError as error:
+        raise Sorry(f'{path} is no JSON: {error} (tools/why tells more)') from None
+    if not isinstance(fields, dict):
+        raise Sorry(f'{path} is no run file: it is no JSON object')
+    return fields
+
+
+def text_of(fields: dict[str, Any]) -> str:
+    """A run file in one line, the fields in the order of docs/FORMATS.md."""
+    ordered = {name: fields[name] for name in DEFAULTS if name in fields}
+    return json.dumps(ordered | fields, separators=(',', ':')) + '\n'
+
+
+@contextlib.contextmanager
+def with_budget(files: Files, budget: int) -> Iterator[Files]:
+    """The same files, with another budget."""
+    fields = read_run_file(files.run_file) | {'budget': budget}
+    handle, name = tempfile.mkstemp(suffix='.json')
+    try:
+        with os.fdopen(handle, 'w', encoding='utf-8') as file:
+            file.write(text_of(fields))
+        yield Files(files.file, name, files.is_hex)
+    finally:
+        os.remove(name)
+
+
+def report_at(files: Files, clock: int) -> Report:
+    """The report of the same files with this clock as their budget."""
+    with with_budget(files, clock) as them:
+        return report_of(answer_of(them.words('run')), 'the answer')
+
+
+def budget_of(files: Files) -> int:
+    """The run file's budget."""
+    budget = read_run_file(files.run_file).get('budget')
+    if isinstance(budget, bool) or not isinstance(budget, int):
+        raise Sorry(f'{files.run_file} has no budget (tools/why tells more)')
+    return budget

@@ -1,0 +1,57 @@
+"""What the tools' tests share: running a tool as a user does, on files in a folder of its own."""
+from __future__ import annotations
+
+import os
+import subprocess
+import sys
+import tempfile
+import unittest
+
+TOOLS = os.path.dirname(os.path.dirname(os.path.realpath(__file__)))
+TOP = os.path.dirname(TOOLS)
+EXAMPLES = f'{TOP}/examples'
+STORED = f'{TOOLS}/tests/stored'
+sys.path.insert(0, TOOLS)
+
+RESET = "ENDS\nSEGMENT RESET AT 0FFFFh\n        JMP FAR start\nENDS\n"
+
+
+def example(name: str) -> tuple[str, str]:
+    """The source and the run file of an example."""
+    return f'{EXAMPLES}/{name}.asm', f'{EXAMPLES}/{name}.json'
+
+
+class ToolCase(unittest.TestCase):
+    """A case with a folder of its own, and tools run in it."""
+
+    def setUp(self) -> None:
+        room = tempfile.TemporaryDirectory()
+        self.addCleanup(room.cleanup)
+        self.room = room.name
+        self.maxDiff = None
+
+    def file(self, name: str, text: str) -> str:
+        """Writes a file into the folder."""
+        path = f'{self.room}/{name}'
+        with open(path, 'w', encoding='utf-8') as file:
+            file.write(text)
+        return path
+
+    def program(self, lines: str, budget: int = 1000) -> tuple[str, str]:
+        """A source with these lines behind `start:`, and a run file."""
+        source = self.file('it.asm', f'SEGMENT MAIN AT 0F000h\nstart:\n{lines}\n{RESET}')
+        return source, self.file('it.json', f'{{"version":1,"ram":64,"sw1":0,"sw2":0,"budget":{budget},"keys":[]}}')
+
+    def tool(self, name: str, *words: str, given: str = '', status: int | None = 0) -> tuple[str, str]:
+        """What a tool prints on its two streams, where it ends with this status."""
+        ran = subprocess.run([sys.executable, '-S', f'{TOOLS}/{name}', *words], input=given, capture_output=True, text=True,
+                             cwd=self.room, check=False)
+        if status is not None:
+            self.assertEqual(ran.returncode, status, ran.stderr or ran.stdout)
+        self.assertNotIn('Traceback', ran.stderr)
+        return ran.stdout, ran.stderr
+
+    def pcboard(self, *words: str, given: str = '') -> subprocess.CompletedProcess[str]:
+        """A run of the program itself. That it isn't there is a failure."""
+        from board import program
+        return subprocess.run([program.path(), *words], input=given, capture_output=True, text=True, check=False)

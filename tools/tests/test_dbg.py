@@ -1,0 +1,107 @@
+"""tools/dbg, over the built program; and what it knows of places."""
+import unittest
+
+from tests.support import ToolCase, example
+
+from board.command import Sorry
+from board.listing import Line, Listing, code_of, label_in, line_of
+from board.places import address_of, event_of, far_of, line_at, number_of
+
+
+class Places(unittest.TestCase):
+    """Places and events, over stored lines."""
+
+    def setUp(self) -> None:
+        line = line_of(2, 'F000:002B F4                idle:   HLT')
+        self.listing = Listing([Line(1, '; none', None, b''), line], {0xF002B: line}, {'idle': (0xF000, 0x2B)})
+
+    def test_places(self) -> None:
+        for text, wanted in (('idle', 0xF002B), ('IDLE+2', 0xF002D), (':1', 0xF002B), ('F000:10', 0xF0010), ('b0000', 0xB0000)):
+            self.assertEqual(address_of(self.listing, text), wanted)
+        for text in ('nope', ':3', '12345:0', 'idle+x'):
+            with self.assertRaises(Sorry):
+                far_of(self.listing, text)
+        self.assertEqual([number_of(it) for it in ('0B8h', '0x10', 'ff')], [0xB8, 0x10, 0xFF])
+
+    def test_labels_and_comments(self) -> None:
+        self.assertEqual(code_of(" DB ';' ; it"), " DB ';'")
+        self.assertEqual([label_in(it) for it in ('a: NOP', ' ES: MOVSB', '; b: x', ' x EQU 1')], ['a', None, None, None])
+        self.assertEqual(self.listing.label_before(0xF000, 0x2D), 'idle+2')
+        self.assertEqual(self.listing.label_before(0xF000, 0x2A), '')
+
+    def test_events(self) -> None:
+        event = event_of('141 F000:002B F4 HLT')
+        self.assertEqual((event.clock, event.address, event.text, event.entry), (141, 0xF002B, 'HLT', None))
+        self.assertEqual(line_at(self.listing, event), self.listing.lines[1])
+        self.assertIsNone(line_at(self.listing, event_of('141 F000:002B 90 NOP')))
+        self.assertEqual(event_of('143 F000:002C entry 08').entry, 8)
+
+
+class Sessions(ToolCase):
+    """Sessions on the examples."""
+
+    def dbg(self, name: str, *commands: str) -> list[str]:
+        """The answers' lines."""
+        return self.tool('dbg', *example(name), given='\n'.join(commands) + '\n')[0].splitlines()
+
+    def test_stops_are_cleared(self) -> None:
+        told = self.dbg('ticks', 'break tick', 'byte b0000 31', 'go', 'clear 2', 'go', 'stops', 'go')
+        self.assertEqual(told[:3], ['stop 1: break F000:002E tick', 'stop 2: byte B0000 31',
+                                    'stop 1 (break F000:002E tick), clock 204: F000:002E tick | 25: tick:   INC BYTE ES:[0]'])
+        self.assertEqual([it.split(': ')[0] for it in told[3:]],
+                         ['stop 1', 'stop 1 (break F000:002E tick), clock 593', 'stop 1', 'stop 1 (break F000:002E tick), clock 993'])
+
+    def test_goes_back(self) -> None:
+        told = self.dbg('ticks', 'to 993', 'back', 'to 29', 'step', 'back 2')
+        self.assertEqual([it.split(': ')[0] for it in told], ['clock 993', 'clock 932', 'clock 29', 'clock 33', 'clock 19'])
+
+    def test_goes_to_the_end(self) -> None:
+        told = self.dbg('hello', 'go', 'screen', 'state', 'go')
+        self.assertIn('clock 100: F000:0017', told[0])
+        self.assertEqual(told[3], 'HI')
+        self.assertEqual(told[5:8], ['clock 100: halted since clock 72', '0 keys lost', 'speaker low, 0 changes'])
+        self.assertIn('the run file ends at clock 100', told[8])
+
+    def test_tells_a_jam(self) -> None:
+        files = self.program('        NOP\n        DB 0Fh', 100)
+        out, _ = self.tool('dbg', *files, given='go\nstate\nlist\n')
+        self.assertIn('jammed since clock', out)
+        self.assertIn('>    4 F000:0001', out)
+
+    def test_tells_lost_keys(self) -> None:
+        files = self.program('        HLT', 1000)
+        keys = ','.join(f'[{100 + it},30]' for it in range(18))
+        run = self.file('k.json', f'{{"version":1,"ram":64,"sw1":0,"sw2":0,"budget":1000,"keys":[{keys}]}}')
+        out, _ = self.tool('dbg', files[0], run, given='to 500\nstate\n')
+        self.assertIn('2 keys lost, the first by clock 116, the last by clock 117', out)
+
+    def test_source_and_memory(self) -> None:
+        told = self.dbg('ticks', 'list :25 1', 'dump tick 2', 'labels', 'trail', 'step', 'trail 1', 'regs')
+        self.assertEqual(told[0], '    25 F000:002E tick:   INC BYTE ES:[0]')
+        self.assertEqual(told[1].split(), ['F002E:', '26', 'FE', '&.'])
+        self.assertEqual(told[4:6], ['F000:002E tick', 'nothing yet'])
+        self.assertIn('| 37: JMP FAR start', told[7])
+        self.assertEqual(told[-1], 'set: no flag')
+
+    def test_hex_has_no_lines(self) -> None:
+        source, run = example('monitor')
+        out, _ = self.tool('dbg', source.replace('.asm', '.hex'), run, '--hex', given='step\nlist\nbreak F000:0000\n')
+        self.assertIn('Intel HEX has no source lines', out)
+        self.assertIn('stop 1: break F000:0000', out)
+
+    def test_refusals(self) -> None:
+        told = self.dbg('hello', 'frob', 'break nope', 'go x', 'clear 3', 'byte b0000 100', 'to 2000000000000', 'help go')
+        for line, wanted in zip(told, ('no command', 'no label', 'no number of clocks', 'no stop 3', 'up to FF', 'no clock', 'go [N]')):
+            self.assertIn(wanted, line)
+        self.assertIn("can't be read", self.tool('dbg', 'no.asm', 'no.json', status=2)[1])
+        self.assertIn('fault 3', self.tool('dbg', example('hello')[1], example('hello')[1], status=2)[1])
+        self.assertIn('--hex', self.tool('dbg', '--help')[0])
+
+    def test_seventeen_stops(self) -> None:
+        told = self.dbg('hello', *['halted'] * 17, 'clear all', 'halted')
+        self.assertIn('fault 52 TooManyStops', told[16])
+        self.assertEqual(told[17:], ['no stops', 'stop 17: halted'])
+
+
+if __name__ == '__main__':
+    unittest.main()
