@@ -34,6 +34,16 @@ pub record IsQuiet (s : Plain) (n : ℕ) : Type 0 where
   pub out_0 : IsSteady after_ticks out_of s.chips.pit.counter_0 (ticks_between s.chips.clock (s.chips.clock + n))
   pub out_2 : IsSteady after_ticks out_of s.chips.pit.counter_2 (ticks_between s.chips.clock (s.chips.clock + n))
 
+-- a stamp, if there is one, comes after a clock
+abbrev pub ComesAfter : ℕ → Option ℕ → Type 0
+ComesAfter clock None = Unit {0}
+ComesAfter clock (Some at) = clock < at
+
+-- nothing happens up to the end of the processor's step
+pub record IsCalmStep (s : Plain) : Type 0 where
+  pub some : 1 ≤ s.busy
+  pub quiet : IsQuiet s s.busy
+
 -- n such clocks at once
 unfoldable pub leapt : Plain → ℕ → Plain
 leapt s n = record s { busy = s.busy - n; chips = wires.leapt s.chips n }

@@ -323,12 +323,13 @@ impl<A: Allocator> Board<A> {
         Ok(())
     }
 
-    /// What the processor does in this clock.
+    /// What the processor does in this clock. How long the chips stay calm is known then.
     fn next_act(&mut self) -> Act
         ensures act { result ≡ next_act self.old.plain }
         ensures exact { IsExact self.old.plain.cpu self.old.plain.chips result }
         ensures kept { self.new ≡ self.old }
     {
+        self.plain.look_ahead();
         self.plain.next_act()
     }
 
