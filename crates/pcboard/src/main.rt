@@ -2,9 +2,9 @@
 #![tactic(auto)]
 
 use pcboard_program::opener::Opener;
-use pcboard_program::program::{program, without_words};
+use pcboard_program::program::{program, with_unreadable_words, without_words};
 use std::fs::File;
-use std::io::ErrorKind;
+use std::io::{ErrorKind, Write};
 use std::process::ExitCode;
 use std::{env, fs, io};
 
@@ -25,13 +25,21 @@ impl Opener for SystemFiles<'_> {
 fn main(rt: HostRuntime) -> ExitCode {
     match status_of(&rt) {
         Ok(status) => ExitCode::from(status),
-        Err(error) if error.kind() == ErrorKind::OutOfMemory => {
-            ExitCode::from(without_words(rt.alloc(), &mut rt.stderr()))
-        }
-        Err(_) => ExitCode::from(3),
+        Err(error) => ExitCode::from(status_without_words(&error, &mut rt.stderr())),
     }
 }
 
+/// The exit status where the words can't be had, which `err` is told.
+fn status_without_words<E: Write>(error: &io::Error, err: &mut E) -> u8 {
+    match error.kind() {
+        ErrorKind::OutOfMemory => without_words(err),
+        ErrorKind::InvalidData => with_unreadable_words(err),
+        _ => 3,
+    }
+}
+
+/// Runs the program on the words of the command line. Fails where there is no memory for them, or one of them isn't
+/// UTF-8.
 fn status_of(rt: &HostRuntime) -> io::Result<u8> {
     let mut args = Vec::new(rt.alloc());
     for arg in env::args(rt)? {

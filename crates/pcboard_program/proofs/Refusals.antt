@@ -5,7 +5,7 @@ use Rattle.assembler.specs.FirstFault.{IsFirst}
 use Rattle.assembler.specs.declared.fault.AsmFault.{AsmFault}
 use Rattle.assembler.specs.declared.fault.AsmFault.TheVariants as asm
 use Rattle.pcboard_program.specs.declared.fault.Fault.{Fault}
-use Rattle.pcboard_program.specs.declared.fault.Fault.TheVariants.{Source, Hex, Run, Board}
+use Rattle.pcboard_program.specs.declared.fault.Fault.TheVariants.{Source, Hex, Run, Board, Session}
 use Rattle.pcboard_program.specs.declared.unanswered.Unanswered.{Unanswered}
 use Rattle.pcboard_program.specs.declared.unanswered.Unanswered.TheVariants.{Failed, Refused}
 use Rattle.pcboard_program.specs.Answer.{IsTrueRefusal, run_text_of, source_of}
@@ -37,6 +37,7 @@ seen_text source (Source fault) first = seen_first source fault first
 seen_text source (Hex fault) never = absurd never
 seen_text source (Run fault) never = absurd never
 seen_text source (Board fault) never = absurd never
+seen_text source (Session fault) never = absurd never
 
 seen_refusal : (hex : Bool) (bytes run : List ℕ) (fault : Fault) → IsTrueRefusal hex (seen_of hex bytes) run fault → IsTrueRefusal hex bytes run fault
 seen_refusal true bytes run fault refused = refused
@@ -44,6 +45,7 @@ seen_refusal false source run (Source fault) first = seen_first source fault fir
 seen_refusal false source run (Hex fault) never = absurd never
 seen_refusal false source run (Run fault) refused = (refused.0, (refused.1.0, seen_whole source refused.1.0 refused.1.1))
 seen_refusal false source run (Board fault) refused = (refused.0, refused.1, (refused.2.0, seen_whole source refused.2.0 refused.2.1, refused.2.2))
+seen_refusal false source run (Session fault) never = absurd never
 
 -- what refuses the bytes that were read refuses the files
 pub refused_text : (file : Option (List ℕ)) (bytes : List ℕ) (fault : Fault) → IfSome file (λ known. bytes ≡ take 1048577 known) → IsTrueOfText bytes fault

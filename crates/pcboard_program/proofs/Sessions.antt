@@ -1,5 +1,5 @@
 -- The lines of an input as they are read, and what is printed on them.
-use Rattle.std.proofs.Common.{ℕ, zero, suc, ◌≡◌, ◌∙◌, ◌<◌, ◌==◌, Bool, true, false, List, [], ◌∷◌, ◌++◌, length, take, get_or, refl, sym, ap, subst, arith, append_assoc, Option, None, Some, IfSome, MatchBool, Result}
+use Rattle.std.proofs.Common.{ℕ, zero, suc, ◌≡◌, ◌∙◌, ◌<◌, ◌==◌, Bool, true, false, List, [], ◌∷◌, ◌++◌, length, take, get_or, refl, sym, ap, subst, arith, append_assoc, Option, None, Some, IfErr, IfSome, MatchBool, Ok, Err, Result}
 use Rattle.std.proofs.lemmas.List.{append-nil}
 use Rattle.std.proofs.lemmas.Bool.Decides.{nat_tests}
 use Rattle.std.proofs.lemmas.Str.{IsUtf8-from_is_utf8, is_utf8-from_IsUtf8}
@@ -10,8 +10,12 @@ use Rattle.debugger.specs.declared.answer.Answer.{Answer}
 use Rattle.debugger.specs.declared.fault.DebugFault.{DebugFault}
 use Rattle.debugger.specs.Commands.{command_of, is_quit}
 use Rattle.debugger.specs.Session.{AnswersLine, SessionState}
+use Rattle.pcboard_program.specs.declared.unanswered.Unanswered.{Unanswered}
+use Rattle.pcboard_program.specs.declared.unanswered.Unanswered.TheVariants.{Failed, Refused}
 use Rattle.pcboard_program.specs.Answer.{AppendsA}
+use Rattle.pcboard_program.specs.Refusal.{BeginsTranscript}
 use Rattle.pcboard_program.specs.Taking.{TakesByte, TakesLine}
+use Rattle.pcboard_program.specs.Unanswered.{WhereRefused}
 use Rattle.pcboard_program.specs.Transcript.{Replies, Transcript, ends_session, input_lines, reply_text, typed_command}
 
 -- what one read takes
@@ -117,11 +121,13 @@ line_none None now next line so_far takes empty = tt
 line_none (Some bytes) now next [] so_far takes empty = ap input_lines (rest_none (Some bytes) now next bytes [] refl so_far takes).0
 line_none (Some bytes) now next (b ∷ bs) so_far takes empty = let never : ⊥ = omega (arith, empty) in absurd never
 
--- What a session has printed: a text behind which a transcript of what is left stands, is one of all that was typed.
+-- What a session has printed on the lines that it has answered: a text behind which a transcript of further lines stands, is one of all of them.
 pub record Printed (first now : SessionState) (typed left : List ℕ) (old new : Option (List ℕ)) : Type 0 where
+  pub answered : List (List ℕ)
+  pub are_lines : input_lines typed ≡ answered ++ input_lines left
   pub said : List ℕ
   pub grown : Appends old new said
-  pub goes_on : (text : List ℕ) → Transcript now (input_lines left) text → Transcript first (input_lines typed) (said ++ text)
+  pub goes_on : (lines : List (List ℕ)) (text : List ℕ) → Transcript now lines text → Transcript first (answered ++ lines) (said ++ text)
 
 abbrev pub PrintedSoFar : SessionState → SessionState → Option (List ℕ) → Option (List ℕ) → Option (List ℕ) → Option (List ℕ) → Type 0
 PrintedSoFar first now typed left old new = IfSome typed (λ bytes. (rest : List ℕ) × (left ≡ Some rest) × Printed first now bytes rest old new)
@@ -138,7 +144,7 @@ appends_both (Some xs) (Some ys) (Some zs) text more first second = second ∙ (
 
 pub printed_none : (session : SessionState) (typed old : Option (List ℕ)) → PrintedSoFar session session typed typed old old
 printed_none session None old = tt
-printed_none session (Some bytes) old = (bytes, refl, record { said = []; grown = appends_none old; goes_on = λ text is. is })
+printed_none session (Some bytes) old = (bytes, refl, record { answered = []; are_lines = refl; said = []; grown = appends_none old; goes_on = λ lines text is. is })
 
 -- the transcript of a line and of those behind it
 transcript_on : (ends : Bool) (line : List ℕ) (now next : SessionState) (lines : List (List ℕ)) (reply : Result Answer DebugFault) (text : List ℕ)
@@ -158,6 +164,11 @@ transcript_quit : (ends : Bool) (text : List ℕ) (P : Type 0) → ends ≡ true
 transcript_quit true text P quits empty = empty
 transcript_quit false text P quits empty = cc
 
+transcript_along : (session : SessionState) (lines others : List (List ℕ)) (text said : List ℕ) → lines ≡ others → text ≡ said
+    → Transcript session lines text → Transcript session others said
+transcript_along session lines others text said same_lines same_text is =
+    subst (λ (ls : List (List ℕ)). Transcript session ls said) same_lines (subst (Transcript session lines) same_text is)
+
 pub printed_more : (first now next : SessionState) (typed left after old mid new : Option (List ℕ)) (line : List ℕ) (reply : Result Answer DebugFault)
     → PrintedSoFar first now typed left old mid → TakesLine left after (Some line) → ends_session line ≡ false → AnswersLine (typed_command line) now reply next
     → Appends mid new (reply_text reply) → PrintedSoFar first next typed after old new
@@ -165,15 +176,18 @@ printed_more first now next None left after old mid new line reply so_far takes 
 printed_more first now next (Some bytes) None after old mid new line reply so_far takes goes answers prints = let never : None ≡ Some so_far.0 = so_far.1 in cc
 printed_more first now next (Some bytes) (Some more) after old mid new line reply so_far takes goes answers prints =
     let same : so_far.0 ≡ more = cc in
-    let lines : line ∷ input_lines takes.0 ≡ input_lines so_far.0 = sym takes.1 ∙ ap input_lines (sym same) in (
+    let lines : input_lines so_far.0 ≡ line ∷ input_lines takes.0 = ap input_lines same ∙ takes.1 in (
       takes.0,
       takes.2,
       record {
+        answered = so_far.2.answered ++ line ∷ [];
+        are_lines = so_far.2.are_lines ∙ (ap (λ (ls : List (List ℕ)). so_far.2.answered ++ ls) lines ∙ sym (append_assoc so_far.2.answered (line ∷ []) (input_lines takes.0)));
         said = so_far.2.said ++ reply_text reply;
         grown = appends_both old mid new so_far.2.said (reply_text reply) so_far.2.grown prints;
-        goes_on = λ text is. subst (λ (l : List ℕ). Transcript first (input_lines bytes) l) (sym (append_assoc so_far.2.said (reply_text reply) text))
-            (so_far.2.goes_on (reply_text reply ++ text) (subst (λ (ls : List (List ℕ)). Transcript now ls (reply_text reply ++ text)) lines
-            (transcript_on (ends_session line) line now next (input_lines takes.0) reply text goes answers is)));
+        goes_on = λ more_lines text is. transcript_along first (so_far.2.answered ++ line ∷ more_lines) ((so_far.2.answered ++ line ∷ []) ++ more_lines)
+            (so_far.2.said ++ (reply_text reply ++ text)) ((so_far.2.said ++ reply_text reply) ++ text)
+            (sym (append_assoc so_far.2.answered (line ∷ []) more_lines)) (sym (append_assoc so_far.2.said (reply_text reply) text))
+            (so_far.2.goes_on (line ∷ more_lines) (reply_text reply ++ text) (transcript_on (ends_session line) line now next more_lines reply text goes answers is));
       },
     )
 
@@ -183,7 +197,8 @@ printed_end : (first now : SessionState) (typed left old new : Option (List ℕ)
 printed_end first now None left old new so_far ends = tt
 printed_end first now (Some bytes) left old new so_far ends = (
   so_far.2.said,
-  subst (λ (l : List ℕ). Transcript first (input_lines bytes) l) (append-nil so_far.2.said) (so_far.2.goes_on [] (ends so_far.0 so_far.1)),
+  transcript_along first (so_far.2.answered ++ input_lines so_far.0) (input_lines bytes) (so_far.2.said ++ []) so_far.2.said (sym so_far.2.are_lines) (append-nil so_far.2.said)
+      (so_far.2.goes_on (input_lines so_far.0) [] (ends so_far.0 so_far.1)),
   so_far.2.grown,
 )
 
@@ -199,6 +214,28 @@ printed_quit first now typed None after old new line so_far takes quits = printe
 printed_quit first now typed (Some more) after old new line so_far takes quits = printed_end first now typed (Some more) old new so_far
     (λ rest is. let same : more ≡ rest = cc in subst (λ (ls : List (List ℕ)). Transcript now ls []) (sym (ap input_lines (sym same) ∙ takes.1))
     (transcript_quit (ends_session line) [] _ quits refl))
+
+-- where the session is refused it has printed its replies to the lines that it has answered
+pub printed_cut : (first now : SessionState) (typed left old new : Option (List ℕ)) → PrintedSoFar first now typed left old new
+    → IfSome typed (λ bytes. AppendsA (BeginsTranscript first (input_lines bytes)) old new)
+printed_cut first now None left old new so_far = tt
+printed_cut first now (Some bytes) left old new so_far = (
+  so_far.2.said,
+  record {
+    answered = so_far.2.answered;
+    left = input_lines so_far.0;
+    are_lines = so_far.2.are_lines;
+    prints = transcript_along first (so_far.2.answered ++ []) so_far.2.answered (so_far.2.said ++ []) so_far.2.said (append-nil so_far.2.answered) (append-nil so_far.2.said)
+        (so_far.2.goes_on [] [] refl);
+  },
+  so_far.2.grown,
+)
+
+-- what is so is so where a session is refused
+pub cut_where : {A : Type 0} (result : Result A Unanswered) (Is : Type 0) → Is → IfErr result (WhereRefused Is)
+cut_where (Ok value) Is is = tt
+cut_where (Err Failed) Is is = tt
+cut_where (Err (Refused fault)) Is is = is
 
 -- a line that is UTF-8 is the command that its text is, and one that isn't is none
 pub typed_text : (line : List ℕ) → IsUtf8 line → typed_command line ≡ command_of line

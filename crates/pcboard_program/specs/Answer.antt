@@ -18,7 +18,7 @@ use Rattle.loader.specs.Reading.{Fails, image_of}
 use Rattle.loader.specs.declared.run_file.RunFile.{RunFile}
 use Rattle.loader.specs.RunFile.{Answers, run_of_text}
 use Rattle.pcboard_program.specs.declared.fault.Fault.{Fault}
-use Rattle.pcboard_program.specs.declared.fault.Fault.TheVariants.{Source, Hex, Run, Board}
+use Rattle.pcboard_program.specs.declared.fault.Fault.TheVariants.{Source, Hex, Run, Board, Session}
 use Rattle.pcboard_program.specs.Report.{config_of, report_of}
 use Rattle.pcboard_program.specs.Transcript.{Transcript, input_lines}
 use Rattle.pcboard_program.specs.Faults.{IsTrueOfBoard}
@@ -130,3 +130,4 @@ IsTrueRefusal hex bytes run (Run fault) =
 IsTrueRefusal hex bytes run (Board fault) =
     (run_file : RunFile) × Answers (Ok run_file) (run_of_text run)
     × ((image : List (ℕ × ℕ)) × GivesImage hex bytes image × IsTrueOfBoard image run_file fault)
+IsTrueRefusal hex bytes run (Session fault) = ⊥

@@ -13,8 +13,10 @@ use Rattle.loader.specs.declared.run_fault.RunFault.TheVariants as runs
 use Rattle.board.specs.declared.board.BoardFault.TheVariants as boards
 use Rattle.board.specs.declared.board.BoardFault.{BoardFault}
 use Rattle.board.specs.Board.{board_fault_number, board_fault_name}
+use Rattle.debugger.specs.Answers.{fault_number as debug_fault_number, fault_name as debug_fault_name}
+use Rattle.debugger.specs.declared.fault.DebugFault.TheVariants as sessions
 use Rattle.pcboard_program.specs.declared.fault.Fault.{Fault}
-use Rattle.pcboard_program.specs.declared.fault.Fault.TheVariants.{Source, Hex, Run, Board}
+use Rattle.pcboard_program.specs.declared.fault.Fault.TheVariants.{Source, Hex, Run, Board, Session}
 use Rattle.pcboard_program.specs.Report.{FitsBoard}
 
 abbrev pub number_of : Fault → ℕ
@@ -22,18 +24,21 @@ number_of (Source fault) = fault_number fault
 number_of (Hex fault) = hex_fault_number fault
 number_of (Run fault) = run_fault_number fault
 number_of (Board fault) = board_fault_number fault
+number_of (Session fault) = debug_fault_number fault
 
 abbrev pub name_of : Fault → List ℕ
 name_of (Source fault) = fault_name fault
 name_of (Hex fault) = hex_fault_name fault
 name_of (Run fault) = run_fault_name fault
 name_of (Board fault) = board_fault_name fault
+name_of (Session fault) = debug_fault_name fault
 
 abbrev pub line_of : Fault → Option ℕ
 line_of (Source fault) = fault_line fault
 line_of (Hex fault) = hex_fault_line fault
 line_of (Run fault) = None
 line_of (Board fault) = None
+line_of (Session fault) = None
 
 abbrev pub line_suffix : Option ℕ → List ℕ
 line_suffix None = codes "\n"
@@ -61,6 +66,10 @@ IsWantOfMemory (Run runs.BudgetTooLarge) = ⊥
 IsWantOfMemory (Board boards.Memory) = Unit {0}
 IsWantOfMemory (Board boards.RamSize) = ⊥
 IsWantOfMemory (Board boards.ClockLimit) = ⊥
+IsWantOfMemory (Session (sessions.Memory clock)) = Unit {0}
+IsWantOfMemory (Session sessions.ClockLimit) = ⊥
+IsWantOfMemory (Session sessions.BadCommand) = ⊥
+IsWantOfMemory (Session sessions.TooManyStops) = ⊥
 
 -- a board's refusal is true of an image: its RAM doesn't fit, or there was no memory
 abbrev pub IsTrueOfBoard : List (ℕ × ℕ) → RunFile → BoardFault → Type 0
@@ -74,6 +83,7 @@ IsTrueOfImage image run (Source fault) = ⊥
 IsTrueOfImage image run (Hex fault) = ⊥
 IsTrueOfImage image run (Run fault) = ⊥
 IsTrueOfImage image run (Board fault) = IsTrueOfBoard image run fault
+IsTrueOfImage image run (Session fault) = ⊥
 
 -- a refusal of a run is true of the source: it is the source's first fault, or one of the image that the source gives
 abbrev pub IsTrueOfSource : List ℕ → RunFile → Fault → Type 0
@@ -81,3 +91,4 @@ IsTrueOfSource source run (Source fault) = IsFirst source fault
 IsTrueOfSource source run (Hex fault) = ⊥
 IsTrueOfSource source run (Run fault) = ⊥
 IsTrueOfSource source run (Board fault) = (image : List (ℕ × ℕ)) × Gives source image × IsTrueOfBoard image run fault
+IsTrueOfSource source run (Session fault) = ⊥

@@ -11,6 +11,11 @@ abbrev pub EndsFor : (Fault → Type 0) → Unanswered → Type 0
 EndsFor Is Failed = Unit {0}
 EndsFor Is (Refused fault) = IsWantOfMemory fault ⊎ Is fault
 
+-- this is so where the program ends for a refusal
+abbrev pub WhereRefused : Type 0 → Unanswered → Type 0
+WhereRefused Is Failed = Unit {0}
+WhereRefused Is (Refused fault) = Is
+
 -- the program ends for want of memory, or for a failure: nothing was judged
 abbrev pub IsUnjudged : Unanswered → Type 0
 IsUnjudged Failed = Unit {0}

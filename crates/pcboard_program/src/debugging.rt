@@ -1,16 +1,17 @@
 //! The debugger's commands, answered line by line as they come.
-ghost use Rattle.std.specs.Prelude.{◌≡◌, option_map, IfErr, IfOk, IfSome, OnOk, vec_items};
+ghost use Rattle.std.specs.Prelude.{◌≡◌, ◌⊎◌, option_map, IfErr, IfOk, IfSome, OnOk, vec_items};
 ghost use Rattle.std.specs.Io.KnownBytes.{Appends};
 ghost use Rattle.debugger.specs.Session.{AnswersLine};
 ghost use Rattle.pcboard_program.specs.Answer.{AppendsA, session_about};
+ghost use Rattle.pcboard_program.specs.Refusal.{BeginsTranscript};
 ghost use Rattle.pcboard_program.specs.Taking.{TakesLine};
 ghost use Rattle.pcboard_program.specs.Transcript.{Transcript, ends_session, input_lines, refusal_text, reply_text, typed_command};
-ghost use Rattle.pcboard_program.specs.Unanswered.{IsUnjudged};
+ghost use Rattle.pcboard_program.specs.Unanswered.{IsUnjudged, WhereRefused};
 
 use crate::fault::Fault;
 use crate::input::next_byte;
 use crate::unanswered::Unanswered;
-use board::board::{Board, BoardFault};
+use board::board::Board;
 use debugger::answer::Answer;
 use debugger::command::is_quit;
 use debugger::fault::DebugFault;
@@ -29,11 +30,14 @@ pub(crate) fn print_session<I: Read, O: Write>(
     ensures transcript { OnOk result (IfSome (I.remaining input.old)
         (λ typed. AppendsA (Transcript (session_about board) (input_lines typed)) (O.contents out.old)
         (O.contents out.new))) }
+    ensures cut { IfErr result (WhereRefused (O.contents out.new ≡ O.contents out.old
+        ⊎ IfSome (I.remaining input.old) (λ typed. AppendsA (BeginsTranscript (session_about board) (input_lines typed))
+        (O.contents out.old) (O.contents out.new)))) }
     ensures end { IfErr result IsUnjudged }
 {
     match Session::new(board) {
         Ok(mut session) => answer_lines(alloc, &mut session, input, out),
-        Err(_) => Err(Unanswered::Refused(Fault::Board(BoardFault::Memory))),
+        Err(fault) => Err(Unanswered::Refused(Fault::Session(fault))),
     }
 }
 
@@ -46,6 +50,9 @@ fn answer_lines<I: Read, O: Write>(
 ) -> Result<(), Unanswered>
     ensures transcript { OnOk result (IfSome (I.remaining input.old)
         (λ typed. AppendsA (Transcript session.old (input_lines typed)) (O.contents out.old) (O.contents out.new))) }
+    ensures cut { IfErr result (WhereRefused (IfSome (I.remaining input.old)
+        (λ typed. AppendsA (BeginsTranscript session.old (input_lines typed)) (O.contents out.old)
+        (O.contents out.new)))) }
     ensures end { IfErr result IsUnjudged }
 {
     'lines: for _ in 0..u64::MAX {

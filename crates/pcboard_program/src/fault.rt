@@ -1,15 +1,19 @@
 //! Why a run is refused.
-ghost use Rattle.std.specs.Prelude.{◌≡◌, IfOk};
-ghost use Rattle.std.specs.String.{string_bytes};
+ghost use Rattle.std.specs.Prelude.{◌≡◌, ◌++◌, codes, OnOk};
+ghost use Rattle.std.specs.Fmt.{decimal};
+ghost use Rattle.std.specs.Io.KnownBytes.{Appends};
 ghost use Rattle.board.specs.declared.board.BoardFault.TheVariants.{Memory};
 ghost use Rattle.pcboard_program.specs.declared.fault.Fault.TheVariants.{Board};
-ghost use Rattle.pcboard_program.specs.Faults.{fault_text, line_of, line_suffix, name_of, number_of};
+ghost use Rattle.pcboard_program.specs.Faults.{fault_text, line_of, name_of, number_of};
 
 use assembler::fault::AsmFault;
 use board::board::BoardFault;
+use debugger::fault::DebugFault;
 use loader::hex_fault::HexFault;
 use loader::run_fault::RunFault;
-use std::alloc::{AllocError, Global};
+use std::alloc::AllocError;
+use std::io;
+use std::io::Write;
 
 /// A refusal, by the part that refuses.
 #[derive(Clone, Copy, Debug, PartialEq, Eq)]
@@ -18,6 +22,8 @@ pub enum Fault {
     Hex(HexFault),
     Run(RunFault),
     Board(BoardFault),
+    /// A debugger's session can't be begun.
+    Session(DebugFault),
 }
 
 /// A want of memory that no other part tells is the board's.
@@ -39,6 +45,7 @@ impl Fault {
             Fault::Hex(fault) => fault.number(),
             Fault::Run(fault) => fault.number(),
             Fault::Board(fault) => fault.number(),
+            Fault::Session(fault) => fault.number(),
         }
     }
 
@@ -51,6 +58,7 @@ impl Fault {
             Fault::Hex(fault) => fault.name(),
             Fault::Run(fault) => fault.name(),
             Fault::Board(fault) => fault.name(),
+            Fault::Session(fault) => fault.name(),
         }
     }
 
@@ -61,27 +69,29 @@ impl Fault {
         match self {
             Fault::Source(fault) => fault.line().map(u64::from),
             Fault::Hex(fault) => fault.line(),
-            Fault::Run(_) | Fault::Board(_) => None,
+            Fault::Run(_) | Fault::Board(_) | Fault::Session(_) => None,
         }
     }
 }
 
-/// The line that tells a fault: its number and name, and where it has one its line.
+/// Writes the line that tells a fault, its number and name, and where it has one its line, and sees to it that it
+/// reaches its end.
 #[tactic(auto, unfolding(crate::specs::Faults::fault_text))]
-pub fn fault_text(alloc: Global, fault: Fault) -> Result<String, AllocError>
-    ensures { IfOk result (λ text. string_bytes text ≡ fault_text fault) }
+pub fn write_fault<W: Write>(fault: &Fault, to: &mut W) -> io::Result<()>
+    ensures { OnOk result (Appends (W.contents to.old) (W.contents to.new) (fault_text fault.now)) }
 {
     let number = fault.number();
     let name = fault.name();
-    let suffix = line_suffix(alloc, fault.line())?;
-    format!(in alloc; "fault {number} {name}{suffix}")
+    write!(to, "fault {number} {name}")?;
+    if let Some(line) = fault.line() {
+        write_line_number(line, to)?;
+    }
+    to.write_all(b"\n")?;
+    to.flush()
 }
 
-fn line_suffix(alloc: Global, line: Option<u64>) -> Result<String, AllocError>
-    ensures { IfOk result (λ text. string_bytes text ≡ line_suffix line) }
+fn write_line_number<W: Write>(line: u64, to: &mut W) -> io::Result<()>
+    ensures { OnOk result (Appends (W.contents to.old) (W.contents to.new) (codes " line " ++ decimal line)) }
 {
-    match line {
-        Some(line) => format!(in alloc; " line {line}\n"),
-        None => String::from_str(alloc, "\n"),
-    }
+    write!(to, " line {line}")
 }

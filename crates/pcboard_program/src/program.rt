@@ -1,6 +1,6 @@
 //! The program, over any files, standard input and writers.
 ghost use Rattle.std.specs.Prelude.{◌≡◌, ◌≢◌, ◌≤◌, ◌<◌, ℕ, List, [], length, map, ◌⊎◌, IfErr, IfSome, OnOk};
-ghost use Rattle.std.specs.Io.KnownBytes.{Appends, Keeps};
+ghost use Rattle.std.specs.Io.KnownBytes.{Appends};
 ghost use Rattle.board.specs.Plain.{clock_of};
 ghost use Rattle.board_types.specs.TextLines.{text_lines};
 ghost use Rattle.assembler.specs.Gives.{Gives};
@@ -9,12 +9,12 @@ ghost use Rattle.loader.specs.HexText.{hex_text};
 ghost use Rattle.pcboard_program.specs.Answer.{AppendsA, IsAssembled, IsListingOf, Prints, PrintsTask};
 ghost use Rattle.pcboard_program.specs.Faults.{IsWantOfMemory, fault_text};
 ghost use Rattle.pcboard_program.specs.Ready.{IsAtPowerOn};
-ghost use Rattle.pcboard_program.specs.Refusal.{IsTrueOfTask, IsTrueOfText, IsTrueOfWords, RefusesWords, TellsA};
+ghost use Rattle.pcboard_program.specs.Refusal.{IsTrueOfTask, IsTrueOfText, IsTrueOfWords, PrintsNoAnswer, PrintsReplies, RefusesWords, TellsA, unreadable_text};
 ghost use Rattle.pcboard_program.specs.Report.{report_of};
-ghost use Rattle.pcboard_program.specs.Unanswered.{EndsFor, IsUnjudged};
+ghost use Rattle.pcboard_program.specs.Unanswered.{EndsFor, IsUnjudged, WhereRefused};
 
 use crate::debugging::print_session;
-use crate::fault::{Fault, fault_text};
+use crate::fault::{Fault, write_fault};
 use crate::input::read_program;
 use crate::listing::listing_text;
 use crate::opener::Opener;
@@ -32,6 +32,10 @@ use pcboard_words::task::{LineFault, Task};
 use std::alloc::Global;
 use std::io;
 use std::io::{Read, Write};
+
+/// What is told where a word isn't UTF-8.
+const UNREADABLE_WORDS: &str =
+    "error: invalid UTF-8 was detected in one or more arguments\n\nFor more information, try '--help'.\n";
 
 /// Does what `words`, those after the program's name, ask for, and answers the exit status: 0; 1 for a refusal,
 /// which `err` tells in a line; 2 for words that aren't the program's, with their usage on `err`; 3, with no
@@ -53,35 +57,52 @@ pub fn program<F: Opener, I: Read, O: Write, E: Write>(
     // At status 0 nothing is told.
     ensures untold { result ≡ 0 → E.contents err.new ≡ E.contents err.old }
 
-    // At status 1 what `err` holds has grown by the line of a refusal that is true of the task that the words name, or
-    // is as it was where that line finds no memory.
+    // At status 1 what `err` holds has grown by the line of a refusal that is true of the task that the words name.
     ensures told { result ≡ 1 → TellsA (IsTrueOfWords (map (λ word. word.now) words.entry.now) (F.file_bytes files.now)
         (I.remaining input.old)) (E.contents err.old) (E.contents err.new) }
+
+    // At status 1 what `out` holds is as it was; or the words name a session, and it has grown by the replies to the
+    // first ones of the lines that are typed.
+    ensures withheld { result ≡ 1 → PrintsNoAnswer (map (λ word. word.now) words.entry.now) (F.file_bytes files.now)
+        (I.remaining input.old) (O.contents out.old) (O.contents out.new) }
 
     // At status 2 the words name no task, and what `err` holds has grown by the text that says so.
     ensures usage { result ≡ 2 → RefusesWords (map (λ word. word.now) words.entry.now) (E.contents err.old)
         (E.contents err.new) }
+
+    // At status 2 nothing is printed.
+    ensures unprinted { result ≡ 2 → O.contents out.new ≡ O.contents out.old }
 {
     let task = match read_words(alloc, words) {
         Ok(task) => task,
         Err(LineFault::Usage(text)) => return told(err, text.as_str(), 2),
-        Err(LineFault::Memory) => return without_words(alloc, err),
+        Err(LineFault::Memory) => return without_words(err),
     };
     match print_task(alloc, task, files, input, out) {
         Ok(()) => 0,
-        Err(Unanswered::Refused(fault)) => refused(alloc, err, fault),
+        Err(Unanswered::Refused(fault)) => refused(err, fault),
         Err(Unanswered::Failed) => 3,
     }
 }
 
-/// What `program` does where the words found no memory: it tells so, and answers the exit status.
-pub fn without_words<E: Write>(alloc: Global, err: &mut E) -> u8
+/// What `program` does where the words found no memory: it tells so, and answers the exit status, 1, or 3 where that
+/// failed.
+pub fn without_words<E: Write>(err: &mut E) -> u8
     ensures above { 0 < result }
     ensures within { result ≤ 3 }
     ensures status { result ≢ 2 }
     ensures told { result ≡ 1 → TellsA IsWantOfMemory (E.contents err.old) (E.contents err.new) }
 {
-    refused(alloc, err, Fault::Board(BoardFault::Memory))
+    refused(err, Fault::Board(BoardFault::Memory))
+}
+
+/// What `program` does where a word isn't UTF-8, so that it can't be read: it tells so, and answers the exit status, 2,
+/// or 3 where that failed.
+pub fn with_unreadable_words<E: Write>(err: &mut E) -> u8
+    ensures status { result ≡ 2 ⊎ result ≡ 3 }
+    ensures told { result ≡ 2 → Appends (E.contents err.old) (E.contents err.new) unreadable_text }
+{
+    told(err, UNREADABLE_WORDS, 2)
 }
 
 /// Prints the answer to a task.
@@ -94,6 +115,9 @@ fn print_task<F: Opener, I: Read, O: Write>(
 ) -> Result<(), Unanswered>
     ensures printed { OnOk result (PrintsTask task.entry (F.file_bytes files.now) (I.remaining input.old)
         (O.contents out.old) (O.contents out.new)) }
+    ensures withheld { IfErr result (WhereRefused (O.contents out.new ≡ O.contents out.old
+        ⊎ PrintsReplies task.entry (F.file_bytes files.now) (I.remaining input.old) (O.contents out.old)
+        (O.contents out.new))) }
     ensures end { IfErr result (EndsFor (IsTrueOfTask task.entry (F.file_bytes files.now) (I.remaining input.old))) }
 {
     match task {
@@ -123,6 +147,7 @@ fn print_report<O: Write>(
     requires { clock_of board.plain ≡ 0 }
     ensures printed { OnOk result ((image : List (ℕ × ℕ)) → IsAtPowerOn image run.now board
         → Appends (O.contents out.old) (O.contents out.new) (report_of image run.now)) }
+    ensures kept { IfErr result (WhereRefused (O.contents out.new ≡ O.contents out.old)) }
     ensures end { IfErr result IsUnjudged }
 {
     let report = report_at_budget(alloc, board, run)?;
@@ -139,6 +164,7 @@ fn print_assembled<F: Opener, O: Write>(
 ) -> Result<(), Unanswered>
     ensures printed { OnOk result (IfSome (F.file_bytes files.now file.now)
         (λ source. AppendsA (IsAssembled list source) (O.contents out.old) (O.contents out.new))) }
+    ensures kept { IfErr result (WhereRefused (O.contents out.new ≡ O.contents out.old)) }
     ensures end { IfErr result (EndsFor (λ fault. IfSome (F.file_bytes files.now file.now)
         (λ source. IsTrueOfText source fault))) }
 {
@@ -166,6 +192,7 @@ fn print_listing<O: Write>(
     requires names { (rows : List Row) → AreRows [] (text_lines listing.now.source) rows
         → listing.now.names ≡ names_of rows }
     ensures printed { OnOk result (AppendsA (IsListingOf listing.now.source) (O.contents out.old) (O.contents out.new)) }
+    ensures kept { IfErr result (WhereRefused (O.contents out.new ≡ O.contents out.old)) }
     ensures end { IfErr result IsUnjudged }
 {
     match listing_text(alloc, listing, size) {
@@ -177,6 +204,7 @@ fn print_listing<O: Write>(
 /// Prints the HEX text of an image.
 fn print_hex<O: Write>(image: &Image, out: &mut O) -> Result<(), Unanswered>
     ensures printed { OnOk result (Appends (O.contents out.old) (O.contents out.new) (hex_text image.now)) }
+    ensures kept { IfErr result (WhereRefused (O.contents out.new ≡ O.contents out.old)) }
     ensures end { IfErr result IsUnjudged }
 {
     match write_hex(image, out) {
@@ -209,15 +237,14 @@ fn told<W: Write>(err: &mut W, text: &str, status: u8) -> u8
 }
 
 /// Tells a refusal, and answers the status.
-fn refused<W: Write>(alloc: Global, err: &mut W, fault: Fault) -> u8
+fn refused<W: Write>(err: &mut W, fault: Fault) -> u8
     ensures above { 0 < result }
     ensures within { result ≤ 3 }
     ensures status { result ≢ 2 }
-    ensures told { result ≡ 1 → Appends (W.contents err.old) (W.contents err.new) (fault_text fault)
-        ⊎ Keeps (W.contents err.old) (W.contents err.new) }
+    ensures told { result ≡ 1 → Appends (W.contents err.old) (W.contents err.new) (fault_text fault) }
 {
-    match fault_text(alloc, fault) {
-        Ok(text) => told(err, text.as_str(), 1),
-        Err(_) => 1,
+    match write_fault(&fault, err) {
+        Ok(()) => 1,
+        Err(_) => 3,
     }
 }

@@ -3,8 +3,16 @@ use Rattle.debugger.specs.Session.{AnswersLine}
 use Rattle.pcboard_program.specs.Taking.{TakesLine}
 use Rattle.pcboard_program.specs.Transcript.{ends_session, typed_command}
 use Rattle.pcboard_program.proofs.Listed.{holds_none}
-use Rattle.pcboard_program.proofs.Sessions.{printed_all, printed_more, printed_quit}
+use Rattle.pcboard_program.proofs.Sessions.{cut_where, printed_all, printed_cut, printed_more, printed_none, printed_quit}
 use Rattle.pcboard_program.proofs.debugging.answer_lines.Goals as goal
+
+pub lines-init : goal.lines-init
+lines-init g c = printed_none c.args.session.now (g.I.Read.remaining c.args.input.now) (g.O.Write.contents c.args.out.now)
+
+pub returns-in_err-line-clause-cut : goal.returns-in_err-line-clause-cut
+returns-in_err-line-clause-cut g c =
+    cut_where c.from_residual.result _ (printed_cut c.args.session.now c.lines.session (g.I.Read.remaining c.args.input.now) (g.I.Read.remaining c.lines.input)
+    (g.O.Write.contents c.args.out.now) (g.O.Write.contents c.lines.out) c.lines.invariant)
 
 pub returns-in_default-clause-transcript : goal.returns-in_default-clause-transcript
 returns-in_default-clause-transcript g c =
