@@ -2,7 +2,8 @@
 ghost use Rattle.std.specs.Prelude.{◌≡◌, ◌<◌};
 ghost use Rattle.execute_arith.specs.Meaning.{after_arithmetic, keeps_result, result_of, with_flags_of};
 ghost use Rattle.execute_machine.specs.Flags.{forgetting};
-ghost use Rattle.execute_machine.specs.Locations.{machine};
+ghost use Rattle.execute_machine.specs.Locations.{location_of, machine};
+ghost use Rattle.isa.specs.Row.{first_of};
 ghost use Rattle.execute_machine.specs.Sums.{with_logic};
 ghost use Rattle.execute_machine.specs.Widths.{size_of};
 
@@ -10,13 +11,13 @@ use crate::sums::{add, subtract};
 use bus::Bus;
 use digest::digest::Digest;
 use execute_machine::flags::FlagRegister;
-use execute_machine::location::{locate_first, locate_second, operand, put};
+use execute_machine::location::{OperandLocation, locate_first, locate_second, operand, put};
 use execute_machine::registers::Registers;
 use execute_machine::width::Width;
 use isa::operation::Arithmetic;
 
 /// Performs ADD, OR, ADC, SBB, AND, SUB, XOR, CMP or TEST on the instruction's operands.
-#[tactic(auto, unfolding(crate::specs::Meaning::after_arithmetic))]
+#[inline(always)]
 pub fn perform_arithmetic<B: Bus>(
     bus: &mut B,
     registers: &mut Registers,
@@ -27,6 +28,59 @@ pub fn perform_arithmetic<B: Bus>(
         ≡ after_arithmetic B.meaning (machine registers.old (B.state bus.old)) operation instr.now }
 {
     let to = locate_first(registers, instr);
+    match to {
+        OperandLocation::Word(register) => {
+            perform_at(
+                bus,
+                registers,
+                operation,
+                OperandLocation::Word(register),
+                instr,
+            );
+        }
+        OperandLocation::Byte(register) => {
+            perform_at(
+                bus,
+                registers,
+                operation,
+                OperandLocation::Byte(register),
+                instr,
+            );
+        }
+        _ => perform_in_memory(bus, registers, operation, to, instr),
+    }
+}
+
+/// Performs it on what stands in memory.
+#[inline(never)]
+fn perform_in_memory<B: Bus>(
+    bus: &mut B,
+    registers: &mut Registers,
+    operation: Arithmetic,
+    to: OperandLocation,
+    instr: &Digest,
+)
+    requires { to ≡ location_of registers.old instr.now (first_of instr.now.form.row) }
+    ensures { machine registers.new (B.state bus.new)
+        ≡ after_arithmetic B.meaning (machine registers.old (B.state bus.old)) operation instr.now }
+{
+    perform_at(bus, registers, operation, to, instr);
+}
+
+/// Performs it on the operand at `to`. Inlined, a call with a register has no other case left.
+#[inline(always)]
+#[tactic(auto, unfolding(crate::specs::Meaning::after_arithmetic))]
+fn perform_at<B: Bus>(
+    bus: &mut B,
+    registers: &mut Registers,
+    operation: Arithmetic,
+    to: OperandLocation,
+    instr: &Digest,
+)
+    requires { to ≡ location_of registers.old instr.now (first_of instr.now.form.row) }
+    ensures { machine registers.new (B.state bus.new)
+        ≡ after_arithmetic B.meaning (machine registers.old (B.state bus.old)) operation instr.now }
+{
     let from = locate_second(registers, instr);
     let width = to.width();
     let a = operand(bus, registers, to, width);

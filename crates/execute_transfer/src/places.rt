@@ -8,6 +8,7 @@ use execute_machine::registers::Registers;
 use isa::register::WordRegister;
 
 /// The place of the first operand.
+#[inline(always)]
 pub(crate) fn first_place(registers: &Registers, instr: &Digest) -> OperandLocation
     ensures { result ≡ first_place registers.now instr.now }
 {
@@ -15,6 +16,7 @@ pub(crate) fn first_place(registers: &Registers, instr: &Digest) -> OperandLocat
 }
 
 /// The place of the second operand.
+#[inline(always)]
 pub(crate) fn second_place(registers: &Registers, instr: &Digest) -> OperandLocation
     ensures { result ≡ second_place registers.now instr.now }
 {
