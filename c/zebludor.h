@@ -114,6 +114,33 @@ void zebludor_pit_advance(zebludor_pit *pit, uint64_t ticks);
  * stays; 0 where it never does. That is the least such number: OUT is the same at each tick before it. */
 uint64_t zebludor_pit_until_change(const zebludor_pit *pit, uint8_t n);
 
+/* One counter of the timer by itself, for a third of the work: `&pit.counter_2`, or one of your own. The definitions are
+ * those of crates/pit8253/specs/Counter.antt. */
+
+/* Power-on, with the gate at a level: mode 0, no count, OUT low. `*counter` may hold anything before. Leaves power_on. */
+void zebludor_counter_power_on(zebludor_counter *counter, uint8_t gate);
+
+/* A control word, of which bits 5 to 0 count here: access 00 latches, any other programs. Leaves after_control_word. */
+void zebludor_counter_write_control(zebludor_counter *counter, uint8_t word);
+
+/* Writes a byte of a count. Leaves after_write. */
+void zebludor_counter_write(zebludor_counter *counter, uint8_t value);
+
+/* Reads a byte of the latch, or else of the running count. Answers next_byte, leaves after_read. */
+uint8_t zebludor_counter_read(zebludor_counter *counter);
+
+/* The gate takes a level. Leaves after_gate. */
+void zebludor_counter_set_gate(zebludor_counter *counter, uint8_t level);
+
+/* The level of OUT, 0 or 1. */
+uint8_t zebludor_counter_out(const zebludor_counter *counter);
+
+/* `ticks` ticks, as zebludor_pit_advance's. Leaves after_ticks. */
+void zebludor_counter_advance(zebludor_counter *counter, uint64_t ticks);
+
+/* When OUT first changes, as zebludor_pit_until_change tells it. */
+uint64_t zebludor_counter_until_change(const zebludor_counter *counter);
+
 /* The interrupt controller. The definitions are those of crates/pic8259/specs/Pic.antt. */
 
 /* Power-on: every line low, nothing masked or in service, edge mode, no initialisation begun. `*pic` may hold anything

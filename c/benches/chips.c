@@ -60,6 +60,26 @@ static void timer_reads(void) {
     expect("OUT 0 after power-on never changes", zebludor_pit_until_change(&pit, 0), 0);
 }
 
+/* Each call of a counter by itself leaves what the timer's does. */
+static void counter_is_the_timers(void) {
+    zebludor_pit pit = square(7);
+    zebludor_counter alone;
+    memset(&alone, 0xA5, sizeof alone);
+    zebludor_counter_power_on(&alone, 1);
+    zebludor_counter_write_control(&alone, 0x36);
+    zebludor_counter_write(&alone, 7);
+    zebludor_counter_write(&alone, 0);
+    for (int tick = 0; tick < 30; tick++) {
+        zebludor_pit_advance(&pit, 1);
+        zebludor_counter_advance(&alone, 1);
+        zebludor_pit_set_gate(&pit, 2, tick % 11 != 3);
+        zebludor_counter_set_gate(&alone, tick % 11 != 3);
+        expect("a byte", zebludor_counter_read(&alone), zebludor_pit_read(&pit, 2));
+        expect("OUT", zebludor_counter_out(&alone), zebludor_pit_out(&pit, 2));
+        expect("a change", zebludor_counter_until_change(&alone), zebludor_pit_until_change(&pit, 2));
+    }
+}
+
 /* Base 8, lines 4 and 1: vectors 8 + 1 and, after its end of interrupt, 8 + 4; then none is left, level 7. */
 static void controller_takes(void) {
     zebludor_pic pic;
@@ -142,6 +162,7 @@ static void tell_times(void) {
     uint64_t sum = 0;
     TELL("advance by a tick", zebludor_pit_advance(&pit, 1));
     TELL("advance by 1,000 ticks", zebludor_pit_advance(&pit, 1000));
+    TELL("advance one counter by a tick", zebludor_counter_advance(&pit.counter_2, 1));
     TELL("OUT", sum += zebludor_pit_out(&pit, 2));
     TELL("until the next change", sum += zebludor_pit_until_change(&pit, 2));
     TELL("set a line", zebludor_pic_set_line(&pic, (uint8_t)i, (uint8_t)(i & 8)));
@@ -152,6 +173,7 @@ static void tell_times(void) {
 int main(int count, char **words) {
     timer_makes_squares();
     timer_reads();
+    counter_is_the_timers();
     controller_takes();
     take_any_bytes(count > 2 && !strcmp(words[1], "random") ? atol(words[2]) : 10000);
     if (count > 1 && !strcmp(words[1], "seconds")) tell_times();

@@ -4,4 +4,6 @@
 #![tactic(auto)]
 
 pub mod controller;
+pub mod counter;
+mod levels;
 pub mod timer;
