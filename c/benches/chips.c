@@ -103,6 +103,22 @@ static void controller_takes(void) {
     expect("the level in service", zebludor_pic_read(&pic, 0), 0x10);
 }
 
+/* SW1 at port A, SW2 by halves at port C, as a start-up program reads them. */
+static void port_shows_switches(void) {
+    zebludor_ppi ppi;
+    memset(&ppi, 0xA5, sizeof ppi);
+    zebludor_ppi_power_on(&ppi, 0x6D, 0x1A);
+    expect("no lines", zebludor_ppi_port_b(&ppi), 0);
+    expect("the keyboard's latch", zebludor_ppi_read(&ppi, 0, 0x1E, 0), 0x1E);
+    zebludor_ppi_write(&ppi, 3, 0x99);
+    zebludor_ppi_write(&ppi, 1, 0x80);
+    expect("SW1", zebludor_ppi_read(&ppi, 0, 0x1E, 0), 0x6D);
+    zebludor_ppi_write(&ppi, 1, 0x04);
+    expect("four of SW2, and OUT 2", zebludor_ppi_read(&ppi, 2, 0, 1), 0x2A);
+    zebludor_ppi_write(&ppi, 1, 0);
+    expect("the fifth of SW2", zebludor_ppi_read(&ppi, 6, 0, 0), 1);
+}
+
 static void fill(void *bytes, size_t count) {
     for (size_t i = 0; i < count; i++) ((unsigned char *)bytes)[i] = (unsigned char)(rand() >> 7);
 }
@@ -112,11 +128,12 @@ static void fill(void *bytes, size_t count) {
 static void take_any_bytes(long rounds) {
     zebludor_pit *pit = malloc(sizeof *pit), *before = malloc(sizeof *before);
     zebludor_pic *pic = malloc(sizeof *pic);
+    zebludor_ppi *ppi = malloc(sizeof *ppi);
     srand(1);
     for (long i = 0; i < rounds; i++) {
         unsigned char any[3];
         uint64_t ticks;
-        fill(pit, sizeof *pit), fill(pic, sizeof *pic), fill(any, sizeof any), fill(&ticks, sizeof ticks);
+        fill(pit, sizeof *pit), fill(pic, sizeof *pic), fill(ppi, sizeof *ppi), fill(any, sizeof any), fill(&ticks, sizeof ticks);
         zebludor_pit_read(pit, any[0]);
         zebludor_pit_write(pit, any[0], any[1]);
         zebludor_pit_set_gate(pit, any[1], any[2]);
@@ -138,8 +155,11 @@ static void take_any_bytes(long rounds) {
         zebludor_pic_read(pic, any[2]);
         if (zebludor_pic_request(pic) > 1) expect("a request within", 2, 1);
         zebludor_pic_acknowledge(pic);
+        zebludor_ppi_write(ppi, any[0], any[1]);
+        if (ppi->b == 0) expect("port B's lines", zebludor_ppi_port_b(ppi), ppi->b_latch);
+        zebludor_ppi_read(ppi, any[2], any[1], any[0]);
     }
-    free(pit), free(before), free(pic);
+    free(pit), free(before), free(pic), free(ppi);
 }
 
 static double seconds(void) {
@@ -175,6 +195,7 @@ int main(int count, char **words) {
     timer_reads();
     counter_is_the_timers();
     controller_takes();
+    port_shows_switches();
     take_any_bytes(count > 2 && !strcmp(words[1], "random") ? atol(words[2]) : 10000);
     if (count > 1 && !strcmp(words[1], "seconds")) tell_times();
     return failed;
