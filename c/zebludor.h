@@ -1,5 +1,5 @@
-/* An IBM PC 5150 for benches in C and C++: the timer (Intel 8253), the interrupt controller (Intel 8259A), and whole
- * runs of the board. The chips are in libc_interface.a, the runs in libc_run.a.
+/* An IBM PC 5150 for benches in C and C++: the timer (Intel 8253), the interrupt controller (Intel 8259A), the parallel
+ * port (Intel 8255A, mode 0), and whole runs of the board. The chips are in libc_interface.a, the runs in libc_run.a.
  *
  * A chip is a struct of numbers in the caller's memory, and each call works on that struct alone. Structs may be
  * copied, compared field by field, kept in files. Any bytes in one are some chip, so no call can be refused: a level or
@@ -87,6 +87,20 @@ ZEBLUDOR_ASSERT(sizeof(zebludor_pic) == 18);
 ZEBLUDOR_ASSERT(ZEBLUDOR_ALIGNOF(zebludor_pic) == 1);
 ZEBLUDOR_ASSERT(offsetof(zebludor_pic, reads_served) == 17);
 
+/* A parallel port. A direction is 0 for an output, and any other number for an input. */
+typedef struct zebludor_ppi {
+    uint8_t sw1;     /* the eight switches of SW1 */
+    uint8_t sw2;     /* the five of SW2, in bits 4 to 0; the bits above stand for nothing */
+    uint8_t a;       /* the direction of port A */
+    uint8_t b;       /* of port B */
+    uint8_t c_upper; /* of port C's lines 7 to 4 */
+    uint8_t c_lower; /* of port C's lines 3 to 0 */
+    uint8_t a_latch, b_latch, c_latch;
+} zebludor_ppi;
+
+ZEBLUDOR_ASSERT(sizeof(zebludor_ppi) == 9);
+ZEBLUDOR_ASSERT(ZEBLUDOR_ALIGNOF(zebludor_ppi) == 1);
+
 /* The timer. The definitions are those of crates/pit8253/specs/Pit.antt, of the timer that the struct stands for. */
 
 /* Power-on: each counter in mode 0 with no count, OUT low; gates 0 and 1 high, gate 2 low. `*pit` may hold anything
@@ -114,6 +128,33 @@ void zebludor_pit_advance(zebludor_pit *pit, uint64_t ticks);
  * stays; 0 where it never does. That is the least such number: OUT is the same at each tick before it. */
 uint64_t zebludor_pit_until_change(const zebludor_pit *pit, uint8_t n);
 
+/* One counter of the timer by itself, for a third of the work: `&pit.counter_2`, or one of your own. The definitions are
+ * those of crates/pit8253/specs/Counter.antt. */
+
+/* Power-on, with the gate at a level: mode 0, no count, OUT low. `*counter` may hold anything before. Leaves power_on. */
+void zebludor_counter_power_on(zebludor_counter *counter, uint8_t gate);
+
+/* A control word, of which bits 5 to 0 count here: access 00 latches, any other programs. Leaves after_control_word. */
+void zebludor_counter_write_control(zebludor_counter *counter, uint8_t word);
+
+/* Writes a byte of a count. Leaves after_write. */
+void zebludor_counter_write(zebludor_counter *counter, uint8_t value);
+
+/* Reads a byte of the latch, or else of the running count. Answers next_byte, leaves after_read. */
+uint8_t zebludor_counter_read(zebludor_counter *counter);
+
+/* The gate takes a level. Leaves after_gate. */
+void zebludor_counter_set_gate(zebludor_counter *counter, uint8_t level);
+
+/* The level of OUT, 0 or 1. */
+uint8_t zebludor_counter_out(const zebludor_counter *counter);
+
+/* `ticks` ticks, as zebludor_pit_advance's. Leaves after_ticks. */
+void zebludor_counter_advance(zebludor_counter *counter, uint64_t ticks);
+
+/* When OUT first changes, as zebludor_pit_until_change tells it. */
+uint64_t zebludor_counter_until_change(const zebludor_counter *counter);
+
 /* The interrupt controller. The definitions are those of crates/pic8259/specs/Pic.antt. */
 
 /* Power-on: every line low, nothing masked or in service, edge mode, no initialisation begun. `*pic` may hold anything
@@ -136,6 +177,22 @@ uint8_t zebludor_pic_request(const zebludor_pic *pic);
 /* The interrupt acknowledge: the vector of the level that is taken, or that of level 7 where none is. Answers vector,
  * leaves after_acknowledge. */
 uint8_t zebludor_pic_acknowledge(zebludor_pic *pic);
+
+/* The parallel port, with the board's switches on its pins. The definitions are those of crates/ppi8255/specs/Ppi.antt. */
+
+/* Reset, with the switches of SW1 and SW2: each port is an input, the latches are clear. `*ppi` may hold anything
+ * before. Leaves power_on. */
+void zebludor_ppi_power_on(zebludor_ppi *ppi, uint8_t sw1, uint8_t sw2);
+
+/* Reads port `port` (modulo 4), with the keyboard's latch (0 where it is empty) and the level of the timer's OUT 2 on
+ * the pins; port 3 gives FFh. Answers byte_at, and changes nothing. */
+uint8_t zebludor_ppi_read(const zebludor_ppi *ppi, uint8_t port, uint8_t latch, uint8_t out2);
+
+/* Writes to the latch of port `port` (modulo 4), or a control word to port 3. Leaves after_write. */
+void zebludor_ppi_write(zebludor_ppi *ppi, uint8_t port, uint8_t value);
+
+/* The levels of port B's eight lines, 0 until port B is made an output. */
+uint8_t zebludor_ppi_port_b(const zebludor_ppi *ppi);
 
 /* Whole runs. */
 

@@ -60,6 +60,26 @@ static void timer_reads(void) {
     expect("OUT 0 after power-on never changes", zebludor_pit_until_change(&pit, 0), 0);
 }
 
+/* Each call of a counter by itself leaves what the timer's does. */
+static void counter_is_the_timers(void) {
+    zebludor_pit pit = square(7);
+    zebludor_counter alone;
+    memset(&alone, 0xA5, sizeof alone);
+    zebludor_counter_power_on(&alone, 1);
+    zebludor_counter_write_control(&alone, 0x36);
+    zebludor_counter_write(&alone, 7);
+    zebludor_counter_write(&alone, 0);
+    for (int tick = 0; tick < 30; tick++) {
+        zebludor_pit_advance(&pit, 1);
+        zebludor_counter_advance(&alone, 1);
+        zebludor_pit_set_gate(&pit, 2, tick % 11 != 3);
+        zebludor_counter_set_gate(&alone, tick % 11 != 3);
+        expect("a byte", zebludor_counter_read(&alone), zebludor_pit_read(&pit, 2));
+        expect("OUT", zebludor_counter_out(&alone), zebludor_pit_out(&pit, 2));
+        expect("a change", zebludor_counter_until_change(&alone), zebludor_pit_until_change(&pit, 2));
+    }
+}
+
 /* Base 8, lines 4 and 1: vectors 8 + 1 and, after its end of interrupt, 8 + 4; then none is left, level 7. */
 static void controller_takes(void) {
     zebludor_pic pic;
@@ -83,41 +103,63 @@ static void controller_takes(void) {
     expect("the level in service", zebludor_pic_read(&pic, 0), 0x10);
 }
 
+/* SW1 at port A, SW2 by halves at port C, as a start-up program reads them. */
+static void port_shows_switches(void) {
+    zebludor_ppi ppi;
+    memset(&ppi, 0xA5, sizeof ppi);
+    zebludor_ppi_power_on(&ppi, 0x6D, 0x1A);
+    expect("no lines", zebludor_ppi_port_b(&ppi), 0);
+    expect("the keyboard's latch", zebludor_ppi_read(&ppi, 0, 0x1E, 0), 0x1E);
+    zebludor_ppi_write(&ppi, 3, 0x99);
+    zebludor_ppi_write(&ppi, 1, 0x80);
+    expect("SW1", zebludor_ppi_read(&ppi, 0, 0x1E, 0), 0x6D);
+    zebludor_ppi_write(&ppi, 1, 0x04);
+    expect("four of SW2, and OUT 2", zebludor_ppi_read(&ppi, 2, 0, 1), 0x2A);
+    zebludor_ppi_write(&ppi, 1, 0);
+    expect("the fifth of SW2", zebludor_ppi_read(&ppi, 6, 0, 0), 1);
+}
+
 static void fill(void *bytes, size_t count) {
     for (size_t i = 0; i < count; i++) ((unsigned char *)bytes)[i] = (unsigned char)(rand() >> 7);
 }
 
-/* Any bytes through every call: for the sanitizers, and that answers keep their ranges. */
+/* Any bytes through every call: that answers keep their ranges and tell the truth, and, for sanitizers and valgrind,
+ * that no call reads or writes beside its chip. */
 static void take_any_bytes(long rounds) {
+    zebludor_pit *pit = malloc(sizeof *pit), *before = malloc(sizeof *before);
+    zebludor_pic *pic = malloc(sizeof *pic);
+    zebludor_ppi *ppi = malloc(sizeof *ppi);
     srand(1);
     for (long i = 0; i < rounds; i++) {
-        zebludor_pit pit;
-        zebludor_pic pic;
         unsigned char any[3];
         uint64_t ticks;
-        fill(&pit, sizeof pit), fill(&pic, sizeof pic), fill(any, sizeof any), fill(&ticks, sizeof ticks);
-        zebludor_pit_read(&pit, any[0]);
-        zebludor_pit_write(&pit, any[0], any[1]);
-        zebludor_pit_set_gate(&pit, any[1], any[2]);
-        uint64_t change = zebludor_pit_until_change(&pit, any[0]);
+        fill(pit, sizeof *pit), fill(pic, sizeof *pic), fill(ppi, sizeof *ppi), fill(any, sizeof any), fill(&ticks, sizeof ticks);
+        zebludor_pit_read(pit, any[0]);
+        zebludor_pit_write(pit, any[0], any[1]);
+        zebludor_pit_set_gate(pit, any[1], any[2]);
+        uint64_t change = zebludor_pit_until_change(pit, any[0]);
         if (change > 65537) expect("a change within", change, 65537);
-        uint8_t level = zebludor_pit_out(&pit, any[0]);
+        uint8_t level = zebludor_pit_out(pit, any[0]);
         if (change > 1) {
-            zebludor_pit before = pit;
-            zebludor_pit_advance(&before, change - 1);
-            expect("no change before", zebludor_pit_out(&before, any[0]), level);
+            *before = *pit;
+            zebludor_pit_advance(before, change - 1);
+            expect("no change before", zebludor_pit_out(before, any[0]), level);
         }
         if (change) {
-            zebludor_pit_advance(&pit, change);
-            expect("a change", zebludor_pit_out(&pit, any[0]), level ^ 1);
+            zebludor_pit_advance(pit, change);
+            expect("a change", zebludor_pit_out(pit, any[0]), level ^ 1);
         }
-        zebludor_pit_advance(&pit, ticks);
-        zebludor_pic_set_line(&pic, any[0], any[1]);
-        zebludor_pic_write(&pic, any[1], any[2]);
-        zebludor_pic_read(&pic, any[2]);
-        if (zebludor_pic_request(&pic) > 1) expect("a request within", 2, 1);
-        zebludor_pic_acknowledge(&pic);
+        zebludor_pit_advance(pit, ticks);
+        zebludor_pic_set_line(pic, any[0], any[1]);
+        zebludor_pic_write(pic, any[1], any[2]);
+        zebludor_pic_read(pic, any[2]);
+        if (zebludor_pic_request(pic) > 1) expect("a request within", 2, 1);
+        zebludor_pic_acknowledge(pic);
+        zebludor_ppi_write(ppi, any[0], any[1]);
+        if (ppi->b == 0) expect("port B's lines", zebludor_ppi_port_b(ppi), ppi->b_latch);
+        zebludor_ppi_read(ppi, any[2], any[1], any[0]);
     }
+    free(pit), free(before), free(pic), free(ppi);
 }
 
 static double seconds(void) {
@@ -140,6 +182,7 @@ static void tell_times(void) {
     uint64_t sum = 0;
     TELL("advance by a tick", zebludor_pit_advance(&pit, 1));
     TELL("advance by 1,000 ticks", zebludor_pit_advance(&pit, 1000));
+    TELL("advance one counter by a tick", zebludor_counter_advance(&pit.counter_2, 1));
     TELL("OUT", sum += zebludor_pit_out(&pit, 2));
     TELL("until the next change", sum += zebludor_pit_until_change(&pit, 2));
     TELL("set a line", zebludor_pic_set_line(&pic, (uint8_t)i, (uint8_t)(i & 8)));
@@ -150,7 +193,9 @@ static void tell_times(void) {
 int main(int count, char **words) {
     timer_makes_squares();
     timer_reads();
+    counter_is_the_timers();
     controller_takes();
+    port_shows_switches();
     take_any_bytes(count > 2 && !strcmp(words[1], "random") ? atol(words[2]) : 10000);
     if (count > 1 && !strcmp(words[1], "seconds")) tell_times();
     return failed;

@@ -4,7 +4,7 @@ ghost use Rattle.pic8259.specs.Image.{flag_of, pic_of};
 ghost use Rattle.pic8259.specs.Pic.{power_on, after_acknowledge, after_line, after_read, after_write, byte_at, is_requesting, vector};
 ghost use Rattle.pit8253.specs.Image.{line_of};
 
-use board_types::line::Line;
+use crate::levels::line_of;
 use pic8259::controller::Pic;
 use pic8259::image::PicImage;
 
@@ -22,9 +22,8 @@ pub extern "C" fn zebludor_pic_power_on(pic: &mut PicImage)
 pub extern "C" fn zebludor_pic_set_line(pic: &mut PicImage, n: u8, level: u8)
     ensures { pic_of pic.new ≡ after_line (pic_of pic.old) (n % 8) (line_of level) }
 {
-    let line = if level == 0 { Line::Low } else { Line::High };
     let mut chip = Pic::from_image(pic);
-    chip.set_line(n % 8, line);
+    chip.set_line(n % 8, line_of(level));
     *pic = chip.image();
 }
 

@@ -4,12 +4,14 @@ ghost use Rattle.board_types.specs.Lines.{is_high};
 ghost use Rattle.board_types.specs.Timed.{IsUntilTurn};
 ghost use Rattle.pit8253.specs.Counter as one;
 ghost use Rattle.pit8253.specs.Counter.{out_of};
-ghost use Rattle.pit8253.specs.Image.{line_of, pit_of};
+ghost use Rattle.pit8253.specs.Image.{counter_of, line_of, pit_of};
 ghost use Rattle.pit8253.specs.Pit.{power_on, counter, after_gate, after_read, after_ticks, after_write, byte_at};
 ghost use Rattle.c_interface.specs.Turns.{turn_of};
 
-use board_types::line::Line;
-use pit8253::image::PitImage;
+use crate::levels::{line_of, number_of};
+use board_types::timed::Timed;
+use pit8253::counter::Counter;
+use pit8253::image::{CounterImage, PitImage};
 use pit8253::pit::Pit;
 
 /// Power-on: each counter in mode 0 with no count, OUT low; gates 0 and 1 high, gate 2 low. Any bytes may stand there.
@@ -47,9 +49,8 @@ pub extern "C" fn zebludor_pit_write(pit: &mut PitImage, port: u8, value: u8)
 pub extern "C" fn zebludor_pit_set_gate(pit: &mut PitImage, n: u8, level: u8)
     ensures { pit_of pit.new ≡ after_gate (pit_of pit.old) (n % 3) (line_of level) }
 {
-    let line = if level == 0 { Line::Low } else { Line::High };
     let mut chip = Pit::from_image(pit);
-    chip.set_gate(n % 3, line);
+    chip.set_gate(n % 3, line_of(level));
     *pit = chip.image();
 }
 
@@ -58,10 +59,7 @@ pub extern "C" fn zebludor_pit_set_gate(pit: &mut PitImage, n: u8, level: u8)
 pub extern "C" fn zebludor_pit_out(pit: &PitImage, n: u8) -> u8
     ensures { result ≡ (if is_high (counter (pit_of pit.now) (n % 3)).out then 1 else 0) }
 {
-    match Pit::from_image(pit).out(n % 3) {
-        Line::Low => 0,
-        Line::High => 1,
-    }
+    number_of(Counter::from_image(counter_image(pit, n % 3)).out())
 }
 
 /// `ticks` ticks of the three counters, falling edges of CLK. Has no loop over them.
@@ -81,5 +79,18 @@ pub extern "C" fn zebludor_pit_until_change(pit: &PitImage, n: u8) -> u64
     ensures turn { IsUntilTurn one.after_ticks out_of (counter (pit_of pit.now) (n % 3)) (turn_of result) }
     ensures bound { result ≤ 65537 }
 {
-    Pit::from_image(pit).until_change(n % 3).unwrap_or(0)
+    let counter = Counter::from_image(counter_image(pit, n % 3));
+    counter.until_change().unwrap_or(0)
+}
+
+// one counter of an image, where the others don't matter
+#[tactic(auto, unfolding(pit8253::specs::Image::pit_of))]
+fn counter_image(pit: &PitImage, n: u8) -> &CounterImage
+    ensures { counter_of result.now ≡ counter (pit_of pit.now) n }
+{
+    match n {
+        0 => &pit.counter_0,
+        1 => &pit.counter_1,
+        _ => &pit.counter_2,
+    }
 }

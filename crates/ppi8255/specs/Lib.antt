@@ -1,2 +1,3 @@
 pub mod Ppi
 pub mod Laws
+pub mod Image

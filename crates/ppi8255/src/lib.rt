@@ -2,5 +2,6 @@
 //! calls stands in the program parts_alone.
 #![tactic(auto)]
 
+pub mod image;
 pub mod laws;
 pub mod ppi;

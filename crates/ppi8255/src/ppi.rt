@@ -1,8 +1,11 @@
 //! The parallel port: three ports with an output latch each, and the switches, the keyboard's latch and
 //! counter 2's output on their pins (Intel 8255A data sheet; IBM PC Technical Reference, "System Board I/O").
 ghost use Rattle.std.specs.Prelude.{◌≡◌, ◌<◌};
+ghost use Rattle.ppi8255.specs.Image.{ppi_of};
 ghost use Rattle.ppi8255.specs.Ppi.{power_on, port_byte, lines_b, pins_a, pins_c, port_c_byte, byte_at, direction_of, after_mode_word, after_bit_word, after_write};
 
+use crate::image;
+use crate::image::PpiImage;
 use board_types::bits::bit;
 use board_types::line::Line;
 use std::marker::Model;
@@ -83,6 +86,42 @@ impl Ppi {
             a_latch: 0,
             b_latch: 0,
             c_latch: 0,
+        }
+    }
+
+    /// The parallel port that an image stands for; any numbers stand for some parallel port.
+    #[tactic(auto, unfolding(crate::specs::Image::ppi_of))]
+    pub fn from_image(image: &PpiImage) -> Self
+        ensures { result ≡ ppi_of image.now }
+    {
+        Ppi {
+            sw1: image.sw1,
+            sw2: image.sw2,
+            a: image::direction_by(image.a),
+            b: image::direction_by(image.b),
+            c_upper: image::direction_by(image.c_upper),
+            c_lower: image::direction_by(image.c_lower),
+            a_latch: image.a_latch,
+            b_latch: image.b_latch,
+            c_latch: image.c_latch,
+        }
+    }
+
+    /// The parallel port as numbers, of which `from_image` makes it again.
+    #[tactic(auto, unfolding(crate::specs::Image::ppi_of))]
+    pub fn image(&self) -> PpiImage
+        ensures { ppi_of result ≡ self.now }
+    {
+        PpiImage {
+            sw1: self.sw1,
+            sw2: self.sw2,
+            a: image::direction_number(self.a),
+            b: image::direction_number(self.b),
+            c_upper: image::direction_number(self.c_upper),
+            c_lower: image::direction_number(self.c_lower),
+            a_latch: self.a_latch,
+            b_latch: self.b_latch,
+            c_latch: self.c_latch,
         }
     }
 

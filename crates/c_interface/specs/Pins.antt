@@ -1,0 +1,9 @@
+-- What numbers bring to the parallel port's pins.
+-- To be believed: public contracts say what they say by these definitions.
+use Rattle.std.specs.Prelude.{ℕ, Some}
+use Rattle.ppi8255.specs.declared.ppi.Inputs.{Inputs}
+use Rattle.pit8253.specs.Image.{line_of}
+
+-- an empty latch reads as 0, so 0 stands for it
+abbrev pub inputs_of : ℕ → ℕ → Inputs
+inputs_of latch out2 = record { latch = Some latch; out2 = line_of out2 }

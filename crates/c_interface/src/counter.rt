@@ -1,0 +1,90 @@
+//! One counter of the Intel 8253 by itself: a third of the timer's image, and a third of its work.
+ghost use Rattle.std.specs.Prelude.{◌≡◌, ◌≤◌, if◌then◌else◌};
+ghost use Rattle.board_types.specs.Lines.{is_high};
+ghost use Rattle.board_types.specs.Timed.{IsUntilTurn};
+ghost use Rattle.pit8253.specs.Counter.{after_control_word, after_gate, after_read, after_ticks, after_write, next_byte, out_of, power_on};
+ghost use Rattle.pit8253.specs.Image.{counter_of, line_of};
+ghost use Rattle.c_interface.specs.Turns.{turn_of};
+
+use crate::levels::{line_of, number_of};
+use board_types::timed::Timed;
+use pit8253::counter::Counter;
+use pit8253::image::CounterImage;
+
+/// Power-on, with the gate at a level: mode 0, no count, OUT low. Any bytes may stand there.
+#[unsafe(no_mangle)]
+pub extern "C" fn zebludor_counter_power_on(counter: &mut CounterImage, gate: u8)
+    ensures { counter_of counter.new ≡ power_on (line_of gate) }
+{
+    *counter = Counter::new(line_of(gate)).image();
+}
+
+/// A control word, of which bits 5 to 0 count here: access 00 latches, any other programs the counter anew.
+#[unsafe(no_mangle)]
+pub extern "C" fn zebludor_counter_write_control(counter: &mut CounterImage, word: u8)
+    ensures { counter_of counter.new ≡ after_control_word (counter_of counter.old) word }
+{
+    let mut chip = Counter::from_image(counter);
+    chip.write_control(word);
+    *counter = chip.image();
+}
+
+/// Writes a byte of a count.
+#[unsafe(no_mangle)]
+pub extern "C" fn zebludor_counter_write(counter: &mut CounterImage, value: u8)
+    ensures { counter_of counter.new ≡ after_write (counter_of counter.old) value }
+{
+    let mut chip = Counter::from_image(counter);
+    chip.write(value);
+    *counter = chip.image();
+}
+
+/// Reads a byte of the latch, or else of the running count.
+#[unsafe(no_mangle)]
+pub extern "C" fn zebludor_counter_read(counter: &mut CounterImage) -> u8
+    ensures byte { result ≡ next_byte (counter_of counter.old) }
+    ensures state { counter_of counter.new ≡ after_read (counter_of counter.old) }
+{
+    let mut chip = Counter::from_image(counter);
+    let byte = chip.read();
+    *counter = chip.image();
+    byte
+}
+
+/// The gate takes a level.
+#[unsafe(no_mangle)]
+pub extern "C" fn zebludor_counter_set_gate(counter: &mut CounterImage, level: u8)
+    ensures { counter_of counter.new ≡ after_gate (counter_of counter.old) (line_of level) }
+{
+    let mut chip = Counter::from_image(counter);
+    chip.set_gate(line_of(level));
+    *counter = chip.image();
+}
+
+/// The level of OUT: 0 or 1.
+#[unsafe(no_mangle)]
+pub extern "C" fn zebludor_counter_out(counter: &CounterImage) -> u8
+    ensures { result ≡ (if is_high (counter_of counter.now).out then 1 else 0) }
+{
+    number_of(Counter::from_image(counter).out())
+}
+
+/// `ticks` ticks, falling edges of CLK. Has no loop over them.
+#[unsafe(no_mangle)]
+pub extern "C" fn zebludor_counter_advance(counter: &mut CounterImage, ticks: u64)
+    ensures { counter_of counter.new ≡ after_ticks (counter_of counter.old) ticks }
+{
+    let mut chip = Counter::from_image(counter);
+    chip.advance(ticks);
+    *counter = chip.image();
+}
+
+/// After how many ticks, from 1 to 65,537, OUT first changes as long as nothing is written and the gate stays; 0 where
+/// it never does.
+#[unsafe(no_mangle)]
+pub extern "C" fn zebludor_counter_until_change(counter: &CounterImage) -> u64
+    ensures turn { IsUntilTurn after_ticks out_of (counter_of counter.now) (turn_of result) }
+    ensures bound { result ≤ 65537 }
+{
+    Counter::from_image(counter).until_change().unwrap_or(0)
+}

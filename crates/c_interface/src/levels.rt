@@ -1,0 +1,21 @@
+//! Levels of wires as numbers.
+ghost use Rattle.std.specs.Prelude.{◌≡◌, if◌then◌else◌};
+ghost use Rattle.board_types.specs.Lines.{is_high};
+ghost use Rattle.pit8253.specs.Image.{line_of};
+
+use board_types::line::Line;
+
+pub(crate) fn line_of(level: u8) -> Line
+    ensures { result ≡ line_of level }
+{
+    if level == 0 { Line::Low } else { Line::High }
+}
+
+pub(crate) fn number_of(line: Line) -> u8
+    ensures { result ≡ (if is_high line then 1 else 0) }
+{
+    match line {
+        Line::Low => 0,
+        Line::High => 1,
+    }
+}
