@@ -20,9 +20,11 @@ LOOKS: tuple[tuple[str, str], ...] = (
     (r'(?<![\w\'])\$[0-9A-F]+\b', 'hexadecimal numbers end with h and begin with a digit: 0B8h for $B8'),
     (r'\b0B[01]+\b(?!H)', 'binary numbers end with b: 101b for 0b101'),
     (r'\[[^\]]*\b[ECSD]S\s*:', 'a segment register stands before the brackets: ES:[BX] for [es:bx]'),
-    (r'\b(BYTE|WORD|FAR|DWORD)\s+PTR\b', 'there is no PTR: WORD [BX] for WORD PTR [BX], JMP FAR label for JMP FAR PTR label'),
+    (r'\b(BYTE|WORD|FAR|DWORD)\s+PTR\b',
+     'there is no PTR: WORD [BX] for WORD PTR [BX], JMP FAR label for JMP FAR PTR label'),
     (r'\bOFFSET\b', "there is no OFFSET: a name alone is its offset, and [name] is memory"),
-    (r'^\s*@@|@[BF]\b|@DATA|@CODE', 'a name has letters, digits and _ alone; for the paragraph of a label write SEG label'),
+    (r'^\s*@@|@[BF]\b|@DATA|@CODE',
+     'a name has letters, digits and _ alone; for the paragraph of a label write SEG label'),
     (r'%|^\s*#', 'there is no preprocessor: no %define, no includes, no macros; a constant is name EQU 5'),
     (r'^\s*(SECTION|BITS|CPU|GLOBAL|EXTERN|EXTRN|PUBLIC|ASSUME|END|ENDP|PROC|MODEL|USE16|ALIGN|EVEN|INCLUDE|NAME|TITLE|PAGE)\b',
      'there is no such directive; segments are SEGMENT name AT paragraph .. ENDS, and procedures are plain labels'),
@@ -35,18 +37,26 @@ LOOKS: tuple[tuple[str, str], ...] = (
     (r'^\s*RES[BWD]\b', 'there is no RESB: room is DB 16 DUP(0), or ORG further on'),
     (r'\b(E[ABCD]X|E[SD]I|E[SB]P|[FG]S)\b', 'the 8086 has registers of 8 and 16 bits, and no FS or GS'),
     (rf'^\s*(\w+:)?\s*({LATER})\b', 'the 8086 has no such instruction; later processors have'),
-    (r'^\s*(\w+:)?\s*(REPN?[EZ]?\s+)?(MOVS|STOS|LODS|CMPS|SCAS)\b', 'string instructions have their size in their name: STOSB, STOSW'),
-    (r'^\s*(\w+:)?\s*(SHL|SHR|SAL|SAR|ROL|ROR|RCL|RCR)\b.*,\s*(?!1\s*$|CL\s*$)\S+\s*$', 'the 8086 shifts by 1 or by CL: MOV CL,4 and SHL AX,CL'),
+    (r'^\s*(\w+:)?\s*(REPN?[EZ]?\s+)?(MOVS|STOS|LODS|CMPS|SCAS)\b',
+     'string instructions have their size in their name: STOSB, STOSW'),
+    (r'^\s*(\w+:)?\s*(SHL|SHR|SAL|SAR|ROL|ROR|RCL|RCR)\b.*,\s*(?!1\s*$|CL\s*$)\S+\s*$',
+     'the 8086 shifts by 1 or by CL: MOV CL,4 and SHL AX,CL'),
     (r'^\s*(\w+:)?\s*PUSH\s+-?\d', 'the 8086 pushes no number: load it into a register first'),
     (r'^\s*(\w+:)?\s*IMUL\b.*,', 'the 8086 multiplies AL or AX by one operand: IMUL BX'),
-    (r'^\s*(\w+:)?\s*MOV\s+[ECSD]S\s*,\s*(?![A-Z][XLHIP]\s*$|[^,]*\[)\S', 'a segment register takes a register or memory, no number: MOV AX,0B000h and MOV ES,AX'),
+    (r'^\s*(\w+:)?\s*MOV\s+[ECSD]S\s*,\s*(?![A-Z][XLHIP]\s*$|[^,]*\[)\S',
+     'a segment register takes a register or memory, no number: MOV AX,0B000h and MOV ES,AX'),
     (r'\][^\[]*,[^\[]*\[', 'an instruction reaches memory once: go through a register'),
-    (r'^\s*(\w+:)?\s*[A-Z]+\s+(ES:|CS:|SS:|DS:)?\[[^\]]*\]\s*,\s*[-0-9\'$]', 'nothing tells the size: write WORD or BYTE before the brackets, as MOV WORD [BX],1'),
-    (r'^\s*(\w+:)?\s*(INC|DEC|NEG|NOT|MUL|IMUL|DIV|IDIV|SHL|SHR|SAR|SAL|ROL|ROR|RCL|RCR)\s+(ES:|CS:|SS:|DS:)?\[', 'nothing tells the size: write WORD or BYTE before the brackets, as INC WORD [BX]'),
-    (r'^\s*(\w+:)?\s*(IN|OUT)\b', 'a port above 0FFh goes through DX: MOV DX,3B8h and OUT DX,AL; data go through AL or AX'),
+    (r'^\s*(\w+:)?\s*[A-Z]+\s+(ES:|CS:|SS:|DS:)?\[[^\]]*\]\s*,\s*[-0-9\'$]',
+     'nothing tells the size: write WORD or BYTE before the brackets, as MOV WORD [BX],1'),
+    (r'^\s*(\w+:)?\s*(INC|DEC|NEG|NOT|MUL|IMUL|DIV|IDIV|SHL|SHR|SAR|SAL|ROL|ROR|RCL|RCR)\s+(ES:|CS:|SS:|DS:)?\[',
+     'nothing tells the size: write WORD or BYTE before the brackets, as INC WORD [BX]'),
+    (r'^\s*(\w+:)?\s*(IN|OUT)\b',
+     'a port above 0FFh goes through DX: MOV DX,3B8h and OUT DX,AL; data go through AL or AX'),
     (r'^\s*(\w+:)?\s*J[A-LN-Z]\w*\s+SHORT\b', 'conditional jumps are always short: JZ label'),
-    (r'^\s*(\w+:)?\s*(J(?!MP)\w+|LOOP\w*|JMP\s+SHORT)\s', 'the target may lie 128 bytes before to 127 behind the next instruction: jump the other way round a JMP'),
-    (r'\(|\)|\*|/|\bSHL\b.*\bSHL\b', 'expressions are terms joined by + and -; there are no parentheses, products or shifts'),
+    (r'^\s*(\w+:)?\s*(J(?!MP)\w+|LOOP\w*|JMP\s+SHORT)\s',
+     'the target may lie 128 bytes before to 127 behind the next instruction: jump the other way round a JMP'),
+    (r'\(|\)|\*|/|\bSHL\b.*\bSHL\b',
+     'expressions are terms joined by + and -; there are no parentheses, products or shifts'),
 )
 
 
@@ -85,7 +95,8 @@ def of_characters(line: str) -> str | None:
     """A hint where a character isn't the dialect's."""
     for column, sign in enumerate(line, 1):
         if not (' ' <= sign <= '~' or sign in '\t\r'):
-            return f'column {column} has {sign!r}; only printable ASCII, tabulators and line ends may stand in a source, in comments too'
+            return (f'column {column} has {sign!r}; only printable ASCII, tabulators and line ends may stand in a source,'
+                    ' in comments too')
     return None
 
 

@@ -93,6 +93,7 @@ class Session:
         self.close()
 
     def _send(self, text: str) -> None:
+        """Hands the program commands; where it has ended, it has told why."""
         assert self._process.stdin
         try:
             self._process.stdin.write(text.encode())
@@ -106,6 +107,7 @@ class Session:
         raise Sorry(refusal(self._process.wait(), err))
 
     def _line(self) -> str:
+        """The next line of an answer."""
         line = self._out.readline()
         if not line:
             self._ended()

@@ -98,6 +98,17 @@ class Runs(ToolCase):
         self.assertIn('say --hex', self.tool('why', 'run', text, example('hello')[1], status=1)[1])
         self.assertIn('the source comes first', self.tool('why', 'run', *reversed(example('hello')), status=1)[1])
 
+    def test_tells_a_jam_and_a_blank_screen(self) -> None:
+        run = example('hello')[1]
+        source = self.file('no_reset.asm', 'SEGMENT A AT 0\nNOP\n')
+        told = self.tool('why', 'run', source, run)[1]
+        self.assertIn('FFFF:0000 has FF FF', told)
+        self.assertIn("no far jump stands there", told)
+        files = self.program(' NOP\n DB 0Fh', 100)
+        self.assertIn('F000:0001 has 0F', self.tool('why', 'run', *files)[1])
+        files = self.program(' MOV AX,0B000h\n MOV ES,AX\n MOV WORD ES:[0],0741h\n HLT', 200)
+        self.assertIn('written to port 3B8h', self.tool('why', 'run', *files)[1])
+
     def test_reads_a_fault_and_refuses_else(self) -> None:
         source, _ = self.program(' MOV AX,0x10')
         out, _ = self.tool('why', 'fault', source, given='fault 3 BadLine line 3\n')

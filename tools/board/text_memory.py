@@ -1,0 +1,69 @@
+"""The screen with its attributes: what each cell shows is the report's, and its attribute that of the word of text memory
+which it shows."""
+from __future__ import annotations
+
+from dataclasses import dataclass
+
+from board.command import Sorry
+from board.program import Files, Session
+from board.report import COLUMNS, ROWS, Report
+
+TEXT_MEMORY, WORDS = 0xB0000, 2048
+
+
+@dataclass(frozen=True)
+class Cell:
+    """A cell as the display shows it (IBM PC Technical Reference, "IBM Monochrome Display and Parallel Printer Adapter")."""
+    sign: str
+    is_bright: bool = False
+    is_underlined: bool = False
+    is_reverse: bool = False
+
+
+def cell_of(sign: str, attribute: int) -> Cell:
+    """A character with its attribute: bit 3 is bright, foreground 1 on black is underlined, 0 on 7 is reverse."""
+    return Cell(sign, bool(attribute & 8), attribute & 0x77 == 1, attribute & 0x77 == 0x70)
+
+
+def plain_cells(screen: list[str]) -> list[list[Cell]]:
+    """A screen of which no attributes are known."""
+    return [[Cell(sign) for sign in line] for line in screen]
+
+
+def shown(memory: bytes, word: int) -> str:
+    """The character that a word of text memory shows (docs/CHIPS.md, "The text adapter")."""
+    code, attribute = memory[2 * word], memory[2 * word + 1]
+    if code == 0 or attribute & 0x77 == 0:
+        return ' '
+    return chr(code) if 0x20 <= code <= 0x7E else '.'
+
+
+def starts(screen: list[str], memory: bytes) -> list[int]:
+    """The start addresses with which text memory shows this screen; the adapter's own can't be read."""
+    signs, wanted = ''.join(shown(memory, it) for it in range(WORDS)) * 2, ''.join(screen)
+    return [it for it in range(WORDS) if signs[it:it + ROWS * COLUMNS] == wanted]
+
+
+def cells_at(screen: list[str], memory: bytes, start: int) -> list[list[Cell]]:
+    """The screen's cells where the adapter starts at this word."""
+    def attribute(place: int) -> int:
+        return memory[2 * ((start + place) % WORDS) + 1]
+    return [[cell_of(sign, attribute(COLUMNS * row + column)) for column, sign in enumerate(line)]
+            for row, line in enumerate(screen)]
+
+
+def cells_of(files: Files, report: Report, start: int | None) -> list[list[Cell]]:
+    """The cells at the report's clock, from a session's memory. The start address is the one with which memory shows the
+    report's screen; where several do and differ in what is seen, it has to be said."""
+    with Session(files) as session:
+        session.go_to(report.clock)
+        memory = session.dump(TEXT_MEMORY, 2 * WORDS)
+    if not ''.join(report.screen).strip() and start is None and 0 not in starts(report.screen, memory):
+        return plain_cells(report.screen)
+    found = starts(report.screen, memory) if start is None else [start % WORDS]
+    pictures = [cells_at(report.screen, memory, it) for it in found]
+    if not pictures:
+        raise Sorry("no start address gives the report's screen from text memory; most likely it is off: use the report alone")
+    if any(it != pictures[0] for it in pictures) and 0 not in found:
+        raise Sorry(f'the screen fits the start addresses {", ".join(map(str, found[:8]))} ..: name one by --start')
+    return pictures[0 if 0 not in found else found.index(0)]

@@ -1,0 +1,87 @@
+"""The pages: each command of a tool, and of ./pcboard beside one, prints what its page has."""
+from __future__ import annotations
+
+import os
+import re
+import subprocess
+import unittest
+
+from tests.support import EXAMPLES, TOOLS, TOP, ToolCase
+
+PAGES = ('README.md', 'docs/for-teachers.md', 'docs/for-firmware.md', 'docs/EXAMPLES.md', 'docs/DEBUGGER.md', 'docs/sweeps.md')
+MINE = 'SEGMENT MAIN AT 0F000h\nstart:  MOV AX,0xB000\n        MOV ES,AX\n        HLT\nENDS\nSEGMENT RESET AT 0FFFFh\n        JMP FAR start\nENDS\n'
+RUN = '{"version":1,"ram":64,"sw1":0,"sw2":0,"budget":100000,"keys":[]}'
+
+
+def blocks(page: str) -> list[str]:
+    """The blocks of a page that show commands."""
+    with open(f'{TOP}/{page}', encoding='utf-8') as file:
+        return [it for it in re.findall(r'^```\n(.*?)^```', file.read(), re.M | re.S) if it.startswith('$ ')]
+
+
+def commands(block: str) -> list[tuple[str, str, str]]:
+    """A block's commands, what is typed at them, and what they print."""
+    found = []
+    for part in re.split(r'^\$ ', block, flags=re.M)[1:]:
+        command, _, printed = part.partition('\n')
+        typed = re.findall(r'^dbg> (.*)\n', printed, re.M)
+        printed = re.sub(r'^(dbg> .*|Type help .*)\n', '', printed, flags=re.M)
+        found.append((command, ''.join(f'{it}\n' for it in typed), printed))
+    return found
+
+
+class Pages(ToolCase):
+    """The commands are run in a folder that has what the pages speak of."""
+
+    def setUp(self) -> None:
+        super().setUp()
+        os.symlink(EXAMPLES, f'{self.room}/examples')
+        os.symlink(TOOLS, f'{self.room}/tools')
+        from board import program
+        os.symlink(program.path(), f'{self.room}/pcboard')
+        with open(f'{EXAMPLES}/fibonacci.asm', encoding='utf-8') as file:
+            model = file.read()
+        self.file('mine.asm', MINE)
+        self.file('mine.json', '{"version":1,"ram":"64","sw1":0,"sw2":0,"budget":1000}')
+        self.file('run.json', RUN)
+        self.file('model.asm', model)
+        self.file('solution.asm', model.replace('MOV DI,0 ', 'XOR DI,DI'))
+        self.file('rom0.hex', ':01000000906F\n:00000001FF\n')
+        self.file('fibonacci.page', 'shows = 1 1 2 3 5 8 13 21\nstate = halted\nSP = 0\n')
+        for name in ('model', 'solution'):
+            self.file(f'{name}.txt', self.pcboard('run', f'{self.room}/{name}.asm', f'{self.room}/run.json').stdout)
+
+    def shell(self, command: str, typed: str = '') -> str:
+        """What a command prints, on both streams."""
+        return subprocess.run(command, shell=True, input=typed, stdout=subprocess.PIPE, stderr=subprocess.STDOUT, text=True,
+                              cwd=self.room, check=False).stdout
+
+    def check(self, page: str) -> int:
+        """Runs a page's commands, and returns how many there were."""
+        count = 0
+        for command, typed, printed in (it for block in blocks(page) for it in commands(block)):
+            if not command.startswith(('tools/', './pcboard run')):
+                continue
+            if 'mine.asm' in command and '"ram"' in printed:
+                self.file('mine.asm', MINE.replace('0xB000', '0B000h'))
+            self.assertEqual(self.shell(command, typed).rstrip(), printed.rstrip(), f'{page}: {command}')
+            count += 1
+        return count
+
+    def test_pages(self) -> None:
+        count = 0
+        for page in PAGES[:-1]:
+            count += self.check(page)
+        self.assertGreater(count, 14)
+
+    def test_the_sweeps(self) -> None:
+        with open(f'{TOP}/docs/sweeps.md', encoding='utf-8') as file:
+            plain = [it for it in re.findall(r'^```\n(.*?)^```', file.read(), re.M | re.S)]
+        for block in plain:
+            if block.startswith(('mkdir', 'ls')) and 'parallel' not in block:
+                self.assertEqual(self.shell(block), '', block)
+        self.assertEqual(self.check('docs/sweeps.md'), 2)
+
+
+if __name__ == '__main__':
+    unittest.main()
