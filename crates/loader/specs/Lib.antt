@@ -1,3 +1,4 @@
+pub mod ByteInput
 pub mod HexFault
 pub mod HexText
 pub mod Laws

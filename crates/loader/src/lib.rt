@@ -2,6 +2,7 @@
 //! switches and which keys; and images as Intel HEX texts.
 #![tactic(auto)]
 
+pub mod byte_input;
 pub mod hex_fault;
 pub mod hex_reader;
 pub mod hex_record;

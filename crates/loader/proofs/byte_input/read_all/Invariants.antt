@@ -1,0 +1,13 @@
+use Rattle.std.proofs.Common.{◌≤◌, length, ◌-◌}
+use Rattle.std.specs.Io.KnownBytes.{Consumes}
+use Rattle.loader.specs.ByteInput.{CountsNone}
+use Rattle.loader.proofs.byte_input.read_all.Given as goal
+
+abbrev pub invariant-pieces : goal.invariant-pieces
+invariant-pieces g l =
+    Consumes (g.I.ByteInput.remaining l.fn.input) (g.I.ByteInput.remaining l.input) l.bytes.items
+    × CountsNone (g.I.ByteInput.failures l.fn.input) (g.I.ByteInput.failures l.input)
+    × (length l.bytes.items ≤ l.limit)
+
+abbrev pub decreases-pieces : goal.decreases-pieces
+decreases-pieces g l = l.limit - length l.bytes.items

@@ -1,0 +1,22 @@
+-- Inputs that may fail, and count how often they did.
+-- To be believed: public contracts say what they say by these definitions.
+use Rattle.std.specs.Prelude.{◌≡◌, ℕ, ◌+◌, List, length, ⊤, ◌⊎◌, Option, None, Some, Result, MatchResult}
+use Rattle.std.specs.Io.KnownBytes.{IsAtEnd}
+
+-- the failures are as many as before, where they are counted
+abbrev pub CountsNone : Option ℕ → Option ℕ → Type 0
+CountsNone None new = ⊤
+CountsNone (Some n) new = new ≡ Some n
+
+-- one failure more was counted, where they are counted
+abbrev pub CountsOne : Option ℕ → Option ℕ → Type 0
+CountsOne None new = ⊤
+CountsOne (Some n) new = new ≡ Some (n + 1)
+
+-- a read counts one failure where it is refused, and none where it isn't
+abbrev pub CountsRefusal : {A E : Type 0} → Option ℕ → Option ℕ → Result A E → Type 0
+CountsRefusal old new r = MatchResult r (λ _. CountsNone old new) (λ _. CountsOne old new)
+
+-- all of an input that is wanted: up to its end, or as many bytes as the limit says
+abbrev pub IsAllWanted : ℕ → Option (List ℕ) → List ℕ → Type 0
+IsAllWanted limit left bytes = IsAtEnd left ⊎ (length bytes ≡ limit)

@@ -1,0 +1,86 @@
+//! Bytes from outside, by an input that may fail.
+ghost use Rattle.std.specs.Prelude.{◌≡◌, ◌≤◌, ◌<◌, ℕ, take, length, IfOk, IfSome, List, Option, None};
+ghost use Rattle.std.specs.Io.{ReadsAtMost};
+ghost use Rattle.std.specs.Io.KnownBytes.{Consumes, ReadConsumes};
+ghost use Rattle.std.specs.Result.{IsErrOf};
+ghost use Rattle.loader.specs.ByteInput.{CountsNone, CountsOne, CountsRefusal, IsAllWanted};
+ghost use Rattle.loader.specs.declared.byte_input.ReadFault.TheVariants.{Failed as failed, Memory};
+
+use std::alloc::{AllocError, Global};
+use thiserror::Error;
+
+/// How many bytes are asked for at once.
+const PIECE: usize = 4096;
+
+/// An input failed.
+#[derive(Clone, Copy, Debug, PartialEq, Eq, Drop, Error)]
+#[error("the input failed")]
+pub struct Failed;
+
+/// Bytes that come from outside, one behind the other.
+pub trait ByteInput {
+    // The bytes that are still to come, where they are known.
+    ghost remaining: { Self → Option (List ℕ) } = { λ _. None };
+
+    // How often it has failed, where that is counted.
+    ghost failures: { Self → Option ℕ } = { λ _. None };
+
+    /// Puts the next bytes into the front of `buf` and answers how many they are: none only at the end, or where `buf`
+    /// has no room. Refused where the input failed, which takes none of its bytes.
+    fn read(&mut self, buf: &mut [u8]) -> Result<usize, Failed>
+        ensures bound { ReadsAtMost result buf.new }
+        ensures bytes { ReadConsumes (remaining self.old) (remaining self.new) result buf.new }
+        ensures failures { CountsRefusal (failures self.old) (failures self.new) result };
+}
+
+/// Why an input isn't read.
+#[derive(Clone, Copy, Debug, PartialEq, Eq, Drop, Error)]
+pub enum ReadFault {
+    #[error("the input failed")]
+    Failed,
+    #[error("out of memory")]
+    Memory,
+}
+
+impl From<Failed> for ReadFault {
+    ghost from_gives = { λ _ fault. fault ≡ failed };
+
+    fn from(_failed: Failed) -> ReadFault {
+        ReadFault::Failed
+    }
+}
+
+impl From<AllocError> for ReadFault {
+    ghost from_gives = { λ _ fault. fault ≡ Memory };
+
+    fn from(_error: AllocError) -> ReadFault {
+        ReadFault::Memory
+    }
+}
+
+/// The first `limit` bytes that `input` has to give, or all of them where there are no more. Refused as `Failed` only
+/// where the input failed in this call, and as `Memory` where there is none for the bytes.
+pub fn read_all<I: ByteInput>(
+    alloc: Global,
+    input: &mut I,
+    limit: u64,
+) -> Result<Vec<u8>, ReadFault>
+    ensures bytes { IfSome (I.remaining input.old) (λ known. IfOk result (λ bytes. bytes.items ≡ take limit known)) }
+    ensures taken { IfOk result (λ bytes. Consumes (I.remaining input.old) (I.remaining input.new) bytes.items) }
+    ensures all { IfOk result (λ bytes. IsAllWanted limit (I.remaining input.new) bytes.items) }
+    ensures limit { IfOk result (λ bytes. length bytes.items ≤ limit) }
+    ensures failed { IsErrOf result ReadFault.Failed → CountsOne (I.failures input.old) (I.failures input.new) }
+    ensures unfailed { ¬ (IsErrOf result ReadFault.Failed) → CountsNone (I.failures input.old) (I.failures input.new) }
+{
+    let mut bytes = Vec::new(alloc);
+    'pieces: while (bytes.len() as u64) < limit {
+        let mut piece = [0; PIECE];
+        let room = (limit - bytes.len() as u64).min(PIECE as u64) as usize;
+        let count = input.read(&mut piece[..room])?;
+        if count == 0 {
+            return Ok(bytes);
+        }
+        bytes.extend_from_slice(&piece[..count])?;
+    }
+    Ok(bytes)
+}
