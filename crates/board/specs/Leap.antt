@@ -15,7 +15,7 @@ use Rattle.wiring.specs.Wires.{is_requested}
 use Rattle.board.specs.declared.act.Act.{Act}
 use Rattle.board.specs.declared.act.Act.TheVariants.{Nothing}
 use Rattle.board.specs.Arrivals.{IsNextStamp}
-use Rattle.board.specs.Laws.{NoKeyComes}
+use Rattle.board.specs.Laws.{NoKeyComes, WiresHold}
 use Rattle.board.specs.Plain.{Plain}
 use Rattle.board.specs.Work.{work_next}
 
@@ -52,6 +52,14 @@ leapt s n = record s { busy = s.busy - n; chips = wires.leapt s.chips n }
 -- has work
 abbrev pub IsTight : ℕ → Plain → ℕ → Type 0
 IsTight limit s n = (n ≡ limit) ⊎ (((1 ≤ s.busy) × (n ≡ s.busy)) ⊎ (1 ≤ work_next (leapt s n)))
+
+-- n clocks that a turn may leap over, at most `limit`: up to the end of the processor's step
+pub record IsCalmTurn (limit : ℕ) (s : Plain) (n : ℕ) : Type 0 where
+  pub some : 1 ≤ n
+  pub within : n ≤ limit
+  pub quiet : IsQuiet s n
+  pub tight : IsTight limit s n
+  pub wires : WiresHold s.chips
 
 -- the clock at which a busy processor is free, where there is such a clock
 abbrev pub IsFreeClock : Plain → Option ℕ → Type 0

@@ -300,6 +300,10 @@ impl<A: Allocator> Board<A> {
         ensures err { OnErr result (IsHeldBack self.old self.new) }
         ensures fault { IfErr result (λ fault. fault ≡ BoardFault.Memory) }
     {
+        if let Some(clocks) = self.plain.calm_clocks(end - self.clock().get()) {
+            self.leap(clocks);
+            return Ok(());
+        }
         let next = self.next_act();
         self.turn_by(&next, end)
     }
