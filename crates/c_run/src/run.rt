@@ -1,5 +1,5 @@
 //! Runs of sources and of HEX texts.
-ghost use Rattle.std.specs.Prelude.{◌≡◌, ◌≤◌, ℕ, Bool, true, false, List, length, Ok, IfOk, IfErr, MatchResult, string_bytes};
+ghost use Rattle.std.specs.Prelude.{◌≡◌, ℕ, Bool, true, false, List, length, Ok, IfOk, IfErr, MatchResult, string_bytes};
 ghost use Rattle.loader.specs.declared.run_file.RunFile.{RunFile};
 ghost use Rattle.loader.specs.RunFile.{Answers, run_of_text};
 ghost use Rattle.pcboard_program.specs.Answer.{GivesImage, IsReport, IsTrueRefusal};
