@@ -69,6 +69,7 @@ impl Timer {
     }
 
     /// Ticks so often. They are only counted as long as neither OUT0 nor OUT2 turns.
+    #[inline(always)]
     #[tactic(auto, using(crate::proofs::Behind::later, crate::proofs::Behind::still_behind))]
     pub(crate) fn advance(&mut self, ticks: u64)
         ensures { self.new ≡ after_ticks self.old ticks }
@@ -80,6 +81,14 @@ impl Timer {
             self.behind = behind;
             return;
         }
+        self.tick(ticks);
+    }
+
+    /// Makes its ticks, and so many more.
+    #[inline(never)]
+    fn tick(&mut self, ticks: u64)
+        ensures { self.new ≡ after_ticks self.old ticks }
+    {
         let mut pit = self.present();
         pit.advance(ticks);
         *self = Timer::standing(pit);
@@ -151,6 +160,7 @@ impl Timer {
     }
 }
 
+#[inline(always)]
 fn is_before(ticks: u64, turn: Option<u64>) -> bool
     ensures { result ≡ is_before ticks turn }
 {
@@ -161,6 +171,7 @@ fn is_before(ticks: u64, turn: Option<u64>) -> bool
 }
 
 /// The ticks to a turn, `behind` ticks later and before it.
+#[inline(always)]
 fn later_turn(turn: Option<u64>, behind: u64) -> Option<u64>
     requires { IsTrue (is_before behind turn) }
     ensures { result ≡ later_turn turn behind }
