@@ -10,6 +10,7 @@ use execute_machine::width::Width;
 use isa::operation::Adjust;
 
 /// Performs DAA, DAS, AAA, AAS, AAM, AAD, CBW or CWD.
+#[inline(never)]
 #[tactic(auto, unfolding(crate::specs::Meaning::after_adjust))]
 pub fn perform_adjust(registers: &mut Registers, operation: Adjust)
     ensures { registers.new ≡ after_adjust registers.old operation }

@@ -92,6 +92,7 @@ fn perform_at<B: Bus>(
 }
 
 /// What the operation makes of two numbers of this width and of the flags.
+#[inline(always)]
 #[tactic(auto, unfolding(crate::specs::Meaning::result_of, crate::specs::Meaning::with_flags_of))]
 fn calculate(flags: &mut FlagRegister, operation: Arithmetic, width: Width, a: u16, b: u16) -> u16
     requires first { a < size_of width }

@@ -10,6 +10,7 @@ use execute_machine::overflow::{difference_overflows, sum_overflows};
 use execute_machine::width::Width;
 
 /// The sum of two numbers of this width and the carry, cut to the width, with its flags; nothing is kept.
+#[inline(never)]
 #[tactic(auto, unfolding(execute_machine::specs::Sums::with_sum))]
 pub fn add(flags: &mut FlagRegister, width: Width, a: u16, b: u16, carry: bool) -> u16
     requires first { a < size_of width }
@@ -31,6 +32,7 @@ pub fn add(flags: &mut FlagRegister, width: Width, a: u16, b: u16, carry: bool) 
 
 /// The first of two numbers of this width less the second and the borrow, cut to the width, with its flags; nothing
 /// is kept.
+#[inline(never)]
 #[tactic(auto, unfolding(execute_machine::specs::Sums::with_difference))]
 pub fn subtract(flags: &mut FlagRegister, width: Width, a: u16, b: u16, borrow: bool) -> u16
     requires first { a < size_of width }

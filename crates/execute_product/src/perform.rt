@@ -151,6 +151,7 @@ fn perform_operation<B: Bus>(
 
 /// Multiplies or divides AL, AX or DX:AX by the first operand. A division without a quotient that fits enters interrupt
 /// 0 and changes nothing else, and the answer is whether that happened.
+#[inline(never)]
 #[tactic(auto, unfolding(crate::specs::Meaning::after_product, crate::specs::Meaning::has_fault))]
 pub fn perform_product<B: Bus>(
     bus: &mut B,

@@ -49,6 +49,7 @@ fn set_shifted(flags: &mut FlagRegister, operation: Shift, width: Width, count: 
 
 /// Shifts or rotates the first operand by as many single shifts as the second operand counts: 1, or CL. A count of 0
 /// writes the operand back and changes no flag.
+#[inline(never)]
 #[tactic(auto, unfolding(crate::specs::Meaning::after_shift))]
 pub fn perform_shift<B: Bus>(
     bus: &mut B,

@@ -11,6 +11,7 @@ use execute_machine::registers::{Registers, set_byte};
 use execute_machine::stack::{pop, push};
 use isa::register::ByteRegister;
 
+#[inline(never)]
 #[tactic(auto, unfolding(crate::specs::Meaning::after_pushf))]
 pub(crate) fn perform_pushf<B: Bus>(bus: &mut B, registers: &mut Registers)
     ensures { machine registers.new (B.state bus.new)
@@ -20,6 +21,7 @@ pub(crate) fn perform_pushf<B: Bus>(bus: &mut B, registers: &mut Registers)
     push(bus, registers, word);
 }
 
+#[inline(never)]
 #[tactic(auto, unfolding(crate::specs::Meaning::after_popf))]
 pub(crate) fn perform_popf<B: Bus>(bus: &B, registers: &mut Registers)
     ensures { machine registers.new (B.state bus.now) ≡ after_popf B.meaning (machine registers.old (B.state bus.now)) }
@@ -42,6 +44,7 @@ fn with_low_flags(flags: Flags, low: Flags) -> Flags
     }
 }
 
+#[inline(never)]
 #[tactic(auto, unfolding(crate::specs::Meaning::after_sahf))]
 pub(crate) fn perform_sahf(registers: &mut Registers)
     ensures { registers.new ≡ after_sahf registers.old }
@@ -51,6 +54,7 @@ pub(crate) fn perform_sahf(registers: &mut Registers)
     registers.flags.set(with_low_flags(flags, low));
 }
 
+#[inline(never)]
 #[tactic(auto, unfolding(crate::specs::Meaning::after_lahf))]
 pub(crate) fn perform_lahf(registers: &mut Registers)
     ensures { registers.new ≡ after_lahf registers.old }

@@ -45,6 +45,7 @@ fn input_word<B: Bus>(bus: &mut B, registers: &mut Registers, port: u16)
     registers.ax = u16::from(low) + 256 * u16::from(high);
 }
 
+#[inline(never)]
 #[tactic(auto, unfolding(crate::specs::Meaning::after_in))]
 pub(crate) fn perform_in<B: Bus>(bus: &mut B, registers: &mut Registers, instr: &Digest)
     ensures { machine registers.new (B.state bus.new)
@@ -58,6 +59,7 @@ pub(crate) fn perform_in<B: Bus>(bus: &mut B, registers: &mut Registers, instr: 
     }
 }
 
+#[inline(never)]
 #[tactic(auto, unfolding(crate::specs::Meaning::after_out, crate::specs::Meaning::outputs_of))]
 pub(crate) fn perform_out<B: Bus>(bus: &mut B, registers: &Registers, instr: &Digest)
     ensures { machine registers.now (B.state bus.new)
