@@ -18,6 +18,7 @@ use crate::row::{Content, KeptRow};
 use assembler_lexeme::fault::SyntaxError;
 use assembler_lexeme::name::Name;
 use assembler_meaning::constant::constant_of;
+use assembler_meaning::seed::SourceSeed;
 use assembler_meaning::symbol::{Location, Symbol, Symbols};
 use assembler_syntax::read::read_line;
 use assembler_syntax::statement::{Line, Statement};
@@ -48,7 +49,7 @@ pub(crate) fn read_source(alloc: Global, source: &[u8]) -> Result<Reading, AsmFa
     let mut rows = Vec::new(alloc);
     let mut state = Before {
         location: None,
-        symbols: IndexMap::new(alloc),
+        symbols: IndexMap::with_hasher(alloc, SourceSeed::of(source)),
     };
     let mut number = 0;
     let mut rest = source;

@@ -6,5 +6,6 @@ pub mod bytes;
 pub mod constant;
 pub mod data;
 pub mod instruction;
+pub mod seed;
 pub mod symbol;
 pub mod value;

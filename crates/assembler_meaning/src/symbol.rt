@@ -2,6 +2,7 @@
 ghost use Rattle.std.specs.Prelude.{◌≡◌};
 ghost use Rattle.assembler_meaning.specs.Values.{is_defined, IsSmall, is_constant_symbol, label_of, meaning, symbol_value};
 
+use crate::seed::SourceSeed;
 use assembler_lexeme::name::Name;
 use indexmap::IndexMap;
 
@@ -37,7 +38,7 @@ impl Symbol {
 }
 
 /// The names that were defined, in their order, with what they stand for.
-pub type Symbols = IndexMap<Name, Symbol>;
+pub type Symbols = IndexMap<Name, Symbol, SourceSeed>;
 
 /// What the name stands for.
 pub fn meaning(symbols: &Symbols, name: Name) -> Option<Symbol>

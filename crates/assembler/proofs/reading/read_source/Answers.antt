@@ -5,7 +5,7 @@ use Rattle.assembler.proofs.ReadingLoop.{reads_more, starts, stops_first}
 use Rattle.assembler.proofs.reading.read_source.Goals as goal
 
 pub loop-text-init : goal.loop-text-init
-loop-text-init c = starts c.args.source.now (record { location = None; symbols = c.new.result }) c.new-rows.result.items c.new.ensures.empty refl c.new-rows.ensures.items
+loop-text-init c = starts c.args.source.now (record { location = None; symbols = c.with_hasher.result }) c.new-rows.result.items c.with_hasher.ensures.empty refl c.new-rows.ensures.items
 
 pub loop-text-preserved : goal.loop-text-preserved
 loop-text-preserved c =

@@ -1,0 +1,34 @@
+//! How the names of a source are hashed.
+ghost use Rattle.std.specs.Prelude.{◌≡◌};
+ghost use Rattle.std.specs.Hash.DefaultHasher.{initial, write};
+
+use std::hash::{BuildHasher, DefaultHasher, Hasher};
+
+/// Makes the hashers of a source's names: each goes on from the hash of the whole source. Names that collide in one
+/// source don't in another, so no source can be filled with names that were found to collide before it was written.
+#[derive(Clone, Copy)]
+pub struct SourceSeed {
+    /// What has hashed the source.
+    pub source: DefaultHasher,
+}
+
+impl SourceSeed {
+    /// The seed of a source.
+    pub fn of(source: &[u8]) -> SourceSeed
+        ensures { result.source ≡ write initial source.now }
+    {
+        let mut hasher = DefaultHasher::new();
+        hasher.write(source);
+        SourceSeed { source: hasher }
+    }
+}
+
+impl BuildHasher for SourceSeed {
+    type Hasher = DefaultHasher;
+
+    ghost build_hasher = { λ seed. seed.source };
+
+    fn build_hasher(&self) -> DefaultHasher {
+        self.source
+    }
+}
