@@ -2,15 +2,18 @@
 the line's look: that the line is refused, the program says, and nothing here."""
 from __future__ import annotations
 
+import difflib
 import re
 
-from board.listing import code_of
+from board.listing import code_of, label_in
 
 STATEMENTS = frozenset('''AAA AAD AAM AAS ADC ADD AND CALL CBW CLC CLD CLI CMC CMP CMPSB CMPSW CWD DAA DAS DEC DIV ESC HLT
 IDIV IMUL IN INC INT INT3 INTO IRET JA JAE JB JBE JC JCXZ JE JG JGE JL JLE JMP JNA JNAE JNB JNBE JNC JNE JNG JNGE JNL JNLE
 JNO JNP JNS JNZ JO JP JPE JPO JS JZ LAHF LDS LEA LES LODSB LODSW LOOP LOOPE LOOPNE LOOPNZ LOOPZ MOV MOVSB MOVSW MUL NEG
 NOP NOT OR OUT POP POPF PUSH PUSHF RCL RCR RET RETF ROL ROR SAHF SAL SAR SBB SCASB SCASW SHL SHR STC STD STI STOSB STOSW
 SUB TEST WAIT XCHG XLAT XOR'''.split())
+WORDS = frozenset('SEGMENT ENDS EQU ORG DUP SEG BYTE WORD FAR SHORT LOCK REP REPE REPZ REPNE REPNZ'.split())
+RANGES = 'a byte holds -128 to 255, a word -32,768 to 65,535'
 LATER = 'PUSHA|POPA|BOUND|ENTER|LEAVE|INSB|INSW|OUTSB|OUTSW|MOVZX|MOVSX|SET[A-Z]{1,3}|BSF|BSR|BT[CRS]?|SHLD|SHRD|CDQ|CWDE'
 
 # A look (in a line without comment and texts in quotes, in upper case) and what to write.
@@ -55,6 +58,9 @@ LOOKS: tuple[tuple[str, str], ...] = (
     (r'^\s*(\w+:)?\s*J[A-LN-Z]\w*\s+SHORT\b', 'conditional jumps are always short: JZ label'),
     (r'^\s*(\w+:)?\s*(J(?!MP)\w+|LOOP\w*|JMP\s+SHORT)\s',
      'the target may lie 128 bytes before to 127 behind the next instruction: jump the other way round a JMP'),
+    (r'\b[ABCD][HL]\s*,\s*([ABCD]X|[SD]I|[SB]P|[ECSD]S)\b|\b([ABCD]X|[SD]I|[SB]P|[ECSD]S)\s*,\s*[ABCD][HL]\b',
+     'both operands have one size: AL is a byte, AX a word'),
+    (r'^\s*(\w+:)?\s*(?!D[BWD]\b)[A-Z]+\s+[-\d\']\S*\s*,', 'the first operand takes the result, so it is a register or memory'),
     (r'\(|\)|\*|/|\bSHL\b.*\bSHL\b',
      'expressions are terms joined by + and -; there are no parentheses, products or shifts'),
 )
@@ -100,13 +106,39 @@ def of_characters(line: str) -> str | None:
     return None
 
 
-def hint_of(line: str, number: int) -> str | None:
-    """A hint for a refused line of a source, by its look and its fault's number."""
+def near(word: str, known: list[str]) -> str:
+    """The known word that a word was most likely meant for, or nothing."""
+    lower = {it.lower(): it for it in known}
+    found = difflib.get_close_matches(word.lower(), lower, 1, 0.6)
+    return lower[found[0]] if found else ''
+
+
+def of_a_statement(code: str) -> str | None:
+    """A hint where a mnemonic is misspelt."""
+    found = re.match(r'\s*(?:\w+\s*:)?\s*(\w+)', code)
+    meant = near(found[1], sorted(STATEMENTS)) if found and found[1] not in STATEMENTS | WORDS else ''
+    return f'is {meant} meant?' if meant else None
+
+
+def of_a_name(code: str, source: list[str]) -> str | None:
+    """A hint where a name that no line defines is near to one that some line does."""
+    names = [it for it in map(label_in, source) if it] + re.findall(r'(?im)^\s*([a-z_]\w*)\s+equ\b', '\n'.join(source))
+    known = {it.upper() for it in names} | STATEMENTS
+    for word in re.findall(r'(?<![\w.])[A-Z_]\w{2,}', code):
+        meant = near(word, names) if word not in known and word not in WORDS else ''
+        if meant:
+            return f'no line defines {word.lower()}; is {meant} meant?'
+    return None
+
+
+def hint_of(line: str, number: int, source: list[str] | None = None) -> str | None:
+    """A hint for a refused line of a source, by its look, its fault's number and the source's other lines."""
     code = bare(line)
     if number == 2:
         return of_characters(line)
     special = of_a_word_as_label(code) if number == 3 else of_a_missing_colon(code) if number in (3, 4, 11) else None
     special = special or (of_a_bare_hexadecimal(code) if number in (4, 7) else None)
+    special = special or (of_a_name(code, source or []) if number == 7 else None)
     if special:
         return special
     if number in (6, 9, 10, 12):
@@ -114,4 +146,5 @@ def hint_of(line: str, number: int) -> str | None:
     if number == 11:
         return 'code, data and labels stand in a segment: SEGMENT MAIN AT 0F000h before them, and ENDS behind'
     looks = LOOKS if number != 8 else tuple(it for it in LOOKS if 'target' in it[1] or 'port' in it[1])
-    return next((hint for look, hint in looks if re.search(look, code)), None)
+    found = next((hint for look, hint in looks if re.search(look, code)), None)
+    return found or (of_a_statement(code) if number == 4 else RANGES if number == 8 else None)

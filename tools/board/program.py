@@ -65,17 +65,19 @@ def refusal(status: int, err: str) -> str:
 
 
 class Session:
-    """A session of `pcboard debug`. It answers one command at a time, and never goes back by itself."""
+    """A session of `pcboard debug`. It answers one command at a time, and never goes back by itself. The terminal's
+    interrupt doesn't reach it, so that a debugger can end a long run and go on."""
 
     def __init__(self, files: Files) -> None:
         self._process = subprocess.Popen([path(), *files.words('debug')], stdin=subprocess.PIPE, stdout=subprocess.PIPE,
-                                         stderr=subprocess.PIPE, bufsize=0)
+                                         stderr=subprocess.PIPE, bufsize=0, start_new_session=True)
         assert self._process.stdout
         self._out = os.fdopen(os.dup(self._process.stdout.fileno()), 'rb')
         self.clock = 0
 
     def close(self) -> None:
-        """Ends the session's process."""
+        """Ends the session's process, also in the midst of a run: it has nothing to keep."""
+        self._process.kill()
         for stream in (self._process.stdin, self._out, self._process.stdout):
             assert stream
             try:

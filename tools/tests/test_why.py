@@ -17,7 +17,8 @@ HINTS = (
     (8, ' OUT 3B8h,AL', 'through DX'), (8, ' JZ far_away', 'other way round'), (4, ' PUSHA', 'no such instruction'),
     (5, ' MOV EAX,1', '8 and 16 bits'), (5, ' ADD [BX],[SI]', 'once'), (3, ' section .text', 'SEGMENT name AT'),
     (4, 'start proc', 'plain label'), (4, ' times 3 db 0', 'DUP'), (11, ' NOP', 'in a segment'),
-    (3, ' MOV AX,(1+2)', 'no parentheses'), (2, ' NOP ; \u00e9', 'column 8'),
+    (3, ' MOV AX,(1+2)', 'no parentheses'), (5, ' MOV AL,BX', 'one size'), (5, ' CMP 5,AX', 'takes the result'),
+    (4, ' MVO AX,1', 'is MOV meant?'), (8, ' MOV AL,300', '-128 to 255'), (5, ' TEST 5,AX', 'takes the result'), (2, ' NOP ; \u00e9', 'column 8'),
 )
 
 
@@ -46,7 +47,9 @@ class Words(unittest.TestCase):
     def test_hints(self) -> None:
         for number, line, wanted in HINTS:
             self.assertIn(wanted, hint_of(line, number) or '', line)
-        self.assertIsNone(hint_of(" DB 'a \"quoted\" 0x10'", 8))
+        self.assertIsNone(hint_of(" DB 'a \"quoted\" 0x10'", 6))
+        self.assertEqual(hint_of(' JMP strat', 7, ['start: NOP']), 'no line defines strat; is start meant?')
+        self.assertIsNone(hint_of(' JMP start', 7, ['other: NOP']))
 
 
 class Runs(ToolCase):
