@@ -17,3 +17,4 @@ pub mod Speaker
 pub mod Behind
 pub mod Leap
 pub mod Edges
+mod Rows
