@@ -1,7 +1,7 @@
 -- The definitions on worked values: which case of a free boundary it is, what an instruction keeps off, when a single
 -- step is due, and when a repeat goes on and where IP then stands (8086 Family User's Manual, "Interrupts",
 -- "Single-Step", "String Instructions").
-use Rattle.std.proofs.Common.{◌≡◌, ℕ, Bool, true, false, Option, Some, None, refl}
+use Rattle.std.proofs.Common.{◌≡◌, Bool, true, false, Option, Some, None, refl}
 use Rattle.board_types.specs.declared.state.State.{State}
 use Rattle.board_types.specs.declared.state.State.TheVariants.{Running, Halted, Jammed}
 use Rattle.isa.specs.declared.form.Instr.{Instr}

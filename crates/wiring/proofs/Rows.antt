@@ -1,7 +1,6 @@
 -- The definitions on worked values: what answers at a port, and at those beside it (IBM PC Technical Reference, "I/O
 -- Address Map").
-use Rattle.std.proofs.Common.{◌≡◌, ℕ, true, false, List, [], ◌∷◌, map, refl}
-use Rattle.wiring.specs.declared.port.Port.{Port}
+use Rattle.std.proofs.Common.{◌≡◌, true, false, [], ◌∷◌, map, refl}
 use Rattle.wiring.specs.declared.port.Port.TheVariants.{Controller, Timer, Parallel, Adapter, Nothing}
 use Rattle.wiring.specs.Ports.{port_at}
 
