@@ -12,6 +12,7 @@ use board_types::image::Image;
 use loader::hex_reader::read_hex;
 use loader::run_reader::read_run_text;
 use pcboard_program::fault::Fault;
+use pcboard_program::report::Report;
 use pcboard_program::run::run_image;
 use std::alloc::Global;
 
@@ -69,8 +70,8 @@ pub extern "C" fn zebludor_run_hex(
     tell(report_of_hex(alloc, text, run), out)
 }
 
-fn report_of_source(alloc: Global, source: &[u8], run: &[u8]) -> Result<String, Fault>
-    ensures report { IfOk result (λ text. IsReport false source.now run.now (string_bytes text)) }
+fn report_of_source(alloc: Global, source: &[u8], run: &[u8]) -> Result<Report, Fault>
+    ensures report { IfOk result (λ report. IsReport false source.now run.now (string_bytes report.text)) }
     ensures fault { IfErr result (IsTrueRefusal false source.now run.now) }
     ensures accepted { Accepts false source.now run.now → IfErr result IsWantOfMemory }
 {
@@ -80,8 +81,8 @@ fn report_of_source(alloc: Global, source: &[u8], run: &[u8]) -> Result<String, 
     }
 }
 
-fn report_of_hex(alloc: Global, text: &[u8], run: &[u8]) -> Result<String, Fault>
-    ensures report { IfOk result (λ report. IsReport true text.now run.now (string_bytes report)) }
+fn report_of_hex(alloc: Global, text: &[u8], run: &[u8]) -> Result<Report, Fault>
+    ensures report { IfOk result (λ report. IsReport true text.now run.now (string_bytes report.text)) }
     ensures fault { IfErr result (IsTrueRefusal true text.now run.now) }
     ensures accepted { Accepts true text.now run.now → IfErr result IsWantOfMemory }
 {
@@ -91,28 +92,27 @@ fn report_of_hex(alloc: Global, text: &[u8], run: &[u8]) -> Result<String, Fault
     }
 }
 
-fn report_of_image(alloc: Global, image: &Image, run: &[u8]) -> Result<String, Fault>
+fn report_of_image(alloc: Global, image: &Image, run: &[u8]) -> Result<Report, Fault>
     ensures report { (hex : Bool) (bytes : List ℕ) → GivesImage hex bytes image.now
-        → IfOk result (λ text. IsReport hex bytes run.now (string_bytes text)) }
+        → IfOk result (λ report. IsReport hex bytes run.now (string_bytes report.text)) }
     ensures fault { (hex : Bool) (bytes : List ℕ) → GivesImage hex bytes image.now
         → IfErr result (IsTrueRefusal hex bytes run.now) }
     ensures accepted { (run_file : RunFile) → Answers (Ok run_file) (run_of_text run.now)
         → FitsBoard image.now run_file → IfErr result IsWantOfMemory }
 {
     let run = read_run_text(alloc, run).map_err(Fault::Run)?;
-    let report = run_image(alloc, image, &run)?;
-    Ok(report.text)
+    run_image(alloc, image, &run)
 }
 
-fn tell(report: Result<String, Fault>, out: &mut [u8]) -> Outcome
-    ensures outcome { MatchResult report (λ text. result ≡ text_outcome (string_bytes text) (length out.old))
+fn tell(report: Result<Report, Fault>, out: &mut [u8]) -> Outcome
+    ensures outcome { MatchResult report (λ report. result ≡ text_outcome (string_bytes report.text) (length out.old))
         (λ fault. result ≡ fault_outcome fault) }
-    ensures buffer { MatchResult report (λ text. out.new ≡ buffer_after (string_bytes text) out.old)
+    ensures buffer { MatchResult report (λ report. out.new ≡ buffer_after (string_bytes report.text) out.old)
         (λ fault. out.new ≡ out.old) }
 {
     match report {
-        Ok(text) => put(text.as_bytes(), out),
-        Err(fault) => refused(fault),
+        Ok(report) => put(report.text.as_bytes(), out),
+        Err(fault) => refused(&fault),
     }
 }
 
@@ -135,13 +135,15 @@ fn put(text: &[u8], out: &mut [u8]) -> Outcome
     }
 }
 
-fn refused(fault: Fault) -> Outcome
-    ensures { result ≡ fault_outcome fault }
+fn refused(fault: &Fault) -> Outcome
+    ensures { result ≡ fault_outcome fault.now }
 {
+    let line = fault.line().unwrap_or(0);
+    let number = fault.number();
     Outcome {
         length: 0,
-        line: fault.line().unwrap_or(0),
+        line,
         status: REFUSED,
-        fault: fault.number(),
+        fault: number,
     }
 }

@@ -1,15 +1,16 @@
 use Rattle.std.specs.Prelude.{string_bytes, false}
 use Rattle.pcboard_program.specs.Answer.{IsReport, IsTrueRefusal}
 use Rattle.pcboard_program.specs.Faults.{IsWantOfMemory}
+use Rattle.pcboard_program.specs.declared.report.Report.{Report}
 use Rattle.c_run.proofs.Telling.{tells}
 use Rattle.c_run.proofs.run.zebludor_run.Goals as goal
 
 pub returns-clause-told : goal.returns-clause-told
 returns-clause-told c =
-    tells string_bytes (IsReport false c.args.source.now c.args.run.now) (IsTrueRefusal false c.args.source.now c.args.run.now)
+    tells (λ (report : Report). string_bytes report.text) (IsReport false c.args.source.now c.args.run.now) (IsTrueRefusal false c.args.source.now c.args.run.now)
     c.report_of_source.result _ _ _ c.tell.ensures.outcome c.tell.ensures.buffer c.report_of_source.ensures.report c.report_of_source.ensures.fault
 
 pub returns-clause-accepted : goal.returns-clause-accepted
 returns-clause-accepted c = λ accepts.
-    tells string_bytes (IsReport false c.args.source.now c.args.run.now) IsWantOfMemory
+    tells (λ (report : Report). string_bytes report.text) (IsReport false c.args.source.now c.args.run.now) IsWantOfMemory
     c.report_of_source.result _ _ _ c.tell.ensures.outcome c.tell.ensures.buffer c.report_of_source.ensures.report (c.report_of_source.ensures.accepted accepts)
