@@ -38,7 +38,7 @@ none_here stops end s t searched here =
     (ap (λ k. holding stops (after_clocks s.plain k)) whole ∙ ap (holding stops) (sym searched.so_far.ran.plain) ∙ here))
 
 -- nor in a leap, short of its end
-none_in_leap : (stops : List Condition) (n end : ℕ) (s t u : BoardState) → Ran n s t → NoStop stops n s.plain → holding stops t.plain ≡ None → (leap : IsLeapOn end t u) → NoStop stops (n + leap.clocks - 1) s.plain
+none_in_leap : (stops : List Condition) (n end : ℕ) (s t u : BoardState) → Ran n s t → NoStop stops n s.plain → holding stops t.plain ≡ None → (leap : IsLeapOn end 1 t u) → NoStop stops (n + leap.clocks - 1) s.plain
 none_in_leap stops n end s t u ran none here leap j first within =
     elim (leb_tells j n) [
       | inl before ↦ none j first before.1
@@ -55,7 +55,7 @@ none_in_leap stops n end s t u ran none here leap j first within =
 pub searched_turn : (stops : List Condition) (end : ℕ) (s t u : BoardState) → Searched stops end s t → holding stops t.plain ≡ None → clock_of t.plain < end → IsTurnOn end t u → Searched stops end s u
 unfolding so_far_leap so_far_tick
 searched_turn stops end s t u searched here before (inl leap) = record {
-  so_far = so_far_leap 2 end s t u searched.so_far before leap;
+  so_far = so_far_leap 2 end 1 s t u (omega arith) searched.so_far before leap;
   some = let some = searched.some in omega (arith, some);
   none = none_in_leap stops searched.so_far.passed end s t u searched.so_far.ran (none_here stops end s t searched here) here leap;
 }

@@ -7,7 +7,7 @@ use Rattle.board.specs.Laws.{WiresHold}
 use Rattle.board.specs.Leap.{IsQuiet, IsTight, leapt}
 use Rattle.board.specs.Plain.{Plain, after_clock, changes_in, clock_of}
 use Rattle.board.specs.Trail.{last}
-use Rattle.board.specs.Turns.{IsLeapOn, IsTickOn, IsTurnOn}
+use Rattle.board.specs.Turns.{IsLeapOn, IsStepOn, IsStrideOn, IsTickOn, IsTurnOn}
 use Rattle.board.specs.Work.{steps_in, steps_next, work_in, work_next}
 use Rattle.board.proofs.Lasts.{last_within, nothing_added}
 use Rattle.board.proofs.Leap.{board_leaps, clock_of_leap, no_changes, no_entries}
@@ -20,8 +20,8 @@ use Rattle.board.proofs.Works.{first_has_none, none_to_do, none_to_step, busy_of
 few_of_run : (n : ℕ) (s t : BoardState) → Ran n s t → length t.trail ≤ 32
 few_of_run n s t ran = subst (λ xs. length xs ≤ 32) (sym ran.trail) (last_within 32 _)
 
-leap_runs : (end : ℕ) (t u : BoardState) → (leap : IsLeapOn end t u) → length t.trail ≤ 32 → Ran leap.clocks t u
-leap_runs end t u leap few = record {
+leap_runs : (end count : ℕ) (t u : BoardState) → (leap : IsLeapOn end count t u) → length t.trail ≤ 32 → Ran leap.clocks t u
+leap_runs end count t u leap few = record {
   plain = leap.plain ∙ sym (board_leaps leap.clocks t.plain leap.wires leap.quiet);
   clock = ap clock_of leap.plain ∙ clock_of_leap t.plain leap.clocks;
   changes =
@@ -32,8 +32,8 @@ leap_runs end t u leap few = record {
   room = let same = leap.room in let size : length u.changes ≡ length t.changes = ap length leap.changes in omega (arith, same, size);
 }
 
-pub ran_leap : (n end : ℕ) (s t u : BoardState) → Ran n s t → (leap : IsLeapOn end t u) → Ran (n + leap.clocks) s u
-ran_leap n end s t u ran leap = runs_join n leap.clocks s t u ran (leap_runs end t u leap (few_of_run n s t ran))
+pub ran_leap : (n end count : ℕ) (s t u : BoardState) → Ran n s t → (leap : IsLeapOn end count t u) → Ran (n + leap.clocks) s u
+ran_leap n end count s t u ran leap = runs_join n leap.clocks s t u ran (leap_runs end count t u leap (few_of_run n s t ran))
 
 -- work and steps, a clock more or a leap more
 
@@ -43,15 +43,15 @@ work_more n s t ran = total_more after_clock work_next n s.plain ∙ ap (λ p. w
 pub steps_more : (n : ℕ) (s t : BoardState) → Ran n s t → steps_in s.plain (n + 1) ≡ steps_in s.plain n + steps_next t.plain
 steps_more n s t ran = total_more after_clock steps_next n s.plain ∙ ap (λ p. steps_in s.plain n + steps_next p) (sym ran.plain)
 
-pub work_leap : (n end : ℕ) (s t u : BoardState) → Ran n s t → (leap : IsLeapOn end t u) → work_in s.plain (n + leap.clocks) ≡ work_in s.plain n
-work_leap n end s t u ran leap =
+pub work_leap : (n end count : ℕ) (s t u : BoardState) → Ran n s t → (leap : IsLeapOn end count t u) → work_in s.plain (n + leap.clocks) ≡ work_in s.plain n
+work_leap n end count s t u ran leap =
     let none = none_to_do t.plain leap.clocks leap.wires leap.quiet in
     let parts : work_in s.plain (n + leap.clocks) ≡ work_in s.plain n + work_in t.plain leap.clocks =
     total_add after_clock work_next n leap.clocks s.plain ∙ ap (λ p. work_in s.plain n + work_in p leap.clocks) (sym ran.plain) in
     omega (arith, none, parts)
 
-pub steps_leap : (n end : ℕ) (s t u : BoardState) → Ran n s t → (leap : IsLeapOn end t u) → steps_in s.plain (n + leap.clocks) ≡ steps_in s.plain n
-steps_leap n end s t u ran leap =
+pub steps_leap : (n end count : ℕ) (s t u : BoardState) → Ran n s t → (leap : IsLeapOn end count t u) → steps_in s.plain (n + leap.clocks) ≡ steps_in s.plain n
+steps_leap n end count s t u ran leap =
     let none = none_to_step t.plain leap.clocks leap.wires leap.quiet in
     let parts : steps_in s.plain (n + leap.clocks) ≡ steps_in s.plain n + steps_in t.plain leap.clocks =
     total_add after_clock steps_next n leap.clocks s.plain ∙ ap (λ p. steps_in s.plain n + steps_in p leap.clocks) (sym ran.plain) in
@@ -130,30 +130,39 @@ after_leap limit n p q (inr (inr works)) less some is none =
     let busy : q.busy ≡ p.busy - n = ap (λ (x : Plain). x.busy) is ∙ busy_of_leap p n in
     let work : 1 ≤ work_next q = subst (λ x. 1 ≤ work_next x) (sym is) works in omega (arith, busy, work)
 
-unfoldable pub so_far_leap : (spare end : ℕ) (s t u : BoardState) → SoFar spare end s t → clock_of t.plain < end → IsLeapOn end t u → SoFar spare end s u
-so_far_leap spare end s t u so_far before leap =
+unfoldable pub so_far_leap : (spare end count : ℕ) (s t u : BoardState) → count ≤ 1 → SoFar spare end s t → clock_of t.plain < end → IsLeapOn end count t u → SoFar spare end s u
+so_far_leap spare end count s t u one so_far before leap =
     let n : ℕ = so_far.passed in
     let clock : clock_of u.plain ≡ clock_of t.plain + leap.clocks = ap clock_of leap.plain ∙ clock_of_leap t.plain leap.clocks in
     let turns = leap.turns in
     let fits = leap.within in
-    let work = work_leap n end s t u so_far.ran leap in
-    let steps = steps_leap n end s t u so_far.ran leap in
+    let work = work_leap n end count s t u so_far.ran leap in
+    let steps = steps_leap n end count s t u so_far.ran leap in
     let none = first_has_none t.plain leap.clocks leap.some leap.wires leap.quiet in
     let spent = so_far.before_end before in
     let least = so_far.least in record {
       passed = n + leap.clocks;
-      ran = ran_leap n end s t u so_far.ran leap;
+      ran = ran_leap n end count s t u so_far.ran leap;
       within = omega (arith, clock, before, fits);
       before_end = λ on.
           let then = after_leap (end - clock_of t.plain) leap.clocks t.plain u.plain leap.tight (omega (arith, clock, on, before)) leap.some leap.plain none in
-          omega (arith, turns, work, spent, none, then);
-      whole = omega (arith, turns, work, spent, none);
+          omega (arith, turns, work, spent, none, then, one);
+      whole = omega (arith, turns, work, spent, none, one);
       least = omega (arith, turns, steps, least);
     }
 
 pub so_far_turn : (spare end : ℕ) (s t u : BoardState) → SoFar spare end s t → clock_of t.plain < end → IsTurnOn end t u → SoFar spare end s u
-so_far_turn spare end s t u so_far before (inl leap) = so_far_leap spare end s t u so_far before leap
+so_far_turn spare end s t u so_far before (inl leap) = so_far_leap spare end 1 s t u (omega arith) so_far before leap
 so_far_turn spare end s t u so_far before (inr tick) = so_far_tick spare end s t u so_far before tick.0 tick.1
+
+before_rest : (end : ℕ) (t u : BoardState) → IsLeapOn end 0 t u → clock_of t.plain < end
+before_rest end t u leap = let some = leap.some in let within = leap.within in omega (arith, some, within)
+
+pub so_far_stride : (spare end : ℕ) (s t u : BoardState) → SoFar spare end s t → clock_of t.plain < end → IsStrideOn end t u → SoFar spare end s u
+so_far_stride spare end s t u so_far before (inl turn) = so_far_turn spare end s t u so_far before turn
+so_far_stride spare end s t u so_far before (inr step) =
+    so_far_leap spare end 0 s step.begun u (omega arith) (so_far_tick spare end s t step.begun so_far before step.first step.work)
+    (before_rest end step.begun u step.rest) step.rest
 
 -- at the end of a run, or where it stands
 
@@ -240,8 +249,18 @@ tick_turn end limit n p old new now most before none tight wires tick =
     inr (tick, subst (λ (q : Plain). 1 ≤ work_next q) now (works_at_once limit n p wires tight none (omega (arith, most, before))))
 
 -- it goes on
-pub turn_moves : (end : ℕ) (t u : BoardState) → clock_of t.plain < end → IsTurnOn end t u → end - clock_of u.plain < end - clock_of t.plain
-turn_moves end t u before (inl leap) =
+
+leap_moves : (end count : ℕ) (t u : BoardState) → clock_of t.plain < end → IsLeapOn end count t u → end - clock_of u.plain < end - clock_of t.plain
+leap_moves end count t u before leap =
     let clock : clock_of u.plain ≡ clock_of t.plain + leap.clocks = ap clock_of leap.plain ∙ clock_of_leap t.plain leap.clocks in
     let some = leap.some in omega (arith, clock, some, before)
+
+pub turn_moves : (end : ℕ) (t u : BoardState) → clock_of t.plain < end → IsTurnOn end t u → end - clock_of u.plain < end - clock_of t.plain
+turn_moves end t u before (inl leap) = leap_moves end 1 t u before leap
 turn_moves end t u before (inr tick) = let clock = tick.0.clock in omega (arith, clock, before)
+
+pub stride_moves : (end : ℕ) (t u : BoardState) → clock_of t.plain < end → IsStrideOn end t u → end - clock_of u.plain < end - clock_of t.plain
+stride_moves end t u before (inl turn) = turn_moves end t u before turn
+stride_moves end t u before (inr step) =
+    let clock = step.first.clock in
+    let less = leap_moves end 0 step.begun u (before_rest end step.begun u step.rest) step.rest in omega (arith, clock, before, less)

@@ -17,8 +17,8 @@ pub record IsTickOn (old new : BoardState) : Type 0 where
   pub room : old.room + length old.changes ≤ new.room + length new.changes
   pub turns : new.turns ≡ old.turns + 1
 
--- a leap of a board, at most to a clock
-pub record IsLeapOn (end : ℕ) (old new : BoardState) : Type 0 where
+-- a leap of a board, at most to a clock, which counts as so many turns
+pub record IsLeapOn (end count : ℕ) (old new : BoardState) : Type 0 where
   pub clocks : ℕ
   pub some : 1 ≤ clocks
   pub within : clocks ≤ end - clock_of old.plain
@@ -29,8 +29,19 @@ pub record IsLeapOn (end : ℕ) (old new : BoardState) : Type 0 where
   pub changes : new.changes ≡ old.changes
   pub trail : new.trail ≡ old.trail
   pub room : new.room ≡ old.room
-  pub turns : new.turns ≡ old.turns + 1
+  pub turns : new.turns ≡ old.turns + count
 
 -- a turn of a run that ends at a clock
 abbrev pub IsTurnOn : ℕ → BoardState → BoardState → Type 0
-IsTurnOn end old new = IsLeapOn end old new ⊎ (IsTickOn old new × (1 ≤ work_next old.plain))
+IsTurnOn end old new = IsLeapOn end 1 old new ⊎ (IsTickOn old new × (1 ≤ work_next old.plain))
+
+-- a clock that has work and the leap behind it, which count as one turn
+pub record IsStepOn (end : ℕ) (old new : BoardState) : Type 0 where
+  pub begun : BoardState
+  pub first : IsTickOn old begun
+  pub work : 1 ≤ work_next old.plain
+  pub rest : IsLeapOn end 0 begun new
+
+-- a turn, or such a step
+abbrev pub IsStrideOn : ℕ → BoardState → BoardState → Type 0
+IsStrideOn end old new = IsTurnOn end old new ⊎ IsStepOn end old new
