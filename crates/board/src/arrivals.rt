@@ -33,6 +33,7 @@ pub(crate) fn arrive_at(
 }
 
 /// The chips' part of a clock; `next` keys have arrived before. Answers how many have arrived then.
+#[inline(always)]
 #[tactic(auto, unfolding(crate::specs::Plain::chips_after_clock))]
 pub(crate) fn pass_clock(chips: &mut CachedChips, keys: &[StampedKey], next: usize) -> usize
     requires within { chips.old.clock < 2 ^ 40 }

@@ -1,8 +1,9 @@
 //! The board: run for a number of clocks, and read.
-ghost use Rattle.std.specs.Prelude.{IsTrue, All, ◌-◌, slice_get, ◌≡◌, ◌+◌, ◌*◌, ◌<◌, ◌≤◌, ◌^◌, [], ◌∷◌, ◌++◌, length, OnErr, OnOk, IfOk, IsOk, ◌↔◌};
+ghost use Rattle.std.specs.Prelude.{IsTrue, All, ◌-◌, slice_get, ◌≡◌, ◌+◌, ◌*◌, ◌<◌, ◌≤◌, ◌^◌, [], ◌∷◌, ◌++◌, length, OnErr, OnOk, IfOk, IsOk, ◌↔◌, ◌⊎◌};
 ghost use Rattle.std.specs.Result.{IfErr, IsErrOf};
 ghost use Rattle.std.specs.String.{string_bytes};
 ghost use Rattle.memory.specs.Map.{IsRamSize, FitsRam};
+ghost use Rattle.board.specs.declared.act.Act.TheVariants.{Instruction};
 ghost use Rattle.board.specs.declared.board.BoardFault.TheVariants.{Memory};
 ghost use Rattle.board.specs.Board.{Ran, StoppedEarly, board_fault_name, board_fault_number};
 ghost use Rattle.board.specs.HeldBack.{IsHeldBack};
@@ -11,8 +12,8 @@ ghost use Rattle.board.specs.Leap.{IsQuiet, leapt};
 ghost use Rattle.board.specs.Plain.{after_clock, after_clocks, byte_of, change_next, changes_in, clock_of, lost_codes, next_act, power_on, registers_of, screen_of, speaker_level, state_of};
 ghost use Rattle.board.specs.Stops.{FitsRoom, HasAddress, IsStopOf, NoStop, run_length};
 ghost use Rattle.board.specs.Trail.{last, trail_in, trail_next};
-ghost use Rattle.board.specs.Turns.{IsTickOn, IsTurnOn};
-ghost use Rattle.board.specs.Work.{steps_in, work_in};
+ghost use Rattle.board.specs.Turns.{IsLeapOn, IsStrideOn, IsTickOn, IsTurnOn};
+ghost use Rattle.board.specs.Work.{steps_in, work_in, work_next};
 ghost use Rattle.board_types.specs.Lines.{from_bool};
 
 use crate::act::Act;
@@ -26,6 +27,8 @@ use board_types::keys::Keys;
 use board_types::line::Line;
 use board_types::regs::Regs;
 use board_types::state::State;
+use decode::decoded::Decoded;
+use execute::port_writes::is_silent;
 use memory::map::MemoryFault;
 use std::alloc::{AllocError, Allocator, Global};
 use std::marker::Model;
@@ -216,7 +219,7 @@ impl<A: Allocator> Board<A> {
         }
         let end = self.clock().get() + count;
         'turns: while self.clock().get() < end {
-            self.turn(end)?;
+            self.stride(end)?;
         }
         Ok(())
     }
@@ -300,12 +303,96 @@ impl<A: Allocator> Board<A> {
         ensures err { OnErr result (IsHeldBack self.old self.new) }
         ensures fault { IfErr result (λ fault. fault ≡ BoardFault.Memory) }
     {
+        if self.step() {
+            return Ok(());
+        }
+        self.other_turn(end)
+    }
+
+    /// A turn of a run that ends at the clock `end`; or a step of the processor with the leap over its clocks, as one.
+    #[inline(always)]
+    fn stride(&mut self, end: u64) -> Result<(), BoardFault>
+        requires before_end { clock_of self.old.plain < end }
+        requires within { end ≤ 2 ^ 40 }
+        ensures ok { OnOk result (IsStrideOn end self.old self.new) }
+        ensures err { OnErr result (IsHeldBack self.old self.new) }
+        ensures fault { IfErr result (λ fault. fault ≡ BoardFault.Memory) }
+    {
+        if self.step() {
+            self.pass_step(end);
+            return Ok(());
+        }
+        self.other_turn(end)
+    }
+
+    /// Leaps to the end of the processor's step, where it is known that nothing happens up to there. It isn't a turn of
+    /// its own.
+    #[inline(always)]
+    fn pass_step(&mut self, end: u64)
+        requires before_end { clock_of self.old.plain ≤ end }
+        requires within { end ≤ 2 ^ 40 }
+        ensures { (self.new ≡ self.old) ⊎ IsLeapOn end 0 self.old self.new }
+    {
+        if let Some(clocks) = self.plain.calm_clocks(end - self.clock().get()) {
+            self.plain.leap(clocks);
+        }
+    }
+
+    /// A turn that isn't such a step. It is kept out of the run's loop, whose values then stay in registers.
+    #[inline(never)]
+    fn other_turn(&mut self, end: u64) -> Result<(), BoardFault>
+        requires before_end { clock_of self.old.plain < end }
+        requires within { end ≤ 2 ^ 40 }
+        ensures ok { OnOk result (IsTurnOn end self.old self.new) }
+        ensures err { OnErr result (IsHeldBack self.old self.new) }
+        ensures fault { IfErr result (λ fault. fault ≡ BoardFault.Memory) }
+    {
         if let Some(clocks) = self.plain.calm_clocks(end - self.clock().get()) {
             self.leap(clocks);
             return Ok(());
         }
         let next = self.next_act();
         self.turn_by(&next, end)
+    }
+
+    /// The next clock, where it is known that the chips are calm and that an instruction begins in it that is kept and
+    /// isn't OUT: no change of the speaker's level comes with it. Else nothing is done. Answers whether it was made.
+    #[inline(always)]
+    fn step(&mut self) -> bool
+        requires { clock_of self.old.plain < 2 ^ 40 }
+        ensures made { IsTrue result → (IsTickOn self.old self.new × (1 ≤ work_next self.old.plain)) }
+        ensures not_made { ¬ (IsTrue result) → self.new ≡ self.old }
+    {
+        if !self.plain.begins_calmly() {
+            return false;
+        }
+        let decoded = match self.plain.kept() {
+            Some(kept) => *kept,
+            None => return false,
+        };
+        if !is_silent(&decoded) {
+            return false;
+        }
+        self.run_step(&decoded);
+        true
+    }
+
+    /// One processor clock, in which the instruction `decoded` begins. No change of the speaker's level is listed.
+    #[inline(always)]
+    fn run_step(&mut self, decoded: &Decoded)
+        requires within { clock_of self.old.plain < 2 ^ 40 }
+        requires next { Instruction decoded.now ≡ next_act self.old.plain }
+        requires exact { IsExact self.old.plain.cpu self.old.plain.chips (Instruction decoded.now) }
+        ensures plain { self.new.plain ≡ after_clock self.old.plain }
+        ensures clock { clock_of self.new.plain ≡ clock_of self.old.plain + 1 }
+        ensures changes { self.new.changes ≡ self.old.changes }
+        ensures trail { self.new.trail ≡ last 32 (self.old.trail ++ trail_next self.old.plain) }
+        ensures room { self.new.room ≡ self.old.room }
+        ensures turns { self.new.turns ≡ self.old.turns + 1 }
+    {
+        self.plain.note_begun(decoded, &mut self.trail);
+        self.plain.step(decoded);
+        self.turns += 1;
     }
 
     /// That turn, `next` being what the processor does in its first clock.
