@@ -1,5 +1,6 @@
 -- The turns of a run against its work: a clock with work pays for three, and the run for what is left.
 use Rattle.std.proofs.Common.{◌≡◌, ℕ, ◌+◌, ◌-◌, ◌*◌, ◌<◌, ◌≤◌, min, inl, inr, ◌++◌, length, sym, ap, ◌∙◌, subst, arith, append-nil}
+use Rattle.std.specs.Prelude.{◌⊎◌, OnOk, Result, Ok, Err}
 use Rattle.board_types.proofs.Iterate.{total_zero, total_more, total_add}
 use Rattle.board.specs.Board.{BoardState, Ran, StoppedEarly}
 use Rattle.board.specs.HeldBack.{IsHeldBack}
@@ -247,6 +248,16 @@ leap_turn end limit n p old new now most some within quiet tight wires plain cha
 pub tick_turn : (end limit n : ℕ) (p : Plain) (old new : BoardState) → p ≡ old.plain → limit ≡ end - clock_of old.plain → clock_of old.plain < end → n ≡ 0 → IsTight limit p n → WiresHold p.chips → IsTickOn old new → IsTurnOn end old new
 tick_turn end limit n p old new now most before none tight wires tick =
     inr (tick, subst (λ (q : Plain). 1 ≤ work_next q) now (works_at_once limit n p wires tight none (omega (arith, most, before))))
+
+-- a turn is a stride
+pub if_turn : {E : Type 0} (end : ℕ) (old new : BoardState) (result : Result Unit E) → OnOk result (IsTurnOn end old new) → OnOk result (IsStrideOn end old new)
+if_turn end old new (Ok x) turn = inl turn
+if_turn end old new (Err e) turn = turn
+
+-- a step, and what is leapt over behind it
+pub step_passed : (end : ℕ) (old begun new : BoardState) → IsTickOn old begun → 1 ≤ work_next old.plain → (new ≡ begun) ⊎ IsLeapOn end 0 begun new → IsStrideOn end old new
+step_passed end old begun new tick work (inl same) = inl (inr (subst (IsTickOn old) (sym same) tick, work))
+step_passed end old begun new tick work (inr leap) = inr (record { begun = begun; first = tick; work = work; rest = leap })
 
 -- it goes on
 

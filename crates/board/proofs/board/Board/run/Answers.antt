@@ -1,5 +1,5 @@
 use Rattle.std.proofs.Common.{refl, arith}
-use Rattle.board.proofs.Turns.{held_run, not_counted, so_far_none, so_far_turn, turn_moves}
+use Rattle.board.proofs.Turns.{held_run, not_counted, so_far_none, so_far_stride, stride_moves}
 use Rattle.board.proofs.board.Board.run.Goals as goal
 
 pub returns-then-is_past_limit-clause-turns_least : goal.returns-then-is_past_limit-clause-turns_least
@@ -10,13 +10,13 @@ turns-init g c = so_far_none _ _ c.is_past_limit.ensures.trail (omega (arith, c.
 
 pub turns-smaller : goal.turns-smaller
 turns-smaller g c =
-    turn_moves _ _ _ (omega (arith, c.turns-test.true, c.clock-in-turns.ensures, c.get-in-turns.ensures.value)) c.in_ok-turn.ensures.ok
+    stride_moves _ _ _ (omega (arith, c.turns-test.true, c.clock-in-turns.ensures, c.get-in-turns.ensures.value)) c.in_ok-stride.ensures.ok
 
 pub turns-preserved : goal.turns-preserved
 turns-preserved g c =
-    so_far_turn 1 _ _ _ _ c.turns.invariant (omega (arith, c.turns-test.true, c.clock-in-turns.ensures, c.get-in-turns.ensures.value)) c.in_ok-turn.ensures.ok
+    so_far_stride 1 _ _ _ _ c.turns.invariant (omega (arith, c.turns-test.true, c.clock-in-turns.ensures, c.get-in-turns.ensures.value)) c.in_ok-stride.ensures.ok
 
-pub returns-in_err-turn-clause-succeeds : goal.returns-in_err-turn-clause-succeeds
-returns-in_err-turn-clause-succeeds g c = λ within enough.
+pub returns-in_err-stride-clause-succeeds : goal.returns-in_err-stride-clause-succeeds
+returns-in_err-stride-clause-succeeds g c = λ within enough.
     absurd ((held_run 1 _ c.args.count _ _ _ c.turns.invariant (omega arith) (omega (arith, c.clock.ensures, c.get.ensures.value))
-    (omega (arith, c.turns-test.true, c.clock-in-turns.ensures, c.get-in-turns.ensures.value)) c.in_err-turn.ensures.err).enough enough)
+    (omega (arith, c.turns-test.true, c.clock-in-turns.ensures, c.get-in-turns.ensures.value)) c.in_err-stride.ensures.err).enough enough)
