@@ -31,6 +31,30 @@ def commands(block: str) -> list[tuple[str, str, str]]:
     return found
 
 
+def anchors(path: str) -> set[str]:
+    """What a link to a place within a page may name: its headings, as they are turned into anchors."""
+    with open(path, encoding='utf-8') as file:
+        text = re.sub(r'^```.*?^```', '', file.read(), flags=re.M | re.S)
+    titles = (re.sub(r'\[(.*?)\]\(.*?\)', r'\1', it) for it in re.findall(r'^#+ (.*)$', text, re.M))
+    return {re.sub(r'[^\w -]', '', it.lower()).replace(' ', '-') for it in titles}
+
+
+class Links(unittest.TestCase):
+    """The pages' links."""
+
+    def test_each_link_leads_somewhere(self) -> None:
+        pages = ['README.md', *(f'docs/{it}' for it in sorted(os.listdir(f'{TOP}/docs')) if it.endswith('.md'))]
+        for page in pages:
+            with open(f'{TOP}/{page}', encoding='utf-8') as file:
+                links = re.findall(r'\]\(([^)\s]+)\)', file.read())
+            for link in links:
+                path, _, anchor = link.partition('#')
+                target = os.path.normpath(f'{TOP}/{os.path.dirname(page)}/{path}') if path else f'{TOP}/{page}'
+                self.assertTrue(os.path.exists(target), f'{page}: {link}')
+                if anchor:
+                    self.assertIn(anchor, anchors(target), f'{page}: {link}')
+
+
 class Pages(ToolCase):
     """The commands are run in a folder that has what the pages speak of."""
 
