@@ -1,0 +1,222 @@
+"""bench/count and bench/race: what they parse, compute and refuse, and the code that the peers run. Neither valgrind nor
+another emulator is needed: a script stands for valgrind, and Zebludor's own board runs what the peers would."""
+from __future__ import annotations
+
+import io
+import os
+import shutil
+import sys
+import unittest
+from contextlib import redirect_stdout
+from importlib.machinery import SourceFileLoader
+from importlib.util import module_from_spec, spec_from_loader
+from types import ModuleType
+from unittest.mock import patch
+
+from tests.support import TOP, ToolCase
+
+BENCH = f'{TOP}/bench'
+CALLGRIND = '''==4711== Callgrind, a call-graph generating cache profiler
+==4711== Command: pcboard run a.asm a_100000.json
+==4711==
+==4711== Events    : Ir
+==4711== Collected : 8206035
+==4711==
+==4711== I   refs:      8,206,035
+'''
+# Runs the program, and tells 1,000 host instructions and 60 a clock of the budget.
+VALGRIND = '''#!/bin/sh
+shift 2
+budget=${4%.json}
+"$@" && echo "==1== Collected : $((1000 + 60 * ${budget#*_}))" >&2
+'''
+
+
+def module(name: str) -> ModuleType:
+    """One of the two, which have no suffix, as a module."""
+    if BENCH not in sys.path:
+        sys.path.insert(0, BENCH)
+    loader = SourceFileLoader(f'bench_{name}', f'{BENCH}/{name}')
+    spec = spec_from_loader(loader.name, loader)
+    assert spec
+    found = sys.modules[loader.name] = module_from_spec(spec)
+    loader.exec_module(found)
+    return found
+
+
+class Count(ToolCase):
+    """Host instructions for each step."""
+
+    def count(self, *words: str, status: int = 0) -> tuple[str, str]:
+        """What bench/count prints, where the only commands are those of the case's folder and the shell's."""
+        with patch.dict(os.environ, {'PATH': self.room}):
+            return self.tool('../bench/count', *words, status=status)
+
+    def with_valgrind(self) -> None:
+        """Puts the script in valgrind's place."""
+        os.chmod(self.file('valgrind', VALGRIND), 0o755)
+
+    def test_what_callgrind_tells(self) -> None:
+        self.assertEqual(module('count').collected(CALLGRIND), 8206035)
+        self.assertIsNone(module('count').collected('==1== valgrind: failed to start\n'))
+
+    def test_a_line(self) -> None:
+        line_of = module('count').line_of
+        self.assertEqual(line_of('a', 64303962, 130434, 'a step'),
+                         ('a              64,303,962     130,434           493.0  a step', True))
+        self.assertFalse(line_of('a', 1201, 10, 'a step', 120.0)[1])
+        self.assertTrue(line_of('a', 1200, 10, 'a step', 120.0)[1])
+
+    def test_the_difference_of_two_budgets(self) -> None:
+        self.with_valgrind()
+        out, _ = self.count('--only', 'a,f')
+        self.assertEqual([it.split() for it in out.splitlines()[1:]],
+                         [['a', '60,000,000', '130,434', '460.0', 'a', 'step'],
+                          ['f', '59,982,000,000', '3,813', '15,730,920.5', 'a', 'wake']])
+
+    def test_limits(self) -> None:
+        self.with_valgrind()
+        self.assertIn('at most 461.0: kept', self.count('--limit', 'a=461')[0])
+        out, _ = self.count('--limit', 'start=1000,a=459.9', status=1)
+        self.assertIn('at most 1,000.0: kept', out)
+        self.assertIn('at most 459.9: above it', out)
+
+    def test_a_wrong_answer(self) -> None:
+        os.chmod(self.file('valgrind', VALGRIND.replace('"$@"', '"$@" | /bin/sed s/AX=3D82/AX=3D83/')), 0o755)
+        out, _ = self.count('--only', 'a,start', status=1)
+        self.assertRegex(out, 'wrong: budget 100000: .*AX=3D83')
+        self.assertIn('a run of budget 0', out)
+
+    def test_steps(self) -> None:
+        out, _ = self.count('--steps', '--only', 'a')
+        self.assertEqual(out, 'a  [13046, 143480]  as in steps.json\n')
+
+    def test_the_steps_of_two_loops_by_their_clocks(self) -> None:
+        """By the table of clocks: a far jump takes 15, MOV of a number 4, ADD and XOR 3, LOOP 17; IN 10, TEST 3, JZ 16."""
+        loops = module('count').known()
+        for name, begun, lengths in (('a', [15, 4, 4, 4, 4], [3, 3, 17]), ('e', [15], [10, 3, 16])):
+            for budget, count in zip(loops[name].budgets, loops[name].count, strict=True):
+                budget = min(budget, 1500000)
+                clock, steps = 0, 0
+                while clock < budget:
+                    clock += begun[steps] if steps < len(begun) else lengths[(steps - len(begun)) % len(lengths)]
+                    steps += 1
+                self.assertEqual(steps, count, f'{name} at {budget}')
+
+    def test_refusals(self) -> None:
+        self.assertIn("valgrind, which counts, isn't there", self.count('--only', 'a', status=2)[1])
+        for words, told in ((['--only', 'x'], 'x is no loop'), (['--only', ''], 'nothing is no loop'),
+                            (['--limit', 'a'], 'a is no limit'), (['--limit', 'a=-1'], 'a=-1 is no limit'),
+                            (['--limit', 'x=1'], 'x is no loop'), (['--limit', 'a=1,a=2'], 'two limits'),
+                            (['--only', 'b', '--limit', 'a=1'], "a has a limit and isn't counted"),
+                            (['--steps', '--only', 'f'], '--steps counts'), (['--steps', '--limit', 'a=1'], '--limit goes'),
+                            ([f'{TOP}/pcboard'], 'is no built program'), (['nowhere'], "can't be read"),
+                            (['--nonsense'], 'unrecognized')):
+            self.assertIn(told, self.count(*words, status=2)[1])
+        self.assertIn('--limit', self.count('--help')[0])
+
+
+class Race(ToolCase):
+    """Processor time for each instruction, against other emulators."""
+
+    def run_code(self, body: bytes, end: bytes) -> dict[str, str]:
+        """The registers and the state of Zebludor's board after a boot sector, which a far jump at reset starts."""
+        sector = module('race').boot_sector(body, end)[:512]
+        self.assertEqual(sector[510:], b'\x55\xaa')
+        records = [(0x7C00 + at, sector[at:at + 16]) for at in range(0, 512, 16)]
+        lines = [hex_record(0, at, content) for at, content in records]
+        lines += [hex_record(2, 0, b'\xff\xff'), hex_record(0, 0, b'\xea\x00\x7c\x00\x00'), hex_record(1, 0, b'')]
+        code = self.file('it.hex', ''.join(lines))
+        run = self.file('it.json', '{"version":1,"ram":64,"sw1":0,"sw2":0,"budget":100000000,"keys":[]}')
+        ran = self.pcboard('run', '--hex', code, run)
+        self.assertEqual(ran.returncode, 0, ran.stderr)
+        lines = ran.stdout.splitlines()
+        return {**dict(it.split('=') for it in f'{lines[1]} {lines[2]}'.split()), 'state': lines[3]}
+
+    def code(self, loop: str) -> bytes:
+        """A loop's bytes."""
+        return bytes(module('race').segment_main(self.pcboard('asm', f'{BENCH}/loops/{loop}.asm').stdout))
+
+    def test_loop_a_with_an_end(self) -> None:
+        race = module('race')
+        ax, bx = 0, 1
+        for _ in range(3 * 65535):
+            ax = (ax + bx) % 65536
+            bx ^= ax
+        found = self.run_code(race.with_an_end(self.code('a'), 3, 2), race.TO_SHUT_BOCHS)
+        self.assertEqual((found['AX'][:2], found['BX'], found['CX'], found['BP'], found['state']),
+                         (f'{ax:04X}'[:2], f'{bx:04X}', '0000', '0000', 'state halted'))
+        self.assertEqual(found['DX'], '8900')
+
+    def test_loop_b_with_an_end(self) -> None:
+        race = module('race')
+        found = self.run_code(race.with_an_end(self.code('b'), 5, 3), race.TO_SHUT_BOCHS)
+        # a round moves 64 words and then 32 bytes from and to the next places
+        self.assertEqual((found['SI'], found['DI'], found['SP'], found['BP'], found['state']),
+                         ('10A0', '20A0', '8F00', '0000', 'state halted'))
+
+    def test_the_rounds(self) -> None:
+        race = module('race')
+        code = self.code('a')
+        self.assertEqual(race.with_an_end(code, 65536, 4)[:3], b'\xbd\x04\x00')
+        self.assertIn(b'\xba\x00\x00', race.with_an_end(code, 65536, 4))
+        self.assertIn(b'\xba\xf4\x01', race.with_an_end(code, 500, 1))
+        self.assertEqual(len(race.boot_sector(code, race.TO_END_8086TINY)), 1474560)
+
+    def test_instructions_of_a_round(self) -> None:
+        """As many a clock as steps.json has between its budgets."""
+        loops = module('count').known()
+        for name, (instructions, clocks) in module('race').ROUND.items():
+            between = loops[name].count[1] - loops[name].count[0]
+            self.assertAlmostEqual(instructions / clocks * 1000000, between, delta=50)
+
+    def test_a_race(self) -> None:
+        race = module('race')
+        turns: list[str] = []
+        mine, its = Runner('Zebludor', turns, 2.0), Runner('Bochs', turns, 3.0)
+        with redirect_stdout(io.StringIO()) as told:
+            each, are_all_done = race.raced([mine, its, Runner('DOSBox', turns, None)], 2)
+        self.assertEqual(told.getvalue(), 'DOSBox: it stands still\n')
+        self.assertEqual(turns, ['Zebludor', 'Bochs', 'DOSBox', 'Zebludor', 'Bochs'])
+        self.assertFalse(are_all_done)
+        self.assertEqual([it.split() for it in race.table(each)][:2],
+                         [['a', 'Zebludor', '2.00', 'ns'],
+                          ['a', 'Bochs', '3.00', 'ns', 'Zebludor', 'is', '1.50', 'times', 'as', 'fast']])
+
+    def test_who_is_not_there(self) -> None:
+        race = module('race')
+        with patch.object(shutil, 'which', return_value=None):
+            self.assertFalse(any(it.is_there() for it in race.PEERS))
+
+    def test_refusals(self) -> None:
+        for words, told in ((['--rounds', '0'], '0 is no number of rounds'), (['--rounds', 'x'], 'x is no number'),
+                            ([f'{TOP}/pcboard'], 'is no built program'), (['--nonsense'], 'unrecognized')):
+            self.assertIn(told, self.tool('../bench/race', *words, status=2)[1])
+        self.assertIn('--rounds', self.tool('../bench/race', '--help')[0])
+
+
+class Runner:
+    """Takes a second to start, and so many seconds more for 10^9 instructions, one more in its second turn; or fails."""
+
+    def __init__(self, name: str, turns: list[str], seconds: float | None) -> None:
+        self.name, self.turns, self.seconds, self.more = name, turns, seconds, 0.0
+
+    def run(self, loop: str) -> tuple[float, float]:
+        """Its time and the instructions."""
+        if not loop:
+            self.turns.append(self.name)
+            return 1.0, 0
+        if self.seconds is None:
+            raise sys.modules['bench_race'].Failed('it stands still')
+        time, self.more = 1.0 + self.seconds + self.more, 1.0
+        return time, 1e9
+
+
+def hex_record(kind: int, at: int, content: bytes) -> str:
+    """A line of Intel HEX."""
+    record = bytes([len(content), *at.to_bytes(2, 'big'), kind]) + content
+    return f':{(record + bytes([-sum(record) % 256])).hex().upper()}\n'
+
+
+if __name__ == '__main__':
+    unittest.main()
