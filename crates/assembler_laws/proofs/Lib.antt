@@ -21,3 +21,6 @@ pub mod Operations
 pub mod TextBytes
 pub mod PlacedBytes
 pub mod Outcome
+pub mod TextPieces
+pub mod WrittenOperands
+pub mod TextsSaid

@@ -3,3 +3,4 @@ pub mod Sameness
 pub mod Places
 pub mod DataBytes
 pub mod FirstFaults
+pub mod SaidTexts
