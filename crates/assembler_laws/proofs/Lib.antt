@@ -24,3 +24,5 @@ pub mod Outcome
 pub mod TextPieces
 pub mod WrittenOperands
 pub mod TextsSaid
+pub mod ChosenForms
+pub mod ChosenRows
