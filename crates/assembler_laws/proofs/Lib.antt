@@ -26,3 +26,5 @@ pub mod WrittenOperands
 pub mod TextsSaid
 pub mod ChosenForms
 pub mod ChosenRows
+pub mod AskedTexts
+pub mod TextForms

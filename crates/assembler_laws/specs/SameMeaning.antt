@@ -18,7 +18,7 @@ use Rattle.isa.specs.declared.row.Kind.{Kind}
 use Rattle.isa.specs.declared.row.Kind.TheVariants as kinds
 use Rattle.isa.specs.Row.{first_of, operation_of, second_of}
 use Rattle.isa.specs.Registers.{byte_register_of, segment_register_of, word_register_of}
-use Rattle.isa.specs.Encoding.{instr_length, sign_extended}
+use Rattle.isa.specs.Encoding.{instr_length, sign_extended, IsInstr}
 use Rattle.dialect.specs.declared.register.Register.{Register}
 use Rattle.dialect.specs.declared.register.Register.TheVariants as registers
 use Rattle.dialect.specs.declared.size.Size.{Size}
@@ -30,6 +30,12 @@ use Rattle.assembler_form.specs.declared.asked.Asked.{Asked}
 use Rattle.assembler_form.specs.declared.fields.Numbers.{Numbers}
 use Rattle.assembler_form.specs.Choice.{IsChosen}
 use Rattle.assembler_form.specs.Fields.{values_of}
+use Rattle.assembler_meaning.specs.declared.symbol.Location.{Location}
+use Rattle.assembler_meaning.specs.Instructions.{instruction_asked, instruction_size, IsFormFor}
+use Rattle.assembler_meaning.specs.Values.{Names}
+use Rattle.assembler.specs.Placement.{fields_of}
+use Rattle.assembler_laws.specs.DecodingBack.{instr_of}
+use Rattle.assembler_laws.specs.SaidTexts.{said_instruction}
 
 -- an operand by value: a register, a number (a jump's target too), so many bytes in memory, or a far target
 pub data Meant : Type 0 where
@@ -157,3 +163,13 @@ abbrev pub FormsMeanWhatIsAsked : Type 0
 FormsMeanWhatIsAsked =
     (a : Asked) (f : Form) (v : Values) (next : ℕ) (n : Numbers) → IsChosen a f → values_of f (pos next) n ≡ Some v
     → AreOf a.first n → AreOf a.second n → IsOfValues a n f v (next % 65536)
+
+-- Given to the assembler at its offset, in the light of any names before it and in the whole source, the text of an
+-- instruction takes a form that means the same with the numbers that it has there, if they are in range.
+abbrev pub TextsMeanTheSame : Type 0
+TextsMeanTheSame =
+    (before names : Names) (location : Location) (i : Instr) (f : Form) (v : Values) → IsInstr i
+    → IsFormFor (instruction_asked before (said_instruction i location.offset)) (Some f)
+    → fields_of names location (instruction_size f (said_instruction i location.offset)) f
+    (said_instruction i location.offset) ≡ Some v
+    → MeansTheSame i (instr_of f (said_instruction i location.offset) v) location.offset
