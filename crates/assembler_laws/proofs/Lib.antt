@@ -24,3 +24,7 @@ pub mod Outcome
 pub mod TextPieces
 pub mod WrittenOperands
 pub mod TextsSaid
+pub mod ChosenForms
+pub mod ChosenRows
+pub mod AskedTexts
+pub mod TextForms

@@ -88,13 +88,13 @@ said_with_first (Far s o) w is = refl
 said_with_first (Memory m) w is = refl
 
 -- ---- what is written is in range
-field_small : (field : Field) (n s : ℕ) → FitsField field n s → (n < 65536) × (s < 65536)
+pub field_small : (field : Field) (n s : ℕ) → FitsField field n s → (n < 65536) × (s < 65536)
 field_small fields.Absent n s fits = (omega (arith, fits.0), omega (arith, fits.1))
 field_small fields.Byte n s fits = (omega (arith, fits.0), omega (arith, fits.1))
 field_small fields.Word n s fits = (fits.0, omega (arith, fits.1))
 field_small fields.Far n s fits = fits
 
-signed_small : (n : ℕ) → sign_extended n < 65536
+pub signed_small : (n : ℕ) → sign_extended n < 65536
 signed_small n = by (nat_lt n 128) refl
   where
     by : (b : Bool) → nat_lt n 128 ≡ b → (if b then n else (n + 65280) % 65536) < 65536

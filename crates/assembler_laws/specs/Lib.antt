@@ -4,3 +4,4 @@ pub mod Places
 pub mod DataBytes
 pub mod FirstFaults
 pub mod SaidTexts
+pub mod SameMeaning
