@@ -19,7 +19,8 @@ class Contracts(ToolCase):
         self.tool('contracts', '--check')
 
     def run_it(self, word: str) -> int:
-        return subprocess.run([sys.executable, f'{self.room}/tools/contracts', word], capture_output=True, check=False).returncode
+        ran = subprocess.run([sys.executable, f'{self.room}/tools/contracts', word], capture_output=True, check=False)
+        return ran.returncode
 
     def test_a_changed_comment_and_a_new_clause_are_seen(self) -> None:
         for folder in ('tools', 'docs'):
