@@ -1,4 +1,4 @@
-; Counts the timer's ticks on the screen.
+; Counts the timer's ticks on the screen, one too many: a mistake to find.
 SEGMENT MAIN AT 0F000h
 start:  MOV AL,13h              ; 8259A: edges, no slaves, ICW4 comes
         OUT 20h,AL

@@ -10,6 +10,7 @@ from tests.support import EXAMPLES, TOOLS, TOP, ToolCase
 
 PAGES = ('README.md', 'docs/for-archivists.md', 'docs/for-teachers.md', 'docs/for-firmware.md', 'docs/EXAMPLES.md',
          'docs/DEBUGGER.md', 'docs/sweeps.md')
+SESSION = r'((?:break|byte|sound|halted|go|step|regs|screen|dump|trail|quit)\b.*)'  # what is typed in a session of debug
 MINE = 'SEGMENT MAIN AT 0F000h\nstart:  MOV AX,0xB000\n        MOV ES,AX\n        HLT\nENDS\nSEGMENT RESET AT 0FFFFh\n        JMP FAR start\nENDS\n'
 RUN = '{"version":1,"ram":64,"sw1":0,"sw2":0,"budget":100000,"keys":[]}'
 
@@ -25,10 +26,35 @@ def commands(block: str) -> list[tuple[str, str, str]]:
     found = []
     for part in re.split(r'^\$ ', block, flags=re.M)[1:]:
         command, _, printed = part.partition('\n')
-        typed = re.findall(r'^dbg> (.*)\n', printed, re.M)
-        printed = re.sub(r'^(dbg> .*|Type help .*)\n', '', printed, flags=re.M)
+        mark = SESSION if 'pcboard debug' in command else r'dbg> (.*)'
+        typed = re.findall(f'^{mark}\n', printed, re.M)
+        printed = re.sub(f'^({mark}|Type help .*)\n', '', printed, flags=re.M)
         found.append((command, ''.join(f'{it}\n' for it in typed), printed))
     return found
+
+
+def anchors(path: str) -> set[str]:
+    """What a link to a place within a page may name: its headings, as they are turned into anchors."""
+    with open(path, encoding='utf-8') as file:
+        text = re.sub(r'^```.*?^```', '', file.read(), flags=re.M | re.S)
+    titles = (re.sub(r'\[(.*?)\]\(.*?\)', r'\1', it) for it in re.findall(r'^#+ (.*)$', text, re.M))
+    return {re.sub(r'[^\w -]', '', it.lower()).replace(' ', '-') for it in titles}
+
+
+class Links(unittest.TestCase):
+    """The pages' links."""
+
+    def test_each_link_leads_somewhere(self) -> None:
+        pages = ['README.md', *(f'docs/{it}' for it in sorted(os.listdir(f'{TOP}/docs')) if it.endswith('.md'))]
+        for page in pages:
+            with open(f'{TOP}/{page}', encoding='utf-8') as file:
+                links = re.findall(r'\]\(([^)\s]+)\)', file.read())
+            for link in links:
+                path, _, anchor = link.partition('#')
+                target = os.path.normpath(f'{TOP}/{os.path.dirname(page)}/{path}') if path else f'{TOP}/{page}'
+                self.assertTrue(os.path.exists(target), f'{page}: {link}')
+                if anchor:
+                    self.assertIn(anchor, anchors(target), f'{page}: {link}')
 
 
 class Pages(ToolCase):
@@ -61,11 +87,12 @@ class Pages(ToolCase):
         """Runs a page's commands, and returns how many there were."""
         count = 0
         for command, typed, printed in (it for block in blocks(page) for it in commands(block)):
-            if not command.startswith(('tools/', './pcboard run')):
+            if not command.startswith(('tools/', './pcboard run', './pcboard debug')):
                 continue
             if 'mine.asm' in command and '"ram"' in printed:
                 self.file('mine.asm', MINE.replace('0xB000', '0B000h'))
-            self.assertEqual(self.shell(command, typed).rstrip(), printed.rstrip(), f'{page}: {command}')
+            wanted = re.escape(printed.rstrip()).replace('\n\\.\\.', '\n(.*\n)*.*')  # a line `..` stands for any
+            self.assertRegex(self.shell(command, typed).rstrip(), f'\\A{wanted}\\Z', f'{page}: {command}')
             count += 1
         return count
 

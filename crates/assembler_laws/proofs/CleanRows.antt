@@ -92,7 +92,7 @@ form_there (Some f) i formed = (f, refl)
 form_there None i formed = absurd (let never : true ≡ false = formed in cc)
 
 -- ---- the form is one of the table, and there are at most seven prefixes
-chosen_there : (o : Option Asked) (f : Form) → IsFormFor o (Some f) → (a : Asked) × (o ≡ Some a) × IsChosen a f
+pub chosen_there : (o : Option Asked) (f : Form) → IsFormFor o (Some f) → (a : Asked) × (o ≡ Some a) × IsChosen a f
 chosen_there (Some a) f is = (a, refl, is)
 chosen_there None f is = absurd (let never : Some f ≡ None = is in cc)
 

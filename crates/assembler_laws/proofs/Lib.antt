@@ -21,3 +21,10 @@ pub mod Operations
 pub mod TextBytes
 pub mod PlacedBytes
 pub mod Outcome
+pub mod TextPieces
+pub mod WrittenOperands
+pub mod TextsSaid
+pub mod ChosenForms
+pub mod ChosenRows
+pub mod AskedTexts
+pub mod TextForms

@@ -1,7 +1,8 @@
--- Whether two operations are the same can be told.
-use Rattle.std.proofs.Common.{◌≡◌, ◌∙◌, ℕ, List, [], ◌∷◌, get_or, refl, sym, ap, arith, inl, inr}
+-- Operations in their order: what passes for each, and whether two are the same.
+use Rattle.std.proofs.Common.{◌≡◌, ◌∙◌, ℕ, zero, suc, List, [], ◌∷◌, get_or, refl, sym, ap, subst, arith, inl, inr, Bool, true}
 use Rattle.std.specs.Prelude.{◌⊎◌}
-use Rattle.std.proofs.lemmas.Bool.{cases_lt}
+use Rattle.std.specs.List.{list_all}
+use Rattle.std.proofs.lemmas.Bool.{and_parts, cases_lt}
 use Rattle.isa.specs.declared.operation.Operation.{Operation}
 use Rattle.isa.specs.declared.operation.Operation.TheVariants as operations
 use Rattle.isa.specs.declared.operation.Arithmetic.TheVariants as arithmetic
@@ -253,6 +254,17 @@ stands_there (operations.Processor processor.Esc) = refl
 
 same_by : (x y : Operation) → place_of x ≡ place_of y → x ≡ y
 same_by x y is = sym (stands_there x) ∙ ap (λ (n : ℕ). get_or all n (operations.Arithmetic arithmetic.Add)) is ∙ stands_there y
+
+-- what passes for each operation in their order passes for any
+passes_at : (p : Operation → Bool) (os : List Operation) (n : ℕ) (d : Operation) → list_all p os ≡ true → p d ≡ true → p (get_or os n d) ≡ true
+passes_at p [] n d each here = here
+passes_at p (o ∷ os) zero d each here = (and_parts (p o) (list_all p os) each).0
+passes_at p (o ∷ os) (suc n) d each here = passes_at p os n d (and_parts (p o) (list_all p os) each).1 here
+
+pub each_operation : (p : Operation → Bool) → list_all p all ≡ true → (x : Operation) → p x ≡ true
+each_operation p passes x =
+    let add : Operation = operations.Arithmetic arithmetic.Add in
+    subst (λ (o : Operation). p o ≡ true) (stands_there x) (passes_at p all (place_of x) add passes (and_parts (p add) _ passes).0)
 
 pub one_or_other : (x y : Operation) → (x ≡ y) ⊎ (x ≡ y → ⊥)
 one_or_other x y = elim (cases_lt (place_of x) (place_of y)) [

@@ -3,3 +3,5 @@ pub mod Sameness
 pub mod Places
 pub mod DataBytes
 pub mod FirstFaults
+pub mod SaidTexts
+pub mod SameMeaning

@@ -2,10 +2,13 @@ mod Parting
 mod Gathering
 mod Folding
 pub mod Weights
-mod SpelledTerms
-mod SpelledOperands
-mod SpelledLists
-mod SpelledLines
+mod Around
+mod EachTerms
+mod EachLists
+mod EachOperands
+mod EachItems
+mod EachLines
+mod OneSpelling
 mod Rows
 mod BackTerms
 mod BackOperands

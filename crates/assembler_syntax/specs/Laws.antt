@@ -1,8 +1,9 @@
 -- The laws of lines.
 -- Laws: claims above the definitions, each proved as the contract of a function.
-use Rattle.std.specs.Prelude.{ℕ, ◌≡◌, List, length, map, Ok}
+use Rattle.std.specs.Prelude.{ℕ, ◌≡◌, true, List, length, map, Ok}
 use Rattle.std.specs.List.{list_all}
 use Rattle.assembler_lexeme.specs.Lexemes.{folded, is_character, lexemes}
+use Rattle.assembler_lexeme.specs.Tokens.{tokens_of}
 use Rattle.assembler_lexeme.specs.declared.token.Token.{Token}
 use Rattle.assembler_syntax.specs.declared.statement.Line.{Line}
 use Rattle.assembler_syntax.specs.Lines.{line_of, read_line}
@@ -27,3 +28,19 @@ HoldsNoMore = (text : List ℕ) (line : Line) → read_line text ≡ Ok line →
 -- what is read of tokens is a line that they spell
 abbrev pub EachLineReadIsSpelled : Type 0
 EachLineReadIsSpelled = (ts : List Token) (l : Line) → line_of ts ≡ Ok l → SpellsLine l ts
+
+-- each line is read from all of its spellings
+abbrev pub EachSpellingIsRead : Type 0
+EachSpellingIsRead = (ts : List Token) (l : Line) → SpellsLine l ts → line_of ts ≡ Ok l
+
+-- a text says a line whose tokens it has
+pub record Says (text : List ℕ) (l : Line) : Type 0 where
+  pub characters : list_all is_character text ≡ true
+  pub tokens : List Token
+  pub are : tokens_of (lexemes text) ≡ Ok tokens
+  pub spelled : SpellsLine l tokens
+
+-- a text is read as a line exactly where it says it
+abbrev pub EachTextIsReadAsItSays : Type 0
+EachTextIsReadAsItSays =
+    (text : List ℕ) (l : Line) → (read_line text ≡ Ok l → Says text l) × (Says text l → read_line text ≡ Ok l)

@@ -1,5 +1,5 @@
 -- A clock in which an instruction begins, the chips being calm.
-use Rattle.std.proofs.Common.{◌≡◌, ℕ, ◌+◌, ◌≤◌, [], ◌++◌, length, refl, sym, ap, ◌∙◌, arith, append-nil}
+use Rattle.std.proofs.Common.{◌≡◌, ◌+◌, ◌≤◌, [], ◌++◌, length, refl, sym, ap, ◌∙◌, arith, append-nil}
 use Rattle.board_bus.proofs.Calm.{level_stays}
 use Rattle.board_types.specs.Lines.{from_bool}
 use Rattle.decode.specs.declared.decoding.Decoding.{Decoding}

@@ -7,6 +7,7 @@ ghost use Rattle.loader.specs.ByteInput.{CountsNone, CountsOne, CountsRefusal, I
 ghost use Rattle.loader.specs.declared.byte_input.ReadFault.TheVariants.{Failed as failed, Memory};
 
 use std::alloc::{AllocError, Global};
+use std::io::{ErrorKind, Read};
 use thiserror::Error;
 
 /// How many bytes are asked for at once.
@@ -31,6 +32,23 @@ pub trait ByteInput {
         ensures bound { ReadsAtMost result buf.new }
         ensures bytes { ReadConsumes (remaining self.old) (remaining self.new) result buf.new }
         ensures failures { CountsRefusal (failures self.old) (failures self.new) result };
+}
+
+/// A reader is such an input, which tells its bytes as the reader does, and doesn't count its failures. A read that was
+/// interrupted is made again; a reader that is interrupted `u64::MAX` times in one call has failed.
+impl<R: Read> ByteInput for R {
+    ghost remaining = { λ reader. R.remaining reader };
+
+    fn read(&mut self, buf: &mut [u8]) -> Result<usize, Failed> {
+        'tries: for _ in 0..u64::MAX {
+            match Read::read(self, buf) {
+                Ok(count) => return Ok(count),
+                Err(error) if error.kind() == ErrorKind::Interrupted => {}
+                Err(_) => return Err(Failed),
+            }
+        }
+        Err(Failed)
+    }
 }
 
 /// Why an input isn't read.

@@ -1,4 +1,4 @@
-use Rattle.assembler_syntax.proofs.SpelledLines.{each_line_read}
+use Rattle.assembler_syntax.proofs.OneSpelling.{each_line_read}
 use Rattle.assembler_syntax.proofs.laws.each_line_is_read.Goals as goal
 
 pub returns : goal.returns

@@ -1,0 +1,28 @@
+//! The text of a decoded instruction, given to the assembler.
+ghost use Rattle.assembler_laws.specs.SaidTexts.{TextsAreRead};
+ghost use Rattle.assembler_laws.specs.SameMeaning.{FormsMeanWhatIsAsked, TextsMeanTheSame};
+
+/// The text of each instruction of the table is read as a line: the instruction's prefixes in their order, a mnemonic
+/// of its operation, and what is written for its operands.
+pub fn texts_are_read()
+    ensures { TextsAreRead }
+{
+    dialect::laws::operations_are_read();
+    dialect::laws::registers_are_read();
+    dialect::laws::prefixes_are_read();
+    dialect::laws::keywords_are_read();
+    assembler_syntax::laws::each_line_is_read();
+}
+
+/// The form that is chosen for what a line asks has the operation that is asked. With the numbers that the operands
+/// name its operands are by value those that are asked, in whichever part of its bytes they stand.
+pub fn forms_mean_what_is_asked()
+    ensures { FormsMeanWhatIsAsked }
+{}
+
+/// Given to the assembler at its offset, whatever names are known, the text of an instruction of the table takes a form
+/// that means the same with the numbers that it has there: the same operation, the same prefixes in their order, and
+/// the same operands by value. XCHG of AX and another register may have the two in the other order.
+pub fn texts_mean_the_same()
+    ensures { TextsMeanTheSame }
+{}
