@@ -28,3 +28,4 @@ pub mod ChosenForms
 pub mod ChosenRows
 pub mod AskedTexts
 pub mod TextForms
+pub mod TextsBack

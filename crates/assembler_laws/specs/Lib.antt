@@ -5,3 +5,4 @@ pub mod DataBytes
 pub mod FirstFaults
 pub mod SaidTexts
 pub mod SameMeaning
+pub mod TextsBack

@@ -1,6 +1,7 @@
 //! The text of a decoded instruction, given to the assembler.
 ghost use Rattle.assembler_laws.specs.SaidTexts.{TextsAreRead};
 ghost use Rattle.assembler_laws.specs.SameMeaning.{FormsMeanWhatIsAsked, TextsMeanTheSame};
+ghost use Rattle.assembler_laws.specs.TextsBack.{TextsDecodeTheSame};
 
 /// The text of each instruction of the table is read as a line: the instruction's prefixes in their order, a mnemonic
 /// of its operation, and what is written for its operands.
@@ -26,3 +27,12 @@ pub fn forms_mean_what_is_asked()
 pub fn texts_mean_the_same()
     ensures { TextsMeanTheSame }
 {}
+
+/// In whatever memory holds the image of an accepted source: where a line says what the text of an instruction of the
+/// table at the line's offset says, an instruction is decoded there that means the same, with as many bytes as the line
+/// has.
+pub fn texts_decode_the_same()
+    ensures { TextsDecodeTheSame }
+{
+    texts_are_read();
+}
