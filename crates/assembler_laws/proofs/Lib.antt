@@ -29,3 +29,4 @@ pub mod ChosenRows
 pub mod AskedTexts
 pub mod TextForms
 pub mod TextsBack
+pub mod TakenTexts

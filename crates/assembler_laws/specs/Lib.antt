@@ -6,3 +6,4 @@ pub mod FirstFaults
 pub mod SaidTexts
 pub mod SameMeaning
 pub mod TextsBack
+pub mod TextsTaken

@@ -2,6 +2,7 @@
 ghost use Rattle.assembler_laws.specs.SaidTexts.{TextsAreRead};
 ghost use Rattle.assembler_laws.specs.SameMeaning.{FormsMeanWhatIsAsked, TextsMeanTheSame};
 ghost use Rattle.assembler_laws.specs.TextsBack.{TextsDecodeTheSame};
+ghost use Rattle.assembler_laws.specs.TextsTaken.{TextsTakeAForm};
 
 /// The text of each instruction of the table is read as a line: the instruction's prefixes in their order, a mnemonic
 /// of its operation, and what is written for its operands.
@@ -19,6 +20,11 @@ pub fn texts_are_read()
 /// name its operands are by value those that are asked, in whichever part of its bytes they stand.
 pub fn forms_mean_what_is_asked()
     ensures { FormsMeanWhatIsAsked }
+{}
+
+/// Whatever names are known, some row of the table takes what the text of an instruction of the table asks.
+pub fn texts_take_a_form()
+    ensures { TextsTakeAForm }
 {}
 
 /// Given to the assembler at its offset, whatever names are known, the text of an instruction of the table takes a form
