@@ -28,3 +28,5 @@ pub mod ChosenForms
 pub mod ChosenRows
 pub mod AskedTexts
 pub mod TextForms
+pub mod TextsBack
+pub mod TakenTexts

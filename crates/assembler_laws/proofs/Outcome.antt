@@ -95,7 +95,7 @@ form_by a (inl found) =
     )
 form_by a (inr none) = (None, none)
 
-form_for : (o : Option Asked) → (form : Option Form) × IsFormFor o form
+pub form_for : (o : Option Asked) → (form : Option Form) × IsFormFor o form
 form_for None = (None, refl)
 form_for (Some a) = form_by a (first_or_none table a)
 

@@ -97,7 +97,7 @@ said_numbers names here n (Far s o) is = rw (value_number names here s, value_nu
 said_numbers names here n (Memory m) is = ap (option_map (with_displacement n)) (displacement_valued names here m.displacement)
 
 -- ---- both operands
-record AreBoth (names : Names) (here : ℕ) (v w : Written) : Type 0 where
+pub record AreBoth (names : Names) (here : ℕ) (v w : Written) : Type 0 where
   pub asked : known_operands names (said_operands v w) ≡ Some (asked_by v, asked_by w)
   pub numbers : numbers_of names here (said_operands v w) ≡ Some (numbers_by w (numbers_by v no_numbers))
   pub override : override_of (said_operands v w) ≡ None
@@ -141,12 +141,12 @@ two_said names here v w is there =
     }
 
 -- ---- tests of each row
-abbrev is_none : Kind → Bool
+abbrev pub is_none : Kind → Bool
 is_none kinds.Nothing = true
 is_none kinds.Ten = true
 is_none _ = false
 
-abbrev has_number : Kind → Bool
+abbrev pub has_number : Kind → Bool
 has_number kinds.One = true
 has_number kinds.EscNumber = true
 has_number kinds.Imm8 = true
@@ -157,7 +157,7 @@ has_number kinds.Rel16 = true
 has_number kinds.Far = true
 has_number _ = false
 
-abbrev has_memory : Kind → Bool
+abbrev pub has_memory : Kind → Bool
 has_memory kinds.Rm8 = true
 has_memory kinds.Rm16 = true
 has_memory kinds.Memory = true
@@ -166,30 +166,30 @@ has_memory kinds.At16 = true
 has_memory _ = false
 
 -- operations beside which a register tells a size
-abbrev is_plain : Operation → Bool
+abbrev pub is_plain : Operation → Bool
 is_plain (Shift _) = false
 is_plain (Transfer transfer.Push) = false
 is_plain (Transfer transfer.Pop) = false
 is_plain (Control _) = false
 is_plain _ = true
 
-abbrev is_byte_beside : Kind → Bool
+abbrev pub is_byte_beside : Kind → Bool
 is_byte_beside kinds.Reg8 = true
 is_byte_beside kinds.Al = true
 is_byte_beside _ = false
 
-abbrev is_word_beside : Kind → Bool
+abbrev pub is_word_beside : Kind → Bool
 is_word_beside kinds.Reg16 = true
 is_word_beside kinds.Ax = true
 is_word_beside kinds.Segment = true
 is_word_beside kinds.SegmentNotCs = true
 is_word_beside _ = false
 
-abbrev is_control : Operation → Bool
+abbrev pub is_control : Operation → Bool
 is_control (Control _) = true
 is_control _ = false
 
-abbrev sizes_agree : Operation → Kind → Kind → Bool
+abbrev pub sizes_agree : Operation → Kind → Kind → Bool
 sizes_agree op kinds.Rm8 l = not (tells_size l) || (is_byte_beside l && is_plain op)
 sizes_agree op kinds.Rm16 l = not (tells_size l) || (is_word_beside l && is_plain op)
 sizes_agree op kinds.Memory l = is_control op || (is_word_beside l && is_plain op)
@@ -197,48 +197,48 @@ sizes_agree op kinds.At8 l = is_byte_beside l && is_plain op
 sizes_agree op kinds.At16 l = is_word_beside l && is_plain op
 sizes_agree op _ l = true
 
-abbrev is_addressed : Second → Bool
+abbrev pub is_addressed : Second → Bool
 is_addressed (seconds.Addressing _ _) = true
 is_addressed _ = false
 
-abbrev is_memory_alone : Second → Bool
+abbrev pub is_memory_alone : Second → Bool
 is_memory_alone (seconds.Addressing _ place_parts.Memory) = true
 is_memory_alone _ = false
 
-abbrev places_agree : Second → Kind → Bool
+abbrev pub places_agree : Second → Kind → Bool
 places_agree s kinds.Rm8 = is_addressed s
 places_agree s kinds.Rm16 = is_addressed s
 places_agree s kinds.Memory = is_memory_alone s
 places_agree s _ = true
 
-abbrev is_near_kind : Kind → Bool
+abbrev pub is_near_kind : Kind → Bool
 is_near_kind kinds.Rel8 = true
 is_near_kind kinds.Rel16 = true
 is_near_kind kinds.Rm16 = true
 is_near_kind _ = false
 
-abbrev is_far_kind : Kind → Bool
+abbrev pub is_far_kind : Kind → Bool
 is_far_kind kinds.Far = true
 is_far_kind kinds.Memory = true
 is_far_kind _ = false
 
-abbrev far_agrees : Operation → Kind → Bool
+abbrev pub far_agrees : Operation → Kind → Bool
 far_agrees (Control control.Jmp) k = is_near_kind k
 far_agrees (Control control.Call) k = is_near_kind k
 far_agrees (Control control.JmpFar) k = is_far_kind k
 far_agrees (Control control.CallFar) k = is_far_kind k
 far_agrees _ k = true
 
-abbrev order_agrees : Operation → Kind → Bool
+abbrev pub order_agrees : Operation → Kind → Bool
 order_agrees (Arithmetic Test) l = not (has_memory l)
 order_agrees _ l = true
 
 -- XCHG of AX alone is of AX and the register in the opcode
-abbrev is_code_word : Kind → Bool
+abbrev pub is_code_word : Kind → Bool
 is_code_word kinds.Code16 = true
 is_code_word _ = false
 
-abbrev nop_agrees : Operation → Kind → Kind → Bool
+abbrev pub nop_agrees : Operation → Kind → Kind → Bool
 nop_agrees (Transfer transfer.Xchg) kinds.Ax l = is_code_word l
 nop_agrees _ k l = true
 
@@ -254,7 +254,7 @@ all_agree : list_all agrees rows ≡ true
 unfolding rows
 all_agree = refl
 
-record RowAgrees (r : Row) : Type 0 where
+pub record RowAgrees (r : Row) : Type 0 where
   pub size_first : sizes_agree (operation_of r) (first_of r) (second_of r) ≡ true
   pub size_second : sizes_agree (operation_of r) (second_of r) (first_of r) ≡ true
   pub one_number : not (has_number (first_of r) && has_number (second_of r)) ≡ true
@@ -266,7 +266,7 @@ record RowAgrees (r : Row) : Type 0 where
   pub nop : nop_agrees (operation_of r) (first_of r) (second_of r) ≡ true
   pub none : (not (is_none (first_of r)) || is_none (second_of r)) ≡ true
 
-row_agrees : (r : Row) → Contains rows r → RowAgrees r
+pub row_agrees : (r : Row) → Contains rows r → RowAgrees r
 row_agrees r within =
     let all = each agrees rows r all_agree within in
     let one = and_parts _ _ all in
@@ -335,7 +335,7 @@ pointer_by : (op : Operation) (q : Bool) (beside : Option Size) → (is_control 
 pointer_by (Control c) q beside e says = refl
 pointer_by _ q beside e says = says e
 
-has_size : (f : Form) (v : Values) (next : ℕ) (op : Operation) (k l : Kind) → sizes_agree op k l ≡ true → HasSize op k l (asked_by (written_operand f v next l k))
+pub has_size : (f : Form) (v : Values) (next : ℕ) (op : Operation) (k l : Kind) → sizes_agree op k l ≡ true → HasSize op k l (asked_by (written_operand f v next l k))
 has_size f v next op kinds.Rm8 l e = byte_by (tells_size l) (is_byte_beside l && is_plain op) (size_beside op (asked_by (written_operand f v next l kinds.Rm8))) e (byte_told f v next op l kinds.Rm8)
 has_size f v next op kinds.Rm16 l e = word_by (tells_size l) (is_word_beside l && is_plain op) (size_beside op (asked_by (written_operand f v next l kinds.Rm16))) e (word_told f v next op l kinds.Rm16)
 has_size f v next op kinds.Memory l e = pointer_by op (is_word_beside l && is_plain op) (size_beside op (asked_by (written_operand f v next l kinds.Memory))) e (word_told f v next op l kinds.Memory)
@@ -356,7 +356,7 @@ place_fits (seconds.Addressing part place_parts.Any) reg p fits e = fits.1
 place_fits seconds.Absent reg p fits e = cc
 place_fits (seconds.Exactly b) reg p fits e = cc
 
-kind_fits : (s : Second) (k : Kind) (reg : ℕ) (p : Place) → FitsSecond s reg p → places_agree s k ≡ true → FitsKind k p
+pub kind_fits : (s : Second) (k : Kind) (reg : ℕ) (p : Place) → FitsSecond s reg p → places_agree s k ≡ true → FitsKind k p
 kind_fits s kinds.Rm8 reg p fits e = place_fits s reg p fits e
 kind_fits s kinds.Rm16 reg p fits e = place_fits s reg p fits e
 kind_fits s kinds.Memory reg p fits e = memory_fits s reg p fits e
@@ -420,7 +420,7 @@ is_numbered (Short n) = true
 is_numbered (Far s o) = true
 is_numbered _ = false
 
-abbrev is_remembered : Written → Bool
+abbrev pub is_remembered : Written → Bool
 is_remembered (Memory m) = true
 is_remembered _ = false
 
@@ -494,7 +494,7 @@ target_unremembered : (op : Operation) (n : ℕ) → is_remembered (target_opera
 target_unremembered (Control control.Jmp) n = refl
 target_unremembered _ n = refl
 
-unremembered : (f : Form) (v : Values) (next : ℕ) (k l : Kind) → has_memory k ≡ false → is_remembered (written_operand f v next k l) ≡ false
+pub unremembered : (f : Form) (v : Values) (next : ℕ) (k l : Kind) → has_memory k ≡ false → is_remembered (written_operand f v next k l) ≡ false
 unfolding written_operand
 unremembered f v next kinds.Rm8 l e = cc
 unremembered f v next kinds.Rm16 l e = cc
@@ -515,7 +515,7 @@ same_either : (b : Bool) (op : Operation) → (if b then op else op) ≡ op
 same_either true op = refl
 same_either false op = refl
 
-abbrev IsFarAs : Operation → Bool → Type 0
+abbrev pub IsFarAs : Operation → Bool → Type 0
 IsFarAs (Control control.Jmp) b = b ≡ false
 IsFarAs (Control control.Call) b = b ≡ false
 IsFarAs (Control control.JmpFar) b = b ≡ true
@@ -581,12 +581,12 @@ far_as f v next (Control control.CallFar) k l is e fits = kind_far f v next k l 
 far_as f v next _ k l is e fits = tt
 
 -- ---- the order of the operands
-exchanged_is : (op : Operation) (x y : KnownOperand) → is_exchanged op x y ≡ true → (op ≡ Arithmetic Test → is_memory y ≡ false) → op ≡ Transfer transfer.Xchg
+pub exchanged_is : (op : Operation) (x y : KnownOperand) → is_exchanged op x y ≡ true → (op ≡ Arithmetic Test → is_memory y ≡ false) → op ≡ Transfer transfer.Xchg
 exchanged_is (Arithmetic Test) x y e not_memory = absurd (let never : false ≡ true = sym (not_memory refl) ∙ e in cc)
 exchanged_is (Transfer transfer.Xchg) x y e not_memory = refl
 exchanged_is _ x y e not_memory = absurd (let never : false ≡ true = e in cc)
 
-remembered_is : (w : Written) → is_memory (asked_by w) ≡ is_remembered w
+pub remembered_is : (w : Written) → is_memory (asked_by w) ≡ is_remembered w
 remembered_is Nothing = refl
 remembered_is (Register r) = refl
 remembered_is One = refl
@@ -596,7 +596,7 @@ remembered_is (Short n) = refl
 remembered_is (Far s o) = refl
 remembered_is (Memory m) = refl
 
-not_true : (b : Bool) → not b ≡ true → b ≡ false
+pub not_true : (b : Bool) → not b ≡ true → b ≡ false
 not_true true e = absurd (let never : false ≡ true = e in cc)
 not_true false e = refl
 
@@ -606,13 +606,13 @@ order_is op l w e says is =
     remembered_is w ∙ says (not_true (has_memory l) agrees)
 
 -- ---- both operands of an instruction ask what they mean
-record AskBoth (f : Form) (v : Values) (next : ℕ) (n : Numbers) : Type 0 where
+pub record AskBoth (f : Form) (v : Values) (next : ℕ) (n : Numbers) : Type 0 where
   pub first : Asks (operation_of f.row) (first_written f v next) (asked_by (second_written f v next)) n (operand_meant f v next (first_of f.row))
   pub second : Asks (operation_of f.row) (second_written f v next) (asked_by (first_written f v next)) n (operand_meant f v next (second_of f.row))
   pub order : operation_of f.row ≡ Arithmetic Test → is_memory (asked_by (second_written f v next)) ≡ false
   pub far : IsFarAs (operation_of f.row) (is_far (asked_by (first_written f v next)))
 
-abbrev numbers_said : Form → Values → ℕ → Numbers
+abbrev pub numbers_said : Form → Values → ℕ → Numbers
 numbers_said f v next = numbers_by (second_written f v next) (numbers_by (first_written f v next) no_numbers)
 
 small_values : (f : Form) (v : Values) → FitsForm f v → IsSmall v
@@ -622,7 +622,7 @@ small_values f v fits = record {
   segment = (field_small (field_part f.row) v.number v.segment fits.number).1;
 }
 
-ask_both : (f : Form) (v : Values) (next : ℕ) → IsForm f → FitsForm f v → AskBoth f v next (numbers_said f v next)
+pub ask_both : (f : Form) (v : Values) (next : ℕ) → IsForm f → FitsForm f v → AskBoth f v next (numbers_said f v next)
 ask_both f v next is fits =
     let r : Row = f.row in
     let op : Operation = operation_of r in
@@ -646,7 +646,7 @@ ask_both f v next is fits =
     }
 
 -- ---- what a line with them is asked
-both_said : (names : Names) (here : ℕ) (f : Form) (v : Values) (next : ℕ) → IsForm f → FitsForm f v → AreBoth names here (first_written f v next) (second_written f v next)
+pub both_said : (names : Names) (here : ℕ) (f : Form) (v : Values) (next : ℕ) → IsForm f → FitsForm f v → AreBoth names here (first_written f v next) (second_written f v next)
 both_said names here f v next is fits =
     let r : Row = f.row in
     let k : Kind = first_of r in
@@ -703,12 +703,12 @@ values_meant before names location size i f v x y n says one two formed fields =
     forms_mean_what_is_asked (asked (mnemonic_in i.form) x y) f v (location.offset + size) n (subst (λ (a : Asked). IsChosen a f) (sym is) chosen.2)
     (sym (ap (fields_for f (location.offset + size)) says.numbers) ∙ fields) one two
 
-plain_asked : (op : Operation) (x y : KnownOperand) → IsFarAs op (is_far x) → asked (said_mnemonic op) x y ≡ asked_of op x y
+pub plain_asked : (op : Operation) (x y : KnownOperand) → IsFarAs op (is_far x) → asked (said_mnemonic op) x y ≡ asked_of op x y
 unfolding asked
 plain_asked op x y far = rw (operation_as_said op x far, operand_as_said op x, operand_as_said op y) refl
 
 -- ---- the same meaning
-prefixes_same : (names : Names) (here : ℕ) (i : Instr) (ip : ℕ) → override_of (operands_in i.form i.values (next_of i ip)) ≡ None → prefixes_of (said_instruction i ip) ≡ i.prefixes.items
+pub prefixes_same : (names : Names) (here : ℕ) (i : Instr) (ip : ℕ) → override_of (operands_in i.form i.values (next_of i ip)) ≡ None → prefixes_of (said_instruction i ip) ≡ i.prefixes.items
 unfolding prefixes_of
 prefixes_same names here i ip none = ap (λ o. i.prefixes.items ++ override_prefix o) none ∙ append-nil i.prefixes.items
 
@@ -735,10 +735,10 @@ exchanged op i j ip n x y is op_is xchg prefixes first second = record {
 }
 
 -- the text of XCHG AX,AX
-abbrev ax : KnownOperand
+abbrev pub ax : KnownOperand
 ax = known.Register (registers.Word Ax)
 
-nop_asked : asked mnemonics.Nop known.Nothing known.Nothing ≡ asked_in_order (Transfer transfer.Xchg) ax ax
+pub nop_asked : asked mnemonics.Nop known.Nothing known.Nothing ≡ asked_in_order (Transfer transfer.Xchg) ax ax
 unfolding asked
 nop_asked = refl
 

@@ -5,3 +5,5 @@ pub mod DataBytes
 pub mod FirstFaults
 pub mod SaidTexts
 pub mod SameMeaning
+pub mod TextsBack
+pub mod TextsTaken

@@ -1,6 +1,8 @@
 //! The text of a decoded instruction, given to the assembler.
 ghost use Rattle.assembler_laws.specs.SaidTexts.{TextsAreRead};
 ghost use Rattle.assembler_laws.specs.SameMeaning.{FormsMeanWhatIsAsked, TextsMeanTheSame};
+ghost use Rattle.assembler_laws.specs.TextsBack.{TextsDecodeTheSame};
+ghost use Rattle.assembler_laws.specs.TextsTaken.{TextsTakeAForm};
 
 /// The text of each instruction of the table is read as a line: the instruction's prefixes in their order, a mnemonic
 /// of its operation, and what is written for its operands.
@@ -20,9 +22,23 @@ pub fn forms_mean_what_is_asked()
     ensures { FormsMeanWhatIsAsked }
 {}
 
+/// Whatever names are known, some row of the table takes what the text of an instruction of the table asks.
+pub fn texts_take_a_form()
+    ensures { TextsTakeAForm }
+{}
+
 /// Given to the assembler at its offset, whatever names are known, the text of an instruction of the table takes a form
 /// that means the same with the numbers that it has there: the same operation, the same prefixes in their order, and
 /// the same operands by value. XCHG of AX and another register may have the two in the other order.
 pub fn texts_mean_the_same()
     ensures { TextsMeanTheSame }
 {}
+
+/// In whatever memory holds the image of an accepted source: where a line says what the text of an instruction of the
+/// table at the line's offset says, an instruction is decoded there that means the same, with as many bytes as the line
+/// has.
+pub fn texts_decode_the_same()
+    ensures { TextsDecodeTheSame }
+{
+    texts_are_read();
+}
