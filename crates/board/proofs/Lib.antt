@@ -1,3 +1,4 @@
+pub mod Beginning
 pub mod Calm
 pub mod Clocks
 pub mod Entries

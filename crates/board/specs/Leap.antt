@@ -3,6 +3,7 @@
 -- For proofs alone: no public contract rests on it.
 use Rattle.std.specs.Prelude.{ℕ, ◌≡◌, ◌≢◌, ◌+◌, ◌-◌, ◌<◌, ◌≤◌, ◌^◌, ◌⊎◌, Bool, true, false, Option, None, Some}
 use Rattle.board_types.specs.Timed.{IsSteady}
+use Rattle.board_bus.specs.Calm.{IsCalm}
 use Rattle.execute.specs.Boundaries.{boundary_of}
 use Rattle.execute.specs.declared.boundary.Boundary.TheVariants as boundaries
 use Rattle.pit8253.specs.Counter.{after_ticks, out_of}
@@ -43,6 +44,13 @@ ComesAfter clock (Some at) = clock < at
 pub record IsCalmStep (s : Plain) : Type 0 where
   pub some : 1 ≤ s.busy
   pub quiet : IsQuiet s s.busy
+
+-- an instruction begins, and the chips are calm up to the next clock
+pub record IsCalmBeginning (s : Plain) : Type 0 where
+  pub free : s.busy ≡ 0
+  pub boundary : boundary_of s.cpu (is_requested s.chips) ≡ boundaries.Instruction
+  pub calm : IsCalm s.chips (s.chips.clock + 1)
+  pub wires : WiresHold s.chips
 
 -- n such clocks at once
 unfoldable pub leapt : Plain → ℕ → Plain

@@ -3,6 +3,7 @@ ghost use Rattle.std.specs.Prelude.{IsTrue, All, ◌-◌, slice_get, ◌≡◌, 
 ghost use Rattle.std.specs.Result.{IfErr, IsErrOf};
 ghost use Rattle.std.specs.String.{string_bytes};
 ghost use Rattle.memory.specs.Map.{IsRamSize, FitsRam};
+ghost use Rattle.board.specs.declared.act.Act.TheVariants.{Instruction};
 ghost use Rattle.board.specs.declared.board.BoardFault.TheVariants.{Memory};
 ghost use Rattle.board.specs.Board.{Ran, StoppedEarly, board_fault_name, board_fault_number};
 ghost use Rattle.board.specs.HeldBack.{IsHeldBack};
@@ -12,7 +13,7 @@ ghost use Rattle.board.specs.Plain.{after_clock, after_clocks, byte_of, change_n
 ghost use Rattle.board.specs.Stops.{FitsRoom, HasAddress, IsStopOf, NoStop, run_length};
 ghost use Rattle.board.specs.Trail.{last, trail_in, trail_next};
 ghost use Rattle.board.specs.Turns.{IsTickOn, IsTurnOn};
-ghost use Rattle.board.specs.Work.{steps_in, work_in};
+ghost use Rattle.board.specs.Work.{steps_in, work_in, work_next};
 ghost use Rattle.board_types.specs.Lines.{from_bool};
 
 use crate::act::Act;
@@ -26,6 +27,8 @@ use board_types::keys::Keys;
 use board_types::line::Line;
 use board_types::regs::Regs;
 use board_types::state::State;
+use decode::decoded::Decoded;
+use execute::port_writes::is_silent;
 use memory::map::MemoryFault;
 use std::alloc::{AllocError, Allocator, Global};
 use std::marker::Model;
@@ -304,8 +307,48 @@ impl<A: Allocator> Board<A> {
             self.leap(clocks);
             return Ok(());
         }
+        if self.step() {
+            return Ok(());
+        }
         let next = self.next_act();
         self.turn_by(&next, end)
+    }
+
+    /// The next clock, where it is known that an instruction begins in it that isn't OUT and that the chips are calm: no
+    /// change of the speaker's level comes with it. Else nothing is done. Answers whether it was made.
+    #[inline(always)]
+    fn step(&mut self) -> bool
+        requires { clock_of self.old.plain < 2 ^ 40 }
+        ensures made { IsTrue result → (IsTickOn self.old self.new × (1 ≤ work_next self.old.plain)) }
+        ensures not_made { ¬ (IsTrue result) → self.new ≡ self.old }
+    {
+        if !self.plain.begins_calmly() {
+            return false;
+        }
+        let decoded = self.plain.fetch();
+        if !is_silent(&decoded) {
+            return false;
+        }
+        self.run_step(&decoded);
+        true
+    }
+
+    /// One processor clock, in which the instruction `decoded` begins. No change of the speaker's level is listed.
+    #[inline(always)]
+    fn run_step(&mut self, decoded: &Decoded)
+        requires within { clock_of self.old.plain < 2 ^ 40 }
+        requires next { Instruction decoded.now ≡ next_act self.old.plain }
+        requires exact { IsExact self.old.plain.cpu self.old.plain.chips (Instruction decoded.now) }
+        ensures plain { self.new.plain ≡ after_clock self.old.plain }
+        ensures clock { clock_of self.new.plain ≡ clock_of self.old.plain + 1 }
+        ensures changes { self.new.changes ≡ self.old.changes }
+        ensures trail { self.new.trail ≡ last 32 (self.old.trail ++ trail_next self.old.plain) }
+        ensures room { self.new.room ≡ self.old.room }
+        ensures turns { self.new.turns ≡ self.old.turns + 1 }
+    {
+        self.plain.note_begun(decoded, &mut self.trail);
+        self.plain.step(decoded);
+        self.turns += 1;
     }
 
     /// That turn, `next` being what the processor does in its first clock.
