@@ -275,7 +275,7 @@ one_named known.One n is of = ap (λ (z : ℤ). a_number (count z)) (sym of)
 one_named _ n is of = cc
 
 -- a number that is asked is a word
-a_word : (x : KnownOperand) (n : Numbers) → IsTrue (is_number x) → AreOf x n → IsWord n.number × (asked_meant x n ≡ a_number (count n.number))
+pub a_word : (x : KnownOperand) (n : Numbers) → IsTrue (is_number x) → AreOf x n → IsWord n.number × (asked_meant x n ≡ a_number (count n.number))
 a_word known.One n is of = (record { value = 1; is = of; small = omega arith }, refl)
 a_word (known.Number c) n is of = (of.0, refl)
 a_word _ n is of = cc

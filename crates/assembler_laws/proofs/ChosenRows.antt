@@ -79,7 +79,7 @@ no_place kinds.Rm16 x e = cc
 no_place kinds.Memory x e = cc
 no_place _ x e = refl
 
-first_field : (k l : Kind) → has_field k ≡ true → field_kind_of k l ≡ k
+pub first_field : (k l : Kind) → has_field k ≡ true → field_kind_of k l ≡ k
 first_field kinds.Imm8 l e = refl
 first_field kinds.Imm16 l e = refl
 first_field kinds.Signed8 l e = refl
@@ -90,7 +90,7 @@ first_field kinds.At16 l e = refl
 first_field kinds.Far l e = refl
 first_field _ l e = cc
 
-second_field : (k l : Kind) → has_field k ≡ false → field_kind_of k l ≡ l
+pub second_field : (k l : Kind) → has_field k ≡ false → field_kind_of k l ≡ l
 second_field kinds.Imm8 l e = cc
 second_field kinds.Imm16 l e = cc
 second_field kinds.Signed8 l e = cc
@@ -174,12 +174,12 @@ first_alone (places.Base _) = refl
 first_alone (places.BaseByte _) = refl
 first_alone (places.BaseWord _) = refl
 
-record HasForm (f : Form) (a : Asked) : Type 0 where
+pub record HasForm (f : Form) (a : Asked) : Type 0 where
   pub code : f.code ≡ in_opcode (first_of f.row) a.first + in_opcode (second_of f.row) a.second
   pub reg : f.reg ≡ in_reg (first_of f.row) a.first + in_reg (second_of f.row) a.second
   pub place : f.place ≡ first_place (in_place (first_of f.row) a.first) (in_place (second_of f.row) a.second)
 
-has_form : (f : Form) (a : Asked) → f ≡ form_with f.row a → HasForm f a
+pub has_form : (f : Form) (a : Asked) → f ≡ form_with f.row a → HasForm f a
 unfolding form_with
 has_form f a is = record { code = ap (λ (g : Form). g.code) is; reg = ap (λ (g : Form). g.reg) is; place = ap (λ (g : Form). g.place) is }
 

@@ -30,3 +30,4 @@ pub mod AskedTexts
 pub mod TextForms
 pub mod TextsBack
 pub mod TakenTexts
+pub mod FittingTexts

@@ -7,3 +7,4 @@ pub mod SaidTexts
 pub mod SameMeaning
 pub mod TextsBack
 pub mod TextsTaken
+pub mod Fitting

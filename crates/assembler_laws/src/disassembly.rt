@@ -1,4 +1,5 @@
 //! The text of a decoded instruction, given to the assembler.
+ghost use Rattle.assembler_laws.specs.Fitting.{NumbersFit};
 ghost use Rattle.assembler_laws.specs.SaidTexts.{TextsAreRead};
 ghost use Rattle.assembler_laws.specs.SameMeaning.{FormsMeanWhatIsAsked, TextsMeanTheSame};
 ghost use Rattle.assembler_laws.specs.TextsBack.{TextsDecodeTheSame};
@@ -20,6 +21,12 @@ pub fn texts_are_read()
 /// name its operands are by value those that are asked, in whichever part of its bytes they stand.
 pub fn forms_mean_what_is_asked()
     ensures { FormsMeanWhatIsAsked }
+{}
+
+/// The numbers of the form that is chosen for what a line asks are in range, if those are that go into a byte: an
+/// immediate byte, and the distance to a short jump's target.
+pub fn numbers_fit()
+    ensures { NumbersFit }
 {}
 
 /// Whatever names are known, some row of the table takes what the text of an instruction of the table asks.
