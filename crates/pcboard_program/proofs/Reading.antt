@@ -1,5 +1,5 @@
 -- What is read of a source, and what is written.
-use Rattle.std.proofs.Common.{◌≡◌, ◌∙◌, ℕ, ◌<◌, List, length, take, refl, subst, arith, length-take, true, false, Bool, Option, option_map, None, Some, IfOk, IfSome, Result, Ok}
+use Rattle.std.proofs.Common.{◌≡◌, ◌∙◌, ℕ, ◌-◌, ◌^◌, ◌<◌, ◌≤◌, List, length, take, ap, refl, subst, arith, length-take, true, false, Bool, Option, None, Some, IfSome, Ok}
 use Rattle.std.specs.Io.KnownBytes.{Appends}
 use Rattle.std.proofs.lemmas.List.{take_all}
 use Rattle.assembler.specs.Gives.{Gives}
@@ -25,15 +25,13 @@ pub read_on : {R : Type 0} (remaining : R → Option (List ℕ)) (source : Optio
 read_on remaining None file bytes rest read = tt
 read_on remaining (Some known) file bytes rest read = subst (λ left. IfSome left (λ known. bytes ≡ known)) rest read
 
--- what is read through a limit
-pub read_through : {R V E : Type 0} (remaining : R → Option (List ℕ)) (items : V → List ℕ) (source : Option (List ℕ)) (file inner : R) (limit most : ℕ) (result : Result V E)
-    → IfSome source (λ known. remaining file ≡ Some known) → limit ≡ most → inner ≡ file
-    → IfSome (option_map (take limit) (remaining inner)) (λ known. IfOk result (λ bytes. items bytes ≡ known))
-    → IfSome source (λ known. IfOk result (λ bytes. items bytes ≡ take most known))
-read_through remaining items None file inner limit most result rest same_limit same_file read = tt
-read_through remaining items (Some known) file inner limit most result rest same_limit same_file read =
-    let left : option_map (take limit) (remaining inner) ≡ Some (take most known) = rw (same_limit, same_file, rest) refl in
-    subst (λ bytes. IfSome bytes (λ known. IfOk result (λ bytes. items bytes ≡ known))) left read
+-- what is read up to a limit that no list in memory reaches is all
+pub read_all_of : (known : Option (List ℕ)) (bytes : List ℕ) (size room : ℕ) → IfSome known (λ all. bytes ≡ take (2 ^ 64 - 1) all) → size ≡ length bytes
+    → size ≤ room → room < 2 ^ 63 → IfSome known (λ all. bytes ≡ all)
+read_all_of None bytes size room front counts within small = tt
+read_all_of (Some all) bytes size room front counts within small =
+    let fits : length (take (2 ^ 64 - 1) all) < 2 ^ 64 - 1 = omega (arith, ap length front, counts, within, small) in
+    front ∙ shorter (2 ^ 64 - 1) all fits
 
 seen_image : (hex : Bool) (bytes : List ℕ) (image : List (ℕ × ℕ)) → GivesImage hex (seen_of hex bytes) image → GivesImage hex bytes image
 seen_image true bytes image gives = gives

@@ -4,12 +4,13 @@ use Rattle.std.proofs.lemmas.List.{append-nil}
 use Rattle.std.proofs.lemmas.Bool.Decides.{nat_tests}
 use Rattle.std.proofs.lemmas.Str.{IsUtf8-from_is_utf8, is_utf8-from_IsUtf8}
 use Rattle.std.specs.Str.{IsUtf8, is_utf8}
-use Rattle.std.specs.Io.KnownBytes.{Appends, Consumes, IsAtEnd, Keeps}
+use Rattle.std.specs.Io.KnownBytes.{Appends, Consumes, IsAtEnd}
 use Rattle.board_types.specs.TextLines.{onto_first}
 use Rattle.debugger.specs.declared.answer.Answer.{Answer}
 use Rattle.debugger.specs.declared.fault.DebugFault.{DebugFault}
 use Rattle.debugger.specs.Commands.{command_of, is_quit}
 use Rattle.debugger.specs.Session.{AnswersLine, SessionState}
+use Rattle.loader.specs.ByteInput.{CountsNone}
 use Rattle.pcboard_program.specs.declared.unanswered.Unanswered.{Unanswered}
 use Rattle.pcboard_program.specs.declared.unanswered.Unanswered.TheVariants.{Failed, Refused}
 use Rattle.pcboard_program.specs.Answer.{AppendsA}
@@ -19,21 +20,10 @@ use Rattle.pcboard_program.specs.Unanswered.{WhereRefused}
 use Rattle.pcboard_program.specs.Transcript.{Replies, Transcript, ends_session, input_lines, reply_text, typed_command}
 
 -- what one read takes
-pub keeps_first : (known : Option (List ℕ)) → Keeps known known
-keeps_first None = tt
-keeps_first (Some bytes) = refl
-
-pub keeps_on : (first now next : Option (List ℕ)) → Keeps first now → Keeps now next → Keeps first next
-keeps_on None now next kept keeps = tt
-keeps_on (Some bytes) None next kept keeps = absurd kept
-keeps_on (Some bytes) (Some more) None kept keeps = absurd keeps
-keeps_on (Some bytes) (Some more) (Some most) kept keeps = keeps ∙ kept
-
-pub takes_none : (first now next : Option (List ℕ)) → Keeps first now → Consumes now next [] → IsAtEnd next → TakesByte first next None
-takes_none None now next kept takes ends = tt
-takes_none (Some bytes) None next kept takes ends = absurd kept
-takes_none (Some bytes) (Some more) None kept takes ends = absurd takes
-takes_none (Some bytes) (Some more) (Some most) kept takes ends = (sym kept ∙ (takes ∙ ends), ap Some ends)
+pub takes_none : (now next : Option (List ℕ)) → Consumes now next [] → IsAtEnd next → TakesByte now next None
+takes_none None next takes ends = tt
+takes_none (Some bytes) None takes ends = absurd takes
+takes_none (Some bytes) (Some left) takes ends = (takes ∙ ends, ap Some ends)
 
 first_alone : (buf : List ℕ) (n : ℕ) → 0 < n → length buf ≡ 1 → take n buf ≡ get_or buf 0 0 ∷ []
 first_alone [] n some one = absurd (omega arith)
@@ -42,13 +32,11 @@ first_alone (b ∷ []) (suc zero) some one = refl
 first_alone (b ∷ []) (suc (suc n)) some one = refl
 first_alone (b ∷ c ∷ bs) n some one = absurd (omega arith)
 
-pub takes_first : (first now next : Option (List ℕ)) (buf : List ℕ) (n : ℕ) → Keeps first now → Consumes now next (take n buf) → 0 < n → length buf ≡ 1
-    → TakesByte first next (Some (get_or buf 0 0))
-takes_first None now next buf n kept takes some one = tt
-takes_first (Some bytes) None next buf n kept takes some one = absurd kept
-takes_first (Some bytes) (Some more) None buf n kept takes some one = absurd takes
-takes_first (Some bytes) (Some more) (Some most) buf n kept takes some one =
-    (most, sym kept ∙ (takes ∙ ap (λ (l : List ℕ). l ++ most) (first_alone buf n some one)), refl)
+pub takes_first : (now next : Option (List ℕ)) (buf : List ℕ) (n : ℕ) → Consumes now next (take n buf) → 0 < n → length buf ≡ 1
+    → TakesByte now next (Some (get_or buf 0 0))
+takes_first None next buf n takes some one = tt
+takes_first (Some bytes) None buf n takes some one = absurd takes
+takes_first (Some bytes) (Some left) buf n takes some one = (left, takes ∙ ap (λ (l : List ℕ). l ++ left) (first_alone buf n some one), refl)
 
 pub differs : (b c : ℕ) → (b ≡ c → ⊥) → (b == c) ≡ false
 differs b c other = grind (arith, nat_tests)
@@ -230,6 +218,15 @@ printed_cut first now (Some bytes) left old new so_far = (
   },
   so_far.2.grown,
 )
+
+-- an input that hasn't failed so far
+pub counts_first : (count : Option ℕ) → CountsNone count count
+counts_first None = tt
+counts_first (Some n) = refl
+
+pub counts_on : (first now next : Option ℕ) → CountsNone first now → CountsNone now next → CountsNone first next
+counts_on None now next before after = tt
+counts_on (Some n) now next before after = subst (λ count. CountsNone count next) before after
 
 -- what is so is so where a session is refused
 pub cut_where : {A : Type 0} (result : Result A Unanswered) (Is : Type 0) → Is → IfErr result (WhereRefused Is)

@@ -1,6 +1,6 @@
 -- Why the program gives no answer, as its functions tell each other.
 -- For proofs alone: no public contract rests on it.
-use Rattle.std.specs.Prelude.{◌⊎◌}
+use Rattle.std.specs.Prelude.{◌⊎◌, ⊤, Result, Ok, Err}
 use Rattle.pcboard_program.specs.declared.fault.Fault.{Fault}
 use Rattle.pcboard_program.specs.declared.unanswered.Unanswered.{Unanswered}
 use Rattle.pcboard_program.specs.declared.unanswered.Unanswered.TheVariants.{Failed, Refused}
@@ -20,3 +20,9 @@ WhereRefused Is (Refused fault) = Is
 abbrev pub IsUnjudged : Unanswered → Type 0
 IsUnjudged Failed = Unit {0}
 IsUnjudged (Refused fault) = IsWantOfMemory fault
+
+-- this is so unless the program ends for a failure
+abbrev pub UnlessFailed : {A : Type 0} → Type 0 → Result A Unanswered → Type 0
+UnlessFailed Is (Ok value) = Is
+UnlessFailed Is (Err Failed) = ⊤
+UnlessFailed Is (Err (Refused fault)) = Is

@@ -1,12 +1,13 @@
 //! The debugger's commands, answered line by line as they come.
 ghost use Rattle.std.specs.Prelude.{◌≡◌, ◌⊎◌, option_map, IfErr, IfOk, IfSome, OnOk, vec_items};
 ghost use Rattle.std.specs.Io.KnownBytes.{Appends};
+ghost use Rattle.loader.specs.ByteInput.{CountsNone};
 ghost use Rattle.debugger.specs.Session.{AnswersLine};
 ghost use Rattle.pcboard_program.specs.Answer.{AppendsA, session_about};
 ghost use Rattle.pcboard_program.specs.Refusal.{BeginsTranscript};
 ghost use Rattle.pcboard_program.specs.Taking.{TakesLine};
 ghost use Rattle.pcboard_program.specs.Transcript.{Transcript, ends_session, input_lines, refusal_text, reply_text, typed_command};
-ghost use Rattle.pcboard_program.specs.Unanswered.{IsUnjudged, WhereRefused};
+ghost use Rattle.pcboard_program.specs.Unanswered.{IsUnjudged, UnlessFailed, WhereRefused};
 
 use crate::fault::Fault;
 use crate::input::next_byte;
@@ -16,12 +17,13 @@ use debugger::answer::Answer;
 use debugger::command::is_quit;
 use debugger::fault::DebugFault;
 use debugger::session::Session;
+use loader::byte_input::ByteInput;
 use std::alloc::Global;
 use std::io;
-use std::io::{Read, Write};
+use std::io::Write;
 
 /// Answers the commands on `input` about a board until one is `quit` or the input ends.
-pub(crate) fn print_session<I: Read, O: Write>(
+pub(crate) fn print_session<I: ByteInput, O: Write>(
     alloc: Global,
     board: Board,
     input: &mut I,
@@ -34,6 +36,7 @@ pub(crate) fn print_session<I: Read, O: Write>(
         ⊎ IfSome (I.remaining input.old) (λ typed. AppendsA (BeginsTranscript (session_about board) (input_lines typed))
         (O.contents out.old) (O.contents out.new)))) }
     ensures end { IfErr result IsUnjudged }
+    ensures unfailed { UnlessFailed (CountsNone (I.failures input.old) (I.failures input.new)) result }
 {
     match Session::new(board) {
         Ok(mut session) => answer_lines(alloc, &mut session, input, out),
@@ -42,7 +45,7 @@ pub(crate) fn print_session<I: Read, O: Write>(
 }
 
 /// Answers lines as they come until one is `quit` or the input ends. An input of more than `u64::MAX` lines fails.
-fn answer_lines<I: Read, O: Write>(
+fn answer_lines<I: ByteInput, O: Write>(
     alloc: Global,
     session: &mut Session,
     input: &mut I,
@@ -54,6 +57,7 @@ fn answer_lines<I: Read, O: Write>(
         (λ typed. AppendsA (BeginsTranscript session.old (input_lines typed)) (O.contents out.old)
         (O.contents out.new)))) }
     ensures end { IfErr result IsUnjudged }
+    ensures unfailed { UnlessFailed (CountsNone (I.failures input.old) (I.failures input.new)) result }
 {
     'lines: for _ in 0..u64::MAX {
         let Some(line) = next_line(alloc, input)? else {
@@ -69,10 +73,11 @@ fn answer_lines<I: Read, O: Write>(
 }
 
 /// The next line of the input, without its line feed, or `None` at the input's end.
-fn next_line<I: Read>(alloc: Global, input: &mut I) -> Result<Option<Vec<u8>>, Unanswered>
+fn next_line<I: ByteInput>(alloc: Global, input: &mut I) -> Result<Option<Vec<u8>>, Unanswered>
     ensures line { IfOk result (λ line. TakesLine (I.remaining input.old) (I.remaining input.new)
         (option_map vec_items line)) }
     ensures end { IfErr result IsUnjudged }
+    ensures unfailed { UnlessFailed (CountsNone (I.failures input.old) (I.failures input.new)) result }
 {
     let mut line = Vec::new(alloc);
     'bytes: for _ in 0..u64::MAX {

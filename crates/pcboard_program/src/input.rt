@@ -1,7 +1,8 @@
 //! What the program reads.
-ghost use Rattle.std.specs.Prelude.{◌≡◌, IfErr, IfOk, IfSome};
+ghost use Rattle.std.specs.Prelude.{◌≡◌, take, IfErr, IfOk, IfSome};
+ghost use Rattle.loader.specs.ByteInput.{CountsNone};
 ghost use Rattle.pcboard_program.specs.Faults.{IsWantOfMemory};
-ghost use Rattle.pcboard_program.specs.Unanswered.{IsUnjudged};
+ghost use Rattle.pcboard_program.specs.Unanswered.{IsUnjudged, UnlessFailed};
 ghost use Rattle.pcboard_program.specs.Ready.{seen_of};
 ghost use Rattle.pcboard_program.specs.Taking.{TakesByte};
 
@@ -9,9 +10,9 @@ use crate::fault::Fault;
 use crate::opener::Opener;
 use crate::unanswered::Unanswered;
 use assembler::fault::AsmFault;
+use loader::byte_input::{ByteInput, ReadFault, read_all};
 use loader::hex_fault::HexFault;
 use std::alloc::Global;
-use std::io::{ErrorKind, Read};
 
 /// One byte more than a source may have, so that a longer one is seen to be too long.
 const SOURCE_READ_LIMIT: u64 = 1_048_577;
@@ -31,41 +32,54 @@ pub(crate) fn read_program<F: Opener>(
     if hex {
         read_whole(alloc, &mut file, Fault::Hex(HexFault::Memory))
     } else {
-        let mut source = file.take(SOURCE_READ_LIMIT);
-        read_whole(alloc, &mut source, Fault::Source(AsmFault::Memory))
+        let want = Fault::Source(AsmFault::Memory);
+        read_front(alloc, &mut file, SOURCE_READ_LIMIT, want)
     }
 }
 
-/// All that `input` still has to give.
-pub(crate) fn read_whole<R: Read>(
+/// All that `input` still has to give. `want` is the refusal where there is no memory for it.
+pub(crate) fn read_whole<I: ByteInput>(
     alloc: Global,
-    input: &mut R,
+    input: &mut I,
     want: Fault,
 ) -> Result<Vec<u8>, Unanswered>
-    ensures bytes { IfSome (R.remaining input.old) (λ known. IfOk result (λ bytes. bytes.items ≡ known)) }
+    ensures bytes { IfSome (I.remaining input.old) (λ known. IfOk result (λ bytes. bytes.items ≡ known)) }
     ensures end { IsWantOfMemory want → IfErr result IsUnjudged }
+    ensures unfailed { UnlessFailed (CountsNone (I.failures input.old) (I.failures input.new)) result }
 {
-    let mut bytes = Vec::new(alloc);
-    match input.read_to_end(&mut bytes) {
-        Ok(_) => Ok(bytes),
-        Err(error) if error.kind() == ErrorKind::OutOfMemory => Err(Unanswered::Refused(want)),
-        Err(_) => Err(Unanswered::Failed),
+    // No more than this can stand in memory.
+    let bytes = read_front(alloc, input, u64::MAX, want)?;
+    Ok(bytes)
+}
+
+/// The first `limit` bytes that `input` has to give, or all of them where there are no more. `want` is the refusal where
+/// there is no memory for them.
+fn read_front<I: ByteInput>(
+    alloc: Global,
+    input: &mut I,
+    limit: u64,
+    want: Fault,
+) -> Result<Vec<u8>, Unanswered>
+    ensures bytes { IfSome (I.remaining input.old) (λ known. IfOk result (λ bytes. bytes.items ≡ take limit known)) }
+    ensures end { IsWantOfMemory want → IfErr result IsUnjudged }
+    ensures unfailed { UnlessFailed (CountsNone (I.failures input.old) (I.failures input.new)) result }
+{
+    match read_all(alloc, input, limit) {
+        Ok(bytes) => Ok(bytes),
+        Err(ReadFault::Failed) => Err(Unanswered::Failed),
+        Err(ReadFault::Memory) => Err(Unanswered::Refused(want)),
     }
 }
 
-/// The next byte of the input, or `None` at its end. A read that was interrupted is made again.
-pub(crate) fn next_byte<R: Read>(input: &mut R) -> Result<Option<u8>, Unanswered>
-    ensures byte { IfOk result (TakesByte (R.remaining input.old) (R.remaining input.new)) }
+/// The next byte of the input, or `None` at its end.
+pub(crate) fn next_byte<I: ByteInput>(input: &mut I) -> Result<Option<u8>, Unanswered>
+    ensures byte { IfOk result (TakesByte (I.remaining input.old) (I.remaining input.new)) }
     ensures end { IfErr result IsUnjudged }
+    ensures unfailed { UnlessFailed (CountsNone (I.failures input.old) (I.failures input.new)) result }
 {
     let mut byte = [0];
-    'tries: for _ in 0..u64::MAX {
-        match input.read(&mut byte) {
-            Ok(0) => return Ok(None),
-            Ok(_) => return Ok(Some(byte[0])),
-            Err(error) if error.kind() == ErrorKind::Interrupted => {}
-            Err(_) => return Err(Unanswered::Failed),
-        }
+    match input.read(&mut byte)? {
+        0 => Ok(None),
+        _ => Ok(Some(byte[0])),
     }
-    Err(Unanswered::Failed)
 }

@@ -1,12 +1,12 @@
 //! Where the program finds its files.
 ghost use Rattle.std.specs.Prelude.{◌≡◌, ℕ, List, Option, None, Some, IfOk, IfSome};
 
+use loader::byte_input::ByteInput;
 use std::io;
-use std::io::Read;
 
 /// What opens a file for reading by its name.
 pub trait Opener {
-    type Input: Read + Drop;
+    type Input: ByteInput + Drop;
 
     // the bytes of the file of this name, where they are known
     ghost file_bytes: { Self → List ℕ → Option (List ℕ) } = { λ _ _. None };

@@ -5,13 +5,14 @@ ghost use Rattle.board.specs.Plain.{clock_of};
 ghost use Rattle.board_types.specs.TextLines.{text_lines};
 ghost use Rattle.assembler.specs.Gives.{Gives};
 ghost use Rattle.assembler.specs.Rows.{AreRows, Row, names_of};
+ghost use Rattle.loader.specs.ByteInput.{CountsNone};
 ghost use Rattle.loader.specs.HexText.{hex_text};
 ghost use Rattle.pcboard_program.specs.Answer.{AppendsA, IsAssembled, IsListingOf, Prints, PrintsTask};
 ghost use Rattle.pcboard_program.specs.Faults.{IsWantOfMemory, fault_text};
 ghost use Rattle.pcboard_program.specs.Ready.{IsAtPowerOn};
 ghost use Rattle.pcboard_program.specs.Refusal.{IsTrueOfTask, IsTrueOfText, IsTrueOfWords, PrintsNoAnswer, PrintsReplies, RefusesWords, TellsA, unreadable_text};
 ghost use Rattle.pcboard_program.specs.Report.{report_of};
-ghost use Rattle.pcboard_program.specs.Unanswered.{EndsFor, IsUnjudged, WhereRefused};
+ghost use Rattle.pcboard_program.specs.Unanswered.{EndsFor, IsUnjudged, UnlessFailed, WhereRefused};
 
 use crate::debugging::print_session;
 use crate::fault::{Fault, write_fault};
@@ -25,13 +26,14 @@ use assembler::assembly::assemble;
 use assembler::listing::Listing;
 use board::board::{Board, BoardFault};
 use board_types::image::Image;
+use loader::byte_input::ByteInput;
 use loader::hex_writer::write_hex;
 use loader::run_file::RunFile;
 use pcboard_words::line::read_words;
 use pcboard_words::task::{LineFault, Task};
 use std::alloc::Global;
 use std::io;
-use std::io::{Read, Write};
+use std::io::Write;
 
 /// What is told where a word isn't UTF-8.
 const UNREADABLE_WORDS: &str =
@@ -40,7 +42,7 @@ const UNREADABLE_WORDS: &str =
 /// Does what `words`, those after the program's name, ask for, and answers the exit status: 0; 1 for a refusal,
 /// which `err` tells in a line; 2 for words that aren't the program's, with their usage on `err`; 3, with no
 /// text, for an opening, a read or a write that failed.
-pub fn program<F: Opener, I: Read, O: Write, E: Write>(
+pub fn program<F: Opener, I: ByteInput, O: Write, E: Write>(
     alloc: Global,
     words: &[&str],
     files: &F,
@@ -72,6 +74,9 @@ pub fn program<F: Opener, I: Read, O: Write, E: Write>(
 
     // At status 2 nothing is printed.
     ensures unprinted { result ≡ 2 → O.contents out.new ≡ O.contents out.old }
+
+    // At any status but 3 the input hasn't failed.
+    ensures unfailed { result ≢ 3 → CountsNone (I.failures input.old) (I.failures input.new) }
 {
     let task = match read_words(alloc, words) {
         Ok(task) => task,
@@ -106,7 +111,7 @@ pub fn with_unreadable_words<E: Write>(err: &mut E) -> u8
 }
 
 /// Prints the answer to a task.
-fn print_task<F: Opener, I: Read, O: Write>(
+fn print_task<F: Opener, I: ByteInput, O: Write>(
     alloc: Global,
     task: Task<'_>,
     files: &F,
@@ -119,6 +124,7 @@ fn print_task<F: Opener, I: Read, O: Write>(
         ⊎ PrintsReplies task.entry (F.file_bytes files.now) (I.remaining input.old) (O.contents out.old)
         (O.contents out.new))) }
     ensures end { IfErr result (EndsFor (IsTrueOfTask task.entry (F.file_bytes files.now) (I.remaining input.old))) }
+    ensures unfailed { UnlessFailed (CountsNone (I.failures input.old) (I.failures input.new)) result }
 {
     match task {
         Task::Stored => {

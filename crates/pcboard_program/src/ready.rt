@@ -1,10 +1,11 @@
 //! The board that a program and a run file give.
 ghost use Rattle.std.specs.Prelude.{◌≡◌, ◌<◌, ℕ, Bool, List, length, false, IfErr, IfOk, IfSome};
 ghost use Rattle.board.specs.Plain.{clock_of};
+ghost use Rattle.loader.specs.ByteInput.{CountsNone};
 ghost use Rattle.pcboard_program.specs.Answer.{GivesImage, IsTrueRefusal, first_line_end, run_text_of, source_of};
 ghost use Rattle.pcboard_program.specs.Ready.{IsReady};
 ghost use Rattle.pcboard_program.specs.Refusal.{IsTrueOfFiles};
-ghost use Rattle.pcboard_program.specs.Unanswered.{EndsFor, IsUnjudged};
+ghost use Rattle.pcboard_program.specs.Unanswered.{EndsFor, IsUnjudged, UnlessFailed};
 
 use crate::fault::Fault;
 use crate::input::{read_program, read_whole};
@@ -15,12 +16,12 @@ use assembler::assembly::assemble;
 use assembler::fault::AsmFault;
 use board::board::Board;
 use board_types::image::Image;
+use loader::byte_input::ByteInput;
 use loader::hex_reader::read_hex;
 use loader::run_fault::RunFault;
 use loader::run_file::RunFile;
 use loader::run_reader::read_run_text;
 use std::alloc::Global;
-use std::io::Read;
 
 /// The board at power-on of a program's file, a HEX text if `hex`, else a source, and what the run file says. Both
 /// files are read before either is judged.
@@ -46,7 +47,7 @@ pub(crate) fn read_board<F: Opener>(
 
 /// The board of a stored run at power-on, and what its run file says: the first line is the run file, and the rest the
 /// source.
-pub(crate) fn stored_board<I: Read>(
+pub(crate) fn stored_board<I: ByteInput>(
     alloc: Global,
     input: &mut I,
 ) -> Result<(Board, RunFile), Unanswered>
@@ -55,6 +56,7 @@ pub(crate) fn stored_board<I: Read>(
     ensures clock { IfOk result (λ ready. clock_of ready.0.plain ≡ 0) }
     ensures end { IfErr result (EndsFor (λ fault. IfSome (I.remaining input.old)
         (λ text. IsTrueRefusal false (source_of text) (run_text_of text) fault))) }
+    ensures unfailed { UnlessFailed (CountsNone (I.failures input.old) (I.failures input.new)) result }
 {
     let text = read_whole(alloc, input, Fault::Source(AsmFault::Memory))?;
     let (run, source) = parted(text.as_slice());

@@ -6,6 +6,7 @@ ghost use Rattle.pcboard_program.specs.declared.unanswered.Unanswered.TheVariant
 
 use crate::fault::Fault;
 use board::board::BoardFault;
+use loader::byte_input;
 use std::alloc::AllocFailed;
 use std::io;
 
@@ -29,6 +30,14 @@ impl From<io::Error> for Unanswered {
     ghost from_gives = { λ _ end. end ≡ Failed };
 
     fn from(_error: io::Error) -> Self {
+        Unanswered::Failed
+    }
+}
+
+impl From<byte_input::Failed> for Unanswered {
+    ghost from_gives = { λ _ end. end ≡ Failed };
+
+    fn from(_failed: byte_input::Failed) -> Self {
         Unanswered::Failed
     }
 }

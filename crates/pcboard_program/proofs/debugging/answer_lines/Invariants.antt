@@ -1,7 +1,9 @@
+use Rattle.loader.specs.ByteInput.{CountsNone}
 use Rattle.pcboard_program.proofs.Sessions.{PrintedSoFar}
 use Rattle.pcboard_program.proofs.debugging.answer_lines.Given as goal
 
 abbrev pub invariant-lines : goal.invariant-lines
 invariant-lines g l =
-    PrintedSoFar l.initial.session l.session (g.I.Read.remaining l.initial.input) (g.I.Read.remaining l.input)
+    PrintedSoFar l.initial.session l.session (g.I.ByteInput.remaining l.initial.input) (g.I.ByteInput.remaining l.input)
     (g.O.Write.contents l.initial.out) (g.O.Write.contents l.out)
+    × CountsNone (g.I.ByteInput.failures l.initial.input) (g.I.ByteInput.failures l.input)

@@ -5,7 +5,7 @@ use Rattle.pcboard_program.proofs.ready.stored_board.Goals as goal
 
 pub returns-in_err-board_of-clause-end : goal.returns-in_err-board_of-clause-end
 returns-in_err-board_of-clause-end g c =
-    let refused = refused_stored (g.I.Read.remaining c.args.input.now) c.in_ok-text.text.items c.parted.result.1.now c.parted.result.0.now c.in_err-board_of.field-0.0
+    let refused = refused_stored (g.I.ByteInput.remaining c.args.input.now) c.in_ok-text.text.items c.parted.result.1.now c.parted.result.0.now c.in_err-board_of.field-0.0
     c.in_ok-text.ensures.bytes (c.parted.ensures.source ∙ ap source_of c.as_slice.ensures.value) (c.parted.ensures.run ∙ ap run_text_of c.as_slice.ensures.value)
     c.in_err-board_of.ensures.fault in
     passed_on c.from_residual-in_err-board_of.result c.in_err-board_of.field-0.0 _ c.from_residual-in_err-board_of.ensures.1 refused
