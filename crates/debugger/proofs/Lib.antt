@@ -3,3 +3,5 @@ mod Counting
 mod Lines
 mod Spelling
 mod Reading
+mod Parting
+mod SpelledCommands

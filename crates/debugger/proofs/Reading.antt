@@ -20,11 +20,11 @@ abbrev pub NoSpace : List ℕ → Type 0
 NoSpace [] = Unit {0}
 NoSpace (b ∷ bs) = (is_space b ≡ false) × NoSpace bs
 
-word_step : (first second : Bool) (b : ℕ) (more skipped : List (List ℕ)) → first ≡ false → second ≡ false
+pub word_step : (first second : Bool) (b : ℕ) (more skipped : List (List ℕ)) → first ≡ false → second ≡ false
     → (if first then skipped else (if not second then onto_first b more else (b ∷ []) ∷ more)) ≡ onto_first b more
 word_step first second b more skipped p q = rw (p, q) refl
 
-word_end : (first : Bool) (b : ℕ) (more skipped : List (List ℕ)) → first ≡ false → (if first then skipped else (b ∷ []) ∷ more) ≡ (b ∷ []) ∷ more
+pub word_end : (first : Bool) (b : ℕ) (more skipped : List (List ℕ)) → first ≡ false → (if first then skipped else (b ∷ []) ∷ more) ≡ (b ∷ []) ∷ more
 word_end first b more skipped p = rw p refl
 
 -- a word and a space before the other words

@@ -7,6 +7,8 @@ use Rattle.debugger.specs.declared.command.Command.{Command}
 use Rattle.debugger.specs.declared.command.Command.TheVariants.{Break, Byte, Sound, Halted, Go, Step, Regs, Screen, Dump, Trail}
 use Rattle.debugger.specs.Commands.{command_of}
 use Rattle.debugger.specs.Dump.{address_text}
+use Rattle.debugger.specs.Spellings.{HasWords, Says}
+use Rattle.debugger.specs.Words.{words_of}
 
 -- a line for each command: `break F000:0013`, `byte B0000 41`, `go 100`, `dump B0000 4`, and so on
 abbrev pub line_of : Command → List ℕ
@@ -32,3 +34,15 @@ IsMeant _ = Unit {0}
 -- each command's line reads as it
 abbrev pub CommandsReadBack : Type 0
 CommandsReadBack = (command : Command) → IsMeant command → command_of (line_of command) ≡ Some command
+
+-- the words that are read of a line are those that it has
+abbrev pub WordsAreRead : Type 0
+WordsAreRead =
+    (line : List ℕ) (words : List (List ℕ))
+    → (words_of line ≡ words → HasWords words line) × (HasWords words line → words_of line ≡ words)
+
+-- a line is read as a command exactly where it says it
+abbrev pub CommandsAreSaid : Type 0
+CommandsAreSaid =
+    (line : List ℕ) (command : Command)
+    → (command_of line ≡ Some command → Says line command) × (Says line command → command_of line ≡ Some command)

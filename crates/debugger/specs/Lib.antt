@@ -5,3 +5,4 @@ pub mod Dump
 pub mod TrailText
 pub mod Session
 pub mod Laws
+pub mod Spellings

@@ -1,7 +1,17 @@
 //! What holds of lines and commands, over the definitions alone.
-ghost use Rattle.debugger.specs.Laws.{CommandsReadBack};
+ghost use Rattle.debugger.specs.Laws.{CommandsAreSaid, CommandsReadBack, WordsAreRead};
 
 /// Every command has a line that reads as it.
 pub fn commands_read_back()
     ensures { CommandsReadBack }
+{}
+
+/// The words that are read of a line are those that it has, and no others.
+pub fn words_are_read()
+    ensures { WordsAreRead }
+{}
+
+/// A line is read as a command exactly where its words spell it.
+pub fn commands_are_said()
+    ensures { CommandsAreSaid }
 {}
