@@ -31,3 +31,5 @@ pub mod TextForms
 pub mod TextsBack
 pub mod TakenTexts
 pub mod FittingTexts
+pub mod GivenTexts
+pub mod GivenForms

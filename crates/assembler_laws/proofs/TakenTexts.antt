@@ -318,6 +318,16 @@ xchg_taken _ _ e = cc
 exchange_by : (b : Bool) (x y : KnownOperand) → is_memory y ≡ b → b ≡ false → is_exchanged (Transfer transfer.Xchg) x y ≡ true → is_register_and_ax x y ≡ true
 exchange_by b x y is none e = ap (λ (c : Bool). if c then true else is_register_and_ax x y) (sym (is ∙ none)) ∙ e
 
+pub xchg_registers : (f : Form) (v : Values) (next : ℕ) → IsForm f → is_exchanged (operation_of f.row) (asked_by (first_written f v next)) (asked_by (second_written f v next)) ≡ true
+    → operation_of f.row ≡ Transfer transfer.Xchg → is_register_and_ax (asked_by (first_written f v next)) (asked_by (second_written f v next)) ≡ true
+xchg_registers f v next is e xchg =
+    let x : KnownOperand = asked_by (first_written f v next) in
+    let y : KnownOperand = asked_by (second_written f v next) in
+    let suit : RowSuits f.row = row_suits f.row is.row in
+    let alone : not (has_memory (second_of f.row)) ≡ true = subst (λ (o : Operation). exchange_agrees o (second_of f.row) ≡ true) xchg suit.exchange in
+    let none : is_memory y ≡ false = remembered_is (second_written f v next) ∙ unremembered f v next (second_of f.row) (first_of f.row) (not_true (has_memory (second_of f.row)) alone) in
+    exchange_by (is_memory y) x y refl none (subst (λ (o : Operation). is_exchanged o x y ≡ true) xchg e)
+
 exchange_taken : (f : Form) (v : Values) (next : ℕ) → IsForm f → is_exchanged (operation_of f.row) (asked_by (first_written f v next)) (asked_by (second_written f v next)) ≡ true
     → operation_of f.row ≡ Transfer transfer.Xchg → Taken (asked_in_order (operation_of f.row) (asked_by (second_written f v next)) (asked_by (first_written f v next)))
 exchange_taken f v next is e xchg =

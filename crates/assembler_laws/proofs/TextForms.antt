@@ -611,6 +611,9 @@ pub record AskBoth (f : Form) (v : Values) (next : ℕ) (n : Numbers) : Type 0 w
   pub second : Asks (operation_of f.row) (second_written f v next) (asked_by (first_written f v next)) n (operand_meant f v next (second_of f.row))
   pub order : operation_of f.row ≡ Arithmetic Test → is_memory (asked_by (second_written f v next)) ≡ false
   pub far : IsFarAs (operation_of f.row) (is_far (asked_by (first_written f v next)))
+  pub has_first : Has (first_written f v next) n
+  pub has_second : Has (second_written f v next) n
+  pub size : HasSize (operation_of f.row) (first_of f.row) (second_of f.row) (asked_by (second_written f v next))
 
 abbrev pub numbers_said : Form → Values → ℕ → Numbers
 numbers_said f v next = numbers_by (second_written f v next) (numbers_by (first_written f v next) no_numbers)
@@ -643,6 +646,9 @@ ask_both f v next is fits =
       second = kind_asks f v next l k (asked_by one) (numbers_said f v next) small second_fits (has_second two (numbers_by one no_numbers)) (has_size f v next op l k has.size_second);
       order = order_is op l two has.order (unremembered f v next l k);
       far = far_as f v next op k l refl has.far first_fits;
+      has_first = has_first one two no_numbers numbers memory;
+      has_second = has_second two (numbers_by one no_numbers);
+      size = has_size f v next op k l has.size_first;
     }
 
 -- ---- what a line with them is asked
@@ -679,11 +685,11 @@ some_asked : (a b : Asked) → Some a ≡ Some b → a ≡ b
 some_asked a b e = cc
 
 -- with the operands that are said, in the light of any names
-record SaysOperands (before names : Names) (here : ℕ) (os : List Operand) (x y : KnownOperand) (n : Numbers) : Type 0 where
+pub record SaysOperands (before names : Names) (here : ℕ) (os : List Operand) (x y : KnownOperand) (n : Numbers) : Type 0 where
   pub asked : known_operands before os ≡ Some (x, y)
   pub numbers : numbers_of names here os ≡ Some n
 
-asked_is : (before names : Names) (here : ℕ) (i : Instr) (ip : ℕ) (x y : KnownOperand) (n : Numbers) (a : Asked) → SaysOperands before names here (operands_in i.form i.values (next_of i ip)) x y n
+pub asked_is : (before names : Names) (here : ℕ) (i : Instr) (ip : ℕ) (x y : KnownOperand) (n : Numbers) (a : Asked) → SaysOperands before names here (operands_in i.form i.values (next_of i ip)) x y n
     → instruction_asked before (said_instruction i ip) ≡ Some a → asked (mnemonic_in i.form) x y ≡ a
 unfolding instruction_asked
 asked_is before names here i ip x y n a says is =
@@ -742,11 +748,11 @@ pub nop_asked : asked mnemonics.Nop known.Nothing known.Nothing ≡ asked_in_ord
 unfolding asked
 nop_asked = refl
 
-nop_said : (before names : Names) (here : ℕ) → SaysOperands before names here [] known.Nothing known.Nothing no_numbers
+pub nop_said : (before names : Names) (here : ℕ) → SaysOperands before names here [] known.Nothing known.Nothing no_numbers
 unfolding numbers_of
 nop_said before names here = record { asked = refl; numbers = refl }
 
-record IsNop (f : Form) : Type 0 where
+pub record IsNop (f : Form) : Type 0 where
   pub operation : operation_of f.row ≡ Transfer transfer.Xchg
   pub first : first_of f.row ≡ kinds.Ax
   pub code : f.code ≡ 0

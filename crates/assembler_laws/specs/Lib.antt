@@ -8,3 +8,4 @@ pub mod SameMeaning
 pub mod TextsBack
 pub mod TextsTaken
 pub mod Fitting
+pub mod NearTargets

@@ -1,5 +1,6 @@
 //! The text of a decoded instruction, given to the assembler.
 ghost use Rattle.assembler_laws.specs.Fitting.{NumbersFit};
+ghost use Rattle.assembler_laws.specs.NearTargets.{TextsGetNumbers};
 ghost use Rattle.assembler_laws.specs.SaidTexts.{TextsAreRead};
 ghost use Rattle.assembler_laws.specs.SameMeaning.{FormsMeanWhatIsAsked, TextsMeanTheSame};
 ghost use Rattle.assembler_laws.specs.TextsBack.{TextsDecodeTheSame};
@@ -32,6 +33,12 @@ pub fn numbers_fit()
 /// Whatever names are known, some row of the table takes what the text of an instruction of the table asks.
 pub fn texts_take_a_form()
     ensures { TextsTakeAForm }
+{}
+
+/// Whichever form the text of an instruction of the table takes at its offset, whatever names are known, its numbers are
+/// in range there, if no target within a byte's reach wraps.
+pub fn texts_get_numbers()
+    ensures { TextsGetNumbers }
 {}
 
 /// Given to the assembler at its offset, whatever names are known, the text of an instruction of the table takes a form
