@@ -8,17 +8,28 @@
 //!
 //! `run`: a run file. The answer is `ram`, `sw1`, `sw2`, the budget and, for each key, its stamp and code, all decimal
 //! and parted by blanks; or its fault's number.
+//!
+//! `read`: three numbers, of bytes over memory, of those that a read gives at most, and of those that are wanted. The
+//! answer is how many bytes are read, and by how many reads. Besides, each of these reads fails in turn: the whole is then
+//! refused as failed, and no read is made behind it.
 #![tactic(auto)]
 
-use anyhow::{Context, Result, bail};
+mod pieces;
+
+use anyhow::{Context, Result, bail, ensure};
 use cases::judge_cases;
+use loader::byte_input::{ReadFault, read_all};
 use loader::hex_fault::HexFault;
 use loader::hex_reader::read_hex;
 use loader::hex_writer::write_hex;
 use loader::run_file::RunFile;
 use loader::run_reader::read_run_text;
+use pieces::Pieces;
 use std::alloc::{AllocError, Global};
 use std::io;
+
+/// How many bytes the loader asks for at once.
+const PIECE: usize = 4096;
 
 fn main(rt: HostRuntime) -> io::Result<()> {
     judge_cases(&rt, judge)
@@ -32,6 +43,7 @@ fn judge(alloc: Global, case: &str) -> Result<()> {
     let answer = match kind {
         "hex" => hex_answer(alloc, text.as_slice())?,
         "run" => run_answer(alloc, text.as_slice())?,
+        "read" => read_answer(alloc, text.as_slice())?,
         _ => bail!("no such kind"),
     };
     if answer.as_slice() != wanted.as_bytes() {
@@ -92,4 +104,50 @@ fn told(alloc: Global, run: &RunFile) -> Result<String, AllocError> {
         text.push_str(key.as_str())?;
     }
     Ok(text)
+}
+
+fn read_answer(alloc: Global, text: &[u8]) -> Result<Vec<u8>> {
+    let mut numbers = std::str::from_utf8(text)?.split(' ');
+    let size = number(numbers.next())?;
+    let most = number(numbers.next())?;
+    let limit = number(numbers.next())?;
+    let bytes = counted(alloc, size)?;
+    let mut input = Pieces::new(bytes.as_slice(), most as usize, u64::MAX);
+    let read = read_all(alloc, &mut input, limit)?;
+    ensure!(bytes.starts_with(read.as_slice()), "other bytes");
+    let reads = u64::MAX.saturating_sub(input.reads_left());
+    for failing in 0..reads {
+        judge_failure(alloc, bytes.as_slice(), most as usize, limit, failing)?;
+    }
+    let text = format!(in alloc; "{} {reads}", read.len())?;
+    Ok(Vec::from_slice(alloc, text.as_bytes())?)
+}
+
+fn number(word: Option<&str>) -> Result<u64> {
+    word.context("no number")?
+        .parse::<u64>()
+        .context("no number")
+}
+
+/// So many bytes, which no shift leaves as they are.
+fn counted(alloc: Global, size: u64) -> Result<Vec<u8>, AllocError> {
+    let mut bytes = Vec::new(alloc);
+    for i in 0..size {
+        bytes.push((i % 251) as u8)?;
+    }
+    Ok(bytes)
+}
+
+/// Fails where the whole isn't refused, though the read after so many fails, or where bytes are taken behind that.
+fn judge_failure(alloc: Global, bytes: &[u8], most: usize, limit: u64, reads: u64) -> Result<()> {
+    let mut input = Pieces::new(bytes, most, reads);
+    let read = read_all(alloc, &mut input, limit);
+    ensure!(matches!(&read, Err(ReadFault::Failed)), "not refused");
+    let taken = reads.saturating_mul(most.min(PIECE) as u64);
+    let left = (bytes.len() as u64).saturating_sub(taken);
+    ensure!(
+        input.rest().len() as u64 == left,
+        "another number of bytes taken"
+    );
+    Ok(())
 }

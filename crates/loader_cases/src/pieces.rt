@@ -1,0 +1,59 @@
+//! An input over memory that gives its bytes in pieces, and can fail.
+ghost use Rattle.std.specs.Prelude.{if◌then◌else◌, Some};
+
+use loader::byte_input::{ByteInput, Failed};
+use std::io::Read;
+
+/// Bytes, some at a time. One read may fail; those behind it go on where it stood.
+#[derive(Drop)]
+pub struct Pieces<'a> {
+    rest: &'a [u8],
+    /// The most bytes that a read gives; 0 stands for 1.
+    most: usize,
+    /// How many reads are made before the one that fails.
+    reads_left: u64,
+    has_failed: bool,
+}
+
+impl<'a> Pieces<'a> {
+    pub fn new(bytes: &'a [u8], most: usize, reads_left: u64) -> Self {
+        Pieces {
+            rest: bytes,
+            most,
+            reads_left,
+            has_failed: false,
+        }
+    }
+
+    /// How many reads are left before the one that fails.
+    pub fn reads_left(&self) -> u64 {
+        self.reads_left
+    }
+
+    /// The bytes that are still to come.
+    pub fn rest(&self) -> &'a [u8] {
+        self.rest
+    }
+}
+
+impl ByteInput for Pieces<'_> {
+    ghost remaining = { λ pieces. Some pieces.rest.now };
+
+    ghost failures = { λ pieces. Some (if pieces.has_failed then 1 else 0) };
+
+    fn read(&mut self, buf: &mut [u8]) -> Result<usize, Failed> {
+        if self.reads_left == 0 && !self.has_failed {
+            self.has_failed = true;
+            return Err(Failed);
+        }
+        self.reads_left = self.reads_left.saturating_sub(1);
+        let mut front = &self.rest[..self.rest.len().min(self.most.max(1))];
+        match Read::read(&mut front, buf) {
+            Ok(count) => {
+                self.rest = &self.rest[count..];
+                Ok(count)
+            }
+            Err(_) => Err(Failed),
+        }
+    }
+}
