@@ -268,18 +268,6 @@ impl<A: Allocator> Board<A> {
         }
     }
 
-    /// Runs the board for `count` processor clocks, each made by itself, in place of the leaps of `run`.
-    #[cfg(test)]
-    pub(crate) fn run_ticking(&mut self, count: u64) -> Result<(), BoardFault> {
-        for _ in 0..count {
-            if self.is_past_limit(1) {
-                return Err(BoardFault::ClockLimit);
-            }
-            self.make_clock()?;
-        }
-        Ok(())
-    }
-
     /// Makes room for `n` more changes of the speaker's level. Refused as `Memory`, with nothing changed, where
     /// the list can't grow; never where it has the room.
     pub fn reserve_speaker(&mut self, n: usize) -> Result<(), BoardFault>

@@ -1,10 +1,8 @@
-//! Runs whose list of speaker changes finds no memory, how often a loop is decoded, and runs that leap beside one that
-//! makes each clock by itself. All other runs are cases of the crate `board_cases`.
+//! Runs whose list of speaker changes finds no memory, and how often a loop is decoded. All other runs are cases of the
+//! crate `board_cases`.
 ghost use Rattle.std.specs.Prelude.{◌≡◌, [], IfOk};
 
 use crate::board::{Board, BoardFault, Config};
-use crate::trail::{TRAIL_LENGTH, TrailEntry, TrailEvent};
-use board_types::clock::Clock;
 use board_types::image::{Image, is_loadable};
 use board_types::keys::Keys;
 use board_types::regs::Regs;
@@ -56,14 +54,12 @@ const HALTING: Tone = Tone {
     state: State::Halted,
 };
 
-const MULTIPLY: [u8; 19] = [
-    0xB0, 0x94, 0xE6, 0x43, 0xB0, 0x02, 0xE6, 0x42, 0xB0, 0x99, 0xE6, 0x63, 0xB0, 0x03, 0xE6, 0x61,
-    0xF6, 0xE3, 0xF4,
-];
-
 /// Its ports are bytes of the instructions, and the third change falls on the first clock of a MUL.
 const MULTIPLYING: Tone = Tone {
-    program: &MULTIPLY,
+    program: &[
+        0xB0, 0x94, 0xE6, 0x43, 0xB0, 0x02, 0xE6, 0x42, 0xB0, 0x99, 0xE6, 0x63, 0xB0, 0x03, 0xE6,
+        0x61, 0xF6, 0xE3, 0xF4,
+    ],
     changes: &[
         (62, true),
         (68, false),
@@ -86,75 +82,6 @@ const MULTIPLYING: Tone = Tone {
 
 /// MOV CX, 1000; LOOP to itself; HLT.
 const LOOPING: [u8; 6] = [0xB9, 0xE8, 0x03, 0xE2, 0xFE, 0xF4];
-
-/// What is put into a board's memory, and the code of a key that arrives at clock 72.
-struct Row {
-    bytes: &'static [(u32, &'static [u8])],
-    key: Option<u8>,
-}
-
-/// `HI` on the screen; the count, an edge and a key on the clock of a port read; a loop that changes its own code; the
-/// speaker, which changes inside a MUL; and an interrupt that wakes a halted processor.
-const ROWS: [Row; 5] = [
-    Row {
-        bytes: &[
-            (0xFFFF0, &JUMP),
-            (
-                0xF0000,
-                &[
-                    0xB8, 0x00, 0xB0, 0x8E, 0xC0, 0xBF, 0x00, 0x00, 0xB8, 0x48, 0x07, 0xAB, 0xB8,
-                    0x49, 0x07, 0xAB, 0xBA, 0xB8, 0x03, 0xB0, 0x08, 0xEE, 0xF4,
-                ],
-            ),
-        ],
-        key: None,
-    },
-    Row {
-        bytes: &[
-            (0xFFFF0, &JUMP),
-            (
-                0xF0000,
-                &[
-                    0xB0, 0x99, 0xE6, 0x63, 0xB0, 0x40, 0xE6, 0x61, 0xB0, 0x10, 0xE6, 0x43, 0xB0,
-                    0x02, 0xE6, 0x40, 0xE4, 0x40, 0x88, 0xC3, 0xE4, 0x20, 0xF4,
-                ],
-            ),
-        ],
-        key: Some(0x1E),
-    },
-    Row {
-        bytes: &[
-            (0xFFFF0, &[0xEA, 0x00, 0x00, 0x00, 0x01]),
-            (
-                0x01000,
-                &[
-                    0xB9, 0xE8, 0x03, 0x2E, 0xFE, 0x06, 0x09, 0x00, 0xB0, 0x00, 0x01, 0xC3, 0xE2,
-                    0xF5, 0xF4,
-                ],
-            ),
-        ],
-        key: None,
-    },
-    Row {
-        bytes: &[(0xFFFF0, &JUMP), (0xF0000, &MULTIPLY)],
-        key: None,
-    },
-    Row {
-        bytes: &[
-            (0xFFFF0, &JUMP),
-            (
-                0xF0000,
-                &[
-                    0xB0, 0x13, 0xE6, 0x20, 0xB0, 0x08, 0xE6, 0x21, 0xB0, 0x01, 0xE6, 0x21, 0xB0,
-                    0x10, 0xE6, 0x43, 0xB0, 0x05, 0xE6, 0x40, 0xFB, 0xF4, 0xF4,
-                ],
-            ),
-            (0xF0100, &[0xB0, 0x20, 0xE6, 0x20, 0xCF]),
-            (0x00020, &[0x00, 0x01, 0x00, 0xF0]),
-        ],
-        key: None,
-    },
-];
 
 /// A board with 64 KB of RAM and a program at F0000h, to which the reset vector leads.
 fn board_with(rt: &impl Abort, alloc: Global, program: &[u8]) -> Result<Board, Fail>
@@ -260,96 +187,5 @@ fn a_loop_is_decoded_once(rt: HostRuntime) -> Result<(), Fail> {
     assert_eq!(rt; board.state(), State::Halted);
     // JMP FAR, MOV, LOOP and HLT, of which LOOP is made 1,000 times
     assert!(rt; board.decodes() >= 4 && board.decodes() <= 100);
-    Ok(())
-}
-
-fn board_of(rt: &impl Abort, alloc: Global, row: &Row) -> Result<Board, Fail> {
-    let mut image = Image::new(alloc);
-    for (start, bytes) in row.bytes {
-        put_all(rt, &mut image, *start, bytes)?;
-    }
-    let mut keys = Keys::new(alloc);
-    if let Some(code) = row.key {
-        keys.push(Clock::new(72).unwrap(), code)?;
-    }
-    let config = Config {
-        ram_kb: 64,
-        sw1: 0,
-        sw2: 0,
-    };
-    let board = Board::new(alloc, &image, config, keys)?;
-    Ok(board)
-}
-
-/// Whether two boards show the same: clock, registers, state, lost codes, speaker changes, screen, memory and trail.
-fn assert_same(rt: &impl Abort, one: &Board, other: &Board) -> Result<(), Fail> {
-    assert_eq!(rt; one.clock(), other.clock());
-    assert_eq!(rt; one.regs(), other.regs());
-    assert_eq!(rt; one.state(), other.state());
-    assert_eq!(rt; one.lost(), other.lost());
-    assert_eq!(rt; one.speaker_changes(), other.speaker_changes());
-    assert_eq!(rt; one.screen()?.as_str(), other.screen()?.as_str());
-    assert_same_memory(rt, one, other);
-    for index in 0..TRAIL_LENGTH {
-        assert_same_entry(rt, &one.trail(index), &other.trail(index));
-    }
-    Ok(())
-}
-
-/// Of memory the first and the last 64 bytes of each 4,096 are read.
-fn assert_same_memory(rt: &impl Abort, one: &Board, other: &Board) {
-    for page in 0..256_u32 {
-        for offset in 0..64_u32 {
-            let first = page * 4_096 + offset;
-            assert_eq!(rt; one.byte(first), other.byte(first));
-            let last = page * 4_096 + 4_095 - offset;
-            assert_eq!(rt; one.byte(last), other.byte(last));
-        }
-    }
-}
-
-fn assert_same_entry(rt: &impl Abort, one: &Option<TrailEntry>, other: &Option<TrailEntry>) {
-    assert_eq!(rt; one.is_some(), other.is_some());
-    let Some(one) = one else {
-        return;
-    };
-    let Some(other) = other else {
-        return;
-    };
-    assert_eq!(rt; one.clock, other.clock);
-    assert_eq!(rt; one.cs, other.cs);
-    assert_eq!(rt; one.ip, other.ip);
-    assert_eq!(rt; bytes_of(&one.event), bytes_of(&other.event));
-    assert_eq!(rt; kind_of(&one.event), kind_of(&other.event));
-}
-
-/// The bytes of an instruction; none of an entry.
-fn bytes_of(event: &TrailEvent) -> &[u8] {
-    match event {
-        TrailEvent::Instruction { bytes, .. } => bytes.as_slice(),
-        TrailEvent::Entry(_) => &[],
-    }
-}
-
-/// The type of an entry.
-fn kind_of(event: &TrailEvent) -> Option<u8> {
-    match event {
-        TrailEvent::Instruction { .. } => None,
-        TrailEvent::Entry(kind) => Some(*kind),
-    }
-}
-
-#[test]
-fn leaping_boards_show_what_a_ticking_one_shows(rt: HostRuntime) -> Result<(), Fail> {
-    for row in &ROWS {
-        let start = board_of(&rt, rt.alloc(), row)?;
-        let mut ticking = start.copy()?;
-        for budget in 0..=300 {
-            let mut leaping = start.copy()?;
-            leaping.run(budget)?;
-            assert_same(&rt, &leaping, &ticking)?;
-            ticking.run_ticking(1)?;
-        }
-    }
     Ok(())
 }
