@@ -1,4 +1,5 @@
-"""The program on outsized input: sources, HEX texts, run files and sessions of up to three million bytes."""
+"""The program on outsized input: sources, HEX texts, run files and sessions of up to three million bytes; and a word that
+is empty, which no row of the program of cases can say."""
 from __future__ import annotations
 
 import os
@@ -70,7 +71,7 @@ class Outsized(ToolCase):
 
     def test_each_is_answered_as_told(self) -> None:
         found = cases()
-        self.assertEqual(len(found), 51)
+        self.assertEqual(len(found), 52)
         for case in found:
             with self.subTest(case.name):
                 status, out, err = self.answer(case)
