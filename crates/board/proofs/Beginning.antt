@@ -1,21 +1,30 @@
 -- A clock in which an instruction begins, the chips being calm.
-use Rattle.std.proofs.Common.{◌≡◌, ◌+◌, ◌≤◌, [], ◌++◌, length, refl, sym, ap, ◌∙◌, arith, append-nil}
+use Rattle.std.proofs.Common.{◌≡◌, ℕ, ◌+◌, ◌-◌, ◌<◌, ◌≤◌, inl, inr, List, [], ◌++◌, length, refl, sym, ap, ◌∙◌, subst, arith, append-nil}
+use Rattle.std.specs.Prelude.{◌⊎◌}
 use Rattle.board_bus.proofs.Calm.{level_stays}
 use Rattle.board_types.specs.Lines.{from_bool}
+use Rattle.board_types.specs.declared.keys.StampedKey.{StampedKey}
 use Rattle.decode.specs.declared.decoding.Decoding.{Decoding}
+use Rattle.execute.specs.Meaning.{StepResult}
 use Rattle.execute.specs.PortWrites.{port_writes_of}
+use Rattle.wiring.specs.Chips.{ChipsState}
 use Rattle.wiring.specs.Speaker.{is_speaker_high_after}
+use Rattle.wiring.specs.Wires as wires
+use Rattle.wiring.specs.Wires.{after_arrivals}
+use Rattle.wiring.proofs.Clocks.{clock_of_arrivals, clock_of_clocked, clock_of_keys_settled}
 use Rattle.board.specs.declared.act.Act.{Act}
 use Rattle.board.specs.declared.act.Act.TheVariants.{Instruction}
 use Rattle.board.specs.Board.{BoardState}
 use Rattle.board.specs.Laws.{writes_of}
-use Rattle.board.specs.Leap.{IsCalmBeginning, is_idle}
-use Rattle.board.specs.Plain.{Plain, after_clock, change_next, clock_of, decoded_at, next_act, speaker_level}
+use Rattle.board.specs.Leap.{BeginsCalmly, IsCalmBeginning, PassesOn, is_idle}
+use Rattle.board.specs.Plain.{Plain, after_act, after_clock, change_next, chips_after_clock, clock_of, codes_at, decoded_at, next_act, speaker_level}
 use Rattle.board.specs.Trail.{last, trail_next}
-use Rattle.board.specs.Turns.{IsTickOn}
+use Rattle.board.specs.Turns.{IsLeapOn, IsStepOn}
 use Rattle.board.specs.Work.{work_next}
+use Rattle.board.proofs.Clocks.{clock_of_step}
 use Rattle.board.proofs.Entries.{begins}
 use Rattle.board.proofs.Foreseen.{foreseen}
+use Rattle.board.proofs.Leap.{clock_of_leap}
 use Rattle.board.proofs.Runs.{no_change}
 use Rattle.board.proofs.Works.{acts_now}
 
@@ -36,16 +45,84 @@ no_change_then s d calm next silent = no_change s (same_level s d calm next sile
 pub begins_work : (s : Plain) → IsCalmBeginning s → 1 ≤ work_next s
 begins_work s calm = acts_now s (ap is_idle (sym (begins s (decoded_at s.cpu s.chips) calm.free calm.boundary refl)))
 
--- the board's clock, in which nothing is listed
-pub tick_begun : (old new : BoardState) (d : Decoding) → IsCalmBeginning old.plain → Instruction d ≡ next_act old.plain → port_writes_of old.plain.cpu d ≡ [] → new.plain ≡ after_clock old.plain → clock_of new.plain ≡ clock_of old.plain + 1 → new.changes ≡ old.changes → new.trail ≡ last 32 (old.trail ++ trail_next old.plain) → new.room ≡ old.room → new.turns ≡ old.turns + 1 → IsTickOn old new × (1 ≤ work_next old.plain)
-tick_begun old new d calm next silent plain clock changes trail room turns = (
+-- a clock goes by
+chips_go_on : (c : ChipsState) (keys : List StampedKey) → (chips_after_clock c keys).clock ≡ c.clock + 1
+unfolding chips_after_clock
+chips_go_on c keys =
+    clock_of_keys_settled (after_arrivals (wires.after_clock c) (codes_at keys (c.clock + 1)))
+    ∙ clock_of_arrivals (wires.after_clock c) (codes_at keys (c.clock + 1))
+    ∙ clock_of_clocked c
+
+clock_goes_by : (s : Plain) (d : Decoding) → Instruction d ≡ next_act s → clock_of (after_clock s) ≡ clock_of s + 1
+unfolding clock_of after_clock
+clock_goes_by s d next =
+    chips_go_on (after_act s.cpu s.busy s.chips (next_act s)).bus s.keys
+    ∙ ap (λ (a : Act). (after_act s.cpu s.busy s.chips a).bus.clock + 1) (sym next)
+    ∙ ap (λ n. n + 1) (clock_of_step s.cpu s.chips d)
+
+-- the board's first clock of a step, in which nothing is listed, and the rest of it that is leapt over
+
+rest_on : (end : ℕ) (p : Plain) (new : BoardState) → PassesOn end p new.plain → (new ≡ record new { plain = p }) ⊎ ((1 ≤ p.busy) × IsLeapOn end 0 (record new { plain = p }) new)
+rest_on end p new (inl same) = inl (ap (λ q. record new { plain = q }) same)
+rest_on end p new (inr passed) = inr (
+  passed.busy,
   record {
-    plain = plain;
-    clock = clock;
-    changes = changes ∙ sym (append-nil old.changes) ∙ ap (λ xs. old.changes ++ xs) (sym (no_change_then old.plain d calm next silent));
-    trail = trail;
-    room = let size : length new.changes ≡ length old.changes = ap length changes in omega (arith, room, size);
-    turns = turns;
+    clocks = passed.clocks;
+    some = passed.turn.some;
+    within = passed.turn.within;
+    wires = passed.turn.wires;
+    quiet = passed.turn.quiet;
+    tight = passed.turn.tight;
+    plain = passed.plain;
+    changes = refl;
+    trail = refl;
+    room = refl;
+    turns = omega arith;
   },
-  begins_work old.plain calm,
 )
+
+pub step_made : (end : ℕ) (old new : BoardState) → BeginsCalmly old.plain → PassesOn end (after_clock old.plain) new.plain → new.changes ≡ old.changes → new.trail ≡ last 32 (old.trail ++ trail_next old.plain) → new.room ≡ old.room → new.turns ≡ old.turns + 1 → IsStepOn end old new
+step_made end old new begins_now passed changes trail room turns =
+    let calm = begins_now.calm in
+    let d = decoded_at old.plain.cpu old.plain.chips in
+    let next : Instruction d ≡ next_act old.plain = begins old.plain d calm.free calm.boundary refl in
+    record {
+      begun = record new { plain = after_clock old.plain };
+      first = record {
+        plain = refl;
+        clock = clock_goes_by old.plain d next;
+        changes = changes ∙ sym (append-nil old.changes) ∙ ap (λ xs. old.changes ++ xs) (sym (no_change_then old.plain d calm next begins_now.silent));
+        trail = trail;
+        room = let size : length new.changes ≡ length old.changes = ap length changes in omega (arith, room, size);
+        turns = turns;
+      };
+      work = begins_work old.plain calm;
+      rest = rest_on end (after_clock old.plain) new passed;
+    }
+
+pub step_of : (end : ℕ) (old seen new : BoardState) → old ≡ seen → BeginsCalmly old.plain → PassesOn end (after_clock old.plain) new.plain → new.changes ≡ old.changes → new.trail ≡ last 32 (old.trail ++ trail_next old.plain) → new.room ≡ old.room → new.turns ≡ old.turns + 1 → IsStepOn end seen new
+step_of end old seen new same begins_now passed changes trail room turns =
+    subst (λ b. IsStepOn end b new) same (step_made end old new begins_now passed changes trail room turns)
+
+-- time goes on by a clock at least, and not past the end
+pub record GoesOn (end : ℕ) (s t : Plain) : Type 0 where
+  pub some : clock_of s + 1 ≤ clock_of t
+  pub within : clock_of t ≤ end
+
+goes_from : (end : ℕ) (s p t : Plain) → clock_of p ≡ clock_of s + 1 → clock_of s < end → PassesOn end p t → GoesOn end s t
+goes_from end s p t first before (inl same) =
+    let here : clock_of t ≡ clock_of p = ap clock_of same in record { some = omega (arith, here, first); within = omega (arith, here, first, before) }
+goes_from end s p t first before (inr passed) =
+    let here : clock_of t ≡ clock_of p + passed.clocks = ap clock_of passed.plain ∙ clock_of_leap p passed.clocks in
+    let most = passed.turn.within in record { some = omega (arith, here, first); within = omega (arith, here, first, before, most) }
+
+pub goes_on : (end : ℕ) (s t : Plain) → BeginsCalmly s → clock_of s < end → PassesOn end (after_clock s) t → GoesOn end s t
+goes_on end s t begins_now before passed =
+    goes_from end s (after_clock s) t (clock_goes_by s (decoded_at s.cpu s.chips) (begins s (decoded_at s.cpu s.chips) begins_now.calm.free begins_now.calm.boundary refl)) before passed
+
+-- the plain board's clock, told by what the processor does in it
+pub clock_by_act : (s : Plain) (a : Act) (acted : StepResult ChipsState) → a ≡ next_act s → acted ≡ after_act s.cpu s.busy s.chips a → record { cpu = acted.cpu; busy = acted.clocks - 1; chips = chips_after_clock acted.bus s.keys; keys = s.keys } ≡ after_clock s
+unfolding after_clock
+clock_by_act s a acted now is =
+    ap (λ (r : StepResult ChipsState). record { cpu = r.cpu; busy = r.clocks - 1; chips = chips_after_clock r.bus s.keys; keys = s.keys })
+    (is ∙ ap (after_act s.cpu s.busy s.chips) now)

@@ -7,6 +7,7 @@ pub mod KeyOrder
 pub mod Lasts
 pub mod Leap
 pub mod LeastNumbers
+pub mod Passing
 pub mod Quiet
 pub mod Requests
 pub mod Rooms

@@ -1,17 +1,22 @@
 -- A run that looks for its stop at the end of each turn.
-use Rattle.std.proofs.Common.{◌≡◌, ℕ, ◌+◌, ◌-◌, ◌<◌, ◌≤◌, inl, inr, List, length, None, Some, refl, sym, ap, ◌∙◌, subst, arith}
-use Rattle.std.proofs.lemmas.Bool.Decides.{leb_tells}
+use Rattle.std.proofs.Common.{◌≡◌, ℕ, ◌+◌, ◌-◌, ◌<◌, ◌≤◌, inl, inr, Bool, true, false, List, length, None, Some, refl, sym, ap, ◌∙◌, subst, arith}
+use Rattle.std.specs.Bool.{IsTrue}
+use Rattle.std.specs.Prelude.{◌⊎◌, ◌&&◌, ◌==◌, slice_index_or}
+use Rattle.std.proofs.lemmas.Bool.Decides.{leb_tells, nat_tests}
 use Rattle.board_types.proofs.Iterate.{iterate_add}
 use Rattle.board.specs.declared.stop.Condition.{Condition}
+use Rattle.board.specs.declared.stop.Condition.TheVariants.{Free, At, Byte, Sound, Halted}
+use Rattle.board.specs.AwaitFree.{awaits_free, AllAwaitFree, IsTurnBetween}
 use Rattle.board.specs.Board.{BoardState, Ran}
 use Rattle.board.specs.HeldBack.{IsHeldBack}
-use Rattle.board.specs.Plain.{after_clock, after_clocks, clock_of}
-use Rattle.board.specs.Stops.{holding, FitsRoom, NoStop, StopsAt}
-use Rattle.board.specs.Turns.{IsLeapOn, IsTickOn, IsTurnOn}
+use Rattle.board.specs.Plain.{Plain, after_clock, after_clocks, clock_of, is_free}
+use Rattle.board.specs.Stops.{holding, holds, FitsRoom, NoStop, StopsAt}
+use Rattle.board.specs.Turns.{IsLeapOn, IsStrideOn, IsTickOn, IsTurnOn}
+use Rattle.board.specs.Work.{work_next}
 use Rattle.board.proofs.Leap.{holding_stays}
 use Rattle.board.proofs.Runs.{ran_none}
-use Rattle.board.proofs.Stopping.{no_stop_more, no_stop_none, none_passed, not_held_before_stop, ran_to_stop, stops_here}
-use Rattle.board.proofs.Turns.{Counts, HeldRun, SoFar, counted, held_run, not_counted, ran_whole, so_far_first, so_far_leap, so_far_none, so_far_tick}
+use Rattle.board.proofs.Stopping.{no_stop_more, no_stop_none, none_passed, none_there, not_held_before_stop, ran_to_stop, stops_here}
+use Rattle.board.proofs.Turns.{Counts, HeldRun, SoFar, before_rest, counted, held_run, not_counted, ran_whole, so_far_first, so_far_leap, so_far_none, so_far_tick, stride_moves, turn_moves}
 
 -- a run so far that passed no stop; at its clock it hasn't looked for one
 pub record Searched (stops : List Condition) (end : ℕ) (s t : BoardState) : Type 0 where
@@ -38,8 +43,8 @@ none_here stops end s t searched here =
     (ap (λ k. holding stops (after_clocks s.plain k)) whole ∙ ap (holding stops) (sym searched.so_far.ran.plain) ∙ here))
 
 -- nor in a leap, short of its end
-none_in_leap : (stops : List Condition) (n end : ℕ) (s t u : BoardState) → Ran n s t → NoStop stops n s.plain → holding stops t.plain ≡ None → (leap : IsLeapOn end 1 t u) → NoStop stops (n + leap.clocks - 1) s.plain
-none_in_leap stops n end s t u ran none here leap j first within =
+none_in_leap : (stops : List Condition) (n end count : ℕ) (s t u : BoardState) → Ran n s t → NoStop stops n s.plain → holding stops t.plain ≡ None → (leap : IsLeapOn end count t u) → NoStop stops (n + leap.clocks - 1) s.plain
+none_in_leap stops n end count s t u ran none here leap j first within =
     elim (leb_tells j n) [
       | inl before ↦ none j first before.1
       | inr after ↦
@@ -52,18 +57,61 @@ none_in_leap stops n end s t u ran none here leap j first within =
           ∙ here
     ]
 
-pub searched_turn : (stops : List Condition) (end : ℕ) (s t u : BoardState) → Searched stops end s t → holding stops t.plain ≡ None → clock_of t.plain < end → IsTurnOn end t u → Searched stops end s u
-unfolding so_far_leap so_far_tick
-searched_turn stops end s t u searched here before (inl leap) = record {
-  so_far = so_far_leap 2 end 1 s t u (omega arith) searched.so_far before leap;
+searched_leap : (stops : List Condition) (end count : ℕ) (s t u : BoardState) → count ≤ 1 → Searched stops end s t → holding stops t.plain ≡ None → clock_of t.plain < end → IsLeapOn end count t u → Searched stops end s u
+unfolding so_far_leap
+searched_leap stops end count s t u one searched here before leap = record {
+  so_far = so_far_leap 2 end count s t u one searched.so_far before leap;
   some = let some = searched.some in omega (arith, some);
-  none = none_in_leap stops searched.so_far.passed end s t u searched.so_far.ran (none_here stops end s t searched here) here leap;
+  none = none_in_leap stops searched.so_far.passed end count s t u searched.so_far.ran (none_here stops end s t searched here) here leap;
 }
-searched_turn stops end s t u searched here before (inr tick) = record {
-  so_far = so_far_tick 2 end s t u searched.so_far before tick.0 tick.1;
+
+searched_tick : (stops : List Condition) (end : ℕ) (s t u : BoardState) → Searched stops end s t → holding stops t.plain ≡ None → clock_of t.plain < end → IsTickOn t u → 1 ≤ work_next t.plain → Searched stops end s u
+unfolding so_far_tick
+searched_tick stops end s t u searched here before tick work = record {
+  so_far = so_far_tick 2 end s t u searched.so_far before tick work;
   some = omega arith;
   none = subst (λ n. NoStop stops n s.plain) (omega arith) (none_here stops end s t searched here);
 }
+
+pub searched_turn : (stops : List Condition) (end : ℕ) (s t u : BoardState) → Searched stops end s t → holding stops t.plain ≡ None → clock_of t.plain < end → IsTurnOn end t u → Searched stops end s u
+searched_turn stops end s t u searched here before (inl leap) = searched_leap stops end 1 s t u (omega arith) searched here before leap
+searched_turn stops end s t u searched here before (inr tick) = searched_tick stops end s t u searched here before tick.0 tick.1
+
+-- a busy processor isn't free, so none of those that await that holds
+
+not_free : (s : Plain) → 1 ≤ s.busy → is_free s ≡ false
+not_free s some = grind (arith, nat_tests)
+
+one_not_held : (condition : Condition) (s : Plain) → 1 ≤ s.busy → awaits_free condition ≡ true → holds condition s ≡ false
+unfolding holds
+one_not_held Free s some waits = not_free s some
+one_not_held (At cs ip) s some waits = ap (λ free. free && (s.cpu.registers.cs == cs) && (s.cpu.registers.ip == ip)) (not_free s some)
+one_not_held (Byte address value) s some waits = absurd (let no = waits in cc)
+one_not_held Sound s some waits = absurd (let no = waits in cc)
+one_not_held Halted s some waits = absurd (let no = waits in cc)
+
+pub none_held : (stops : List Condition) (s : Plain) → 1 ≤ s.busy → AllAwaitFree stops → holding stops s ≡ None
+unfolding holding
+none_held stops s some waits =
+    none_there (λ (condition : Condition). holds condition s) 1 stops Free (λ k below. one_not_held (slice_index_or stops k Free) s some (waits k below))
+
+searched_rest : (stops : List Condition) (end : ℕ) (s b u : BoardState) → AllAwaitFree stops → Searched stops end s b → (u ≡ b) ⊎ ((1 ≤ b.plain.busy) × IsLeapOn end 0 b u) → Searched stops end s u
+searched_rest stops end s b u waits searched (inl same) = subst (Searched stops end s) (sym same) searched
+searched_rest stops end s b u waits searched (inr rest) =
+    searched_leap stops end 0 s b u (omega arith) searched (none_held stops b.plain rest.0 waits) (before_rest end b u rest.1) rest.1
+
+searched_stride : (stops : List Condition) (end : ℕ) (s t u : BoardState) → AllAwaitFree stops → Searched stops end s t → holding stops t.plain ≡ None → clock_of t.plain < end → IsStrideOn end t u → Searched stops end s u
+searched_stride stops end s t u waits searched here before (inl turn) = searched_turn stops end s t u searched here before turn
+searched_stride stops end s t u waits searched here before (inr step) =
+    searched_rest stops end s step.begun u waits (searched_tick stops end s t step.begun searched here before step.first step.work) step.rest
+
+pub searched_between : (stops : List Condition) (end : ℕ) (whole : Bool) (s t u : BoardState) → (IsTrue whole → AllAwaitFree stops) → Searched stops end s t → holding stops t.plain ≡ None → clock_of t.plain < end → IsTurnBetween whole end t u → Searched stops end s u
+searched_between stops end true s t u waits searched here before on = searched_stride stops end s t u (waits refl) searched here before on
+searched_between stops end false s t u waits searched here before on = searched_turn stops end s t u searched here before on
+
+pub between_moves : (end : ℕ) (whole : Bool) (t u : BoardState) → clock_of t.plain < end → IsTurnBetween whole end t u → end - clock_of u.plain < end - clock_of t.plain
+between_moves end true t u before on = stride_moves end t u before on
+between_moves end false t u before on = turn_moves end t u before on
 
 -- a condition holds where it looks
 pub stop_found : (stops : List Condition) (end count : ℕ) (s t : BoardState) (number clock : ℕ) → Searched stops end s t → end ≡ clock_of s.plain + count → holding stops t.plain ≡ Some number → clock ≡ clock_of t.plain → StopsAt stops count s.plain (record { number = number; clock = clock })

@@ -156,14 +156,17 @@ pub so_far_turn : (spare end : ℕ) (s t u : BoardState) → SoFar spare end s t
 so_far_turn spare end s t u so_far before (inl leap) = so_far_leap spare end 1 s t u (omega arith) so_far before leap
 so_far_turn spare end s t u so_far before (inr tick) = so_far_tick spare end s t u so_far before tick.0 tick.1
 
-before_rest : (end : ℕ) (t u : BoardState) → IsLeapOn end 0 t u → clock_of t.plain < end
+pub before_rest : (end : ℕ) (t u : BoardState) → IsLeapOn end 0 t u → clock_of t.plain < end
 before_rest end t u leap = let some = leap.some in let within = leap.within in omega (arith, some, within)
+
+so_far_step : (spare end : ℕ) (s b u : BoardState) → SoFar spare end s b → (u ≡ b) ⊎ ((1 ≤ b.plain.busy) × IsLeapOn end 0 b u) → SoFar spare end s u
+so_far_step spare end s b u so_far (inl same) = subst (SoFar spare end s) (sym same) so_far
+so_far_step spare end s b u so_far (inr rest) = so_far_leap spare end 0 s b u (omega arith) so_far (before_rest end b u rest.1) rest.1
 
 pub so_far_stride : (spare end : ℕ) (s t u : BoardState) → SoFar spare end s t → clock_of t.plain < end → IsStrideOn end t u → SoFar spare end s u
 so_far_stride spare end s t u so_far before (inl turn) = so_far_turn spare end s t u so_far before turn
 so_far_stride spare end s t u so_far before (inr step) =
-    so_far_leap spare end 0 s step.begun u (omega arith) (so_far_tick spare end s t step.begun so_far before step.first step.work)
-    (before_rest end step.begun u step.rest) step.rest
+    so_far_step spare end s step.begun u (so_far_tick spare end s t step.begun so_far before step.first step.work) step.rest
 
 -- at the end of a run, or where it stands
 
@@ -254,10 +257,16 @@ pub if_turn : {E : Type 0} (end : ℕ) (old new : BoardState) (result : Result U
 if_turn end old new (Ok x) turn = inl turn
 if_turn end old new (Err e) turn = turn
 
--- a step, and what is leapt over behind it
-pub step_passed : (end : ℕ) (old begun new : BoardState) → IsTickOn old begun → 1 ≤ work_next old.plain → (new ≡ begun) ⊎ IsLeapOn end 0 begun new → IsStrideOn end old new
-step_passed end old begun new tick work (inl same) = inl (inr (subst (IsTickOn old) (sym same) tick, work))
-step_passed end old begun new tick work (inr leap) = inr (record { begun = begun; first = tick; work = work; rest = leap })
+-- a step that ends with the next clock
+pub step_alone : (end : ℕ) (old new : BoardState) → IsStepOn (clock_of old.plain + 1) old new → IsTurnOn end old new
+step_alone end old new step =
+    elim step.rest [
+      | inl same ↦ inr (subst (IsTickOn old) (sym same) step.first, step.work)
+      | inr rest ↦
+          let clock = step.first.clock in
+          let some = rest.1.some in
+          let within = rest.1.within in absurd (omega (arith, clock, some, within))
+    ]
 
 -- it goes on
 
@@ -270,8 +279,13 @@ pub turn_moves : (end : ℕ) (t u : BoardState) → clock_of t.plain < end → I
 turn_moves end t u before (inl leap) = leap_moves end 1 t u before leap
 turn_moves end t u before (inr tick) = let clock = tick.0.clock in omega (arith, clock, before)
 
+step_moves : (end : ℕ) (t b u : BoardState) → clock_of t.plain < end → IsTickOn t b → (u ≡ b) ⊎ ((1 ≤ b.plain.busy) × IsLeapOn end 0 b u) → end - clock_of u.plain < end - clock_of t.plain
+step_moves end t b u before first (inl same) =
+    let clock = first.clock in let here : clock_of u.plain ≡ clock_of b.plain = ap (λ (x : BoardState). clock_of x.plain) same in omega (arith, clock, here, before)
+step_moves end t b u before first (inr rest) =
+    let clock = first.clock in
+    let less = leap_moves end 0 b u (before_rest end b u rest.1) rest.1 in omega (arith, clock, before, less)
+
 pub stride_moves : (end : ℕ) (t u : BoardState) → clock_of t.plain < end → IsStrideOn end t u → end - clock_of u.plain < end - clock_of t.plain
 stride_moves end t u before (inl turn) = turn_moves end t u before turn
-stride_moves end t u before (inr step) =
-    let clock = step.first.clock in
-    let less = leap_moves end 0 step.begun u (before_rest end step.begun u step.rest) step.rest in omega (arith, clock, before, less)
+stride_moves end t u before (inr step) = step_moves end t step.begun u before step.first step.rest

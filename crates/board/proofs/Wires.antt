@@ -69,7 +69,7 @@ one_holds : (s : Plain) → WiresHold s.chips → WiresHold (after_clock s).chip
 unfolding after_clock
 one_holds s holds = holds_next s.cpu s.busy s.chips (next_act s) (after_act s.cpu s.busy s.chips (next_act s)) s.keys _ refl refl holds
 
-all_hold : (n : ℕ) (s : Plain) → WiresHold s.chips → WiresHold (after_clocks s n).chips
+pub all_hold : (n : ℕ) (s : Plain) → WiresHold s.chips → WiresHold (after_clocks s n).chips
 unfolding iterate
 all_hold zero s holds = holds
 all_hold (suc n) s holds = one_holds (after_clocks s n) (all_hold n s holds)

@@ -1,15 +1,19 @@
 -- Clocks in which nothing happens but that the beam moves, the counters tick and the processor is busy or idle: how
 -- many there are at least, and what is left of a board after them.
 -- For proofs alone: no public contract rests on it.
-use Rattle.std.specs.Prelude.{ℕ, ◌≡◌, ◌≢◌, ◌+◌, ◌-◌, ◌<◌, ◌≤◌, ◌^◌, ◌⊎◌, Bool, true, false, Option, None, Some}
+use Rattle.std.specs.Prelude.{ℕ, ◌≡◌, ◌≢◌, ◌+◌, ◌-◌, ◌<◌, ◌≤◌, ◌^◌, ◌⊎◌, List, [], Bool, true, false, Option, None, Some}
 use Rattle.board_types.specs.Timed.{IsSteady}
+use Rattle.board_types.specs.declared.keys.StampedKey.{StampedKey}
 use Rattle.board_bus.specs.Calm.{IsCalm}
 use Rattle.execute.specs.Boundaries.{boundary_of}
+use Rattle.execute.specs.Cpu.{CpuState}
 use Rattle.execute.specs.declared.boundary.Boundary.TheVariants as boundaries
+use Rattle.execute.specs.PortWrites.{port_writes_of}
 use Rattle.pit8253.specs.Counter.{after_ticks, out_of}
 use Rattle.scheduler.specs.declared.deadlines.Source.{Source}
 use Rattle.scheduler.specs.declared.deadlines.Source.TheVariants.{Counter0, Counter2, Keys, Processor, End}
 use Rattle.scheduler.specs.Deadlines.{DeadlinesState, IsNext}
+use Rattle.wiring.specs.Chips.{ChipsState}
 use Rattle.wiring.specs.Edges.{ticks_between, IsEdgeOf}
 use Rattle.wiring.specs.Leap as wires
 use Rattle.wiring.specs.Wires.{is_requested}
@@ -17,7 +21,7 @@ use Rattle.board.specs.declared.act.Act.{Act}
 use Rattle.board.specs.declared.act.Act.TheVariants.{Nothing}
 use Rattle.board.specs.Arrivals.{IsNextStamp}
 use Rattle.board.specs.Laws.{NoKeyComes, WiresHold}
-use Rattle.board.specs.Plain.{Plain}
+use Rattle.board.specs.Plain.{Plain, chips_after_clock, clock_of, decoded_at}
 use Rattle.board.specs.Work.{work_next}
 
 -- an act that does nothing
@@ -52,6 +56,11 @@ pub record IsCalmBeginning (s : Plain) : Type 0 where
   pub calm : IsCalm s.chips (s.chips.clock + 1)
   pub wires : WiresHold s.chips
 
+-- so it is, and the instruction writes to no port
+pub record BeginsCalmly (s : Plain) : Type 0 where
+  pub calm : IsCalmBeginning s
+  pub silent : port_writes_of s.cpu (decoded_at s.cpu s.chips) ≡ []
+
 -- n such clocks at once
 unfoldable pub leapt : Plain → ℕ → Plain
 leapt s n = record s { busy = s.busy - n; chips = wires.leapt s.chips n }
@@ -68,6 +77,24 @@ pub record IsCalmTurn (limit : ℕ) (s : Plain) (n : ℕ) : Type 0 where
   pub quiet : IsQuiet s n
   pub tight : IsTight limit s n
   pub wires : WiresHold s.chips
+
+-- the rest of a step that is leapt over, at most to a clock
+pub record IsPassed (end : ℕ) (s t : Plain) : Type 0 where
+  pub busy : 1 ≤ s.busy
+  pub clocks : ℕ
+  pub turn : IsCalmTurn (end - clock_of s) s clocks
+  pub plain : t ≡ leapt s clocks
+
+-- all of it, or nothing
+abbrev pub PassesOn : ℕ → Plain → Plain → Type 0
+PassesOn end s t = (t ≡ s) ⊎ IsPassed end s t
+
+-- the chips pass the first clock of a step of so many clocks, or all, whatever processor makes it
+abbrev pub PassStep : ℕ → ℕ → ChipsState → List StampedKey → ℕ → ChipsState → Type 0
+PassStep end busy chips keys left after =
+    (cpu : CpuState) → WiresHold (chips_after_clock chips keys)
+    → PassesOn end (record { cpu = cpu; busy = busy - 1; chips = chips_after_clock chips keys; keys = keys })
+    (record { cpu = cpu; busy = left; chips = after; keys = keys })
 
 -- the clock at which a busy processor is free, where there is such a clock
 abbrev pub IsFreeClock : Plain → Option ℕ → Type 0

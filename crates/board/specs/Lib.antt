@@ -11,3 +11,4 @@ pub mod HeldBack
 pub mod Work
 pub mod Leap
 pub mod Turns
+pub mod AwaitFree

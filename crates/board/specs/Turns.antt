@@ -35,12 +35,12 @@ pub record IsLeapOn (end count : ℕ) (old new : BoardState) : Type 0 where
 abbrev pub IsTurnOn : ℕ → BoardState → BoardState → Type 0
 IsTurnOn end old new = IsLeapOn end 1 old new ⊎ (IsTickOn old new × (1 ≤ work_next old.plain))
 
--- a clock that has work and the leap behind it, which count as one turn
+-- a clock that has work, and maybe the leap behind it; they count as one turn
 pub record IsStepOn (end : ℕ) (old new : BoardState) : Type 0 where
   pub begun : BoardState
   pub first : IsTickOn old begun
   pub work : 1 ≤ work_next old.plain
-  pub rest : IsLeapOn end 0 begun new
+  pub rest : (new ≡ begun) ⊎ ((1 ≤ begun.plain.busy) × IsLeapOn end 0 begun new)
 
 -- a turn, or such a step
 abbrev pub IsStrideOn : ℕ → BoardState → BoardState → Type 0

@@ -12,13 +12,14 @@ ghost use Rattle.board.specs.Leap.{IsQuiet, leapt};
 ghost use Rattle.board.specs.Plain.{after_clock, after_clocks, byte_of, change_next, changes_in, clock_of, lost_codes, next_act, power_on, registers_of, screen_of, speaker_level, state_of};
 ghost use Rattle.board.specs.Stops.{FitsRoom, HasAddress, IsStopOf, NoStop, run_length};
 ghost use Rattle.board.specs.Trail.{last, trail_in, trail_next};
-ghost use Rattle.board.specs.Turns.{IsLeapOn, IsStrideOn, IsTickOn, IsTurnOn};
+ghost use Rattle.board.specs.AwaitFree.{IsTurnBetween};
+ghost use Rattle.board.specs.Turns.{IsStepOn, IsStrideOn, IsTickOn, IsTurnOn};
 ghost use Rattle.board.specs.Work.{steps_in, work_in, work_next};
 ghost use Rattle.board_types.specs.Lines.{from_bool};
 
 use crate::act::Act;
 use crate::plain::PlainBoard;
-use crate::stop::{Stop, Stopped, Stops};
+use crate::stop::{Stop, Stopped, Stops, all_await_free};
 use crate::trail::{Trail, TrailEntry};
 use board_types::bytes::Bytes;
 use board_types::clock::Clock;
@@ -28,7 +29,6 @@ use board_types::line::Line;
 use board_types::regs::Regs;
 use board_types::state::State;
 use decode::decoded::Decoded;
-use execute::port_writes::is_silent;
 use memory::map::MemoryFault;
 use std::alloc::{AllocError, Allocator, Global};
 use std::marker::Model;
@@ -254,6 +254,7 @@ impl<A: Allocator> Board<A> {
             return Ok(None);
         }
         let end = self.clock().get() + count;
+        let whole = all_await_free(stops.as_slice());
         // a stop that holds at the start is none there, so the first clock is made by itself
         self.make_clock()?;
         'turns: loop {
@@ -264,8 +265,20 @@ impl<A: Allocator> Board<A> {
             if self.clock().get() == end {
                 return Ok(None);
             }
-            self.turn(end)?;
+            self.turn(end, whole)?;
         }
+    }
+
+    /// Runs the board for `count` processor clocks, each made by itself, in place of the leaps of `run`.
+    #[cfg(test)]
+    pub(crate) fn run_ticking(&mut self, count: u64) -> Result<(), BoardFault> {
+        for _ in 0..count {
+            if self.is_past_limit(1) {
+                return Err(BoardFault::ClockLimit);
+            }
+            self.make_clock()?;
+        }
+        Ok(())
     }
 
     /// Makes room for `n` more changes of the speaker's level. Refused as `Memory`, with nothing changed, where
@@ -295,15 +308,30 @@ impl<A: Allocator> Board<A> {
     }
 
     /// One turn of a run that ends at the clock `end`: time leaps to the next clock at which something is due, or, where
-    /// that is this one, goes on by a clock. No condition changes on the way of a leap, short of its last clock.
-    fn turn(&mut self, end: u64) -> Result<(), BoardFault>
+    /// that is this one, goes on by a clock. No condition changes on the way of a leap, short of its last clock. Where it may
+    /// be `whole`, a step with the leap behind it is one, too.
+    fn turn(&mut self, end: u64, whole: bool) -> Result<(), BoardFault>
+        requires before_end { clock_of self.old.plain < end }
+        requires within { end ≤ 2 ^ 40 }
+        ensures ok { OnOk result (IsTurnBetween whole end self.old self.new) }
+        ensures err { OnErr result (IsHeldBack self.old self.new) }
+        ensures fault { IfErr result (λ fault. fault ≡ BoardFault.Memory) }
+    {
+        if whole {
+            return self.stride(end);
+        }
+        self.short_turn(end)
+    }
+
+    /// A turn in which no leap stands behind a step.
+    fn short_turn(&mut self, end: u64) -> Result<(), BoardFault>
         requires before_end { clock_of self.old.plain < end }
         requires within { end ≤ 2 ^ 40 }
         ensures ok { OnOk result (IsTurnOn end self.old self.new) }
         ensures err { OnErr result (IsHeldBack self.old self.new) }
         ensures fault { IfErr result (λ fault. fault ≡ BoardFault.Memory) }
     {
-        if self.step() {
+        if self.step(self.clock().get() + 1) {
             return Ok(());
         }
         self.other_turn(end)
@@ -318,24 +346,10 @@ impl<A: Allocator> Board<A> {
         ensures err { OnErr result (IsHeldBack self.old self.new) }
         ensures fault { IfErr result (λ fault. fault ≡ BoardFault.Memory) }
     {
-        if self.step() {
-            self.pass_step(end);
+        if self.step(end) {
             return Ok(());
         }
         self.other_turn(end)
-    }
-
-    /// Leaps to the end of the processor's step, where it is known that nothing happens up to there. It isn't a turn of
-    /// its own.
-    #[inline(always)]
-    fn pass_step(&mut self, end: u64)
-        requires before_end { clock_of self.old.plain ≤ end }
-        requires within { end ≤ 2 ^ 40 }
-        ensures { (self.new ≡ self.old) ⊎ IsLeapOn end 0 self.old self.new }
-    {
-        if let Some(clocks) = self.plain.calm_clocks(end - self.clock().get()) {
-            self.plain.leap(clocks);
-        }
     }
 
     /// A turn that isn't such a step. It is kept out of the run's loop, whose values then stay in registers.
@@ -355,44 +369,20 @@ impl<A: Allocator> Board<A> {
         self.turn_by(&next, end)
     }
 
-    /// The next clock, where it is known that the chips are calm and that an instruction begins in it that is kept and
-    /// isn't OUT: no change of the speaker's level comes with it. Else nothing is done. Answers whether it was made.
+    /// The next clock, where it is known that the chips are calm and that an instruction begins in it that is kept and isn't
+    /// OUT, with the leap over its other clocks up to `end`, as one turn. Else nothing is done. Answers whether it was made.
     #[inline(always)]
-    fn step(&mut self) -> bool
-        requires { clock_of self.old.plain < 2 ^ 40 }
-        ensures made { IsTrue result → (IsTickOn self.old self.new × (1 ≤ work_next self.old.plain)) }
+    fn step(&mut self, end: u64) -> bool
+        requires before_end { clock_of self.old.plain < end }
+        requires within { end ≤ 2 ^ 40 }
+        ensures made { IsTrue result → IsStepOn end self.old self.new }
         ensures not_made { ¬ (IsTrue result) → self.new ≡ self.old }
     {
-        if !self.plain.begins_calmly() {
+        if !self.plain.stride(&mut self.trail, end) {
             return false;
         }
-        let decoded = match self.plain.kept() {
-            Some(kept) => *kept,
-            None => return false,
-        };
-        if !is_silent(&decoded) {
-            return false;
-        }
-        self.run_step(&decoded);
-        true
-    }
-
-    /// One processor clock, in which the instruction `decoded` begins. No change of the speaker's level is listed.
-    #[inline(always)]
-    fn run_step(&mut self, decoded: &Decoded)
-        requires within { clock_of self.old.plain < 2 ^ 40 }
-        requires next { Instruction decoded.now ≡ next_act self.old.plain }
-        requires exact { IsExact self.old.plain.cpu self.old.plain.chips (Instruction decoded.now) }
-        ensures plain { self.new.plain ≡ after_clock self.old.plain }
-        ensures clock { clock_of self.new.plain ≡ clock_of self.old.plain + 1 }
-        ensures changes { self.new.changes ≡ self.old.changes }
-        ensures trail { self.new.trail ≡ last 32 (self.old.trail ++ trail_next self.old.plain) }
-        ensures room { self.new.room ≡ self.old.room }
-        ensures turns { self.new.turns ≡ self.old.turns + 1 }
-    {
-        self.plain.note_begun(decoded, &mut self.trail);
-        self.plain.step(decoded);
         self.turns += 1;
+        true
     }
 
     /// That turn, `next` being what the processor does in its first clock.

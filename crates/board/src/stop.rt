@@ -1,4 +1,6 @@
 //! What a run stops at.
+ghost use Rattle.std.specs.Prelude.{◌≡◌, IsTrue};
+ghost use Rattle.board.specs.AwaitFree.{awaits_free, AllAwaitFree};
 
 use arrayvec::ArrayVec;
 use board_types::clock::Clock;
@@ -17,6 +19,30 @@ pub enum Condition {
     Sound,
     /// The processor is halted.
     Halted,
+}
+
+impl Condition {
+    /// Whether it holds only where the processor is free.
+    fn awaits_free(self) -> bool
+        ensures { result ≡ awaits_free self }
+    {
+        match self {
+            Condition::Free | Condition::At(..) => true,
+            Condition::Byte(..) | Condition::Sound | Condition::Halted => false,
+        }
+    }
+}
+
+/// Whether each of them holds only where the processor is free.
+pub(crate) fn all_await_free(conditions: &[Condition]) -> bool
+    ensures { IsTrue result → AllAwaitFree conditions.now }
+{
+    for condition in conditions {
+        if !condition.awaits_free() {
+            return false;
+        }
+    }
+    true
 }
 
 /// The conditions that a run may stop at, numbered from 1.

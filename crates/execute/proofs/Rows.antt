@@ -16,7 +16,7 @@ use Rattle.isa.specs.declared.row.Kind.TheVariants as kinds
 use Rattle.isa.specs.Encoding.{form_length}
 use Rattle.isa.specs.Prefixes.{repeat_of}
 use Rattle.bus.specs.Bus.{BusMeaning}
-use Rattle.execute_machine.specs.declared.registers.Registers.{Registers}
+use Rattle.execute_machine.specs.RegisterFile.{Registers}
 use Rattle.execute_strings.specs.Meaning.{goes_on}
 use Rattle.execute.specs.declared.boundary.Boundary.TheVariants as boundaries
 use Rattle.execute.specs.declared.boundary.Cause.TheVariants.{Request, SingleStep}

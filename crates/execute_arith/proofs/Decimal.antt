@@ -2,7 +2,7 @@
 use Rattle.std.proofs.Common.{◌≡◌, ℕ, ◌+◌, ◌*◌, ◌/◌, ◌%◌, ◌-◌, ◌<◌, ◌≤◌, Bool, true, false, ◌||◌, if◌then◌else◌, nat_lt, nat_le, refl, ap, subst, ◌∙◌, arith}
 use Rattle.std.specs.Int.{from_bool}
 use Rattle.std.proofs.lemmas.Bool.Decides.{nat_tests}
-use Rattle.execute_machine.specs.declared.registers.Registers.{Registers}
+use Rattle.execute_machine.specs.RegisterFile.{Registers}
 use Rattle.execute_machine.specs.Sums.{with_difference, with_sum}
 use Rattle.execute_arith.specs.Meaning.{after_aaa, after_aad, after_aam, after_aas, after_daa, after_das, adjusts_low, ah_of, al_of, with_unpacked}
 use Rattle.execute_arith.specs.Laws.{packed, AaaAdds, AadJoins, AadUndoesAam, AamParts, AasSubtracts, DaaAdds, DasSubtracts, HasDifference, HasSum, LeavesDigit}

@@ -12,7 +12,7 @@ use Rattle.isa.specs.Row.{first_of, second_of}
 use Rattle.bus.specs.Bus.{BusMeaning}
 use Rattle.execute_machine.specs.declared.location.OperandLocation.TheVariants as locations
 use Rattle.execute_machine.specs.Locations.{Machine, location_of, operand_at, width_at}
-use Rattle.execute_machine.specs.declared.registers.Registers.{Registers}
+use Rattle.execute_machine.specs.RegisterFile.{Registers}
 use Rattle.execute_machine.specs.FlagState.{FlagState}
 use Rattle.execute_machine.specs.declared.width.Width.{Width}
 use Rattle.execute_machine.specs.declared.width.Width.TheVariants.{Byte, Word}

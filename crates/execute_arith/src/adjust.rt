@@ -57,8 +57,8 @@ fn set_packed(registers: &mut Registers, al: u16)
     ensures { registers.new ≡ with_packed registers.old al }
 {
     let flags = registers.flags.get();
-    let old = registers.ax % 256;
-    registers.ax = registers.ax / 256 * 256 + al;
+    let old = registers.ax() % 256;
+    registers.set_ax(registers.ax() / 256 * 256 + al);
     registers.flags.set(Flags {
         auxiliary_carry: adjusts_low(flags, old),
         carry: adjusts_high(flags, old),
@@ -70,7 +70,7 @@ fn set_packed(registers: &mut Registers, al: u16)
 fn daa(registers: &mut Registers)
     ensures { registers.new ≡ after_daa registers.old }
 {
-    let al = registers.ax % 256;
+    let al = registers.ax() % 256;
     let change = decimal_change(registers.flags.get(), al);
     set_packed(registers, (al + change) % 256);
 }
@@ -79,7 +79,7 @@ fn daa(registers: &mut Registers)
 fn das(registers: &mut Registers)
     ensures { registers.new ≡ after_das registers.old }
 {
-    let al = registers.ax % 256;
+    let al = registers.ax() % 256;
     let change = decimal_change(registers.flags.get(), al);
     set_packed(registers, (al + 256 - change) % 256);
 }
@@ -90,7 +90,7 @@ fn set_unpacked(registers: &mut Registers, ah: u16, digit: u16, adjusted: bool)
     requires low { digit < 16 }
     ensures { registers.new ≡ with_unpacked registers.old ah digit adjusted }
 {
-    registers.ax = 256 * ah + digit;
+    registers.set_ax(256 * ah + digit);
     registers.flags.set(Flags {
         auxiliary_carry: adjusted,
         carry: adjusted,
@@ -102,7 +102,7 @@ fn set_unpacked(registers: &mut Registers, ah: u16, digit: u16, adjusted: bool)
 fn aaa(registers: &mut Registers)
     ensures { registers.new ≡ after_aaa registers.old }
 {
-    let (ah, al) = (registers.ax / 256, registers.ax % 256);
+    let (ah, al) = (registers.ax() / 256, registers.ax() % 256);
     if adjusts_low(registers.flags.get(), al) {
         set_unpacked(registers, (ah + 1) % 256, (al + 6) % 16, true);
     } else {
@@ -114,7 +114,7 @@ fn aaa(registers: &mut Registers)
 fn aas(registers: &mut Registers)
     ensures { registers.new ≡ after_aas registers.old }
 {
-    let (ah, al) = (registers.ax / 256, registers.ax % 256);
+    let (ah, al) = (registers.ax() / 256, registers.ax() % 256);
     if adjusts_low(registers.flags.get(), al) {
         set_unpacked(registers, (ah + 256 - 1) % 256, (al + 256 - 6) % 16, true);
     } else {
@@ -126,8 +126,8 @@ fn aas(registers: &mut Registers)
 fn aam(registers: &mut Registers)
     ensures { registers.new ≡ after_aam registers.old }
 {
-    let al = registers.ax % 256;
-    registers.ax = 256 * (al / 10) + al % 10;
+    let al = registers.ax() % 256;
+    registers.set_ax(256 * (al / 10) + al % 10);
     registers
         .flags
         .set(with_result(registers.flags.get(), Width::Byte, al % 10));
@@ -137,8 +137,8 @@ fn aam(registers: &mut Registers)
 fn aad(registers: &mut Registers)
     ensures { registers.new ≡ after_aad registers.old }
 {
-    let al = (10 * (registers.ax / 256) + registers.ax % 256) % 256;
-    registers.ax = al;
+    let al = (10 * (registers.ax() / 256) + registers.ax() % 256) % 256;
+    registers.set_ax(al);
     registers
         .flags
         .set(with_result(registers.flags.get(), Width::Byte, al));
@@ -148,13 +148,13 @@ fn aad(registers: &mut Registers)
 fn cbw(registers: &mut Registers)
     ensures { registers.new ≡ after_cbw registers.old }
 {
-    let al = registers.ax % 256;
-    registers.ax = if al < 128 { al } else { 0xFF00 + al };
+    let al = registers.ax() % 256;
+    registers.set_ax(if al < 128 { al } else { 0xFF00 + al });
 }
 
 #[tactic(auto, unfolding(crate::specs::Meaning::after_cwd))]
 fn cwd(registers: &mut Registers)
     ensures { registers.new ≡ after_cwd registers.old }
 {
-    registers.dx = if registers.ax < 32768 { 0 } else { 0xFFFF };
+    registers.set_dx(if registers.ax() < 32768 { 0 } else { 0xFFFF });
 }

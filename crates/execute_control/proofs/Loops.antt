@@ -5,7 +5,7 @@ use Rattle.board_types.specs.Address.{offset_after}
 use Rattle.board_types.specs.Iterate.{iterate}
 use Rattle.isa.specs.declared.operation.Looping.TheVariants.{Loop}
 use Rattle.isa.specs.declared.form.Instr.{Instr}
-use Rattle.execute_machine.specs.declared.registers.Registers.{Registers}
+use Rattle.execute_machine.specs.RegisterFile.{Registers}
 use Rattle.execute_control.specs.Meaning.{after_looping, is_loop_taken, lowered_cx, with_target, relative_target}
 use Rattle.execute_control.specs.Laws.{loop_rounds, after_round, LoopRunsCxTimes}
 

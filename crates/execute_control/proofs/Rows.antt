@@ -3,7 +3,7 @@
 use Rattle.std.proofs.Common.{◌≡◌, true, false, refl}
 use Rattle.isa.specs.declared.operation.JumpCondition.TheVariants.{BelowOrZero, Above, Less, NotLess, LessOrZero, Greater}
 use Rattle.isa.specs.declared.operation.Looping.TheVariants.{Loopne, Loope, Loop, Jcxz}
-use Rattle.execute_machine.specs.declared.registers.Registers.{Registers}
+use Rattle.execute_machine.specs.RegisterFile.{Registers}
 use Rattle.execute_machine.specs.FlagState.{FlagState}
 use Rattle.execute_control.specs.Meaning.{cx_after, holds, is_loop_taken}
 

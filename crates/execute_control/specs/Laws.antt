@@ -9,7 +9,7 @@ use Rattle.isa.specs.declared.operation.Looping.TheVariants.{Loop}
 use Rattle.isa.specs.declared.operation.Control.TheVariants.{Call, Ret, CallFar, Retf, Iret}
 use Rattle.isa.specs.declared.form.Instr.{Instr}
 use Rattle.bus.specs.Bus.{BusMeaning}
-use Rattle.execute_machine.specs.declared.registers.Registers.{Registers}
+use Rattle.execute_machine.specs.RegisterFile.{Registers}
 use Rattle.execute_machine.specs.FlagState.{FlagState}
 use Rattle.execute_machine.specs.Flags.{forgetting}
 use Rattle.execute_machine.specs.Locations.{Machine, machine}

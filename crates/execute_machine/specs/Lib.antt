@@ -4,6 +4,8 @@ pub mod Flags
 pub mod Sums
 pub mod LastOperation
 pub mod Operands
+pub mod RegisterFile
+pub mod NumberedRegisters
 pub mod Registers
 pub mod Locations
 pub mod LocationsBy

@@ -4,7 +4,7 @@ use Rattle.std.specs.Prelude.{ℕ, ◌≡◌, ◌<◌, true}
 use Rattle.board_types.specs.Address.{physical, offset_after}
 use Rattle.isa.specs.declared.register.WordRegister.{WordRegister}
 use Rattle.bus.specs.Bus.{BusMeaning}
-use Rattle.execute_machine.specs.declared.registers.Registers.{Registers}
+use Rattle.execute_machine.specs.RegisterFile.{Registers}
 use Rattle.execute_machine.specs.Registers.{word_register}
 
 -- both addresses of the word at a segment and an offset take bytes

@@ -5,6 +5,7 @@
 pub mod flags;
 pub mod last_operation;
 pub mod location;
+mod named;
 pub mod overflow;
 pub mod registers;
 pub mod stack;

@@ -13,8 +13,8 @@ pub fn push<B: Bus>(bus: &mut B, registers: &mut Registers, word: u16)
     ensures { machine registers.new (B.state bus.new)
         ≡ after_push B.meaning (machine registers.old (B.state bus.old)) word }
 {
-    registers.sp = registers.sp.wrapping_sub(2);
-    write_word(bus, registers.ss, registers.sp, word);
+    registers.set_sp(registers.sp().wrapping_sub(2));
+    write_word(bus, registers.ss(), registers.sp(), word);
 }
 
 /// The word on top of the stack.
@@ -22,7 +22,7 @@ pub fn push<B: Bus>(bus: &mut B, registers: &mut Registers, word: u16)
 pub fn top<B: Bus>(bus: &B, registers: &Registers) -> u16
     ensures { result ≡ top_word B.meaning (machine registers.now (B.state bus.now)) }
 {
-    read_word(bus, registers.ss, registers.sp)
+    read_word(bus, registers.ss(), registers.sp())
 }
 
 /// Takes so many bytes off the stack.
@@ -30,7 +30,7 @@ pub fn top<B: Bus>(bus: &B, registers: &Registers) -> u16
 pub fn drop_bytes<B: Bus>(bus: &B, registers: &mut Registers, bytes: u16)
     ensures { machine registers.new (B.state bus.now) ≡ after_pop (machine registers.old (B.state bus.now)) bytes }
 {
-    registers.sp = registers.sp.wrapping_add(bytes);
+    registers.set_sp(registers.sp().wrapping_add(bytes));
 }
 
 /// Reads the top of the stack and takes it off.
@@ -49,7 +49,7 @@ fn push_state<B: Bus>(bus: &mut B, registers: &mut Registers)
         ≡ after_entry_pushes B.meaning (machine registers.old (B.state bus.old)) }
 {
     let flags = registers.flags.get().word();
-    let (cs, ip) = (registers.cs, registers.ip);
+    let (cs, ip) = (registers.cs(), registers.ip);
     push(bus, registers, flags);
     push(bus, registers, cs);
     push(bus, registers, ip);
@@ -64,7 +64,7 @@ fn take_vector<B: Bus>(bus: &B, registers: &mut Registers, kind: u8)
     registers.flags.set_trap(false);
     let vector = 4 * u16::from(kind);
     registers.ip = read_word(bus, 0, vector);
-    registers.cs = read_word(bus, 0, vector + 2);
+    registers.set_cs(read_word(bus, 0, vector + 2));
 }
 
 /// Enters the interrupt of this type: pushes FLAGS, CS and IP, clears IF and TF, then takes IP and CS from the vector.

@@ -21,7 +21,7 @@ fn accumulator(registers: &Registers, width: Width) -> u16
     ensures value { result ≡ accumulator registers.now width }
     ensures bound { result < size_of width }
 {
-    let ax = registers.ax;
+    let ax = registers.ax();
     match width {
         Width::Byte => ax % 256,
         Width::Word => ax,
@@ -32,7 +32,7 @@ fn dividend_of(registers: &Registers, width: Width) -> u32
     ensures value { result ≡ dividend_of registers.now width }
     ensures bound { result < 2 * double_half width }
 {
-    let (low, high) = (u32::from(registers.ax), u32::from(registers.dx));
+    let (low, high) = (u32::from(registers.ax()), u32::from(registers.dx()));
     match width {
         Width::Byte => low,
         Width::Word => 65536 * high + low,
@@ -44,10 +44,10 @@ fn set_product_value(registers: &mut Registers, width: Width, value: u32)
     ensures { registers.new ≡ with_product_value registers.old width value }
 {
     match width {
-        Width::Byte => registers.ax = value as u16,
+        Width::Byte => registers.set_ax(value as u16),
         Width::Word => {
-            registers.dx = (value / 65536) as u16;
-            registers.ax = (value % 65536) as u16;
+            registers.set_dx((value / 65536) as u16);
+            registers.set_ax((value % 65536) as u16);
         }
     }
 }
@@ -72,10 +72,10 @@ fn set_division(registers: &mut Registers, width: Width, division: Division)
     ensures { registers.new ≡ with_division registers.old width division }
 {
     match width {
-        Width::Byte => registers.ax = 256 * division.remainder + division.quotient,
+        Width::Byte => registers.set_ax(256 * division.remainder + division.quotient),
         Width::Word => {
-            registers.ax = division.quotient;
-            registers.dx = division.remainder;
+            registers.set_ax(division.quotient);
+            registers.set_dx(division.remainder);
         }
     }
 }

@@ -13,7 +13,7 @@ use Rattle.bus.specs.Bus.{BusMeaning, with_word_at}
 use Rattle.bus.specs.Kept.{IsBus}
 use Rattle.execute_machine.specs.declared.width.Width.{Width}
 use Rattle.execute_machine.specs.declared.width.Width.TheVariants as widths
-use Rattle.execute_machine.specs.declared.registers.Registers.{Registers}
+use Rattle.execute_machine.specs.RegisterFile.{Registers}
 use Rattle.execute_machine.specs.Registers.{segment_register, string_offset_after, word_register}
 use Rattle.execute_machine.specs.declared.location.OperandLocation.{OperandLocation}
 use Rattle.execute_machine.specs.Locations.{Machine, chosen_or, segment_for, value_at, with_value_at, word_at}

@@ -6,7 +6,7 @@ use Rattle.isa.specs.declared.form.Instr.{Instr}
 use Rattle.isa.specs.declared.form.Repeat.TheVariants.{Repne, Rep}
 use Rattle.isa.specs.Prefixes.{chosen_segment}
 use Rattle.bus.specs.Bus.{BusMeaning}
-use Rattle.execute_machine.specs.declared.registers.Registers.{Registers}
+use Rattle.execute_machine.specs.RegisterFile.{Registers}
 use Rattle.execute_machine.specs.declared.width.Width.TheVariants.{Byte, Word}
 use Rattle.execute_machine.specs.Locations.{Machine, machine, value_at, word_at}
 use Rattle.execute_machine.specs.Registers.{byte_register, segment_register, word_register}

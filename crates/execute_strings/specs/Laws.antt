@@ -10,7 +10,7 @@ use Rattle.isa.specs.declared.form.Instr.{Instr}
 use Rattle.bus.specs.Bus.{BusMeaning}
 use Rattle.execute_machine.specs.declared.width.Width.{Width}
 use Rattle.execute_machine.specs.declared.width.Width.TheVariants as widths
-use Rattle.execute_machine.specs.declared.registers.Registers.{Registers}
+use Rattle.execute_machine.specs.RegisterFile.{Registers}
 use Rattle.execute_machine.specs.declared.location.OperandLocation.{OperandLocation}
 use Rattle.execute_machine.specs.declared.location.OperandLocation.TheVariants.{ByteAt, WordAt}
 use Rattle.execute_machine.specs.Locations.{Machine, segment_for, value_at}

@@ -14,7 +14,7 @@ use Rattle.isa.specs.Prefixes.{chosen_segment}
 use Rattle.isa.specs.Row.{first_of}
 use Rattle.bus.specs.Bus.{BusMeaning}
 use Rattle.bus.specs.Kept.{IsBus}
-use Rattle.execute_machine.specs.declared.registers.Registers.{Registers}
+use Rattle.execute_machine.specs.RegisterFile.{Registers}
 use Rattle.execute_machine.specs.Registers.{segment_register}
 use Rattle.execute_machine.specs.declared.location.OperandLocation.{OperandLocation}
 use Rattle.execute_machine.specs.declared.location.OperandLocation.TheVariants.{ByteAt, WordAt}

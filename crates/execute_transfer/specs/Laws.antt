@@ -9,7 +9,7 @@ use Rattle.isa.specs.declared.register.WordRegister.TheVariants.{Sp}
 use Rattle.isa.specs.declared.form.Instr.{Instr}
 use Rattle.isa.specs.Registers.{byte_register_number, word_register_of}
 use Rattle.bus.specs.Bus.{BusMeaning}
-use Rattle.execute_machine.specs.declared.registers.Registers.{Registers}
+use Rattle.execute_machine.specs.RegisterFile.{Registers}
 use Rattle.execute_machine.specs.Registers.{byte_register, with_byte_register, word_register, with_word_register}
 use Rattle.execute_machine.specs.declared.location.OperandLocation.{OperandLocation}
 use Rattle.execute_machine.specs.declared.location.OperandLocation.TheVariants.{Byte, Word, ByteAt, WordAt}

@@ -49,7 +49,7 @@ fn with_low_flags(flags: Flags, low: Flags) -> Flags
 pub(crate) fn perform_sahf(registers: &mut Registers)
     ensures { registers.new ≡ after_sahf registers.old }
 {
-    let low = popped_flags(registers.ax / 256);
+    let low = popped_flags(registers.ax() / 256);
     let flags = registers.flags.get();
     registers.flags.set(with_low_flags(flags, low));
 }

@@ -42,7 +42,7 @@ fn input_word<B: Bus>(bus: &mut B, registers: &mut Registers, port: u16)
 {
     let low = bus.in8(port);
     let high = bus.in8(port.wrapping_add(1));
-    registers.ax = u16::from(low) + 256 * u16::from(high);
+    registers.set_ax(u16::from(low) + 256 * u16::from(high));
 }
 
 #[inline(never)]
@@ -51,7 +51,7 @@ pub(crate) fn perform_in<B: Bus>(bus: &mut B, registers: &mut Registers, instr: 
     ensures { machine registers.new (B.state bus.new)
         ≡ after_in B.meaning (machine registers.old (B.state bus.old)) instr.now }
 {
-    let port = port_of(instr.second_kind(), registers.dx, instr.number());
+    let port = port_of(instr.second_kind(), registers.dx(), instr.number());
     if is_ax(instr.first_kind()) {
         input_word(bus, registers, port);
     } else {
@@ -65,10 +65,10 @@ pub(crate) fn perform_out<B: Bus>(bus: &mut B, registers: &Registers, instr: &Di
     ensures { machine registers.now (B.state bus.new)
         ≡ after_out B.meaning (machine registers.now (B.state bus.old)) instr.now }
 {
-    let port = port_of(instr.first_kind(), registers.dx, instr.number());
-    bus.out8(port, (registers.ax % 256) as u8);
+    let port = port_of(instr.first_kind(), registers.dx(), instr.number());
+    bus.out8(port, (registers.ax() % 256) as u8);
     if is_ax(instr.second_kind()) {
-        bus.out8(port.wrapping_add(1), (registers.ax / 256) as u8);
+        bus.out8(port.wrapping_add(1), (registers.ax() / 256) as u8);
     }
 }
 
@@ -78,10 +78,10 @@ pub fn outputs(registers: &Registers, instr: &Digest) -> ArrayVec<(u16, u8), 2>
     ensures { result.items ≡ outputs_of registers.now instr.now }
 {
     let mut writes = ArrayVec::new();
-    let port = port_of(instr.first_kind(), registers.dx, instr.number());
-    writes.push((port, (registers.ax % 256) as u8));
+    let port = port_of(instr.first_kind(), registers.dx(), instr.number());
+    writes.push((port, (registers.ax() % 256) as u8));
     if is_ax(instr.second_kind()) {
-        writes.push((port.wrapping_add(1), (registers.ax / 256) as u8));
+        writes.push((port.wrapping_add(1), (registers.ax() / 256) as u8));
     }
     writes
 }

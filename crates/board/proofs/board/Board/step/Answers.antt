@@ -1,21 +1,21 @@
-use Rattle.std.proofs.Common.{◌≡◌, subst}
+use Rattle.std.proofs.Common.{◌+◌, ◌<◌, ◌≤◌, refl, sym, subst, arith}
 use Rattle.board.specs.Board.{BoardState}
-use Rattle.board.specs.declared.act.Act.TheVariants.{Instruction}
-use Rattle.board.specs.KeptAgain.{IsExact}
-use Rattle.board.specs.Leap.{IsCalmBeginning}
-use Rattle.board.specs.Plain.{next_act}
-use Rattle.board.proofs.Beginning.{tick_begun}
+use Rattle.board.specs.Plain.{clock_of}
+use Rattle.board.proofs.Beginning.{GoesOn, goes_on, step_of}
 use Rattle.board.proofs.board.Board.step.Goals as goal
 
-pub run_step-requires-clause-exact : goal.run_step-requires-clause-exact
-run_step-requires-clause-exact g c =
-    subst (λ (b : BoardState). IsExact b.plain.cpu b.plain.chips (Instruction c.in-Some.kept.now)) c.self.view_is c.in-Some.ensures.exact
+pub invariant_of-self-2 : goal.invariant_of-self-2
+invariant_of-self-2 g c =
+    let yes = c.if-not-stride.false in
+    let before : clock_of c.self.inside.plain < c.args.end = subst (λ (b : BoardState). clock_of b.plain < c.args.end) (sym c.self.view_is) c.requires.before_end in
+    let on : GoesOn c.args.end c.self.inside.plain c.stride.new.self = goes_on c.args.end _ _ (c.stride.ensures.begun yes) before (c.stride.ensures.passed yes) in
+    let some = on.some in
+    let within = on.within in
+    let turns = c.self.invariant.2 in
+    (omega (arith, within, c.requires.within), c.stride.ensures.few, omega (arith, some, turns))
 
 pub returns-clause-made : goal.returns-clause-made
 returns-clause-made g c = λ _.
-    let on = c.run_step.ensures in
-    tick_begun c.args.self.now c.run_step.new.self c.in-Some.kept.now
-    (subst (λ (b : BoardState). IsCalmBeginning b.plain) c.self.view_is (c.begins_calmly.ensures c.if-not-begins_calmly.false))
-    (subst (λ (b : BoardState). Instruction c.in-Some.kept.now ≡ next_act b.plain) c.self.view_is c.in-Some.ensures.act)
-    (c.is_silent.ensures c.if-not-is_silent.false c.args.self.now.plain.cpu)
-    on.plain on.clock on.changes on.trail on.room on.turns
+    let made = c.stride.ensures in
+    let yes = c.if-not-stride.false in
+    step_of c.args.end _ c.args.self.now _ c.self.view_is (made.begun yes) (made.passed yes) refl (made.entries yes) refl refl

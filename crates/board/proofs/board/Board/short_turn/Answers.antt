@@ -1,12 +1,15 @@
-use Rattle.std.proofs.Common.{inr, subst}
+use Rattle.std.proofs.Common.{◌+◌, ap, ◌∙◌, subst}
 use Rattle.std.specs.Prelude.{OnErr, OnOk}
 use Rattle.board.specs.Board.{BoardState}
 use Rattle.board.specs.HeldBack.{IsHeldBack}
-use Rattle.board.specs.Turns.{IsTurnOn}
-use Rattle.board.proofs.board.Board.turn.Goals as goal
+use Rattle.board.specs.Turns.{IsStepOn, IsTurnOn}
+use Rattle.board.proofs.Turns.{step_alone}
+use Rattle.board.proofs.board.Board.short_turn.Goals as goal
 
 pub returns-then-step-clause-ok : goal.returns-then-step-clause-ok
-returns-then-step-clause-ok g c = inr (c.step.ensures.made c.if-step.true)
+returns-then-step-clause-ok g c =
+    step_alone c.args.end c.args.self.now c.step.new.self
+    (subst (λ n. IsStepOn n c.args.self.now c.step.new.self) (ap (λ n. n + 1) (c.get.ensures.value ∙ c.clock.ensures)) (c.step.ensures.made c.if-step.true))
 
 pub returns-clause-ok : goal.returns-clause-ok
 returns-clause-ok g c =

@@ -1,0 +1,5 @@
+use Rattle.std.proofs.Common.{◌∙◌, sym, ap, arith, below_more}
+use Rattle.board.proofs.stop.all_await_free.Goals as goal
+
+pub loop-condition-init : goal.loop-condition-init
+loop-condition-init c = λ k below. absurd (omega (arith, below))

@@ -1,0 +1,23 @@
+-- Stops that wait for a free processor: none of them is passed in the midst of a step.
+-- For proofs alone: no public contract rests on it.
+use Rattle.std.specs.Prelude.{ℕ, ◌≡◌, ◌<◌, Bool, true, false, List, length, slice_index_or}
+use Rattle.board.specs.declared.stop.Condition.{Condition}
+use Rattle.board.specs.declared.stop.Condition.TheVariants.{Free, At, Byte, Sound, Halted}
+use Rattle.board.specs.Board.{BoardState}
+use Rattle.board.specs.Turns.{IsStrideOn, IsTurnOn}
+
+-- whether it holds only where the processor is free
+abbrev pub awaits_free : Condition → Bool
+awaits_free Free = true
+awaits_free (At cs ip) = true
+awaits_free (Byte address value) = false
+awaits_free Sound = false
+awaits_free Halted = false
+
+abbrev pub AllAwaitFree : List Condition → Type 0
+AllAwaitFree stops = (k : ℕ) → k < length stops → awaits_free (slice_index_or stops k Free) ≡ true
+
+-- a turn between two looks for a stop: a whole stride where all wait for a free processor
+abbrev pub IsTurnBetween : Bool → ℕ → BoardState → BoardState → Type 0
+IsTurnBetween true end old new = IsStrideOn end old new
+IsTurnBetween false end old new = IsTurnOn end old new
