@@ -1,10 +1,12 @@
 //! Steps on a whole board.
 use crate::bench::Bench;
+use crate::cuts::{come_out_joined, comes_out_cut, comes_out_single};
 use crate::parts::Parts;
 use crate::stops::stops_so;
 use crate::trail::{has_entries, is_begun, is_entered};
 use crate::words::Words;
 use board::board::{Board, BoardFault, Config, SpeakerChange};
+use board_types::address::ADDRESS_COUNT;
 use board_types::line::Line;
 use board_types::regs::Regs;
 use board_types::state::State;
@@ -15,6 +17,8 @@ use std::alloc::Global;
 pub struct BoardBench {
     parts: Parts,
     board: Option<Board>,
+    /// The board that `again` goes on from.
+    kept: Option<Board>,
     /// The turns that were judged already.
     judged: u64,
 }
@@ -25,6 +29,7 @@ impl BoardBench {
         BoardBench {
             parts: Parts::new(alloc),
             board: None,
+            kept: None,
             judged: 0,
         }
     }
@@ -46,6 +51,26 @@ impl BoardBench {
         }
     }
 
+    fn go_on_with_a_copy(&mut self) -> Option<bool> {
+        self.board = Some(self.board.as_ref()?.copy().ok()?);
+        Some(true)
+    }
+
+    /// Keeps the board as it stands.
+    fn keep(&mut self) -> Option<bool> {
+        self.kept = Some(self.board.as_ref()?.copy().ok()?);
+        Some(true)
+    }
+
+    /// Goes on with the board that was kept, and runs it.
+    fn run_again(&mut self, mut words: Words) -> Option<bool> {
+        let mut board = self.kept.as_ref()?.copy().ok()?;
+        self.judged = board.turns();
+        let ran = board.run(words.count()?).is_ok();
+        self.board = Some(board);
+        Some(ran)
+    }
+
     /// Whether the turns since those that were judged last are at least the steps and at most three times the work and
     /// three more.
     fn took_turns(&mut self, mut words: Words) -> Option<bool> {
@@ -58,16 +83,22 @@ impl BoardBench {
 }
 
 impl Bench for BoardBench {
-    fn make(&mut self, verb: &str, words: Words) -> Option<bool> {
-        match &mut self.board {
-            Some(board) if verb == "copy" => {
-                *board = board.copy().ok()?;
-                Some(true)
-            }
-            Some(_) if verb == "work" => self.took_turns(words),
-            Some(board) => act(board, verb, words),
-            None if verb == "ram" => self.build(words),
-            None => self.parts.set(verb, words),
+    fn make(&mut self, verb: &str, mut words: Words) -> Option<bool> {
+        if self.board.is_none() {
+            return match verb {
+                "ram" => self.build(words),
+                _ => self.parts.set(verb, words),
+            };
+        }
+        match verb {
+            "copy" => self.go_on_with_a_copy(),
+            "keep" => self.keep(),
+            "again" => self.run_again(words),
+            "work" => self.took_turns(words),
+            "cut" => comes_out_cut(self.parts.alloc, self.board.as_ref()?, words.count()?),
+            "single" => comes_out_single(self.parts.alloc, self.board.as_ref()?, words.count()?),
+            "pieces" => come_out_joined(self.parts.alloc, self.board.as_ref()?, words),
+            _ => act(self.board.as_mut()?, verb, words),
         }
     }
 }
@@ -81,6 +112,7 @@ fn act(board: &mut Board, verb: &str, mut words: Words) -> Option<bool> {
         "state" => Some(state_name(board.state()) == words.word()?),
         "regs" => hold(board.regs(), words),
         "byte" => Some(board.byte(words.address()?) == words.byte()?),
+        "bytes" => stand_at(board, words),
         "lost" => Some(board.lost() == words.count()?),
         "changes" => are_listed(board.speaker_changes(), words),
         "trail" => Some(has_entries(board, words.index()?)),
@@ -88,8 +120,24 @@ fn act(board: &mut Board, verb: &str, mut words: Words) -> Option<bool> {
         "entered" => is_entered(&board.trail(words.index()?)?, words),
         "blank" => Some(board.screen().ok()?.as_str().trim().is_empty()),
         "screen" => words.are_shown(board.screen().ok()?.as_str()),
+        "alone" => words.are_alone(board.screen().ok()?.as_str()),
         _ => None,
     }
+}
+
+/// Whether the words are an address and the bytes that stand in memory from it on.
+fn stand_at(board: &Board, mut words: Words) -> Option<bool> {
+    let mut addr = words.address()?;
+    for word in words.0.split_whitespace() {
+        if addr >= ADDRESS_COUNT {
+            return None;
+        }
+        if board.byte(addr) != u8::from_str_radix(word, 16).ok()? {
+            return Some(false);
+        }
+        addr += 1;
+    }
+    Some(true)
 }
 
 /// Whether the words are the fault's number and name.

@@ -14,13 +14,18 @@
 //! characters), `copy` (goes on with a copy).
 //!
 //! `board`: `run CLOCKS`, `refused CLOCKS FAULT NAME`, `clock CLOCK`, `state STATE`, `regs NAME=WORD ..` (all that
-//! aren't 0, from AX to FL), `byte ADDRESS BYTE`, `lost COUNT`, `changes CLOCK-LEVEL ..` (all of the speaker's, as `72H
-//! 76L`), `screen LINE 'TEXT'`, `blank` (the whole screen), `copy` (goes on with a copy), `until CLOCKS CLOCK NUMBER
+//! aren't 0, from AX to FL), `byte ADDRESS BYTE`, `bytes ADDRESS BYTE ..` (from the address on), `lost COUNT`, `changes
+//! CLOCK-LEVEL ..` (all of the speaker's, as `72H 76L`), `screen LINE 'TEXT'`, `alone LINE 'TEXT'` (and the rest of the
+//! screen is blank), `blank` (the whole screen), `copy` (goes on with a copy), `keep` (a copy of the board as it stands),
+//! `again CLOCKS` (goes on with a copy of the one that was kept, and runs it), `until CLOCKS CLOCK NUMBER
 //! CONDITION ..` (a run that stops at this clock, by the condition of this number, or that has no stop where it is 0; a
 //! condition is `free`, `at CS IP`, `byte ADDRESS BYTE`, `sound` or `halted`), `trail COUNT` (of entries), `begun INDEX
 //! CLOCK CS IP BYTE ..` (the trail's entry at this index, from 0: an instruction), `entered INDEX CLOCK CS IP TYPE`,
 //! `work STEPS WORK` (of the run before it, one run alone: the turns that it took are at least its steps and at most
-//! three times its work and three more).
+//! three times its work and three more), `cut CLOCKS` (a run of so many clocks comes to the same report and trail where
+//! copies cut it in two, at each clock, by `run` and by `run_until` with a stop that never holds; the board itself stays),
+//! `single CLOCKS` (a copy that is run clock by clock shows at each what one run up to there shows), `pieces CLOCKS ..` (a
+//! copy that makes these runs one after another comes to what one run of their sum comes to).
 //!
 //! `timer`, the chips of a board with 16 KB, which make the timer's ticks late and many at once, beside a timer that makes
 //! each by itself: `out PORT BYTE`, `gate LEVEL` (of counter 2), `pass CLOCKS` (OUT2 has to agree after them), `in PORT`
@@ -31,6 +36,7 @@
 mod bench;
 mod boards;
 mod chips;
+mod cuts;
 mod parts;
 mod stops;
 mod timer;

@@ -20,7 +20,8 @@ pub fn stops_so(board: &mut Board, mut words: Words) -> Option<bool> {
     Some(told && board.clock() == clock)
 }
 
-fn read_stops(mut words: Words) -> Option<Stops>
+/// The conditions of the words.
+pub fn read_stops(mut words: Words) -> Option<Stops>
     ensures { IfSome result (λ stops. All HasAddress stops.items) }
 {
     let mut stops = Stops::new();

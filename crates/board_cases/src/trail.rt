@@ -1,7 +1,8 @@
 //! The trail of a board.
 use crate::words::Words;
 use board::board::Board;
-use board::trail::{TrailEntry, TrailEvent};
+use board::trail::{TRAIL_LENGTH, TrailEntry, TrailEvent};
+use std::alloc::Global;
 
 /// Whether the trail has so many entries.
 pub fn has_entries(board: &Board, count: usize) -> bool {
@@ -39,4 +40,41 @@ fn stands_at(entry: &TrailEntry, words: &mut Words) -> Option<bool> {
     let cs = words.port()?;
     let ip = words.port()?;
     Some(entry.clock == clock && entry.cs == cs && entry.ip == ip)
+}
+
+/// Writes a board's trail behind a text.
+pub fn push_trail(alloc: Global, text: &mut String, board: &Board) -> Option<()> {
+    for index in 0..TRAIL_LENGTH {
+        let Some(entry) = board.trail(index) else {
+            return Some(());
+        };
+        let place = place_text(alloc, &entry)?;
+        text.push_str(place.as_str()).ok()?;
+        push_event(alloc, text, &entry.event)?;
+    }
+    Some(())
+}
+
+fn place_text(alloc: Global, entry: &TrailEntry) -> Option<String> {
+    let (clock, cs, ip) = (entry.clock.get(), entry.cs, entry.ip);
+    format!(in alloc; "\n{clock} {cs}:{ip}").ok()
+}
+
+/// Writes an entry's type, or an instruction's bytes.
+fn push_event(alloc: Global, text: &mut String, event: &TrailEvent) -> Option<()> {
+    match event {
+        TrailEvent::Instruction { bytes, .. } => push_bytes(alloc, text, bytes.as_slice()),
+        TrailEvent::Entry(kind) => {
+            let entered = format!(in alloc; " entry {kind}").ok()?;
+            text.push_str(entered.as_str()).ok()
+        }
+    }
+}
+
+fn push_bytes(alloc: Global, text: &mut String, bytes: &[u8]) -> Option<()> {
+    for byte in bytes {
+        let word = format!(in alloc; " {byte}").ok()?;
+        text.push_str(word.as_str()).ok()?;
+    }
+    Some(())
 }

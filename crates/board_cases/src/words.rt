@@ -70,4 +70,12 @@ impl<'a> Words<'a> {
         let line = screen.split('\n').nth(number)?;
         Some(screen.len() == 2025 && line.len() == 80 && line.trim_end() == wanted)
     }
+
+    /// Whether the screen has the quoted text in the line of this number and no other text.
+    pub fn are_alone(&mut self, screen: &str) -> Option<bool> {
+        let mut words = *self;
+        let _number = words.word()?;
+        let wanted = words.0.trim().strip_prefix('\'')?.strip_suffix('\'')?;
+        Some(screen.trim() == wanted.trim() && self.are_shown(screen)?)
+    }
 }
