@@ -1,7 +1,4 @@
-//! A case and its parts, among them the files that can be opened.
-use crate::streams::Input;
-use pcboard_program::opener::Opener;
-use std::io;
+//! A case and its parts.
 
 /// A case, as it stands in its line.
 #[derive(Clone, Copy)]
@@ -27,7 +24,7 @@ impl<'a> Case<'a> {
     }
 
     /// The text of a file.
-    fn file(self, path: &str) -> Option<&'a str> {
+    pub fn file(self, path: &str) -> Option<&'a str> {
         for part in self.text.split(" ;; ") {
             if let Some(("file", file)) = part.split_once(' ') {
                 let (name, text) = file.split_once(' ').unwrap_or((file, ""));
@@ -37,16 +34,5 @@ impl<'a> Case<'a> {
             }
         }
         None
-    }
-}
-
-impl<'a> Opener for Case<'a> {
-    type Input = Input<'a>;
-
-    fn open(&self, path: &str) -> io::Result<Input<'a>> {
-        match self.file(path) {
-            Some(text) => Ok(Input::new(text, self.count("reads"))),
-            None => Err(io::Error::from(io::ErrorKind::NotFound)),
-        }
     }
 }

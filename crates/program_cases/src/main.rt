@@ -4,23 +4,25 @@
 //! A case is one line of parts, parted by ` ;; `. In texts `|` stands for a line feed, `\HH` for the byte of two
 //! hexadecimal digits, `\_HH` for so many blanks. The parts:
 //! `words WORD ..` (those after the program's name; without this part there are none), `file NAME TEXT` (no other file
-//! can be opened), `input TEXT` (on standard input), `reads N` (the read after the first N fails, for each file and for
-//! standard input), `writes N` (the same of writes), `status N`; `out TEXT` and `err TEXT` (all that is printed and
-//! told; nothing without this part), `begins TEXT` and `usage TEXT` (how what is printed begins, and what stands in
+//! can be opened), `input TEXT` (on standard input), `reads N` (the read after the first N, of the files and standard
+//! input together, fails), `writes N` (the same of the writes of each output), `each` (besides, each read and each write
+//! of standard output fails in turn, and no other: the status is 3, nothing is told, and what is printed is a front of
+//! what is printed without the failure), `status N`; `out TEXT` and `err TEXT` (all that is printed and told; nothing
+//! without this part), `begins TEXT` and `usage TEXT` (how what is printed begins, and what stands in
 //! what is told).
 #![tactic(auto)]
 
 mod case;
 mod plain;
+mod run;
 mod streams;
 
 use anyhow::{Result, ensure};
 use case::Case;
 use cases::judge_cases;
-use pcboard_program::program::program;
+use run::{Failing, Ran, run};
 use std::alloc::Global;
 use std::io;
-use streams::{Input, Output};
 
 fn main(rt: HostRuntime) -> io::Result<()> {
     judge_cases(&rt, |alloc, text| judge(alloc, Case { text }))
@@ -28,37 +30,60 @@ fn main(rt: HostRuntime) -> io::Result<()> {
 
 /// Runs the program on a case. Fails with what isn't as the case says.
 fn judge(alloc: Global, case: Case<'_>) -> Result<()> {
-    let mut words = Vec::new(alloc);
-    for word in case.part("words").unwrap_or("").split(' ') {
-        if !word.is_empty() {
-            words.push(word)?;
-        }
+    let failing = Failing {
+        read: case.count("reads"),
+        out: case.count("writes"),
+        err: case.count("writes"),
+    };
+    let ran = run(alloc, case, failing)?;
+    judge_answer(case, &ran)?;
+    if case.part("each").is_some() {
+        judge_failing_reads(alloc, case, &ran)?;
+        judge_failing_writes(alloc, case, &ran)?;
     }
-    let mut input = Input::new(case.part("input").unwrap_or(""), case.count("reads"));
-    let mut out = Output::new(alloc, case.count("writes"));
-    let mut err = Output::new(alloc, case.count("writes"));
-    let status = program(
-        alloc,
-        words.as_slice(),
-        &case,
-        &mut input,
-        &mut out,
-        &mut err,
-    );
-    judge_answer(case, status, &out, &err)
+    Ok(())
 }
 
-fn judge_answer(case: Case<'_>, status: u8, out: &Output, err: &Output) -> Result<()> {
-    ensure!(case.count("status") == Some(u64::from(status)), "status");
+fn judge_answer(case: Case<'_>, ran: &Ran) -> Result<()> {
+    ensure!(
+        case.count("status") == Some(u64::from(ran.status)),
+        "status"
+    );
     let prints = match case.part("begins") {
-        Some(text) => out.begins(text),
-        None => out.is(case.part("out").unwrap_or("")),
+        Some(text) => ran.out.begins(text),
+        None => ran.out.is(case.part("out").unwrap_or("")),
     };
     ensure!(prints, "what is printed");
     let tells = match case.part("usage") {
-        Some(text) => out.is("") && err.has(text),
-        None => err.is(case.part("err").unwrap_or("")),
+        Some(text) => ran.out.is("") && ran.err.has(text),
+        None => ran.err.is(case.part("err").unwrap_or("")),
     };
     ensure!(tells, "what is told");
+    Ok(())
+}
+
+/// Has each read that a run makes fail in turn.
+fn judge_failing_reads(alloc: Global, case: Case<'_>, whole: &Ran) -> Result<()> {
+    for number in 0..whole.reads {
+        let failing = Failing {
+            read: Some(number),
+            ..Failing::NONE
+        };
+        let ran = run(alloc, case, failing)?;
+        ensure!(ran.is_cut_off(whole), "what a failing read leaves");
+    }
+    Ok(())
+}
+
+/// Has each write of standard output that a run makes fail in turn.
+fn judge_failing_writes(alloc: Global, case: Case<'_>, whole: &Ran) -> Result<()> {
+    for number in 0..whole.out.writes() {
+        let failing = Failing {
+            out: Some(number),
+            ..Failing::NONE
+        };
+        let ran = run(alloc, case, failing)?;
+        ensure!(ran.is_cut_off(whole), "what a failing write leaves");
+    }
     Ok(())
 }

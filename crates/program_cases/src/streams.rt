@@ -1,39 +1,71 @@
 //! Readers and writers of a case's texts, which can fail.
 use crate::plain::Plain;
 use std::alloc::Global;
+use std::cell::Cell;
 use std::io;
 use std::io::{Read, Write};
 
 /// How many bytes a read gives or a write takes at most, so that most calls are made in parts.
 const PIECE: usize = 7;
 
-fn failure() -> io::Error {
-    io::Error::from(io::ErrorKind::Other)
+/// Calls of one kind, numbered from 0, of which one may fail.
+#[derive(Drop)]
+pub struct Calls {
+    made: Cell<u64>,
+    failing: Option<u64>,
 }
 
-/// A text to be read, a few bytes at a time.
+impl Calls {
+    /// The one of this number fails, and no other.
+    pub fn new(failing: Option<u64>) -> Self {
+        Calls {
+            made: Cell::new(0),
+            failing,
+        }
+    }
+
+    /// How many were made.
+    pub fn made(&self) -> u64 {
+        self.made.get()
+    }
+
+    /// Makes the next one.
+    fn make(&self) -> io::Result<()> {
+        let number = self.made.get();
+        self.made.set(number.saturating_add(1));
+        if self.failing == Some(number) {
+            return Err(io::Error::from(io::ErrorKind::Other));
+        }
+        Ok(())
+    }
+}
+
+/// A text to be read, a few bytes at a time. Every other call is interrupted, which counts as no read.
 #[derive(Drop)]
 pub struct Input<'a> {
     text: Plain<'a>,
-    reads: u64,
+    reads: &'a Calls,
+    is_interrupted: bool,
 }
 
 impl<'a> Input<'a> {
-    /// The read after this many fails.
-    pub fn new(text: &'a str, reads: Option<u64>) -> Self {
+    /// Its reads are among these.
+    pub fn new(text: &'a str, reads: &'a Calls) -> Self {
         Input {
             text: Plain::new(text),
-            reads: reads.unwrap_or(u64::MAX),
+            reads,
+            is_interrupted: false,
         }
     }
 }
 
 impl Read for Input<'_> {
     fn read(&mut self, buf: &mut [u8]) -> io::Result<usize> {
-        if self.reads == 0 {
-            return Err(failure());
+        self.is_interrupted = !self.is_interrupted;
+        if self.is_interrupted {
+            return Err(io::Error::from(io::ErrorKind::Interrupted));
         }
-        self.reads -= 1;
+        self.reads.make()?;
         let size = buf.len().min(PIECE);
         for at in 0..size {
             let Some(byte) = self.text.next_byte() else {
@@ -49,16 +81,26 @@ impl Read for Input<'_> {
 #[derive(Drop)]
 pub struct Output {
     bytes: Vec<u8>,
-    writes: u64,
+    writes: Calls,
 }
 
 impl Output {
-    /// The write after this many fails.
-    pub fn new(alloc: Global, writes: Option<u64>) -> Self {
+    /// The write of this number fails.
+    pub fn new(alloc: Global, failing: Option<u64>) -> Self {
         Output {
             bytes: Vec::new(alloc),
-            writes: writes.unwrap_or(u64::MAX),
+            writes: Calls::new(failing),
         }
+    }
+
+    /// How many writes were made.
+    pub fn writes(&self) -> u64 {
+        self.writes.made()
+    }
+
+    /// Whether what was written begins with what was written here.
+    pub fn begins_with(&self, front: &Output) -> bool {
+        self.bytes.as_slice().starts_with(front.bytes.as_slice())
     }
 
     /// Whether what was written begins with this text.
@@ -96,10 +138,7 @@ impl Output {
 
 impl Write for Output {
     fn write(&mut self, buf: &[u8]) -> io::Result<usize> {
-        if self.writes == 0 {
-            return Err(failure());
-        }
-        self.writes -= 1;
+        self.writes.make()?;
         let size = buf.len().min(PIECE);
         self.bytes.extend_from_slice(&buf[..size])?;
         Ok(size)

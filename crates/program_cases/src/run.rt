@@ -1,0 +1,93 @@
+//! One run of the program on a case.
+use crate::case::Case;
+use crate::streams::{Calls, Input, Output};
+use anyhow::Result;
+use pcboard_program::opener::Opener;
+use pcboard_program::program::program;
+use std::alloc::Global;
+use std::io;
+
+/// The numbers, from 0, of the calls that fail: a read of the files and standard input together, a write of standard
+/// output, and one of standard error.
+#[derive(Clone, Copy)]
+pub struct Failing {
+    pub read: Option<u64>,
+    pub out: Option<u64>,
+    pub err: Option<u64>,
+}
+
+impl Failing {
+    pub const NONE: Failing = Failing {
+        read: None,
+        out: None,
+        err: None,
+    };
+}
+
+/// What a run came to.
+#[derive(Drop)]
+pub struct Ran {
+    pub status: u8,
+    pub out: Output,
+    pub err: Output,
+    /// How many reads were made.
+    pub reads: u64,
+}
+
+impl Ran {
+    /// Whether it ended with a read or a write that failed: nothing is told, and what was printed before is a front of what `whole` printed.
+    pub fn is_cut_off(&self, whole: &Ran) -> bool {
+        self.status == 3 && self.err.is("") && whole.out.begins_with(&self.out)
+    }
+}
+
+/// The files of a case.
+#[derive(Clone, Copy)]
+struct Files<'a> {
+    case: Case<'a>,
+    reads: &'a Calls,
+}
+
+impl<'a> Opener for Files<'a> {
+    type Input = Input<'a>;
+
+    fn open(&self, path: &str) -> io::Result<Input<'a>> {
+        match self.case.file(path) {
+            Some(text) => Ok(Input::new(text, self.reads)),
+            None => Err(io::Error::from(io::ErrorKind::NotFound)),
+        }
+    }
+}
+
+/// Runs the program on a case. Fails where there is no memory for it.
+pub fn run(alloc: Global, case: Case<'_>, failing: Failing) -> Result<Ran> {
+    let mut words = Vec::new(alloc);
+    for word in case.part("words").unwrap_or("").split(' ') {
+        if !word.is_empty() {
+            words.push(word)?;
+        }
+    }
+    let reads = Calls::new(failing.read);
+    let files = Files {
+        case,
+        reads: &reads,
+    };
+    let mut input = Input::new(case.part("input").unwrap_or(""), &reads);
+    let mut out = Output::new(alloc, failing.out);
+    let mut err = Output::new(alloc, failing.err);
+    let status = program(
+        alloc,
+        words.as_slice(),
+        &files,
+        &mut input,
+        &mut out,
+        &mut err,
+    );
+    let reads = reads.made();
+    Ok(Ran {
+        status,
+        out,
+        err,
+        reads,
+    })
+}
