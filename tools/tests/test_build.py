@@ -1,0 +1,94 @@
+"""tools/build and the launcher, over a repository of two crates and an `rt` that only writes what a build leaves."""
+import contextlib
+import importlib.machinery
+import importlib.util
+import io
+import os
+import shutil
+import subprocess
+
+from tests.support import TOOLS, TOP, ToolCase
+
+RT = """#!/bin/sh
+case "$1" in
+lib) ;;
+run) mkdir -p out; printf '#!/bin/sh\necho "it runs $*"\n' > out/pcboard; chmod +x out/pcboard; echo "rt: running out/pcboard" ;;
+esac
+"""
+
+
+class Build(ToolCase):
+    """The program's way from nothing to its run."""
+
+    def setUp(self) -> None:
+        super().setUp()
+        os.makedirs(f'{self.room}/top/tools')
+        for name in ('pcboard', 'tools/build'):
+            shutil.copy(f'{TOP}/{name}', f'{self.room}/top/{name}')
+        for name in ('low', 'pcboard', 'other'):
+            os.makedirs(f'{self.room}/top/crates/{name}/src')
+            self.file(f'top/crates/{name}/src/lib.rt', '// nothing\n')
+        self.file('top/crates.txt', 'low:\npcboard: low\nother:\n')
+        self.file('top/HANDLES', 'Handles allowed: none.\n')
+        os.mkdir(f'{self.room}/bin')
+        os.chmod(self.file('bin/rt', RT), 0o755)
+
+    def launch(self, has_rt: bool = True) -> subprocess.CompletedProcess[str]:
+        path = f'{self.room}/bin:/usr/bin:/bin' if has_rt else '/usr/bin:/bin'
+        return subprocess.run([f'{self.room}/top/pcboard', 'run'], capture_output=True, text=True, check=False,
+                              env={'PATH': path, 'XDG_CACHE_HOME': f'{self.room}/cache'})
+
+    def change(self, path: str) -> None:
+        """Makes a file or a folder of the repository newer than the program."""
+        program = os.stat(f'{self.room}/top/crates/pcboard/out/pcboard').st_mtime
+        os.utime(f'{self.room}/top/{path}', (program + 5, program + 5))
+
+    def test_it_is_built_at_first_use_and_then_runs_at_once(self) -> None:
+        first, then = self.launch(), self.launch()
+        self.assertEqual((first.returncode, first.stdout), (0, 'it runs run\n'))
+        self.assertIn('proving 2 crates and building the program, once: some 2 minutes;', first.stderr)
+        self.assertIn('crate 2 of 2: pcboard', first.stderr)
+        self.assertEqual((then.returncode, then.stdout, then.stderr), (0, 'it runs run\n', ''))
+
+    def test_what_the_program_is_made_of_is_looked_at_and_nothing_else(self) -> None:
+        self.launch()
+        self.change('crates/other/src/lib.rt')
+        self.assertEqual(self.launch().stderr, '')
+        for path in ('crates/low/src/lib.rt', 'crates/low/src', 'crates.txt'):
+            self.change(path)
+            self.assertIn('less than the first time', self.launch().stderr, path)
+            os.utime(f'{self.room}/top/{path}', (1, 1))
+        os.remove(f'{self.room}/top/crates/low/src/lib.rt')
+        self.assertIn('proving 2 crates', self.launch().stderr)
+
+    def test_without_rt_it_says_what_is_missing(self) -> None:
+        none = self.launch(has_rt=False)
+        self.assertEqual(none.returncode, 127)
+        self.assertIn("isn't built yet", none.stderr)
+        self.launch()
+        self.assertEqual(self.launch(has_rt=False).stdout, 'it runs run\n')
+        self.change('crates/low/src/lib.rt')
+        changed = self.launch(has_rt=False)
+        self.assertEqual(changed.returncode, 127)
+        self.assertIn('have changed since it was built', changed.stderr)
+        self.assertNotIn("isn't built", changed.stderr)
+
+    def test_a_crate_that_fails_is_told(self) -> None:
+        os.chmod(self.file('bin/rt', '#!/bin/sh\necho "not proved: $PWD"\nexit 1\n'), 0o755)
+        ran = self.launch()
+        self.assertEqual(ran.returncode, 126)
+        self.assertRegex(ran.stderr, r'the build failed; the end of .*\n(.*\n)*not proved: .*/crates/low\n')
+
+    def test_a_long_silence_is_broken(self) -> None:
+        loader = importlib.machinery.SourceFileLoader('build', f'{TOOLS}/build')
+        spec = importlib.util.spec_from_loader('build', loader)
+        assert spec
+        build = importlib.util.module_from_spec(spec)
+        loader.exec_module(build)
+        progress = build.Progress('pcboard', 37)
+        told = io.StringIO()
+        with contextlib.redirect_stderr(told):
+            progress.stay_in_touch(['isa', 'board'])
+            progress.told -= build.QUIET_SECONDS
+            progress.stay_in_touch(['isa', 'board'])
+        self.assertEqual(told.getvalue(), 'pcboard: proving board, isa; 0 of 37 crates, 0 s so far\n')
