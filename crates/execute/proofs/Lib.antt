@@ -1,3 +1,4 @@
 pub mod Writes
 pub mod Order
 mod Rows
+pub mod InRegisters

@@ -3,3 +3,4 @@ pub mod Meaning
 pub mod Boundaries
 pub mod PortWrites
 pub mod Laws
+pub mod InRegisters

@@ -3,7 +3,9 @@
 
 pub mod boundary;
 pub mod cpu;
+pub mod in_registers;
 pub mod laws;
+pub mod parts;
 mod perform;
 pub mod port_writes;
 pub mod repeating;

@@ -31,7 +31,7 @@ pub fn port_writes(cpu: &Cpu, decoded: &Decoded) -> ArrayVec<(u16, u8), 2>
 {
     match decoded.digest() {
         Some(instr) => match instr.operation() {
-            Operation::Transfer(Transfer::Out) => outputs(&cpu.registers, instr),
+            Operation::Transfer(Transfer::Out) => outputs(&cpu.parts.registers, instr),
             _ => ArrayVec::new(),
         },
         None => ArrayVec::new(),

@@ -2,8 +2,9 @@
 ghost use Rattle.std.specs.Prelude.{◌≡◌, ◌<◌};
 ghost use Rattle.execute_arith.specs.Meaning.{after_arithmetic, keeps_result, result_of, with_flags_of};
 ghost use Rattle.execute_machine.specs.Flags.{forgetting};
-ghost use Rattle.execute_machine.specs.Locations.{location_of, machine};
-ghost use Rattle.isa.specs.Row.{first_of};
+ghost use Rattle.execute_machine.specs.Locations.{location_of, machine, operand_at, width_at};
+ghost use Rattle.execute_machine.specs.LocationsBy.{IsGeneral};
+ghost use Rattle.isa.specs.Row.{first_of, second_of};
 ghost use Rattle.execute_machine.specs.Sums.{with_logic};
 ghost use Rattle.execute_machine.specs.Widths.{size_of};
 
@@ -11,7 +12,9 @@ use crate::sums::{add, subtract};
 use bus::Bus;
 use digest::digest::Digest;
 use execute_machine::flags::FlagRegister;
-use execute_machine::location::{OperandLocation, locate_first, locate_second, operand, put};
+use execute_machine::location::{
+    OperandLocation, locate_first, locate_second, operand, put, put_in_register,
+};
 use execute_machine::registers::Registers;
 use execute_machine::width::Width;
 use isa::operation::Arithmetic;
@@ -30,7 +33,7 @@ pub fn perform_arithmetic<B: Bus>(
     let to = locate_first(registers, instr);
     match to {
         OperandLocation::Word(register) => {
-            perform_at(
+            perform_on_register(
                 bus,
                 registers,
                 operation,
@@ -39,7 +42,7 @@ pub fn perform_arithmetic<B: Bus>(
             );
         }
         OperandLocation::Byte(register) => {
-            perform_at(
+            perform_on_register(
                 bus,
                 registers,
                 operation,
@@ -51,8 +54,30 @@ pub fn perform_arithmetic<B: Bus>(
     }
 }
 
+/// Performs it on a general register, its first operand. Inlined, a call with a word register has no other case left.
+#[inline(always)]
+#[tactic(auto, unfolding(crate::specs::Meaning::after_arithmetic))]
+pub fn perform_on_register<B: Bus>(
+    bus: &B,
+    registers: &mut Registers,
+    operation: Arithmetic,
+    to: OperandLocation,
+    instr: &Digest,
+)
+    requires general { IsGeneral to }
+    requires first { to ≡ location_of registers.old instr.now (first_of instr.now.form.row) }
+    ensures { machine registers.new (B.state bus.now)
+        ≡ after_arithmetic B.meaning (machine registers.old (B.state bus.now)) operation instr.now }
+{
+    let result = combine(bus, registers, operation, to, instr);
+    if keeps_result(operation) {
+        put_in_register(bus, registers, to, result);
+    }
+}
+
 /// Performs it on what stands in memory.
 #[inline(never)]
+#[tactic(auto, unfolding(crate::specs::Meaning::after_arithmetic))]
 fn perform_in_memory<B: Bus>(
     bus: &mut B,
     registers: &mut Registers,
@@ -64,31 +89,37 @@ fn perform_in_memory<B: Bus>(
     ensures { machine registers.new (B.state bus.new)
         ≡ after_arithmetic B.meaning (machine registers.old (B.state bus.old)) operation instr.now }
 {
-    perform_at(bus, registers, operation, to, instr);
+    let result = combine(bus, registers, operation, to, instr);
+    if keeps_result(operation) {
+        put(bus, registers, to, result);
+    }
 }
 
-/// Performs it on the operand at `to`. Inlined, a call with a register has no other case left.
+/// What the operation makes of both operands, the first of which stands at `to`, and of the flags. The flags are set.
 #[inline(always)]
-#[tactic(auto, unfolding(crate::specs::Meaning::after_arithmetic))]
-fn perform_at<B: Bus>(
-    bus: &mut B,
+fn combine<B: Bus>(
+    bus: &B,
     registers: &mut Registers,
     operation: Arithmetic,
     to: OperandLocation,
     instr: &Digest,
-)
-    requires { to ≡ location_of registers.old instr.now (first_of instr.now.form.row) }
-    ensures { machine registers.new (B.state bus.new)
-        ≡ after_arithmetic B.meaning (machine registers.old (B.state bus.old)) operation instr.now }
+) -> u16
+    ensures value { result ≡ result_of operation registers.old.flags (width_at to)
+        (operand_at B.meaning (machine registers.old (B.state bus.now)) to (width_at to))
+        (operand_at B.meaning (machine registers.old (B.state bus.now))
+        (location_of registers.old instr.now (second_of instr.now.form.row)) (width_at to)) }
+    ensures flags { registers.new ≡ record registers.old {
+      flags = with_flags_of operation registers.old.flags (width_at to)
+          (operand_at B.meaning (machine registers.old (B.state bus.now)) to (width_at to))
+          (operand_at B.meaning (machine registers.old (B.state bus.now))
+          (location_of registers.old instr.now (second_of instr.now.form.row)) (width_at to));
+    } }
 {
     let from = locate_second(registers, instr);
     let width = to.width();
     let a = operand(bus, registers, to, width);
     let b = operand(bus, registers, from, width);
-    let result = calculate(&mut registers.flags, operation, width, a, b);
-    if keeps_result(operation) {
-        put(bus, registers, to, result);
-    }
+    calculate(&mut registers.flags, operation, width, a, b)
 }
 
 /// What the operation makes of two numbers of this width and of the flags.

@@ -2,6 +2,7 @@
 ghost use Rattle.std.specs.Prelude.{◌≡◌, ◌<◌, ◌-◌};
 ghost use Rattle.execute_arith.specs.Meaning.{after_unary, unary_result_of, with_unary_flags_of};
 ghost use Rattle.execute_machine.specs.Locations.{location_of, machine};
+ghost use Rattle.execute_machine.specs.LocationsBy.{IsGeneral};
 ghost use Rattle.isa.specs.Row.{first_of};
 ghost use Rattle.execute_machine.specs.Widths.{size_of};
 
@@ -9,7 +10,7 @@ use crate::sums::subtract;
 use bus::Bus;
 use digest::digest::Digest;
 use execute_machine::flags::FlagRegister;
-use execute_machine::location::{OperandLocation, locate_first, operand, put};
+use execute_machine::location::{OperandLocation, locate_first, operand, put, put_in_register};
 use execute_machine::registers::Registers;
 use execute_machine::width::Width;
 use isa::operation::Unary;
@@ -28,7 +29,7 @@ pub fn perform_unary<B: Bus>(
     let to = locate_first(registers, instr);
     match to {
         OperandLocation::Word(register) => {
-            perform_at(
+            perform_unary_on_register(
                 bus,
                 registers,
                 operation,
@@ -40,26 +41,32 @@ pub fn perform_unary<B: Bus>(
     }
 }
 
-/// Performs it on a byte or in memory.
-#[inline(never)]
-fn perform_elsewhere<B: Bus>(
-    bus: &mut B,
+/// Performs it on a general register, its operand. Inlined, a call with a word register has no other case left.
+#[inline(always)]
+#[tactic(auto, unfolding(crate::specs::Meaning::after_unary))]
+pub fn perform_unary_on_register<B: Bus>(
+    bus: &B,
     registers: &mut Registers,
     operation: Unary,
     to: OperandLocation,
     instr: &Digest,
 )
-    requires { to ≡ location_of registers.old instr.now (first_of instr.now.form.row) }
-    ensures { machine registers.new (B.state bus.new)
-        ≡ after_unary B.meaning (machine registers.old (B.state bus.old)) operation instr.now }
+    requires general { IsGeneral to }
+    requires first { to ≡ location_of registers.old instr.now (first_of instr.now.form.row) }
+    ensures { machine registers.new (B.state bus.now)
+        ≡ after_unary B.meaning (machine registers.old (B.state bus.now)) operation instr.now }
 {
-    perform_at(bus, registers, operation, to, instr);
+    let _ = instr;
+    let width = to.width();
+    let a = operand(bus, registers, to, width);
+    let result = calculate(&mut registers.flags, operation, width, a);
+    put_in_register(bus, registers, to, result);
 }
 
-/// Performs it on the operand at `to`. Inlined, a call with a register has no other case left.
-#[inline(always)]
+/// Performs it on a byte or in memory.
+#[inline(never)]
 #[tactic(auto, unfolding(crate::specs::Meaning::after_unary))]
-fn perform_at<B: Bus>(
+fn perform_elsewhere<B: Bus>(
     bus: &mut B,
     registers: &mut Registers,
     operation: Unary,
