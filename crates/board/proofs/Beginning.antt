@@ -1,49 +1,35 @@
--- A clock in which an instruction begins, the chips being calm.
-use Rattle.std.proofs.Common.{◌≡◌, ℕ, ◌+◌, ◌-◌, ◌<◌, ◌≤◌, inl, inr, List, [], ◌++◌, length, refl, sym, ap, ◌∙◌, subst, arith, append-nil}
+-- A clock in which the processor acts and writes to no port, the chips being calm.
+use Rattle.std.proofs.Common.{◌≡◌, ℕ, ◌+◌, ◌-◌, ◌<◌, ◌≤◌, inl, inr, List, ◌++◌, length, refl, sym, ap, ◌∙◌, subst, arith, append-nil}
 use Rattle.std.specs.Prelude.{◌⊎◌}
 use Rattle.board_bus.proofs.Calm.{level_stays}
 use Rattle.board_types.specs.Lines.{from_bool}
 use Rattle.board_types.specs.declared.keys.StampedKey.{StampedKey}
-use Rattle.decode.specs.declared.decoding.Decoding.{Decoding}
 use Rattle.execute.specs.Meaning.{StepResult}
-use Rattle.execute.specs.PortWrites.{port_writes_of}
 use Rattle.wiring.specs.Chips.{ChipsState}
 use Rattle.wiring.specs.Speaker.{is_speaker_high_after}
 use Rattle.wiring.specs.Wires as wires
 use Rattle.wiring.specs.Wires.{after_arrivals}
 use Rattle.wiring.proofs.Clocks.{clock_of_arrivals, clock_of_clocked, clock_of_keys_settled}
 use Rattle.board.specs.declared.act.Act.{Act}
-use Rattle.board.specs.declared.act.Act.TheVariants.{Instruction}
 use Rattle.board.specs.Board.{BoardState}
-use Rattle.board.specs.Laws.{writes_of}
-use Rattle.board.specs.Leap.{BeginsCalmly, IsCalmBeginning, PassesOn, is_idle}
-use Rattle.board.specs.Plain.{Plain, after_act, after_clock, change_next, chips_after_clock, clock_of, codes_at, decoded_at, next_act, speaker_level}
+use Rattle.board.specs.Leap.{ActsCalmly, PassesOn}
+use Rattle.board.specs.Plain.{Plain, after_act, after_clock, chips_after_clock, clock_of, codes_at, next_act, speaker_level}
 use Rattle.board.specs.Trail.{last, trail_next}
 use Rattle.board.specs.Turns.{IsLeapOn, IsStepOn}
-use Rattle.board.specs.Work.{work_next}
-use Rattle.board.proofs.Clocks.{clock_of_step}
-use Rattle.board.proofs.Entries.{begins}
+use Rattle.board.proofs.Clocks.{clock_of_act}
 use Rattle.board.proofs.Foreseen.{foreseen}
 use Rattle.board.proofs.Leap.{clock_of_leap}
 use Rattle.board.proofs.Runs.{no_change}
 use Rattle.board.proofs.Works.{acts_now}
 
--- where it writes to no port, the speaker's level stays
-same_level : (s : Plain) (d : Decoding) → IsCalmBeginning s → Instruction d ≡ next_act s → port_writes_of s.cpu d ≡ [] → speaker_level (after_clock s) ≡ speaker_level s
+-- the speaker's level stays
+same_level : (s : Plain) → ActsCalmly s → speaker_level (after_clock s) ≡ speaker_level s
 unfolding speaker_level
-same_level s d calm next silent =
-    foreseen s calm.wires
+same_level s calmly =
+    foreseen s calmly.wires
     ∙ ap from_bool (
-    ap (λ (a : Act). is_speaker_high_after s.chips (writes_of s.cpu a)) (sym next)
-    ∙ ap (is_speaker_high_after s.chips) silent
-    ∙ sym (level_stays s.chips (s.chips.clock + 1) (omega arith) calm.calm))
-
-no_change_then : (s : Plain) (d : Decoding) → IsCalmBeginning s → Instruction d ≡ next_act s → port_writes_of s.cpu d ≡ [] → change_next s ≡ []
-no_change_then s d calm next silent = no_change s (same_level s d calm next silent)
-
--- it has work
-pub begins_work : (s : Plain) → IsCalmBeginning s → 1 ≤ work_next s
-begins_work s calm = acts_now s (ap is_idle (sym (begins s (decoded_at s.cpu s.chips) calm.free calm.boundary refl)))
+    ap (is_speaker_high_after s.chips) calmly.act.silent
+    ∙ sym (level_stays s.chips (s.chips.clock + 1) (omega arith) calmly.calm))
 
 -- a clock goes by
 chips_go_on : (c : ChipsState) (keys : List StampedKey) → (chips_after_clock c keys).clock ≡ c.clock + 1
@@ -53,12 +39,11 @@ chips_go_on c keys =
     ∙ clock_of_arrivals (wires.after_clock c) (codes_at keys (c.clock + 1))
     ∙ clock_of_clocked c
 
-clock_goes_by : (s : Plain) (d : Decoding) → Instruction d ≡ next_act s → clock_of (after_clock s) ≡ clock_of s + 1
+clock_goes_by : (s : Plain) → clock_of (after_clock s) ≡ clock_of s + 1
 unfolding clock_of after_clock
-clock_goes_by s d next =
+clock_goes_by s =
     chips_go_on (after_act s.cpu s.busy s.chips (next_act s)).bus s.keys
-    ∙ ap (λ (a : Act). (after_act s.cpu s.busy s.chips a).bus.clock + 1) (sym next)
-    ∙ ap (λ n. n + 1) (clock_of_step s.cpu s.chips d)
+    ∙ ap (λ n. n + 1) (clock_of_act s.cpu s.busy s.chips (next_act s))
 
 -- the board's first clock of a step, in which nothing is listed, and the rest of it that is leapt over
 
@@ -81,28 +66,24 @@ rest_on end p new (inr passed) = inr (
   },
 )
 
-pub step_made : (end : ℕ) (old new : BoardState) → BeginsCalmly old.plain → PassesOn end (after_clock old.plain) new.plain → new.changes ≡ old.changes → new.trail ≡ last 32 (old.trail ++ trail_next old.plain) → new.room ≡ old.room → new.turns ≡ old.turns + 1 → IsStepOn end old new
-step_made end old new begins_now passed changes trail room turns =
-    let calm = begins_now.calm in
-    let d = decoded_at old.plain.cpu old.plain.chips in
-    let next : Instruction d ≡ next_act old.plain = begins old.plain d calm.free calm.boundary refl in
-    record {
-      begun = record new { plain = after_clock old.plain };
-      first = record {
-        plain = refl;
-        clock = clock_goes_by old.plain d next;
-        changes = changes ∙ sym (append-nil old.changes) ∙ ap (λ xs. old.changes ++ xs) (sym (no_change_then old.plain d calm next begins_now.silent));
-        trail = trail;
-        room = let size : length new.changes ≡ length old.changes = ap length changes in omega (arith, room, size);
-        turns = turns;
-      };
-      work = begins_work old.plain calm;
-      rest = rest_on end (after_clock old.plain) new passed;
-    }
+pub step_made : (end : ℕ) (old new : BoardState) → ActsCalmly old.plain → PassesOn end (after_clock old.plain) new.plain → new.changes ≡ old.changes → new.trail ≡ last 32 (old.trail ++ trail_next old.plain) → new.room ≡ old.room → new.turns ≡ old.turns + 1 → IsStepOn end old new
+step_made end old new calmly passed changes trail room turns = record {
+  begun = record new { plain = after_clock old.plain };
+  first = record {
+    plain = refl;
+    clock = clock_goes_by old.plain;
+    changes = changes ∙ sym (append-nil old.changes) ∙ ap (λ xs. old.changes ++ xs) (sym (no_change old.plain (same_level old.plain calmly)));
+    trail = trail;
+    room = let size : length new.changes ≡ length old.changes = ap length changes in omega (arith, room, size);
+    turns = turns;
+  };
+  work = acts_now old.plain calmly.act.some;
+  rest = rest_on end (after_clock old.plain) new passed;
+}
 
-pub step_of : (end : ℕ) (old seen new : BoardState) → old ≡ seen → BeginsCalmly old.plain → PassesOn end (after_clock old.plain) new.plain → new.changes ≡ old.changes → new.trail ≡ last 32 (old.trail ++ trail_next old.plain) → new.room ≡ old.room → new.turns ≡ old.turns + 1 → IsStepOn end seen new
-step_of end old seen new same begins_now passed changes trail room turns =
-    subst (λ b. IsStepOn end b new) same (step_made end old new begins_now passed changes trail room turns)
+pub step_of : (end : ℕ) (old seen new : BoardState) → old ≡ seen → ActsCalmly old.plain → PassesOn end (after_clock old.plain) new.plain → new.changes ≡ old.changes → new.trail ≡ last 32 (old.trail ++ trail_next old.plain) → new.room ≡ old.room → new.turns ≡ old.turns + 1 → IsStepOn end seen new
+step_of end old seen new same calmly passed changes trail room turns =
+    subst (λ b. IsStepOn end b new) same (step_made end old new calmly passed changes trail room turns)
 
 -- time goes on by a clock at least, and not past the end
 pub record GoesOn (end : ℕ) (s t : Plain) : Type 0 where
@@ -116,9 +97,8 @@ goes_from end s p t first before (inr passed) =
     let here : clock_of t ≡ clock_of p + passed.clocks = ap clock_of passed.plain ∙ clock_of_leap p passed.clocks in
     let most = passed.turn.within in record { some = omega (arith, here, first); within = omega (arith, here, first, before, most) }
 
-pub goes_on : (end : ℕ) (s t : Plain) → BeginsCalmly s → clock_of s < end → PassesOn end (after_clock s) t → GoesOn end s t
-goes_on end s t begins_now before passed =
-    goes_from end s (after_clock s) t (clock_goes_by s (decoded_at s.cpu s.chips) (begins s (decoded_at s.cpu s.chips) begins_now.calm.free begins_now.calm.boundary refl)) before passed
+pub goes_on : (end : ℕ) (s t : Plain) → clock_of s < end → PassesOn end (after_clock s) t → GoesOn end s t
+goes_on end s t before passed = goes_from end s (after_clock s) t (clock_goes_by s) before passed
 
 -- the plain board's clock, told by what the processor does in it
 pub clock_by_act : (s : Plain) (a : Act) (acted : StepResult ChipsState) → a ≡ next_act s → acted ≡ after_act s.cpu s.busy s.chips a → record { cpu = acted.cpu; busy = acted.clocks - 1; chips = chips_after_clock acted.bus s.keys; keys = s.keys } ≡ after_clock s

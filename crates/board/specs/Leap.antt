@@ -7,8 +7,8 @@ use Rattle.board_types.specs.declared.keys.StampedKey.{StampedKey}
 use Rattle.board_bus.specs.Calm.{IsCalm}
 use Rattle.execute.specs.Boundaries.{boundary_of}
 use Rattle.execute.specs.Cpu.{CpuState}
+use Rattle.execute.specs.declared.boundary.Boundary.{Boundary}
 use Rattle.execute.specs.declared.boundary.Boundary.TheVariants as boundaries
-use Rattle.execute.specs.PortWrites.{port_writes_of}
 use Rattle.pit8253.specs.Counter.{after_ticks, out_of}
 use Rattle.scheduler.specs.declared.deadlines.Source.{Source}
 use Rattle.scheduler.specs.declared.deadlines.Source.TheVariants.{Counter0, Counter2, Keys, Processor, End}
@@ -20,8 +20,8 @@ use Rattle.wiring.specs.Wires.{is_requested}
 use Rattle.board.specs.declared.act.Act.{Act}
 use Rattle.board.specs.declared.act.Act.TheVariants.{Nothing}
 use Rattle.board.specs.Arrivals.{IsNextStamp}
-use Rattle.board.specs.Laws.{NoKeyComes, WiresHold}
-use Rattle.board.specs.Plain.{Plain, chips_after_clock, clock_of, decoded_at}
+use Rattle.board.specs.Laws.{NoKeyComes, WiresHold, writes_of}
+use Rattle.board.specs.Plain.{Plain, chips_after_clock, clock_of, next_act}
 use Rattle.board.specs.Work.{work_next}
 
 -- an act that does nothing
@@ -49,17 +49,23 @@ pub record IsCalmStep (s : Plain) : Type 0 where
   pub some : 1 ≤ s.busy
   pub quiet : IsQuiet s s.busy
 
--- an instruction begins, and the chips are calm up to the next clock
-pub record IsCalmBeginning (s : Plain) : Type 0 where
+-- the processor is at a free boundary of this case, and the chips are calm up to the next clock
+pub record IsCalmBoundary (s : Plain) (boundary : Boundary) : Type 0 where
   pub free : s.busy ≡ 0
-  pub boundary : boundary_of s.cpu (is_requested s.chips) ≡ boundaries.Instruction
+  pub at : boundary ≡ boundary_of s.cpu (is_requested s.chips)
   pub calm : IsCalm s.chips (s.chips.clock + 1)
   pub wires : WiresHold s.chips
 
--- so it is, and the instruction writes to no port
-pub record BeginsCalmly (s : Plain) : Type 0 where
-  pub calm : IsCalmBeginning s
-  pub silent : port_writes_of s.cpu (decoded_at s.cpu s.chips) ≡ []
+-- an act that isn't to do nothing, and that writes to no port
+pub record IsSilentAct (cpu : CpuState) (act : Act) : Type 0 where
+  pub some : is_idle act ≡ false
+  pub silent : writes_of cpu act ≡ []
+
+-- the processor makes such an act, and the chips are calm up to the next clock
+pub record ActsCalmly (s : Plain) : Type 0 where
+  pub act : IsSilentAct s.cpu (next_act s)
+  pub calm : IsCalm s.chips (s.chips.clock + 1)
+  pub wires : WiresHold s.chips
 
 -- n such clocks at once
 unfoldable pub leapt : Plain → ℕ → Plain

@@ -337,7 +337,8 @@ impl<A: Allocator> Board<A> {
         self.other_turn(end)
     }
 
-    /// A turn of a run that ends at the clock `end`; or a step of the processor with the leap over its clocks, as one.
+    /// A turn of a run that ends at the clock `end`; or a step of an instruction or of a repeat with the leap over its
+    /// clocks, as one.
     #[inline(always)]
     fn stride(&mut self, end: u64) -> Result<(), BoardFault>
         requires before_end { clock_of self.old.plain < end }
@@ -369,8 +370,9 @@ impl<A: Allocator> Board<A> {
         self.turn_by(&next, end)
     }
 
-    /// The next clock, where it is known that the chips are calm and that an instruction begins in it that is kept and isn't
-    /// OUT, with the leap over its other clocks up to `end`, as one turn. Else nothing is done. Answers whether it was made.
+    /// The next clock, where it is known that the chips are calm and that in it an instruction begins that is kept and isn't
+    /// OUT, or a repeat goes on, with the leap over its other clocks up to `end`, as one turn. Else nothing is done. Answers
+    /// whether it was made.
     #[inline(always)]
     fn step(&mut self, end: u64) -> bool
         requires before_end { clock_of self.old.plain < end }

@@ -1,4 +1,4 @@
-use Rattle.std.proofs.Common.{◌∙◌, sym, ap, arith, below_more}
+use Rattle.std.proofs.Common.{arith}
 use Rattle.board.proofs.stop.all_await_free.Goals as goal
 
 pub loop-condition-init : goal.loop-condition-init

@@ -1,4 +1,4 @@
-use Rattle.std.proofs.Common.{◌+◌, ◌<◌, ◌≤◌, refl, sym, subst, arith}
+use Rattle.std.proofs.Common.{◌<◌, refl, sym, subst, arith}
 use Rattle.board.specs.Board.{BoardState}
 use Rattle.board.specs.Plain.{clock_of}
 use Rattle.board.proofs.Beginning.{GoesOn, goes_on, step_of}
@@ -8,7 +8,7 @@ pub invariant_of-self-2 : goal.invariant_of-self-2
 invariant_of-self-2 g c =
     let yes = c.if-not-stride.false in
     let before : clock_of c.self.inside.plain < c.args.end = subst (λ (b : BoardState). clock_of b.plain < c.args.end) (sym c.self.view_is) c.requires.before_end in
-    let on : GoesOn c.args.end c.self.inside.plain c.stride.new.self = goes_on c.args.end _ _ (c.stride.ensures.begun yes) before (c.stride.ensures.passed yes) in
+    let on : GoesOn c.args.end c.self.inside.plain c.stride.new.self = goes_on c.args.end _ _ before (c.stride.ensures.passed yes) in
     let some = on.some in
     let within = on.within in
     let turns = c.self.invariant.2 in
@@ -18,4 +18,4 @@ pub returns-clause-made : goal.returns-clause-made
 returns-clause-made g c = λ _.
     let made = c.stride.ensures in
     let yes = c.if-not-stride.false in
-    step_of c.args.end _ c.args.self.now _ c.self.view_is (made.begun yes) (made.passed yes) refl (made.entries yes) refl refl
+    step_of c.args.end _ c.args.self.now _ c.self.view_is (made.calmly yes) (made.passed yes) refl (made.entries yes) refl refl
