@@ -4,3 +4,4 @@ pub mod Boundaries
 pub mod PortWrites
 pub mod Laws
 pub mod InRegisters
+pub mod Iterations
