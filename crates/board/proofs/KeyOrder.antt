@@ -8,7 +8,8 @@ use Rattle.std.proofs.lemmas.List.{take_more, get_or-drop, get_or-take, get_or_d
 use Rattle.std.proofs.lemmas.List.Elements.{filter-append}
 use Rattle.board_types.specs.declared.keys.StampedKey.{StampedKey}
 use Rattle.board_types.specs.Keys.{IsInOrder}
-use Rattle.board.specs.Arrivals.{Awaits}
+use Rattle.board.specs.Arrivals.{Awaits, HaveArrived, IsNextStamp}
+use Rattle.board.specs.declared.arrivals.Arrived.{Arrived as SoFar}
 use Rattle.wiring.specs.Chips.{ChipsState}
 use Rattle.wiring.specs.Wires.{after_arrival, after_arrivals}
 use Rattle.board.specs.Plain.{codes_at}
@@ -159,3 +160,15 @@ awaits_later next clock n late keys awaits no_key is =
       | inl before ↦ absurd (omega (arith, later, before))
       | inr after ↦ omega (arith, after, is)
     ])
+
+pub have_on : (a : SoFar) (clock late : ℕ) (keys other : List StampedKey) → HaveArrived a late keys → keys ≡ other → late ≡ clock + 1 → HaveArrived a (clock + 1) other
+have_on a clock late keys other have same at =
+    subst (HaveArrived a (clock + 1)) same (subst (λ n. HaveArrived a n keys) at have)
+
+pub have_later : (a : SoFar) (clock n late : ℕ) (keys : List StampedKey) → HaveArrived a (clock + 1) keys → All (λ k. (k.stamp ≤ clock) ⊎ (clock + n < k.stamp)) keys → late ≡ clock + n → HaveArrived a (late + 1) keys
+have_later a clock n late keys have none at =
+    record { awaits = awaits_later a.count clock n late keys have.awaits none at; next = have.next }
+
+-- the next stamp is that of a clock behind which so many have arrived
+pub next_of : (a : SoFar) (clock : ℕ) (keys : List StampedKey) → HaveArrived a (clock + 1) keys → IsNextStamp clock keys a.next
+next_of a clock keys have = have.next clock have.awaits

@@ -1,13 +1,31 @@
 //! Keys that reach the keyboard at their clocks.
 ghost use Rattle.std.specs.Prelude.{ℕ, ◌≡◌, ◌+◌, ◌<◌, ◌^◌};
 ghost use Rattle.board_types.specs.Keys.{IsInOrder};
-ghost use Rattle.board.specs.Arrivals.{Awaits, IsNextStamp};
+ghost use Rattle.board.specs.Arrivals.{Awaits, HaveArrived, IsNextStamp};
 ghost use Rattle.wiring.specs.Wires.{after_arrivals};
 ghost use Rattle.board.specs.Plain.{chips_after_clock, codes_at};
 
 use board_bus::cached::CachedChips;
 use board_types::clock::Clock;
 use board_types::keys::StampedKey;
+
+/// How many of the keys have arrived, and the stamp of the next one, where one comes.
+#[derive(Clone, Copy)]
+pub(crate) struct Arrived {
+    pub(crate) count: usize,
+    pub(crate) next: Option<Clock>,
+}
+
+/// What is known once so many have arrived.
+pub(crate) fn so_far(keys: &[StampedKey], count: usize) -> Arrived
+    requires { IsInOrder keys.now }
+    ensures { (clock : ℕ) → Awaits count (clock + 1) keys.now → HaveArrived result (clock + 1) keys.now }
+{
+    Arrived {
+        count,
+        next: next_stamp(keys, count),
+    }
+}
 
 /// The keys that are stamped `clock` arrive; `next` have arrived before. Answers how many have arrived then.
 pub(crate) fn arrive_at(
@@ -32,26 +50,26 @@ pub(crate) fn arrive_at(
     keys.len()
 }
 
-/// The chips' part of a clock; `next` keys have arrived before. Answers how many have arrived then.
-#[inline(always)]
+/// The chips' part of a clock, and the keys that arrive in it.
+#[inline(never)]
 #[tactic(auto, unfolding(crate::specs::Plain::chips_after_clock))]
-pub(crate) fn pass_clock(chips: &mut CachedChips, keys: &[StampedKey], next: usize) -> usize
+pub(crate) fn pass_clock(chips: &mut CachedChips, keys: &[StampedKey], arrived: &mut Arrived)
     requires within { chips.old.clock < 2 ^ 40 }
     requires in_order { IsInOrder keys.now }
-    requires awaits { Awaits next (chips.old.clock + 1) keys.now }
+    requires arrived { HaveArrived arrived.old (chips.old.clock + 1) keys.now }
     ensures chips { chips.new ≡ chips_after_clock chips.old keys.now }
     ensures clock { chips.new.clock ≡ chips.old.clock + 1 }
-    ensures awaits { Awaits result (chips.old.clock + 2) keys.now }
+    ensures arrived { HaveArrived arrived.new (chips.old.clock + 2) keys.now }
 {
     let clock = chips.clock().get() + 1;
     chips.sync(Clock::new(clock).unwrap());
-    let arrived = arrive_at(chips, keys, next, clock);
+    let count = arrive_at(chips, keys, arrived.count, clock);
+    *arrived = so_far(keys, count);
     chips.settle();
-    arrived
 }
 
 /// The next stamp at which keys arrive, of which the first `next` have arrived; none where all have.
-pub(crate) fn next_stamp(keys: &[StampedKey], next: usize) -> Option<Clock>
+fn next_stamp(keys: &[StampedKey], next: usize) -> Option<Clock>
     requires { IsInOrder keys.now }
     ensures { (clock : ℕ) → Awaits next (clock + 1) keys.now → IsNextStamp clock keys.now result }
 {

@@ -370,8 +370,8 @@ impl<A: Allocator> Board<A> {
         self.turn_by(&next, end)
     }
 
-    /// The next clock, where it is known that the chips are calm and that in it an instruction begins that is kept and isn't
-    /// OUT, or a repeat goes on, with the leap over its other clocks up to `end`, as one turn. Else nothing is done. Answers
+    /// The next clock, where it is known that the chips are calm and that in it an instruction begins that isn't OUT, or a
+    /// repeat goes on, with the leap over its other clocks up to `end`, as one turn. Else nothing is done. Answers
     /// whether it was made.
     #[inline(always)]
     fn step(&mut self, end: u64) -> bool
