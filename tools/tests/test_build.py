@@ -46,7 +46,7 @@ class Build(ToolCase):
     def test_it_is_built_at_first_use_and_then_runs_at_once(self) -> None:
         first, then = self.launch(), self.launch()
         self.assertEqual((first.returncode, first.stdout), (0, 'it runs run\n'))
-        self.assertIn('proving 2 crates and building the program, once: some 2 minutes;', first.stderr)
+        self.assertIn('proving 2 crates and building the program, once: some 4 minutes;', first.stderr)
         self.assertIn('crate 2 of 2: pcboard', first.stderr)
         self.assertEqual((then.returncode, then.stdout, then.stderr), (0, 'it runs run\n', ''))
 
