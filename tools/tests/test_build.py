@@ -9,11 +9,14 @@ import subprocess
 
 from tests.support import TOOLS, TOP, ToolCase
 
-RT = """#!/bin/sh
-case "$1" in
-lib) ;;
-run) mkdir -p out; printf '#!/bin/sh\necho "it runs $*"\n' > out/pcboard; chmod +x out/pcboard; echo "rt: running out/pcboard" ;;
-esac
+# It leaves what was to be built; a program, which the linker makes, is a script that tells how it was called.
+RATTLE = r"""#!/bin/sh
+echo "${PWD##*/}" >> "$(dirname "$0")/proved"
+while [ "$1" != -o ]; do shift; done
+mkdir -p "$2"
+"""
+LINK = r"""#!/bin/sh
+printf '#!/bin/sh\necho "it runs $*"\n' > out/pcboard; chmod +x out/pcboard
 """
 
 
@@ -22,16 +25,17 @@ class Build(ToolCase):
 
     def setUp(self) -> None:
         super().setUp()
-        os.makedirs(f'{self.room}/top/tools')
-        for name in ('pcboard', 'tools/build'):
+        os.makedirs(f'{self.room}/top/tools/board')
+        for name in ('pcboard', 'tools/build', 'tools/board/__init__.py', 'tools/board/crates.py'):
             shutil.copy(f'{TOP}/{name}', f'{self.room}/top/{name}')
         for name in ('low', 'pcboard', 'other'):
             os.makedirs(f'{self.room}/top/crates/{name}/src')
-            self.file(f'top/crates/{name}/src/lib.rt', '// nothing\n')
+            self.file(f'top/crates/{name}/src/{"main" if name == "pcboard" else "lib"}.rt', '// nothing\n')
         self.file('top/crates.txt', 'low:\npcboard: low\nother:\n')
-        self.file('top/HANDLES', 'Handles allowed: none.\n')
         os.mkdir(f'{self.room}/bin')
-        os.chmod(self.file('bin/rt', RT), 0o755)
+        self.file('WHAT', 'a kit')
+        for name, text in (('rt', ''), ('rattle', RATTLE), ('rattle-link', LINK)):
+            os.chmod(self.file(f'bin/{name}', text), 0o755)
 
     def launch(self, has_rt: bool = True) -> subprocess.CompletedProcess[str]:
         path = f'{self.room}/bin:/usr/bin:/bin' if has_rt else '/usr/bin:/bin'
@@ -46,7 +50,7 @@ class Build(ToolCase):
     def test_it_is_built_at_first_use_and_then_runs_at_once(self) -> None:
         first, then = self.launch(), self.launch()
         self.assertEqual((first.returncode, first.stdout), (0, 'it runs run\n'))
-        self.assertIn('proving 2 crates and building the program, once: some 4 minutes;', first.stderr)
+        self.assertIn('proving 2 crates and building it, once: some 2 minutes;', first.stderr)
         self.assertIn('crate 2 of 2: pcboard', first.stderr)
         self.assertEqual((then.returncode, then.stdout, then.stderr), (0, 'it runs run\n', ''))
 
@@ -61,6 +65,17 @@ class Build(ToolCase):
         os.remove(f'{self.room}/top/crates/low/src/lib.rt')
         self.assertIn('proving 2 crates', self.launch().stderr)
 
+    def test_a_crate_is_proved_again_where_it_or_one_below_has_changed(self) -> None:
+        proved = f'{self.room}/bin/proved'
+        for path, text, crates in (('low/src/lib.rt', '// more', 'low pcboard low pcboard'),
+                                   ('pcboard/src/main.rt', '// more', 'low pcboard low pcboard pcboard')):
+            self.launch()
+            self.file(f'top/crates/{path}', text)
+            self.change(f'crates/{path}')
+            self.launch()
+            with open(proved, encoding='ascii') as names:
+                self.assertEqual(names.read().split(), crates.split())
+
     def test_without_rt_it_says_what_is_missing(self) -> None:
         none = self.launch(has_rt=False)
         self.assertEqual(none.returncode, 127)
@@ -74,7 +89,7 @@ class Build(ToolCase):
         self.assertNotIn("isn't built", changed.stderr)
 
     def test_a_crate_that_fails_is_told(self) -> None:
-        os.chmod(self.file('bin/rt', '#!/bin/sh\necho "not proved: $PWD"\nexit 1\n'), 0o755)
+        os.chmod(self.file('bin/rattle', '#!/bin/sh\necho "not proved: $PWD"\nexit 1\n'), 0o755)
         ran = self.launch()
         self.assertEqual(ran.returncode, 126)
         self.assertRegex(ran.stderr, r'the build failed; the end of .*\n(.*\n)*not proved: .*/crates/low\n')
