@@ -1,5 +1,5 @@
 //! The keyboard and its latch (IBM PC Technical Reference, "Keyboard"; "System Board I/O", ports 60h and 61h).
-ghost use Rattle.std.specs.Prelude.{◌≡◌, IfOk};
+ghost use Rattle.std.specs.Prelude.{◌≡◌, IfOk, IsTrue};
 ghost use Rattle.keyboard.specs.Keyboard.{power_on, after_arrival, after_settling};
 
 use board_types::bits::bit;
@@ -85,6 +85,17 @@ impl Keyboard {
         } else if bit(port_b, 6) && self.latch.is_none() {
             self.latch = self.waiting.pop_front();
         }
+    }
+
+    /// Whether nothing is left to do for these levels of port B's lines, so that settling to them changes nothing.
+    #[tactic(auto, unfolding(crate::specs::Keyboard::after_settling))]
+    pub fn has_settled(&self, port_b: u8) -> bool
+        ensures { IsTrue result → after_settling self.now port_b ≡ self.now }
+    {
+        if bit(port_b, 7) {
+            return self.latch.is_none();
+        }
+        !bit(port_b, 6) || self.latch.is_some() || self.waiting.is_empty()
     }
 
     /// The code in the latch, `None` where it is empty.

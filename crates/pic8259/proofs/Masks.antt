@@ -1,11 +1,11 @@
 -- A byte as a set of levels: a test, a change and a meeting of bits are those of the set.
-use Rattle.std.proofs.Common.{◌≡◌, ◌≢◌, ℕ, zero, suc, ◌*◌, ◌%◌, ◌^◌, ◌<◌, ◌==◌, Bool, true, false, ◌&&◌, map, get_or, slice_set, min, bit_and, bit_or, w8, refl, sym, ap, ◌∙◌, arith, inl, inr}
+use Rattle.std.proofs.Common.{◌≡◌, ◌≢◌, ◌↔◌, ℕ, zero, suc, ◌-◌, ◌*◌, ◌%◌, ◌^◌, ◌<◌, ◌==◌, Bool, true, false, not, ◌&&◌, [], ◌∷◌, map, get_or, slice_set, min, bit_and, bit_or, w8, refl, sym, ap, ◌∙◌, arith, inl, inr}
 use Rattle.std.specs.Int.{bit_at, bit_not}
-use Rattle.std.proofs.lemmas.Nat.Bits.{bit_at_and, bit_at_set_same, bit_at_set_other, bit_at_clear_same, bit_at_clear_other, bit_at-lt}
+use Rattle.std.proofs.lemmas.Nat.Bits.{bit_at_and, bit_at_not, bit_at_set_same, bit_at_set_other, bit_at_clear_same, bit_at_clear_other, bit_at-lt}
 use Rattle.std.proofs.lemmas.Bool.{cases_eq}
 use Rattle.std.proofs.lemmas.List.{same_lists, length-set, get_or-set_same, get_or-set_other}
 use Rattle.board_types.specs.Bits.{has_bit}
-use Rattle.pic8259.specs.Levels.{all_levels, contains, with_level, without_level, levels_of, byte_of}
+use Rattle.pic8259.specs.Levels.{all_levels, no_levels, contains, with_level, without_level, levels_of, byte_of}
 use Rattle.pic8259.specs.Masks.{in_both, byte_of-levels_of}
 use Rattle.pic8259.proofs.Order.{by_level}
 
@@ -55,6 +55,28 @@ levels_in_both a b =
     let bit : (k : ℕ) → has_bit (bit_and a b) k ≡ (has_bit a k && has_bit b k) =
     λ k. ap (λ n. n == 1) (bit_at_and a b k) ∙ both_bits (bit_at a k) (bit_at b k) (bit_at-lt a k) (bit_at-lt b k) in
     λ i. map (λ k. bit k i) all_levels
+
+first_bit : (a b : ℕ) → a < 2 → b < 2 → (min a (1 - b) == 1) ≡ ((a == 1) && not (b == 1))
+first_bit zero zero x y = refl
+first_bit zero (suc zero) x y = refl
+first_bit zero (suc (suc b)) x y = absurd (omega arith)
+first_bit (suc zero) zero x y = refl
+first_bit (suc zero) (suc zero) x y = refl
+first_bit (suc zero) (suc (suc b)) x y = absurd (omega arith)
+first_bit (suc (suc a)) b x y = absurd (omega arith)
+
+pub levels_in_first : (a b : ℕ) → b < 256 → levels_of (bit_and a (bit_not w8 b)) ≡ map (λ level. contains (levels_of a) level && not (contains (levels_of b) level)) all_levels
+levels_in_first a b within =
+    let bit : (k : ℕ) → k < 8 → has_bit (bit_and a (bit_not w8 b)) k ≡ (has_bit a k && not (has_bit b k)) =
+    λ k is_level. ap (λ n. n == 1) (bit_at_and a (bit_not w8 b) k ∙ ap (min (bit_at a k)) (bit_at_not w8 b k within is_level))
+    ∙ first_bit (bit_at a k) (bit_at b k) (bit_at-lt a k) (bit_at-lt b k) in
+    λ i.
+    bit 0 (omega arith) i ∷ bit 1 (omega arith) i ∷ bit 2 (omega arith) i ∷ bit 3 (omega arith) i
+    ∷ bit 4 (omega arith) i ∷ bit 5 (omega arith) i ∷ bit 6 (omega arith) i ∷ bit 7 (omega arith) i ∷ []
+
+-- the byte of no level
+pub levels_of_none : (byte : ℕ) → byte < 256 → (byte ≡ 0) ↔ (levels_of byte ≡ no_levels)
+levels_of_none byte within = (λ none. ap levels_of none, λ none. sym (byte_of-levels_of byte within) ∙ ap byte_of none)
 
 pub byte_of_levels : (byte : ℕ) → byte < 256 → byte_of (levels_of byte) ≡ byte
 byte_of_levels byte within = byte_of-levels_of byte within

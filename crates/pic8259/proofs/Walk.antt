@@ -1,11 +1,13 @@
 -- A walk along a list in search of its first element that passes a test.
-use Rattle.std.proofs.Common.{◌≡◌, ℕ, ◌+◌, ◌<◌, Bool, true, false, List, [], ◌∷◌, length, take, drop, get_or, find, None, Some, refl, not, ◌&&◌, ◌||◌, sym, ◌∙◌, ap}
+use Rattle.std.proofs.Common.{◌≡◌, ℕ, ◌+◌, ◌%◌, ◌<◌, Bool, true, false, cond, All, List, [], ◌∷◌, map, length, take, drop, get_or, find, None, Some, refl, not, ◌&&◌, ◌||◌, sym, ◌∙◌, ap, arith}
 use Rattle.std.specs.Option.{option_or}
 use Rattle.std.specs.List.{list_any}
 use Rattle.std.proofs.lemmas.List.{take_more, take-append-drop}
 use Rattle.std.proofs.lemmas.List.Folds.{find-append, list_any_more}
-use Rattle.pic8259.specs.Levels.{up_to}
+use Rattle.std.proofs.lemmas.List.Elements.{All-head, All-tail, All-map, All-from_get_or}
+use Rattle.pic8259.specs.Levels.{all_levels, no_levels, contains, order_with_lowest, up_to}
 use Rattle.pic8259.specs.Pic.{PicState, blocks, is_pending, may_be_taken}
+use Rattle.pic8259.proofs.Order.{by_level}
 
 -- the next element fails too
 pub none_more : {X : Type 0} (p : X → Bool) (xs : List X) (i : ℕ) (d : X) → i < length xs → find p (take i xs) ≡ None → p (get_or xs i d) ≡ false → find p (take (i + 1) xs) ≡ None
@@ -26,3 +28,30 @@ may_be_taken_at s xs i is_blocked items place blocked =
 pub blocked_more : (s : PicState) (xs : List ℕ) (i : ℕ) (before here : Bool) → i < length xs → before ≡ list_any (blocks s) (take i xs) → here ≡ blocks s (get_or xs i 0) → (before || here) ≡ list_any (blocks s) (take (i + 1) xs)
 blocked_more s xs i before here within is_before is_here =
     ap (λ b. b || here) is_before ∙ ap (λ b. list_any (blocks s) (take i xs) || b) is_here ∙ sym (list_any_more (blocks s) xs i 0 within)
+
+-- none is found where each fails
+find_none : {X : Type 0} (p : X → Bool) (xs : List X) → All (λ x. p x ≡ false) xs → find p xs ≡ None
+find_none p [] all = refl
+find_none p (x ∷ xs) all =
+    ap (λ b. cond b (Some x) (find p xs)) (All-head (λ y. p y ≡ false) x xs all)
+    ∙ find_none p xs (All-tail (λ y. p y ≡ false) x xs all)
+
+pending_at : (s : PicState) (level : ℕ) → level < 8 → contains (map (is_pending s) all_levels) level ≡ is_pending s level
+pending_at s level is_level =
+    by_level (λ n. contains (map (is_pending s) all_levels) n ≡ is_pending s n) refl refl refl refl refl refl refl refl level is_level
+
+nothing_at : (level : ℕ) → level < 8 → contains no_levels level ≡ false
+nothing_at level is_level = by_level (λ n. contains no_levels n ≡ false) refl refl refl refl refl refl refl refl level is_level
+
+-- where no level is pending, none may be taken
+pub none_pending : (s : PicState) (lowest : ℕ) → s.order ≡ order_with_lowest lowest → map (is_pending s) all_levels ≡ no_levels → find (may_be_taken s) s.order ≡ None
+unfolding order_with_lowest
+none_pending s lowest is_order none =
+    let idle : (level : ℕ) → level < 8 → may_be_taken s level ≡ false =
+    λ level is_level. ap (λ b. b && not (list_any (blocks s) (up_to s.order level)))
+    (sym (pending_at s level is_level) ∙ ap (λ levels. contains levels level) none ∙ nothing_at level is_level) in
+    let turns : List ℕ = 1 ∷ 2 ∷ 3 ∷ 4 ∷ 5 ∷ 6 ∷ 7 ∷ 8 ∷ [] in
+    ap (find (may_be_taken s)) is_order
+    ∙ find_none (may_be_taken s) (order_with_lowest lowest)
+    (All-map (λ level. may_be_taken s level ≡ false) (λ steps. (lowest + steps) % 8) turns
+    (All-from_get_or (λ steps. may_be_taken s ((lowest + steps) % 8) ≡ false) turns 0 (λ i inside. idle ((lowest + get_or turns i 0) % 8) (omega arith))))

@@ -1,6 +1,6 @@
 //! The controller's registers and the commands that change them. The headings named are those of the Intel
 //! 8259A data sheet.
-ghost use Rattle.std.specs.Prelude.{◌≡◌, ◌<◌, ◌≤◌, IfSome, length, slice_index_or, take, ◌+◌, ℕ, All, true, false};
+ghost use Rattle.std.specs.Prelude.{◌≡◌, ◌<◌, ◌≤◌, IfSome, length, slice_index_or, find, map, take, ◌+◌, ℕ, None, All, true, false};
 
 use crate::image;
 use crate::image::PicImage;
@@ -101,8 +101,8 @@ impl Model for Pic {
 
 impl Pic {
     ghost use Rattle.pic8259.specs.Image.{pic_of};
-    ghost use Rattle.pic8259.specs.Levels.{up_to};
-    ghost use Rattle.pic8259.specs.Pic.{power_on, is_requesting, is_ready, asks, is_pending, requests, blocks, level_to_take, after_taking, after_acknowledge, vector, poll_byte, byte_at, after_read, after_line, after_icw1, after_icw2, after_icw3, after_icw4, after_ocw1, after_word, after_end, after_lowering, highest_served, after_ocw2, after_ocw3, after_command, after_write, is_operating, expected_after_icw3};
+    ghost use Rattle.pic8259.specs.Levels.{all_levels, no_levels, up_to};
+    ghost use Rattle.pic8259.specs.Pic.{power_on, is_requesting, is_ready, asks, is_pending, requests, blocks, may_be_taken, level_to_take, after_taking, after_acknowledge, vector, poll_byte, byte_at, after_read, after_line, after_icw1, after_icw2, after_icw3, after_icw4, after_ocw1, after_word, after_end, after_lowering, highest_served, after_ocw2, after_ocw3, after_command, after_write, is_operating, expected_after_icw3};
 
     /// A controller at power-on: every line low, nothing masked or in service, edge mode, no initialisation
     /// sequence begun.
@@ -331,6 +331,15 @@ impl Pic {
         self.asks(level) && !self.masked.contains(level)
     }
 
+    /// The levels that ask and are unmasked. Where there are none, no level may be taken.
+    #[tactic(auto, using(crate::proofs::Walk::none_pending))]
+    fn pending(&self) -> LevelSet
+        ensures levels { result ≡ map (is_pending self.now) all_levels }
+        ensures none { result ≡ no_levels → find (may_be_taken self.now) self.now.order ≡ None }
+    {
+        self.requests().difference(self.masked)
+    }
+
     fn blocks(&self, level: u8) -> bool
         requires { level < 8 }
         ensures { result ≡ blocks self.now level }
@@ -366,14 +375,24 @@ impl Pic {
         ]
     }
 
+    /// The level that an acknowledge would take. Mostly none is pending, and then the order isn't gone through.
     #[tactic(auto, unfolding(crate::specs::Pic::level_to_take))]
     fn find_level(&self) -> Option<u8>
         ensures level { result ≡ level_to_take self.now }
         ensures bound { IfSome result (λ level. level < 8) }
     {
-        if !self.is_ready() {
+        if !self.is_ready() || self.pending().is_empty() {
             return None;
         }
+        self.first_to_take()
+    }
+
+    /// The first level in the order of priority that is pending and isn't blocked.
+    #[inline(never)]
+    fn first_to_take(&self) -> Option<u8>
+        ensures level { result ≡ find (may_be_taken self.now) self.now.order }
+        ensures bound { IfSome result (λ level. level < 8) }
+    {
         let mut is_blocked = false;
         for level in self.order() {
             is_blocked |= self.blocks(level);

@@ -1,6 +1,6 @@
 //! A set of interrupt levels.
-ghost use Rattle.std.specs.Prelude.{◌≡◌, ◌<◌};
-ghost use Rattle.pic8259.specs.Levels.{contains, with_level, without_level, byte_of, levels_of};
+ghost use Rattle.std.specs.Prelude.{◌≡◌, ◌<◌, ◌&&◌, ◌↔◌, IsTrue, map, not};
+ghost use Rattle.pic8259.specs.Levels.{all_levels, no_levels, contains, with_level, without_level, byte_of, levels_of};
 ghost use Rattle.pic8259.specs.Masks.{in_both};
 
 use board_types::bits::bit;
@@ -82,5 +82,23 @@ impl LevelSet {
         LevelSet {
             mask: self.mask & other.mask,
         }
+    }
+
+    /// The levels of this set that aren't in `other`.
+    #[tactic(auto, using(crate::proofs::Masks::levels_in_first))]
+    pub fn difference(self, other: LevelSet) -> LevelSet
+        ensures { result ≡ map (λ level. contains self level && not (contains other level)) all_levels }
+    {
+        LevelSet {
+            mask: self.mask & !other.mask,
+        }
+    }
+
+    /// Whether no level is in the set.
+    #[tactic(auto, using(crate::proofs::Masks::levels_of_none))]
+    pub fn is_empty(self) -> bool
+        ensures { IsTrue result ↔ self ≡ no_levels }
+    {
+        self.mask == 0
     }
 }

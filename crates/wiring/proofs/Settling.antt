@@ -8,6 +8,7 @@ use Rattle.keyboard.specs.Keyboard.{KeyboardState, after_clearing, after_sending
 use Rattle.pic8259.specs.Pic.{PicState}
 use Rattle.pit8253.specs.Pit.{PitState}
 use Rattle.ppi8255.specs.Ppi.{PpiState, lines_b}
+use Rattle.wiring.specs.Chips.{ChipsState}
 use Rattle.wiring.specs.Wires.{port_b_line, after_latch_wire, after_gate_wire, after_request_wires, after_settling, after_key_settling}
 use Rattle.wiring.specs.Laws.{SettlesOnce, KeysSettleOnce}
 use Rattle.wiring.proofs.Gates.{gate_2_twice}
@@ -76,3 +77,8 @@ keys_settle_once s =
     ap (λ k. keys.after_settling k (lines_b s.ppi)) (latch_again s.keyboard s.ppi)
     ∙ keys_again s.keyboard (lines_b s.ppi)
     ∙ sym (latch_again s.keyboard s.ppi)
+
+-- where the keyboard and the wires have settled, nothing changes
+pub keys_stay : (s : ChipsState) → keys.after_settling s.keyboard (lines_b s.ppi) ≡ s.keyboard → after_settling s ≡ s → s ≡ after_key_settling s
+unfolding after_key_settling
+keys_stay s keyboard still = sym (ap (λ k. after_settling (record s { keyboard = k })) keyboard ∙ still)

@@ -1,11 +1,14 @@
 -- The speaker's part of what the wires do: the timer and the parallel port alone.
-use Rattle.std.proofs.Common.{◌≡◌, ℕ, ◌+◌, ◌<◌, List, length, get_or, take, refl, sym, ap, ◌∙◌}
+use Rattle.std.proofs.Common.{◌≡◌, ℕ, ◌+◌, ◌<◌, List, length, get_or, take, false, ◌&&◌, refl, sym, ap, ◌∙◌}
 use Rattle.std.proofs.lemmas.List.Sums.{fold_more}
 use Rattle.board_types.proofs.Iterate.{iterate_zero, iterate_more}
+use Rattle.board_types.specs.Bits.{has_bit}
+use Rattle.board_types.specs.Lines.{is_high}
 use Rattle.bus.specs.PortWrites.{after_port_writes}
 use Rattle.mda_text.specs.Mda as mda
 use Rattle.mda_text.specs.Mda.{MdaState}
 use Rattle.pit8253.specs.Pit.{PitState, after_tick, after_ticks}
+use Rattle.ppi8255.specs.Ppi.{lines_b}
 use Rattle.wiring.specs.declared.port.Port.{Port}
 use Rattle.wiring.specs.declared.port.Port.TheVariants.{Controller, Timer, Parallel, Adapter, Nothing}
 use Rattle.wiring.specs.declared.sound.Sound.{Sound}
@@ -70,9 +73,20 @@ more_written s writes n w sound within is =
     ∙ sym (sound_of_output (after_port_writes after_output s (take n writes)) last.0 last.1)
     ∙ ap sound_of (sym (fold_more (λ x v. after_output x v.0 v.1) s writes n w within))
 
+-- and of it the parallel port's part
+pub more_written_ppi : (s : ChipsState) (writes : List (ℕ × ℕ)) (n : ℕ) (w : ℕ × ℕ) → n < length writes → (sound_after_write (sound_of (after_port_writes after_output s (take n writes))) (port_at (get_or writes n w).0) (get_or writes n w).1).ppi ≡ (after_port_writes after_output s (take (n + 1) writes)).ppi
+more_written_ppi s writes n w within =
+    ap (λ (sound : Sound). sound.ppi) (more_written s writes n w (sound_of (after_port_writes after_output s (take n writes))) within refl)
+
 pub level_told : (s : ChipsState) (writes : List (ℕ × ℕ)) → is_sound_high (sound_after_clock (sound_of (after_port_writes after_output s writes)) (s.clock + 1)) ≡ is_speaker_high_after s writes
 unfolding is_speaker_high_after
 level_told s writes =
     ap (λ clock. is_sound_high (sound_after_clock (sound_of (after_port_writes after_output s writes)) (clock + 1))) (sym (clock_of_writes s writes))
     ∙ ap is_sound_high (sym (next_sound (after_port_writes after_output s writes)))
     ∙ sym (high_sound (after_key_settling (after_clock (after_port_writes after_output s writes))))
+
+-- where port B holds it low, it is low whatever the timer does
+pub stays_low : (s : ChipsState) (writes : List (ℕ × ℕ)) → has_bit (lines_b (after_port_writes after_output s writes).ppi) 1 ≡ false → is_speaker_high_after s writes ≡ false
+stays_low s writes low =
+    let next : Sound = sound_after_clock (sound_of (after_port_writes after_output s writes)) (s.clock + 1) in
+    sym (level_told s writes) ∙ ap (λ b. b && is_high next.pit.counter_2.out) low

@@ -1,6 +1,7 @@
 //! The timer and the parallel port, on which alone the speaker depends.
 ghost use Rattle.std.specs.Prelude.{◌≡◌};
 ghost use Rattle.wiring.specs.Wires.{pit_after_clock};
+ghost use Rattle.wiring.specs.declared.sound.Sound.{Sound};
 ghost use Rattle.wiring.specs.Sound.{HasNumber, sound_after_settling, sound_after_write, is_sound_high};
 
 use crate::port::Port;
@@ -52,5 +53,16 @@ impl Sound {
         ensures { result ≡ is_sound_high self.now }
     {
         bit(self.ppi.port_b(), 1) && self.pit.out(2).is_high()
+    }
+}
+
+/// Writes `value` to `port`, where that is the parallel port's.
+pub(crate) fn write_parallel(ppi: &mut Ppi, port: Port, value: u8)
+    requires { HasNumber port }
+    ensures { (sound : Sound) → sound.ppi ≡ ppi.old → ppi.new ≡ (sound_after_write sound port value).ppi }
+{
+    match port {
+        Port::Parallel(number) => ppi.write(number, value),
+        Port::Timer(_) | Port::Controller(_) | Port::Adapter(_) | Port::Nothing => (),
     }
 }

@@ -84,9 +84,29 @@ impl Timer {
         self.tick(ticks);
     }
 
-    /// Makes its ticks, and so many more.
+    /// Makes its ticks, and so many more. Mostly it is OUT0 that turns, and then it stays known when OUT2 does.
     #[inline(never)]
+    #[tactic(auto, using(crate::proofs::Behind::later, crate::proofs::Behind::at_once))]
     fn tick(&mut self, ticks: u64)
+        ensures { self.new ≡ after_ticks self.old ticks }
+    {
+        let Some(all) = self.behind.checked_add(ticks) else {
+            return self.tick_apart(ticks);
+        };
+        self.pit.advance(all);
+        self.behind = 0;
+        self.turn_0 = self.pit.until_change(0);
+        self.turn_2 = if is_before(all, self.turn_2) {
+            later_turn(self.turn_2, all)
+        } else {
+            self.pit.until_change(2)
+        };
+    }
+
+    /// Makes its ticks, and then so many more: together they may be too many to count.
+    #[inline(never)]
+    #[tactic(auto, using(crate::proofs::Behind::later))]
+    fn tick_apart(&mut self, ticks: u64)
         ensures { self.new ≡ after_ticks self.old ticks }
     {
         let mut pit = self.present();
@@ -151,9 +171,16 @@ impl Timer {
     pub(crate) fn set_gate_2(&mut self, line: Line)
         ensures { self.new ≡ after_gate self.old 2 line }
     {
-        if self.pit.keeps_gate_2(line) {
-            return;
+        if !self.pit.keeps_gate_2(line) {
+            self.turn_gate_2(line);
         }
+    }
+
+    /// Makes its ticks, and then gate 2 takes the level `line`.
+    #[inline(never)]
+    fn turn_gate_2(&mut self, line: Line)
+        ensures { self.new ≡ after_gate self.old 2 line }
+    {
         let mut pit = self.present();
         pit.set_gate(2, line);
         *self = Timer::standing(pit);

@@ -1,51 +1,17 @@
-use Rattle.std.proofs.Common.{◌≡◌, ◌+◌, ◌<◌, true, false, not, ◌&&◌, ◌||◌, if◌then◌else◌, None, length, take, find, slice_index_or, sym, ap, ◌∙◌, arith}
-use Rattle.std.proofs.Math.Bool.{and-false}
-use Rattle.std.specs.List.{list_any}
-use Rattle.pic8259.specs.Pic.{blocks, is_pending, is_ready, may_be_taken, level_to_take}
-use Rattle.pic8259.proofs.Walk.{none_more, found_next, may_be_taken_at, blocked_more}
+use Rattle.std.proofs.Common.{if◌then◌else◌, None, find, sym, ap, ◌∙◌}
+use Rattle.pic8259.specs.Pic.{may_be_taken, level_to_take}
 use Rattle.pic8259.proofs.controller.Pic.find_level.Goals as goal
-use Rattle.pic8259.proofs.controller.Pic.find_level.Goals.{else-not-is_blocked-via-then-not-is_blocked+else-is_pending, else-not-is_blocked-via-else-not-is_blocked}
+use Rattle.pic8259.proofs.controller.Pic.find_level.Goals.{then-not-is_ready-via-then-not-is_ready, then-not-is_ready-via-else-not-is_ready+then-is_empty}
 
-pub returns-then-is_pending-clause-level : goal.returns-then-is_pending-clause-level
+pub returns-then-not-is_ready-clause-level : goal.returns-then-not-is_ready-clause-level
 unfolding level_to_take
-returns-then-is_pending-clause-level c =
+returns-then-not-is_ready-clause-level c =
     let s = c.args.self.now in
-    let xs = c.order-level-items.result in
-    let i = c.loop-level.level-index in
-    let within : i < length xs = omega arith in
-    let is_blocked = c.loop-level.is_blocked || c.blocks-is_blocked.result in
-    let blocked : is_blocked ≡ list_any (blocks s) (take (i + 1) xs) =
-    blocked_more s xs i _ _ within c.loop-level.invariant.blocked c.blocks-is_blocked.ensures in
-    let may : may_be_taken s (slice_index_or xs i 0) ≡ (is_pending s (slice_index_or xs i 0) && not is_blocked) =
-    may_be_taken_at s xs i is_blocked c.order-level-items.ensures.order (c.order-level-items.ensures.places i c.loop-level-test.true) blocked in
-    let pending : is_pending s (slice_index_or xs i 0) ≡ true = sym c.is_pending.ensures ∙ c.if-is_pending.true in
-    let taken : may_be_taken s (slice_index_or xs i 0) ≡ true =
-    may ∙ ap (λ b. b && not is_blocked) pending ∙ ap (λ b. not b) c.if-not-is_blocked.true in
-    let ready : is_ready s ≡ true = sym c.is_ready.ensures ∙ c.if-not-is_ready.false in
-    sym (found_next (may_be_taken s) xs i 0 within c.loop-level.invariant.none_yet taken)
-    ∙ ap (find (may_be_taken s)) c.order-level-items.ensures.order
-    ∙ sym (ap (λ b. if b then find (may_be_taken s) s.order else None) ready)
-
-pub loop-level-preserved : goal.loop-level-preserved
-loop-level-preserved c =
-    let s = c.args.self.now in
-    let xs = c.order-level-items.result in
-    let i = c.loop-level.level-index in
-    let within : i < length xs = omega arith in
-    let is_blocked = c.loop-level.is_blocked || c.blocks-is_blocked.result in
-    let blocked : is_blocked ≡ list_any (blocks s) (take (i + 1) xs) =
-    blocked_more s xs i _ _ within c.loop-level.invariant.blocked c.blocks-is_blocked.ensures in
-    let may : may_be_taken s (slice_index_or xs i 0) ≡ (is_pending s (slice_index_or xs i 0) && not is_blocked) =
-    may_be_taken_at s xs i is_blocked c.order-level-items.ensures.order (c.order-level-items.ensures.places i c.loop-level-test.true) blocked in
-    let passed : (is_pending s (slice_index_or xs i 0) && not is_blocked) ≡ false =
-    elim c.else-not-is_blocked.branch [
-      | else-not-is_blocked-via-then-not-is_blocked+else-is_pending w ↦
-          ap (λ b. b && not is_blocked) (sym w.is_pending.ensures ∙ w.if-is_pending.false)
-      | else-not-is_blocked-via-else-not-is_blocked w ↦
-          ap (λ b. is_pending s (slice_index_or xs i 0) && not b) w.if-not-is_blocked.false ∙ and-false (is_pending s (slice_index_or xs i 0))
+    elim c.then-not-is_ready.branch [
+      | then-not-is_ready-via-then-not-is_ready w ↦
+          sym (ap (λ b. if b then find (may_be_taken s) s.order else None) (sym c.is_ready.ensures ∙ w.if-not-is_ready.true))
+      | then-not-is_ready-via-else-not-is_ready+then-is_empty w ↦
+          sym
+          (ap (λ b. if b then find (may_be_taken s) s.order else None) (sym c.is_ready.ensures ∙ w.if-not-is_ready.false)
+          ∙ w.pending.ensures.none (w.is_empty.ensures.0 w.if-is_empty.true))
     ]
-    in
-    record {
-      none_yet = none_more (may_be_taken s) xs i 0 within c.loop-level.invariant.none_yet (may ∙ passed);
-      blocked = blocked;
-    }

@@ -1,7 +1,7 @@
 use Rattle.std.proofs.Common.{◌≡◌, None, find, take}
 use Rattle.std.specs.List.{list_any}
 use Rattle.pic8259.specs.Pic.{blocks, may_be_taken}
-use Rattle.pic8259.proofs.controller.Pic.find_level.Given as goal
+use Rattle.pic8259.proofs.controller.Pic.first_to_take.Given as goal
 
 abbrev pub invariant-loop-level : goal.invariant-loop-level
 invariant-loop-level l = record {
