@@ -2,3 +2,4 @@ pub mod Lists
 pub mod Prefixes
 pub mod Pieces
 pub mod Exact
+pub mod Fronts

@@ -1,7 +1,8 @@
 //! The instruction at CS:IP.
-ghost use Rattle.std.specs.Prelude.{◌≡◌, ◌≤◌, ◌<◌, ◌+◌, ◌^◌, length, drop};
+ghost use Rattle.std.specs.Prelude.{◌≡◌, ◌≤◌, ◌<◌, ◌+◌, ◌^◌, length, take, drop, slice_index, None, Some, []};
 ghost use Rattle.board_types.specs.Address.{physical, offset_after};
-ghost use Rattle.decode.specs.Decoding.{code_at, decoded_behind, decoded_from, form_at, prefixes_at, values_at, IsDecoded};
+ghost use Rattle.isa.specs.Layout.{second_part};
+ghost use Rattle.decode.specs.Decoding.{code_at, decoded_behind, decoded_from, form_at, found_or_none, prefix_of, prefixes_at, values_at, IsDecoded};
 
 use crate::decoded::Decoded;
 use crate::parts::{code_of, number_at, place_at, prefix_of, reg_at, segment_at};
@@ -9,6 +10,7 @@ use arrayvec::ArrayVec;
 use board_types::address::physical;
 use board_types::bytes::Bytes;
 use isa::form::{Form, Instr, Prefix, Values};
+use isa::layout::Second;
 use isa::parts::row_at;
 use isa::row::Row;
 
@@ -22,7 +24,36 @@ pub fn decode<B: Bytes>(bytes: &B, cs: u16, ip: u16) -> Decoded
     ensures value { result ≡ decoded_from (code_at (B.byte_at bytes.now) cs ip) }
     ensures exact { IsDecoded (code_at (B.byte_at bytes.now) cs ip) result }
 {
+    let code = front_at(bytes, cs, ip);
+    match prefix_of(code[0]) {
+        None => decode_bare(&code),
+        Some(_) => decode_whole(bytes, cs, ip),
+    }
+}
+
+/// The instruction at CS:IP, whatever stands before its opcode.
+#[cold]
+#[inline(never)]
+fn decode_whole<B: Bytes>(bytes: &B, cs: u16, ip: u16) -> Decoded
+    ensures value { result ≡ decoded_from (code_at (B.byte_at bytes.now) cs ip) }
+    ensures exact { IsDecoded (code_at (B.byte_at bytes.now) cs ip) result }
+{
     decode_code(&code_at(bytes, cs, ip))
+}
+
+/// As many bytes from CS:IP on as an instruction without prefixes has at most, and zeros behind them. Most
+/// instructions have no prefix, and each byte that isn't read saves time.
+fn front_at<B: Bytes>(bytes: &B, cs: u16, ip: u16) -> [u8; LONGEST]
+    ensures { take 6 result ≡ take 6 (code_at (B.byte_at bytes.now) cs ip) }
+{
+    let mut code = [0; LONGEST];
+    code[0] = code_byte(bytes, cs, ip, 0);
+    code[1] = code_byte(bytes, cs, ip, 1);
+    code[2] = code_byte(bytes, cs, ip, 2);
+    code[3] = code_byte(bytes, cs, ip, 3);
+    code[4] = code_byte(bytes, cs, ip, 4);
+    code[5] = code_byte(bytes, cs, ip, 5);
+    code
 }
 
 /// The bytes from CS:IP on.
@@ -52,6 +83,15 @@ fn code_byte<B: Bytes>(bytes: &B, cs: u16, ip: u16, index: u16) -> u8
     ensures { result ≡ B.byte_at bytes.now (physical cs (offset_after ip index)) }
 {
     bytes.byte(physical(cs, ip.wrapping_add(index)))
+}
+
+/// The instruction at the front of `code`, where no prefix stands.
+fn decode_bare(code: &[u8; LONGEST]) -> Decoded
+    requires { prefix_of (slice_index code.now 0) ≡ None }
+    ensures value { result ≡ decoded_behind [] code.now }
+    ensures exact { IsDecoded code.now result }
+{
+    decode_behind(ArrayVec::new(), code)
 }
 
 /// The instruction whose bytes stand at the front of `code`, and no other.
@@ -93,27 +133,40 @@ fn decode_behind(prefixes: ArrayVec<Prefix, 7>, code: &[u8]) -> Decoded
     ensures { result ≡ decoded_behind prefixes.items code.now }
 {
     match row_at(code[0], code[1]) {
-        Some(row) => {
-            let form = form_at(row, code[0], code[1]);
-            let values = values_at(form, code);
-            let instr = Instr {
-                prefixes,
-                form,
-                values,
-            };
-            let length = instr.length();
-            Decoded::found(&instr, length)
-        }
+        Some(row) => decode_row(prefixes, row, code),
         None => Decoded::no_row(),
     }
 }
 
-/// The row's form at an opcode, with the byte after it.
-#[tactic(auto, unfolding(crate::specs::Decoding::form_at))]
-fn form_at(row: Row, opcode: u8, next: u8) -> Form
-    ensures { result ≡ form_at row opcode next }
+/// The row's instruction at the front of `code`, which stands behind these prefixes.
+#[tactic(auto, unfolding(isa::specs::Encoding::form_length))]
+fn decode_row(prefixes: ArrayVec<Prefix, 7>, row: Row, code: &[u8]) -> Decoded
+    requires { 8 ≤ length code.now }
+    ensures { result ≡ found_or_none prefixes.items code.now (Some row) }
 {
     let second = row.second_part();
+    let form = form_at(row, second, code[0], code[1]);
+    let values = values_at(form, second, code);
+    let length = prefixes.len() as u8
+        + 1
+        + second.size()
+        + form.place.displacement().size()
+        + row.field().size();
+    let instr = Instr {
+        prefixes,
+        form,
+        values,
+    };
+    Decoded::found(&instr, length)
+}
+
+/// The row's form at an opcode, with the byte after it. `second` is the row's second byte.
+#[tactic(auto, unfolding(crate::specs::Decoding::form_at))]
+fn form_at(row: Row, second: Second, opcode: u8, next: u8) -> Form
+    requires { second ≡ second_part row }
+    ensures value { result ≡ form_at row opcode next }
+    ensures row { result.row ≡ row }
+{
     Form {
         row,
         code: code_of(row.code_part(), row.opcode(), opcode),
@@ -122,15 +175,16 @@ fn form_at(row: Row, opcode: u8, next: u8) -> Form
     }
 }
 
-/// The numbers in the form's fields.
+/// The numbers in the form's fields. `second` is its row's second byte.
 #[tactic(auto, unfolding(crate::specs::Decoding::values_at))]
-fn values_at(form: Form, code: &[u8]) -> Values
-    requires { 8 ≤ length code.now }
+fn values_at(form: Form, second: Second, code: &[u8]) -> Values
+    requires second { second ≡ second_part form.row }
+    requires long { 8 ≤ length code.now }
     ensures { result ≡ values_at form code.now }
 {
     let displacement = form.place.displacement();
     let field = form.row.field();
-    let tail = &code[1 + form.row.second_part().size() as usize..];
+    let tail = &code[1 + second.size() as usize..];
     let own = &tail[displacement.size() as usize..];
     Values {
         displacement: number_at(displacement, tail),
