@@ -2,3 +2,4 @@ pub mod Writes
 pub mod Order
 mod Rows
 pub mod InRegisters
+pub mod GoesPlainly

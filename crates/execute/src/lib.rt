@@ -11,5 +11,6 @@ pub mod port_writes;
 pub mod repeating;
 pub mod shadow;
 pub mod step;
+pub mod whole;
 
 pub use bus::Bus;
