@@ -8,6 +8,8 @@ pub mod Lasts
 pub mod Leap
 pub mod LeastNumbers
 pub mod Passing
+pub mod Acting
+pub mod Clear
 pub mod Quiet
 pub mod Requests
 pub mod Rooms

@@ -10,5 +10,6 @@ pub mod Laws
 pub mod HeldBack
 pub mod Work
 pub mod Leap
+pub mod Clear
 pub mod Turns
 pub mod AwaitFree

@@ -310,6 +310,7 @@ impl<A: Allocator> Board<A> {
     /// One turn of a run that ends at the clock `end`: time leaps to the next clock at which something is due, or, where
     /// that is this one, goes on by a clock. No condition changes on the way of a leap, short of its last clock. Where it may
     /// be `whole`, a step with the leap behind it is one, too.
+    #[inline(always)]
     fn turn(&mut self, end: u64, whole: bool) -> Result<(), BoardFault>
         requires before_end { clock_of self.old.plain < end }
         requires within { end ≤ 2 ^ 40 }
@@ -362,6 +363,7 @@ impl<A: Allocator> Board<A> {
         ensures err { OnErr result (IsHeldBack self.old self.new) }
         ensures fault { IfErr result (λ fault. fault ≡ BoardFault.Memory) }
     {
+        self.plain.look_ahead();
         if let Some(clocks) = self.plain.calm_clocks(end - self.clock().get()) {
             self.leap(clocks);
             return Ok(());
