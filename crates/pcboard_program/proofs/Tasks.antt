@@ -1,11 +1,17 @@
 -- What a task prints, from what its parts tell.
-use Rattle.std.proofs.Common.{ℕ, Bool, List, refl, Option, None, Some, IfSome}
+use Rattle.std.proofs.Common.{◌≡◌, ℕ, Bool, List, refl, Option, None, Some, IfSome, Result, Ok, Err, IfErr, inl, inr}
+use Rattle.std.specs.Prelude.{◌⊎◌}
 use Rattle.std.specs.Io.KnownBytes.{Appends}
 use Rattle.board.specs.Board.{BoardState}
 use Rattle.loader.specs.declared.run_file.RunFile.{RunFile}
-use Rattle.pcboard_program.specs.Answer.{AppendsA, IsReport}
+use Rattle.pcboard_program.specs.declared.unanswered.Unanswered.{Unanswered}
+use Rattle.pcboard_program.specs.declared.unanswered.Unanswered.TheVariants.{Failed, Refused}
+use Rattle.pcboard_program.specs.Answer.{AppendsA, IsReport, session_about}
 use Rattle.pcboard_program.specs.Ready.{IsAtPowerOn, IsReady}
+use Rattle.pcboard_program.specs.Refusal.{BeginsSession, BeginsTranscript}
 use Rattle.pcboard_program.specs.Report.{report_of}
+use Rattle.pcboard_program.specs.Transcript.{input_lines}
+use Rattle.pcboard_program.specs.Unanswered.{WhereRefused}
 
 -- the report of the board that two files give is the answer to `run`
 pub printed_run : (file said old new : Option (List ℕ)) (hex : Bool) (board : BoardState) (run_file : RunFile)
@@ -19,3 +25,40 @@ printed_run (Some bytes) (Some run) old new hex board run_file ready prints = (
   record { image = ready.image; gives = ready.gives; run_file = run_file; says = ready.says; is_text = refl },
   prints ready.image ready.start,
 )
+
+-- so far as a session about that board goes, it is the beginning of the answer to `debug`
+
+begun : (hex : Bool) (bytes run typed text : List ℕ) (board : BoardState) (run_file : RunFile) → IsReady hex bytes run board run_file → BeginsTranscript (session_about board) (input_lines typed) text → BeginsSession hex bytes run typed text
+begun hex bytes run typed text board run_file ready begins = record {
+  board = board;
+  is_board = record {
+    image = ready.image;
+    gives = ready.gives;
+    run_file = run_file;
+    says = ready.says;
+    plain = ready.start.plain;
+    changes = ready.start.changes;
+    trail = ready.start.trail;
+  };
+  begins = begins;
+}
+
+replies : (file said input old new : Option (List ℕ)) (hex : Bool) (board : BoardState) (run_file : RunFile)
+    → IfSome file (λ bytes. IfSome said (λ run. IsReady hex bytes run board run_file))
+    → IfSome input (λ typed. AppendsA (BeginsTranscript (session_about board) (input_lines typed)) old new)
+    → IfSome file (λ bytes. IfSome said (λ run. IfSome input (λ typed. AppendsA (BeginsSession hex bytes run typed) old new)))
+replies None said input old new hex board run_file ready adds = tt
+replies (Some bytes) None input old new hex board run_file ready adds = tt
+replies (Some bytes) (Some run) None old new hex board run_file ready adds = tt
+replies (Some bytes) (Some run) (Some typed) old new hex board run_file ready adds =
+    (adds.0, begun hex bytes run typed adds.0 board run_file ready adds.1, adds.2)
+
+pub replies_withheld : {T : Type 0} (result : Result T Unanswered) (file said input old new : Option (List ℕ)) (hex : Bool) (board : BoardState) (run_file : RunFile)
+    → IfSome file (λ bytes. IfSome said (λ run. IsReady hex bytes run board run_file))
+    → IfErr result (WhereRefused (new ≡ old ⊎ IfSome input (λ typed. AppendsA (BeginsTranscript (session_about board) (input_lines typed)) old new)))
+    → IfErr result (WhereRefused (new ≡ old ⊎ IfSome file (λ bytes. IfSome said (λ run. IfSome input (λ typed. AppendsA (BeginsSession hex bytes run typed) old new)))))
+replies_withheld (Ok done) file said input old new hex board run_file ready cut = cut
+replies_withheld (Err Failed) file said input old new hex board run_file ready cut = cut
+replies_withheld (Err (Refused fault)) file said input old new hex board run_file ready (inl same) = inl same
+replies_withheld (Err (Refused fault)) file said input old new hex board run_file ready (inr adds) =
+    inr (replies file said input old new hex board run_file ready adds)

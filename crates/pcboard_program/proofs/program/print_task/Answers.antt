@@ -1,8 +1,10 @@
 use Rattle.std.proofs.Common.{subst, sym}
-use Rattle.std.specs.Prelude.{OnOk}
+use Rattle.std.specs.Prelude.{◌≡◌, ◌⊎◌, IfErr, OnOk}
 use Rattle.std.proofs.lemmas.Result.{on_ok_weaker}
 use Rattle.pcboard_program.specs.Answer.{PrintsTask}
-use Rattle.pcboard_program.proofs.Tasks.{printed_run}
+use Rattle.pcboard_program.specs.Refusal.{PrintsReplies}
+use Rattle.pcboard_program.specs.Unanswered.{WhereRefused}
+use Rattle.pcboard_program.proofs.Tasks.{printed_run, replies_withheld}
 use Rattle.pcboard_program.proofs.program.print_task.Goals as goal
 
 pub returns-in_ok-board-in-Run-clause-printed : goal.returns-in_ok-board-in-Run-clause-printed
@@ -12,3 +14,13 @@ returns-in_ok-board-in-Run-clause-printed g c =
     (on_ok_weaker c.print_report-in-Run.result (printed_run (g.F.Opener.file_bytes c.args.files.now c.in-Run.file.now) (g.F.Opener.file_bytes c.args.files.now c.in-Run.run'.now)
     (g.O.Write.contents c.args.out.now) (g.O.Write.contents c.print_report-in-Run.new.out) c.in-Run.hex c.in_ok-board-in-Run.board c.in_ok-board-in-Run.run'
     c.in_ok-board-in-Run.ensures.ready) c.print_report-in-Run.ensures.printed)
+
+pub returns-in_ok-board-in-Debug-clause-withheld : goal.returns-in_ok-board-in-Debug-clause-withheld
+returns-in_ok-board-in-Debug-clause-withheld g c =
+    let files = g.F.Opener.file_bytes c.args.files.now in
+    let input = g.I.ByteInput.remaining c.args.input.now in
+    let old = g.O.Write.contents c.args.out.now in
+    let new = g.O.Write.contents c.print_session.new.out in
+    subst (λ task. IfErr c.print_session.result (WhereRefused (new ≡ old ⊎ PrintsReplies task files input old new))) (sym c.in-Debug.is)
+    (replies_withheld c.print_session.result (files c.in-Debug.file.now) (files c.in-Debug.run'.now) input old new c.in-Debug.hex c.in_ok-board-in-Debug.board c.in_ok-board-in-Debug.field-0-1
+    c.in_ok-board-in-Debug.ensures.ready c.print_session.ensures.cut)
