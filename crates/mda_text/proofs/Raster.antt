@@ -20,6 +20,15 @@ clocks_in_closed_form m (suc n) within =
     ap (λ k. iterate after_clock k m) (omega arith) ∙ iterate_more after_clock n m ∙ ap after_clock (clocks_in_closed_form m n within)
     ∙ ap (λ r. record m { raster = r }) (omega arith)
 
+-- the same where clocks are counted on past the raster's end
+pub clocks_are_counted : (m : MdaState) (beam n : ℕ) → m.raster ≡ beam % 259 → after_clocks m n ≡ record m { raster = (beam + n) % 259 }
+clocks_are_counted m beam n is =
+    clocks_in_closed_form m n (omega arith) ∙ ap (λ r. record m { raster = r }) (omega arith)
+
+pub clocks_come_round : (m : MdaState) (beam n : ℕ) → m.raster ≡ beam % 259 → after_clocks m n ≡ record m { raster = (beam % 259 + n % 259) % 259 }
+clocks_come_round m beam n is =
+    clocks_in_closed_form m n (omega arith) ∙ ap (λ r. record m { raster = r }) (omega arith)
+
 -- clocks move the beam and nothing else
 pub clocks_move_beam : (m : MdaState) (n : ℕ) → after_clocks m n ≡ record m { raster = (after_clocks m n).raster }
 clocks_move_beam m zero =

@@ -40,10 +40,10 @@ pub const CELL_COUNT: u16 = 2000;
 pub(crate) const WORD_COUNT: u32 = 2048;
 
 /// After so many processor clocks the beam is where it was.
-const RASTER_CLOCKS: u16 = 259;
+const RASTER_CLOCKS: u64 = 259;
 
 /// In the clocks of the raster from this one on the beam goes back.
-const RETRACE_START: u16 = 219;
+const RETRACE_START: u64 = 219;
 
 /// The adapter, with the characters that its last mark kept, and what that mark found them in.
 #[derive(Drop)]
@@ -53,7 +53,8 @@ pub struct Mda {
     pub(crate) start: u16,
     cursor: u16,
     pub(crate) video: bool,
-    raster: u16,
+    /// Processor clocks since the beam stood at the raster's start. It may have come round since.
+    beam: u64,
     kept: Vec<u8>,
     pub(crate) last_mark: u64,
     next_mark: u64,
@@ -61,7 +62,7 @@ pub struct Mda {
 }
 
 impl Model for Mda {
-    ghost use Rattle.std.specs.Prelude.{◌≡◌, ◌<◌, IsTrue, length};
+    ghost use Rattle.std.specs.Prelude.{◌≡◌, ◌%◌, IsTrue, length};
     ghost use Rattle.mda_text.specs.Mda.{MdaState};
     ghost use Rattle.mda_text.specs.Snapshot.{Recalls};
 
@@ -73,13 +74,13 @@ impl Model for Mda {
       start = m.start;
       cursor = m.cursor;
       video = m.video;
-      raster = m.raster;
+      raster = m.beam % 259;
       kept = m.kept.items;
       last_mark = m.last_mark;
       next_mark = m.next_mark;
     } };
 
-    ghost invariant = { λ m. (length m.bytes.items ≡ 4096) × (length m.kept.items ≡ 2000) × (m.raster < 259)
+    ghost invariant = { λ m. (length m.bytes.items ≡ 4096) × (length m.kept.items ≡ 2000)
         × (length m.snapshot.bytes.items ≡ 4096)
         × (IsTrue m.snapshot.taken → Recalls m.bytes.items m.kept.items m.snapshot.bytes.items m.snapshot.start
         m.snapshot.video m.snapshot.written) };
@@ -98,7 +99,7 @@ impl Mda {
             start: 0,
             cursor: 0,
             video: false,
-            raster: 0,
+            beam: 0,
             kept: vec![in alloc; 0; CELL_COUNT as usize]?,
             last_mark: 0,
             next_mark: 1,
@@ -122,7 +123,7 @@ impl Mda {
             start: self.start,
             cursor: self.cursor,
             video: self.video,
-            raster: self.raster,
+            beam: self.beam,
             kept: self.kept.clone()?,
             last_mark: self.last_mark,
             next_mark: self.next_mark,
@@ -299,10 +300,18 @@ impl Mda {
         }
     }
 
+    /// Where the beam stands in its raster.
+    fn raster(&self) -> u64
+        ensures place { result ≡ self.now.raster }
+        ensures bound { result < 259 }
+    {
+        self.beam % RASTER_CLOCKS
+    }
+
     fn status(&self) -> u8
         ensures { result ≡ status self.now }
     {
-        if self.raster >= RETRACE_START {
+        if self.raster() >= RETRACE_START {
             0xF1
         } else {
             0xF0
@@ -323,22 +332,26 @@ impl Timed for Mda {
     ghost output = { retrace };
 
     /// Lets `ticks` processor clocks pass: the beam moves on.
-    #[tactic(auto, using(crate::proofs::Raster::clocks_in_closed_form))]
+    #[tactic(auto, using(crate::proofs::Raster::clocks_are_counted, crate::proofs::Raster::clocks_come_round))]
     fn advance(&mut self, ticks: u64)
         ensures { self.new ≡ after_clocks self.old ticks }
     {
-        let ahead = (ticks % u64::from(RASTER_CLOCKS)) as u16;
-        self.raster = (self.raster + ahead) % RASTER_CLOCKS;
+        // The clocks are only counted; where the beam stands is worked out where it is asked for.
+        self.beam = match self.beam.checked_add(ticks) {
+            Some(beam) => beam,
+            None => self.raster() + ticks % RASTER_CLOCKS,
+        };
     }
 
     /// After how many processor clocks bit 0 of the status port changes: it is 0 for 219 and 1 for 40 in turn.
     fn until_change(&self) -> Option<u64>
         ensures { IsUntilTurn after_clocks retrace self.now result }
     {
-        if self.raster < RETRACE_START {
-            return Some(u64::from(RETRACE_START - self.raster));
+        let raster = self.raster();
+        if raster < RETRACE_START {
+            return Some(RETRACE_START - raster);
         }
-        Some(u64::from(RASTER_CLOCKS - self.raster))
+        Some(RASTER_CLOCKS - raster)
     }
 
     ghost adds = { λ m k n. sym (iterate_add after_clock k n m) };
