@@ -98,6 +98,15 @@ impl Memory {
         }
     }
 
+    /// Whether `addr` lies in RAM.
+    #[inline(always)]
+    pub fn has_ram(&self, addr: u32) -> bool
+        ensures ram { IsTrue result ↔ addr < self.now.ram_size }
+        ensures map { IsMap self.now }
+    {
+        addr < self.ram_size
+    }
+
     /// Writes `byte` at `addr`, below 100000h and outside the text adapter's memory. Where there is no RAM
     /// nothing changes.
     #[tactic(auto, unfolding(crate::specs::Map::with_byte, crate::specs::Map::is_writable))]
