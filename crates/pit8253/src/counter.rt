@@ -3,7 +3,7 @@ ghost use Rattle.std.specs.Prelude.{◌≡◌, ◌≤◌, ◌<◌, ◌/◌, ◌%
 ghost use Rattle.board_types.specs.declared.line.Line.{Line};
 ghost use Rattle.pit8253.specs.Program.{mode_of, access_of, radix_of, modulus, count_of, digits_of};
 ghost use Rattle.pit8253.specs.Laws.{size, ticks_left, after_fall, after_strobe_fall, after_rate_fall, half_left, after_half_fall};
-ghost use Rattle.pit8253.specs.Ahead.{is_counting, after_rests, after_rate, half_ticks, after_turn, after_halves, after_square, after_run, after_due_load, until_end, until_pulse, until_half, until_strobe, until_rest, until_turn, differ, a_tick_later};
+ghost use Rattle.pit8253.specs.Ahead.{after_rests, after_rate, half_ticks, after_turn, after_halves, after_square, after_run, after_due_load, until_end, until_pulse, until_half, until_strobe, until_rest, until_turn, differ, a_tick_later};
 ghost use Rattle.pit8253.specs.Image.{counter_of};
 ghost use Rattle.pit8253.specs.Counter.{power_on, is_awaited, out_at_load, after_load, out_at_control, reading, after_latch, after_program, after_control_word, loads_when_written, after_full_count, after_first_byte, after_write, next_byte, after_read, rises, is_triggered, out_at_gate, after_gate};
 
@@ -313,18 +313,6 @@ impl Counter {
         self.load(out);
     }
 
-    fn is_counting(&self) -> bool
-        ensures { result ≡ is_counting self.now self.now.mode }
-    {
-        let loaded = self.progress == Progress::Loaded;
-        let enabled = loaded && self.gate == Line::High;
-        match self.mode {
-            Mode::TerminalCount => enabled && self.first_byte.is_none(),
-            Mode::RateGenerator | Mode::SquareWave | Mode::SoftwareStrobe => enabled,
-            Mode::OneShot | Mode::HardwareStrobe => loaded,
-        }
-    }
-
     fn ticks_left(&self) -> u64
         ensures ticks { result ≡ ticks_left self.now }
         ensures some { 0 < result }
@@ -513,14 +501,18 @@ impl Counter {
         ensures turn { result ≡ until_turn self.now }
         ensures bound { IfSome result (λ ticks. ticks ≤ 65536) }
     {
-        if !self.is_counting() {
+        if self.progress != Progress::Loaded {
             return self.until_rest();
         }
+        let enabled = self.gate == Line::High;
         match self.mode {
-            Mode::TerminalCount | Mode::OneShot => self.until_end(),
-            Mode::RateGenerator => self.until_pulse(),
-            Mode::SquareWave => self.until_half(),
-            Mode::SoftwareStrobe | Mode::HardwareStrobe => self.until_strobe(),
+            Mode::TerminalCount if enabled && self.first_byte.is_none() => self.until_end(),
+            Mode::OneShot => self.until_end(),
+            Mode::RateGenerator if enabled => self.until_pulse(),
+            Mode::SquareWave if enabled => self.until_half(),
+            Mode::SoftwareStrobe if enabled => self.until_strobe(),
+            Mode::HardwareStrobe => self.until_strobe(),
+            _ => self.until_rest(),
         }
     }
 

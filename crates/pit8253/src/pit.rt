@@ -146,7 +146,11 @@ impl Pit {
         ensures turn { IsUntilTurn one.after_ticks out_of (counter self.now n) result }
         ensures bound { IfSome result (λ ticks. ticks ≤ 65537) }
     {
-        self.counter(n).until_change()
+        match n {
+            0 => self.counter_0.until_change(),
+            1 => self.counter_1.until_change(),
+            _ => self.counter_2.until_change(),
+        }
     }
 
     /// `ticks` ticks of the three counters. Takes as long whatever their number.
