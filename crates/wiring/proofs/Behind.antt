@@ -1,14 +1,14 @@
 -- What a timer that is some ticks behind has in common with the one that isn't.
-use Rattle.std.proofs.Common.{◌≡◌, ℕ, zero, suc, ◌+◌, ◌-◌, ◌<◌, true, refl, sym, ap, ◌∙◌, subst, arith, nat_lt, Option, None, Some}
+use Rattle.std.proofs.Common.{◌≡◌, ℕ, zero, suc, ◌+◌, ◌-◌, ◌<◌, ◌≤◌, true, refl, sym, ap, ◌∙◌, subst, arith, nat_lt, Option, None, Some}
 use Rattle.std.proofs.lemmas.Bool.Decides.{nat_tests}
 use Rattle.board_types.proofs.Iterate.{iterate_zero, iterate_more, iterate_add}
-use Rattle.board_types.specs.Timed.{IsUntilTurn}
+use Rattle.board_types.specs.Timed.{IsSteady, IsUntilTurn}
 use Rattle.board_types.specs.declared.line.Line.{Line}
 use Rattle.pit8253.proofs.PitTicks.{each_counter}
 use Rattle.pit8253.specs.Counter as one
 use Rattle.pit8253.specs.Counter.{CounterState, out_of}
 use Rattle.pit8253.specs.Pit.{PitState, after_gate, after_tick, after_ticks}
-use Rattle.wiring.specs.Timer.{is_before, later_turn, IsBehind}
+use Rattle.wiring.specs.Timer.{is_before, later_turn, IsBehind, IsSoon}
 use Rattle.wiring.proofs.Ticks.{line_then_tick}
 
 is_less : (a b : ℕ) → nat_lt a b ≡ true → a < b
@@ -21,15 +21,15 @@ is_less_test a b less = grind (arith, nat_tests)
 pub at_once : (p : PitState) → after_ticks p 0 ≡ p
 at_once p = iterate_zero after_tick p
 
-pub not_behind : (c : CounterState) (turn : Option ℕ) → IsUntilTurn one.after_ticks out_of c turn → IsBehind c turn 0
-not_behind c None never = record { first = never; before = refl }
-not_behind c (Some n) first = record { first = first; before = is_less_test 0 n first.some }
+pub not_behind : (c : CounterState) (turn : Option ℕ) → IsUntilTurn one.after_ticks out_of c turn → IsSoon turn → IsBehind c turn 0
+not_behind c None never soon = record { first = never; before = refl; soon = soon }
+not_behind c (Some n) first soon = record { first = first; before = is_less_test 0 n first.some; soon = soon }
 
 pub later : (p : PitState) (k n : ℕ) → after_ticks (after_ticks p k) n ≡ after_ticks p (k + n)
 later p k n = sym (iterate_add after_tick k n p)
 
 pub still_behind : (c : CounterState) (turn : Option ℕ) (k n : ℕ) → IsBehind c turn k → is_before n turn ≡ true → IsBehind c turn n
-still_behind c turn k n behind before = record { first = behind.first; before = before }
+still_behind c turn k n behind before = record { first = behind.first; before = before; soon = behind.soon }
 
 -- the output hasn't turned
 stays : (c : CounterState) (turn : Option ℕ) (k : ℕ) → IsUntilTurn one.after_ticks out_of c turn → is_before k turn ≡ true → (one.after_ticks c k).out ≡ c.out
@@ -43,6 +43,35 @@ out_0_stays p turn k behind =
 pub out_2_stays : (p : PitState) (turn : Option ℕ) (k : ℕ) → IsBehind p.counter_2 turn k → p.counter_2.out ≡ (after_ticks p k).counter_2.out
 out_2_stays p turn k behind =
     sym (ap (λ (q : PitState). q.counter_2.out) (each_counter k p) ∙ stays p.counter_2 turn k behind.first behind.before)
+
+-- so it is for fewer ticks than it takes to turn
+before_less : (turn : Option ℕ) (a b : ℕ) → a ≤ b → is_before b turn ≡ true → is_before a turn ≡ true
+before_less None a b least before = refl
+before_less (Some n) a b least before =
+    let less : b < n = is_less b n before in
+    is_less_test a n (omega (arith, least, less))
+
+pub steady_until : (c : CounterState) (turn : Option ℕ) (ticks : ℕ) → IsUntilTurn one.after_ticks out_of c turn → is_before ticks turn ≡ true → IsSteady one.after_ticks out_of c ticks
+steady_until c turn ticks first before j few = stays c turn j first (before_less turn j ticks few before)
+
+steady_while : (c : CounterState) (turn : Option ℕ) (k n : ℕ) → IsBehind c turn k → is_before (k + n) turn ≡ true → IsSteady one.after_ticks out_of (one.after_ticks c k) n
+steady_while c turn k n behind before j few =
+    ap (λ (d : CounterState). d.out) (sym (iterate_add one.after_tick k j c))
+    ∙ stays c turn (k + j) behind.first (before_less turn (k + j) (k + n) (omega (arith, few)) before)
+    ∙ sym (stays c turn k behind.first behind.before)
+
+pub steady_while_0 : (p : PitState) (turn : Option ℕ) (k n : ℕ) → IsBehind p.counter_0 turn k → is_before (k + n) turn ≡ true → IsSteady one.after_ticks out_of (after_ticks p k).counter_0 n
+steady_while_0 p turn k n behind before =
+    subst (λ (q : PitState). IsSteady one.after_ticks out_of q.counter_0 n) (sym (each_counter k p)) (steady_while p.counter_0 turn k n behind before)
+
+pub steady_while_2 : (p : PitState) (turn : Option ℕ) (k n : ℕ) → IsBehind p.counter_2 turn k → is_before (k + n) turn ≡ true → IsSteady one.after_ticks out_of (after_ticks p k).counter_2 n
+steady_while_2 p turn k n behind before =
+    subst (λ (q : PitState). IsSteady one.after_ticks out_of q.counter_2 n) (sym (each_counter k p)) (steady_while p.counter_2 turn k n behind before)
+
+-- fewer ticks are left of a turn that is soon
+pub soon_later : (turn : Option ℕ) (k : ℕ) → IsSoon turn → IsSoon (later_turn turn k)
+soon_later None k soon = soon
+soon_later (Some n) k soon = omega (arith, soon)
 
 -- and turns as many ticks later as are left
 turns_later : (c : CounterState) (turn : Option ℕ) (k : ℕ) → IsBehind c turn k → IsUntilTurn one.after_ticks out_of (one.after_ticks c k) (later_turn turn k)

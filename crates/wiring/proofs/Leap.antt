@@ -56,33 +56,52 @@ with_parts s clock p m same_clock same_pit same_mda =
     ∙ ap (λ q. record s { pit = q; mda = m }) same_pit
     ∙ ap (λ n. record s { mda = n }) same_mda
 
--- n clocks, all at once
-pub clocks_leap : (n : ℕ) (s : ChipsState) → after_settling s ≡ s → IsStill s n → after_clocks s n ≡ leapt s n
-unfolding after_clock
-clocks_leap zero s still steady =
+no_leap : (s : ChipsState) → after_clocks s 0 ≡ leapt s 0
+no_leap s =
     let none : ticks_between s.clock (s.clock + 0) ≡ 0 = omega arith in
     iterate_zero after_clock s
     ∙ sym (with_parts s (s.clock + 0) (pit.after_ticks s.pit (ticks_between s.clock (s.clock + 0))) (mda.after_clocks s.mda 0) (omega arith)
     (ap (λ k. pit.after_ticks s.pit k) none ∙ iterate_zero pit.after_tick s.pit) (iterate_zero mda.after_clock s.mda))
+
+-- a clock behind such clocks: they are leapt over with it, and then the wires settle
+leap_then_settle : (n : ℕ) (s : ChipsState) → after_clocks s n ≡ leapt s n → after_clocks s (n + 1) ≡ after_settling (leapt s (n + 1))
+unfolding after_clock
+leap_then_settle n s leap =
+    let now : ℕ = ticks_between s.clock (s.clock + n) in
+    let next : ℕ = ticks_between s.clock (s.clock + (n + 1)) in
+    let same : ticks_between s.clock (s.clock + suc n) ≡ next = omega arith in
+    let ticked : pit_after_clock (pit.after_ticks s.pit now) (s.clock + n + 1) ≡ pit.after_ticks s.pit next =
+    more_ticks ((s.clock + n + 1) % 4 == 0) s.pit now ∙ ap (λ k. pit.after_ticks s.pit k) (quarter s.clock n ∙ same) in
+    let moved : mda.after_clock (mda.after_clocks s.mda n) ≡ mda.after_clocks s.mda (n + 1) = sym (iterate_more mda.after_clock n s.mda) in
+    iterate_more after_clock n s ∙ ap after_clock leap
+    ∙ ap (λ p. after_settling (record s { clock = s.clock + n + 1; pit = p; mda = mda.after_clock (mda.after_clocks s.mda n) })) ticked
+    ∙ ap (λ m. after_settling (record s { clock = s.clock + n + 1; pit = pit.after_ticks s.pit next; mda = m })) moved
+    ∙ ap (λ c. after_settling (record s { clock = c; pit = pit.after_ticks s.pit next; mda = mda.after_clocks s.mda (n + 1) })) (omega arith)
+
+-- one clock, after which the wires settle
+pub one_clock : (s : ChipsState) → after_clocks s 1 ≡ after_settling (leapt s 1)
+one_clock s = leap_then_settle 0 s (no_leap s)
+
+-- n clocks, all at once
+pub clocks_leap : (n : ℕ) (s : ChipsState) → after_settling s ≡ s → IsStill s n → after_clocks s n ≡ leapt s n
+clocks_leap zero s still steady = no_leap s
 clocks_leap (suc n) s still steady =
     let parts : Settled s = settled_parts s still in
-    let more : suc n ≡ n + 1 = omega arith in
-    let before : ticks_between s.clock (s.clock + n) ≤ ticks_between s.clock (s.clock + suc n) = omega arith in
-    let now : ℕ = ticks_between s.clock (s.clock + n) in
+    let more : n + 1 ≡ suc n = omega arith in
+    let steady_now : IsStill s n = λ k within. steady k (omega (arith, within)) in
     let next : ℕ = ticks_between s.clock (s.clock + suc n) in
-    let steady_now : IsStill s n = λ k within. steady k (omega arith) in
-    let ticked : pit_after_clock (pit.after_ticks s.pit now) (s.clock + n + 1) ≡ pit.after_ticks s.pit next =
-    more_ticks ((s.clock + n + 1) % 4 == 0) s.pit now ∙ ap (λ k. pit.after_ticks s.pit k) (quarter s.clock n) in
-    let moved : mda.after_clock (mda.after_clocks s.mda n) ≡ mda.after_clocks s.mda (suc n) =
-    sym (iterate_more mda.after_clock n s.mda) ∙ ap (λ k. mda.after_clocks s.mda k) (sym more) in
     let gate : after_gate_wire (pit.after_ticks s.pit next) s.ppi ≡ pit.after_ticks s.pit next = gate_stays next s.pit (port_b_line s.ppi 0) parts.gate in
     let same : (pit.after_ticks s.pit next).counter_0.out ≡ s.pit.counter_0.out =
     ap (λ (q : PitState). q.counter_0.out) (each_counter next s.pit) ∙ steady next (omega arith) in
-    ap (λ k. after_clocks s k) more ∙ iterate_more after_clock n s ∙ ap after_clock (clocks_leap n s still steady_now)
-    ∙ ap (λ p. after_settling (record s { clock = s.clock + n + 1; pit = p; mda = mda.after_clock (mda.after_clocks s.mda n) })) ticked
-    ∙ ap (λ m. after_settling (record s { clock = s.clock + n + 1; pit = pit.after_ticks s.pit next; mda = m })) moved
-    ∙ parts_settled s (pit.after_ticks s.pit next) (s.clock + n + 1) (mda.after_clocks s.mda (suc n)) parts gate same
-    ∙ ap (λ c. record s { clock = c; pit = pit.after_ticks s.pit next; mda = mda.after_clocks s.mda (suc n) }) (omega arith)
+    ap (λ k. after_clocks s k) (sym more) ∙ leap_then_settle n s (clocks_leap n s still steady_now)
+    ∙ ap (λ k. after_settling (leapt s k)) more
+    ∙ parts_settled s (pit.after_ticks s.pit next) (s.clock + suc n) (mda.after_clocks s.mda (suc n)) parts gate same
+
+-- clocks up to a turn of OUT0: behind the last alone the wires settle
+pub clocks_to_turn : (n : ℕ) (s : ChipsState) → 1 ≤ n → after_settling s ≡ s → IsStill s (n - 1) → after_clocks s n ≡ after_settling (leapt s n)
+clocks_to_turn n s some still steady =
+    let whole : n - 1 + 1 ≡ n = omega (arith, some) in
+    ap (λ k. after_clocks s k) (sym whole) ∙ leap_then_settle (n - 1) s (clocks_leap (n - 1) s still steady) ∙ ap (λ k. after_settling (leapt s k)) whole
 
 pub settled_leap : (n : ℕ) (s : ChipsState) → after_settling s ≡ s → IsStill s n → after_settling (leapt s n) ≡ leapt s n
 settled_leap n s still steady =
@@ -92,11 +111,6 @@ settled_leap n s still steady =
     ap (λ (q : PitState). q.counter_0.out) (each_counter ticks s.pit) ∙ steady ticks (omega arith) in
     parts_settled s (pit.after_ticks s.pit ticks) (s.clock + n) (mda.after_clocks s.mda n) parts
     (gate_stays ticks s.pit (port_b_line s.ppi 0) parts.gate) same
-
-pub still_at_once : (s : ChipsState) → IsStill s 0
-still_at_once s k within =
-    let none : k ≡ 0 = omega arith in
-    ap (λ j. (one.after_ticks s.pit.counter_0 j).out) none ∙ ap (λ (c : CounterState). c.out) (iterate_zero one.after_tick s.pit.counter_0)
 
 -- a byte of memory is no wire
 pub settled_memory : (s : ChipsState) (m : MemoryMap) → after_settling s ≡ s → after_settling (record s { memory = m }) ≡ record s { memory = m }
@@ -117,8 +131,3 @@ pub more_clocks : (s t u : ChipsState) (n : ℕ) → s.clock ≤ t.clock → t �
 more_clocks s t u n before first second clock =
     let whole : t.clock - s.clock + n ≡ u.clock - s.clock = omega arith in
     second ∙ ap (λ x. after_clocks x n) first ∙ sym (iterate_add after_clock (t.clock - s.clock) n s) ∙ ap (λ k. after_clocks s k) whole
-
-pub one_more_clock : (s t u : ChipsState) → s.clock ≤ t.clock → t ≡ after_clocks s (t.clock - s.clock) → u ≡ after_clock t → u.clock ≡ t.clock + 1 → u ≡ after_clocks s (u.clock - s.clock)
-one_more_clock s t u before first second clock =
-    let one : after_clocks t 1 ≡ after_clock t = iterate_more after_clock 0 t ∙ ap after_clock (iterate_zero after_clock t) in
-    more_clocks s t u 1 before first (second ∙ sym one) clock

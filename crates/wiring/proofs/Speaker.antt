@@ -1,20 +1,19 @@
 -- The speaker's part of what the wires do: the timer and the parallel port alone.
-use Rattle.std.proofs.Common.{◌≡◌, ℕ, ◌+◌, ◌<◌, List, length, get_or, take, false, ◌&&◌, refl, sym, ap, ◌∙◌}
+use Rattle.std.proofs.Common.{◌≡◌, ℕ, zero, suc, arith, ◌+◌, ◌<◌, List, [], ◌∷◌, length, get_or, take, false, ◌&&◌, refl, sym, ap, ◌∙◌}
 use Rattle.std.proofs.lemmas.List.Sums.{fold_more}
 use Rattle.board_types.proofs.Iterate.{iterate_zero, iterate_more}
 use Rattle.board_types.specs.Bits.{has_bit}
 use Rattle.board_types.specs.Lines.{is_high}
 use Rattle.bus.specs.PortWrites.{after_port_writes}
-use Rattle.mda_text.specs.Mda as mda
-use Rattle.mda_text.specs.Mda.{MdaState}
 use Rattle.pit8253.specs.Pit.{PitState, after_tick, after_ticks}
+use Rattle.ppi8255.specs.Ppi as ppi
 use Rattle.ppi8255.specs.Ppi.{lines_b}
 use Rattle.wiring.specs.declared.port.Port.{Port}
 use Rattle.wiring.specs.declared.port.Port.TheVariants.{Controller, Timer, Parallel, Adapter, Nothing}
 use Rattle.wiring.specs.declared.sound.Sound.{Sound}
 use Rattle.wiring.specs.Chips.{ChipsState}
 use Rattle.wiring.specs.Ports.{port_at, after_port_write, after_output}
-use Rattle.wiring.specs.Wires.{after_settling, after_clock, after_key_settling, pit_after_clock, port_b_line}
+use Rattle.wiring.specs.Wires.{after_settling, after_clock, after_clocks, after_key_settling, pit_after_clock, port_b_line}
 use Rattle.wiring.specs.Sound.{sound_of, sound_after_settling, sound_after_clock, sound_after_write, is_sound_high}
 use Rattle.wiring.specs.Speaker.{is_speaker_high, is_speaker_high_after}
 use Rattle.wiring.proofs.Gates.{gate_2_twice}
@@ -22,9 +21,6 @@ use Rattle.wiring.proofs.Clocks.{clock_of_writes}
 
 pub one_tick : (p : PitState) → after_ticks p 1 ≡ after_tick p
 one_tick p = iterate_more after_tick 0 p ∙ ap after_tick (iterate_zero after_tick p)
-
-pub one_raster_clock : (m : MdaState) → mda.after_clocks m 1 ≡ mda.after_clock m
-one_raster_clock m = iterate_more mda.after_clock 0 m ∙ ap mda.after_clock (iterate_zero mda.after_clock m)
 
 sound_of_settling : (s : ChipsState) → sound_of (after_settling s) ≡ sound_after_settling (sound_of s)
 unfolding after_settling
@@ -90,3 +86,36 @@ pub stays_low : (s : ChipsState) (writes : List (ℕ × ℕ)) → has_bit (lines
 stays_low s writes low =
     let next : Sound = sound_after_clock (sound_of (after_port_writes after_output s writes)) (s.clock + 1) in
     sym (level_told s writes) ∙ ap (λ b. b && is_high next.pit.counter_2.out) low
+
+-- the parallel port's part of what port writes make depends on itself alone
+ppi_of_write : (s t : ChipsState) (port : Port) (byte : ℕ) → s.ppi ≡ t.ppi → (after_port_write s port byte).ppi ≡ (after_port_write t port byte).ppi
+ppi_of_write s t (Controller a0) byte same = same
+ppi_of_write s t (Timer n) byte same = same
+ppi_of_write s t (Parallel n) byte same = ap (λ p. ppi.after_write p n byte) same
+ppi_of_write s t (Adapter n) byte same = same
+ppi_of_write s t Nothing byte same = same
+
+ppi_of_output : (s t : ChipsState) (port byte : ℕ) → s.ppi ≡ t.ppi → (after_output s port byte).ppi ≡ (after_output t port byte).ppi
+unfolding after_output after_settling
+ppi_of_output s t port byte same = ppi_of_write s t (port_at port) byte same
+
+ppi_of_writes : (s t : ChipsState) (writes : List (ℕ × ℕ)) → s.ppi ≡ t.ppi → (after_port_writes after_output s writes).ppi ≡ (after_port_writes after_output t writes).ppi
+ppi_of_writes s t [] same = same
+ppi_of_writes s t (w ∷ writes) same = ppi_of_writes (after_output s w.0 w.1) (after_output t w.0 w.1) writes (ppi_of_output s t w.0 w.1 same)
+
+ppi_of_clock : (s : ChipsState) → (after_clock s).ppi ≡ s.ppi
+unfolding after_clock after_settling
+ppi_of_clock s = refl
+
+ppi_of_clocks : (s : ChipsState) (n : ℕ) → (after_clocks s n).ppi ≡ s.ppi
+ppi_of_clocks s zero = ap (λ (t : ChipsState). t.ppi) (iterate_zero after_clock s)
+ppi_of_clocks s (suc n) =
+    let more : suc n ≡ n + 1 = omega arith in
+    ap (λ (t : ChipsState). t.ppi) (ap (λ k. after_clocks s k) more ∙ iterate_more after_clock n s)
+    ∙ ppi_of_clock (after_clocks s n) ∙ ppi_of_clocks s n
+
+-- and so it is at any later clock
+pub stays_muted : (s : ChipsState) (writes : List (ℕ × ℕ)) (clocks : ℕ) → has_bit (lines_b (after_port_writes after_output s writes).ppi) 1 ≡ false → is_speaker_high_after (after_clocks s clocks) writes ≡ false
+stays_muted s writes clocks low =
+    stays_low (after_clocks s clocks) writes
+    (ap (λ p. has_bit (lines_b p) 1) (ppi_of_writes (after_clocks s clocks) s writes (ppi_of_clocks s clocks)) ∙ low)

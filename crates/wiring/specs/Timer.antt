@@ -1,6 +1,6 @@
 -- A timer that is some ticks behind.
 -- For proofs alone: no public contract rests on it.
-use Rattle.std.specs.Prelude.{ℕ, ◌-◌, nat_lt, Bool, true, Option, None, Some, IsTrue}
+use Rattle.std.specs.Prelude.{ℕ, ◌-◌, ◌≤◌, nat_lt, Bool, true, Option, None, Some, IfSome, IsTrue}
 use Rattle.board_types.specs.Timed.{IsUntilTurn}
 use Rattle.pit8253.specs.Counter.{CounterState, after_ticks, out_of}
 
@@ -13,7 +13,12 @@ abbrev pub later_turn : Option ℕ → ℕ → Option ℕ
 later_turn None behind = None
 later_turn (Some turn) behind = Some (turn - behind)
 
+-- no counter goes on for longer without a turn that is to come
+abbrev pub IsSoon : Option ℕ → Type 0
+IsSoon turn = IfSome turn (λ n. n ≤ 65537)
+
 -- OUT turns first after so many ticks, or never, and hasn't yet
 pub record IsBehind (c : CounterState) (turn : Option ℕ) (behind : ℕ) : Type 0 where
   pub first : IsUntilTurn after_ticks out_of c turn
   pub before : IsTrue (is_before behind turn)
+  pub soon : IsSoon turn

@@ -1,11 +1,11 @@
 //! The timer, which may lag behind: its ticks are counted and made where something asks for more than the levels of its
 //! outputs.
-ghost use Rattle.std.specs.Prelude.{◌≡◌, ◌<◌, IsTrue};
-ghost use Rattle.board_types.specs.Timed.{IsUntilTurn};
+ghost use Rattle.std.specs.Prelude.{ℕ, true, ◌≡◌, ◌<◌, ◌≤◌, IfSome, IsTrue};
+ghost use Rattle.board_types.specs.Timed.{IsSteady, IsUntilTurn};
 ghost use Rattle.board_types.specs.declared.line.Line.{Line};
 ghost use Rattle.pit8253.specs.Counter as counter;
 ghost use Rattle.pit8253.specs.Counter.{out_of};
-ghost use Rattle.wiring.specs.Timer.{is_before, later_turn};
+ghost use Rattle.wiring.specs.Timer.{is_before, later_turn, IsSoon};
 ghost use Rattle.pit8253.specs.Pit.{power_on, after_ticks, after_gate, after_write, byte_at, after_read};
 
 use board_types::line::Line;
@@ -66,6 +66,21 @@ impl Timer {
         let mut pit = self.pit;
         pit.advance(self.behind);
         pit
+    }
+
+    /// Whether OUT0 and OUT2 stay for so many ticks; too many to be counted they aren't looked at.
+    #[inline(always)]
+    pub(crate) fn is_still(&self, ticks: u64) -> bool
+        ensures out_0 { IsTrue result → IsSteady counter.after_ticks out_of self.now.counter_0 ticks }
+        ensures out_2 { IsTrue result → IsSteady counter.after_ticks out_of self.now.counter_2 ticks }
+    {
+        if let Some(behind) = self.behind.checked_add(ticks)
+            && is_before(behind, self.turn_0)
+            && is_before(behind, self.turn_2)
+        {
+            return true;
+        }
+        false
     }
 
     /// Ticks so often. They are only counted as long as neither OUT0 nor OUT2 turns.
@@ -132,16 +147,30 @@ impl Timer {
 
     /// After how many ticks, from 1 on, OUT0 turns; `None` where it never does.
     pub(crate) fn until_turn_0(&self) -> Option<u64>
-        ensures { IsUntilTurn counter.after_ticks out_of self.now.counter_0 result }
+        ensures turn { IsUntilTurn counter.after_ticks out_of self.now.counter_0 result }
+        ensures soon { IsSoon result }
     {
         later_turn(self.turn_0, self.behind)
     }
 
     /// After how many ticks, from 1 on, OUT2 turns; `None` where it never does.
     pub(crate) fn until_turn_2(&self) -> Option<u64>
-        ensures { IsUntilTurn counter.after_ticks out_of self.now.counter_2 result }
+        ensures turn { IsUntilTurn counter.after_ticks out_of self.now.counter_2 result }
+        ensures soon { IsSoon result }
     {
         later_turn(self.turn_2, self.behind)
+    }
+
+    /// After how many ticks, from 1 on, OUT0 or OUT2 turns; `None` where neither ever does.
+    pub(crate) fn until_turn(&self) -> Option<u64>
+        ensures out_0 { (ticks : ℕ) → is_before ticks result ≡ true
+            → IsSteady counter.after_ticks out_of self.now.counter_0 ticks }
+        ensures out_2 { (ticks : ℕ) → is_before ticks result ≡ true
+            → IsSteady counter.after_ticks out_of self.now.counter_2 ticks }
+        ensures some { IfSome result (λ n. 1 ≤ n) }
+        ensures soon { IsSoon result }
+    {
+        earlier_turn(self.until_turn_0(), self.until_turn_2())
     }
 
     /// The byte that a read of `port`, below 4, gives.
@@ -184,6 +213,20 @@ impl Timer {
         let mut pit = self.present();
         pit.set_gate(2, line);
         *self = Timer::standing(pit);
+    }
+}
+
+/// The earlier of two turns.
+#[inline(always)]
+fn earlier_turn(a: Option<u64>, b: Option<u64>) -> Option<u64>
+    ensures first { (ticks : ℕ) → is_before ticks result ≡ true → (is_before ticks a ≡ true) × (is_before ticks b ≡ true) }
+    ensures some { IfSome a (λ n. 1 ≤ n) → IfSome b (λ n. 1 ≤ n) → IfSome result (λ n. 1 ≤ n) }
+    ensures soon { IsSoon a → IsSoon b → IsSoon result }
+{
+    match (a, b) {
+        (Some(a), Some(b)) => Some(a.min(b)),
+        (Some(a), None) => Some(a),
+        (None, b) => b,
     }
 }
 

@@ -3,8 +3,8 @@ use Rattle.board_types.specs.Timed.{IsUntilTurn}
 use Rattle.pit8253.specs.Counter as one
 use Rattle.pit8253.specs.Counter.{out_of}
 use Rattle.pit8253.specs.Pit.{PitState, after_ticks}
-use Rattle.wiring.specs.Timer.{is_before, later_turn}
-use Rattle.wiring.proofs.Behind.{not_behind, still_behind, turns_later_2}
+use Rattle.wiring.specs.Timer.{is_before, later_turn, IsSoon}
+use Rattle.wiring.proofs.Behind.{not_behind, soon_later, still_behind, turns_later_2}
 use Rattle.wiring.proofs.timer.Timer.tick.Goals as goal
 use Rattle.wiring.proofs.timer.Timer.tick.Goals.{then-is_before, else-is_before}
 
@@ -26,4 +26,13 @@ invariant_of-self c =
           subst (λ t. IsUntilTurn one.after_ticks out_of p.counter_2 t) (sym w.self-is) w.until_change-self-inside-else-is_before.ensures.turn
     ]
     in
-    (not_behind p.counter_0 c.until_change-self-inside.result c.until_change-self-inside.ensures.turn, not_behind p.counter_2 turn turn_2)
+    let soon_2 : IsSoon turn =
+    elim c.if-is_before.branch [
+      | then-is_before w ↦
+          subst IsSoon (sym (w.self-is ∙ w.later_turn-self-inside.ensures)) (soon_later c.self.inside.turn_2 all c.self.invariant.1.soon)
+      | else-is_before w ↦ subst IsSoon (sym w.self-is) w.until_change-self-inside-else-is_before.ensures.bound
+    ]
+    in (
+      not_behind p.counter_0 c.until_change-self-inside.result c.until_change-self-inside.ensures.turn c.until_change-self-inside.ensures.bound,
+      not_behind p.counter_2 turn turn_2 soon_2,
+    )
