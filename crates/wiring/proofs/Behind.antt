@@ -68,6 +68,13 @@ pub steady_while_2 : (p : PitState) (turn : Option ℕ) (k n : ℕ) → IsBehind
 steady_while_2 p turn k n behind before =
     subst (λ (q : PitState). IsSteady one.after_ticks out_of q.counter_2 n) (sym (each_counter k p)) (steady_while p.counter_2 turn k n behind before)
 
+pub before_later : (turn : Option ℕ) (k n : ℕ) → is_before k turn ≡ true → is_before n (later_turn turn k) ≡ true → is_before (k + n) turn ≡ true
+before_later None k n now before = refl
+before_later (Some t) k n now before =
+    let here : k < t = is_less k t now in
+    let less : n < t - k = is_less n (t - k) before in
+    is_less_test (k + n) t (omega (arith, here, less))
+
 -- fewer ticks are left of a turn that is soon
 pub soon_later : (turn : Option ℕ) (k : ℕ) → IsSoon turn → IsSoon (later_turn turn k)
 soon_later None k soon = soon

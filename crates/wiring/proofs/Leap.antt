@@ -2,6 +2,7 @@
 use Rattle.std.proofs.Common.{◌≡◌, ℕ, zero, suc, ◌+◌, ◌-◌, ◌%◌, ◌≤◌, sym, ap, ◌∙◌, arith}
 use Rattle.std.specs.Prelude.{◌==◌, is_some}
 use Rattle.board_types.proofs.Iterate.{iterate_zero, iterate_more, iterate_add}
+use Rattle.board_types.specs.Timed.{IsSteady}
 use Rattle.board_types.specs.declared.line.Line.{Line}
 use Rattle.board_types.specs.Lines.{from_bool}
 use Rattle.memory.specs.Map.{MemoryMap}
@@ -111,6 +112,16 @@ settled_leap n s still steady =
     ap (λ (q : PitState). q.counter_0.out) (each_counter ticks s.pit) ∙ steady ticks (omega arith) in
     parts_settled s (pit.after_ticks s.pit ticks) (s.clock + n) (mda.after_clocks s.mda n) parts
     (gate_stays ticks s.pit (port_b_line s.ppi 0) parts.gate) same
+
+-- the same told of the timer and the adapter alone
+pub settled_still : (s : ChipsState) (p : PitState) (clock ticks : ℕ) (m : MdaState) → after_settling s ≡ s → p ≡ pit.after_ticks s.pit ticks → IsSteady one.after_ticks out_of s.pit.counter_0 ticks
+    → after_settling (record s { clock = clock; pit = p; mda = m }) ≡ record s { clock = clock; pit = p; mda = m }
+settled_still s p clock ticks m still is steady =
+    let parts : Settled s = settled_parts s still in
+    let same : p.counter_0.out ≡ s.pit.counter_0.out =
+    ap (λ (q : PitState). q.counter_0.out) (is ∙ each_counter ticks s.pit) ∙ steady ticks (omega arith) in
+    parts_settled s p clock m parts
+    (ap (λ (q : PitState). after_gate_wire q s.ppi) is ∙ gate_stays ticks s.pit (port_b_line s.ppi 0) parts.gate ∙ sym is) same
 
 -- a byte of memory is no wire
 pub settled_memory : (s : ChipsState) (m : MemoryMap) → after_settling s ≡ s → after_settling (record s { memory = m }) ≡ record s { memory = m }

@@ -1,6 +1,6 @@
 //! The timer, which may lag behind: its ticks are counted and made where something asks for more than the levels of its
 //! outputs.
-ghost use Rattle.std.specs.Prelude.{ℕ, true, ◌≡◌, ◌<◌, ◌≤◌, IfSome, IsTrue};
+ghost use Rattle.std.specs.Prelude.{ℕ, true, false, ◌≡◌, ◌<◌, ◌≤◌, IfSome, IsTrue};
 ghost use Rattle.board_types.specs.Timed.{IsSteady, IsUntilTurn};
 ghost use Rattle.board_types.specs.declared.line.Line.{Line};
 ghost use Rattle.pit8253.specs.Counter as counter;
@@ -68,35 +68,33 @@ impl Timer {
         pit
     }
 
-    /// Whether OUT0 and OUT2 stay for so many ticks; too many to be counted they aren't looked at.
-    #[inline(always)]
-    pub(crate) fn is_still(&self, ticks: u64) -> bool
-        ensures out_0 { IsTrue result → IsSteady counter.after_ticks out_of self.now.counter_0 ticks }
-        ensures out_2 { IsTrue result → IsSteady counter.after_ticks out_of self.now.counter_2 ticks }
-    {
-        if let Some(behind) = self.behind.checked_add(ticks)
-            && is_before(behind, self.turn_0)
-            && is_before(behind, self.turn_2)
-        {
-            return true;
-        }
-        false
-    }
-
     /// Ticks so often. They are only counted as long as neither OUT0 nor OUT2 turns.
     #[inline(always)]
-    #[tactic(auto, using(crate::proofs::Behind::later, crate::proofs::Behind::still_behind))]
     pub(crate) fn advance(&mut self, ticks: u64)
         ensures { self.new ≡ after_ticks self.old ticks }
+    {
+        if !self.count(ticks) {
+            self.tick(ticks);
+        }
+    }
+
+    /// Counts so many ticks, if neither OUT0 nor OUT2 turns in them; whether they were counted.
+    #[inline(always)]
+    #[tactic(auto, using(crate::proofs::Behind::later, crate::proofs::Behind::still_behind))]
+    pub(crate) fn count(&mut self, ticks: u64) -> bool
+        ensures counted { IsTrue result → self.new ≡ after_ticks self.old ticks }
+        ensures left { result ≡ false → self.new ≡ self.old }
+        ensures out_0 { IsTrue result → IsSteady counter.after_ticks out_of self.old.counter_0 ticks }
+        ensures out_2 { IsTrue result → IsSteady counter.after_ticks out_of self.old.counter_2 ticks }
     {
         if let Some(behind) = self.behind.checked_add(ticks)
             && is_before(behind, self.turn_0)
             && is_before(behind, self.turn_2)
         {
             self.behind = behind;
-            return;
+            return true;
         }
-        self.tick(ticks);
+        false
     }
 
     /// Makes its ticks, and so many more. Mostly it is OUT0 that turns, and then it stays known when OUT2 does.
@@ -147,16 +145,14 @@ impl Timer {
 
     /// After how many ticks, from 1 on, OUT0 turns; `None` where it never does.
     pub(crate) fn until_turn_0(&self) -> Option<u64>
-        ensures turn { IsUntilTurn counter.after_ticks out_of self.now.counter_0 result }
-        ensures soon { IsSoon result }
+        ensures { IsUntilTurn counter.after_ticks out_of self.now.counter_0 result }
     {
         later_turn(self.turn_0, self.behind)
     }
 
     /// After how many ticks, from 1 on, OUT2 turns; `None` where it never does.
     pub(crate) fn until_turn_2(&self) -> Option<u64>
-        ensures turn { IsUntilTurn counter.after_ticks out_of self.now.counter_2 result }
-        ensures soon { IsSoon result }
+        ensures { IsUntilTurn counter.after_ticks out_of self.now.counter_2 result }
     {
         later_turn(self.turn_2, self.behind)
     }
@@ -170,7 +166,7 @@ impl Timer {
         ensures some { IfSome result (λ n. 1 ≤ n) }
         ensures soon { IsSoon result }
     {
-        earlier_turn(self.until_turn_0(), self.until_turn_2())
+        later_turn(earlier_turn(self.turn_0, self.turn_2), self.behind)
     }
 
     /// The byte that a read of `port`, below 4, gives.
@@ -220,7 +216,7 @@ impl Timer {
 #[inline(always)]
 fn earlier_turn(a: Option<u64>, b: Option<u64>) -> Option<u64>
     ensures first { (ticks : ℕ) → is_before ticks result ≡ true → (is_before ticks a ≡ true) × (is_before ticks b ≡ true) }
-    ensures some { IfSome a (λ n. 1 ≤ n) → IfSome b (λ n. 1 ≤ n) → IfSome result (λ n. 1 ≤ n) }
+    ensures both { (ticks : ℕ) → is_before ticks a ≡ true → is_before ticks b ≡ true → is_before ticks result ≡ true }
     ensures soon { IsSoon a → IsSoon b → IsSoon result }
 {
     match (a, b) {
@@ -244,7 +240,8 @@ fn is_before(ticks: u64, turn: Option<u64>) -> bool
 #[inline(always)]
 fn later_turn(turn: Option<u64>, behind: u64) -> Option<u64>
     requires { IsTrue (is_before behind turn) }
-    ensures { result ≡ later_turn turn behind }
+    ensures turn { result ≡ later_turn turn behind }
+    ensures some { IfSome result (λ n. 1 ≤ n) }
 {
     match turn {
         Some(turn) => Some(turn - behind),

@@ -21,7 +21,7 @@ invariant_of-self c =
           let left : IsUntilTurn one.after_ticks out_of (after_ticks was all).counter_2 (later_turn c.self.inside.turn_2 all) =
           turns_later_2 was c.self.inside.turn_2 all (still_behind was.counter_2 c.self.inside.turn_2 c.self.inside.behind all c.self.invariant.1 before) in
           subst (λ (q : PitState). IsUntilTurn one.after_ticks out_of q.counter_2 turn) (sym c.advance.ensures)
-          (subst (λ t. IsUntilTurn one.after_ticks out_of (after_ticks was all).counter_2 t) (sym (w.self-is ∙ w.later_turn-self-inside.ensures)) left)
+          (subst (λ t. IsUntilTurn one.after_ticks out_of (after_ticks was all).counter_2 t) (sym (w.self-is ∙ w.later_turn-self-inside.ensures.turn)) left)
       | else-is_before w ↦
           subst (λ t. IsUntilTurn one.after_ticks out_of p.counter_2 t) (sym w.self-is) w.until_change-self-inside-else-is_before.ensures.turn
     ]
@@ -29,7 +29,7 @@ invariant_of-self c =
     let soon_2 : IsSoon turn =
     elim c.if-is_before.branch [
       | then-is_before w ↦
-          subst IsSoon (sym (w.self-is ∙ w.later_turn-self-inside.ensures)) (soon_later c.self.inside.turn_2 all c.self.invariant.1.soon)
+          subst IsSoon (sym (w.self-is ∙ w.later_turn-self-inside.ensures.turn)) (soon_later c.self.inside.turn_2 all c.self.invariant.1.soon)
       | else-is_before w ↦ subst IsSoon (sym w.self-is) w.until_change-self-inside-else-is_before.ensures.bound
     ]
     in (
