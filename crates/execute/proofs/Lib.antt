@@ -3,3 +3,4 @@ pub mod Order
 mod Rows
 pub mod InRegisters
 pub mod GoesPlainly
+mod Again
