@@ -4,3 +4,4 @@ mod Rows
 pub mod InRegisters
 pub mod GoesPlainly
 mod Again
+pub mod StoreAt

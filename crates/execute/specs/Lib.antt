@@ -4,4 +4,6 @@ pub mod Boundaries
 pub mod PortWrites
 pub mod Laws
 pub mod InRegisters
+pub mod Store
+pub mod StoreAt
 pub mod Iterations

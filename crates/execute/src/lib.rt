@@ -11,6 +11,8 @@ pub mod port_writes;
 pub mod repeating;
 pub mod shadow;
 pub mod step;
+pub mod store;
+pub mod storing;
 pub mod whole;
 
 pub use bus::Bus;
