@@ -20,3 +20,4 @@ pub mod Turns
 pub mod Wires
 pub mod Works
 pub mod Writable
+mod Stores
