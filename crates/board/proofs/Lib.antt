@@ -11,6 +11,7 @@ pub mod Passing
 pub mod Acting
 pub mod Clear
 pub mod Quiet
+pub mod Reach
 pub mod Requests
 pub mod Rooms
 pub mod Runs

@@ -1,4 +1,5 @@
-pub mod Reset
+pub mod Reach
+mod Reset
 pub mod Plain
 pub mod Arrivals
 pub mod Trail

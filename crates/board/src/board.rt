@@ -19,7 +19,7 @@ ghost use Rattle.board_types.specs.Lines.{from_bool};
 
 use crate::act::Act;
 use crate::plain::PlainBoard;
-use crate::stop::{Stop, Stopped, Stops, all_await_free};
+use crate::stop::{Reach, Stop, Stopped, Stops, all_await_free};
 use crate::trail::{Trail, TrailEntry};
 use board_types::bytes::Bytes;
 use board_types::clock::Clock;
@@ -255,10 +255,11 @@ impl<A: Allocator> Board<A> {
         }
         let end = self.clock().get() + count;
         let whole = all_await_free(stops.as_slice());
+        let reach = Reach::of(stops.as_slice());
         // a stop that holds at the start is none there, so the first clock is made by itself
         self.make_clock()?;
         'turns: loop {
-            if let Some(number) = self.plain.holding(stops.as_slice()) {
+            if let Some(number) = self.plain.holding_within(stops.as_slice(), reach) {
                 let clock = self.clock();
                 return Ok(Some(Stop { number, clock }));
             }

@@ -1,6 +1,7 @@
 //! What a run stops at.
-ghost use Rattle.std.specs.Prelude.{◌≡◌, IsTrue};
+ghost use Rattle.std.specs.Prelude.{◌≡◌, ◌≤◌, ◌↔◌, IsTrue};
 ghost use Rattle.board.specs.AwaitFree.{awaits_free, AllAwaitFree};
+ghost use Rattle.board.specs.Reach.{AllWithin};
 
 use arrayvec::ArrayVec;
 use board_types::clock::Clock;
@@ -43,6 +44,47 @@ pub(crate) fn all_await_free(conditions: &[Condition]) -> bool
         }
     }
     true
+}
+
+/// The least and the greatest IP at which one of some conditions may hold.
+#[derive(Clone, Copy)]
+pub(crate) struct Reach {
+    pub(crate) lowest: u16,
+    pub(crate) highest: u16,
+}
+
+impl Reach {
+    /// Every IP.
+    const ALL: Reach = Reach {
+        lowest: 0,
+        highest: u16::MAX,
+    };
+
+    /// Where IP has to be for one of them to hold.
+    pub(crate) fn of(conditions: &[Condition]) -> Reach
+        ensures { AllWithin result conditions.now }
+    {
+        let mut reach = Reach {
+            lowest: u16::MAX,
+            highest: 0,
+        };
+        for condition in conditions {
+            let Condition::At(_, ip) = *condition else {
+                return Reach::ALL;
+            };
+            reach.lowest = reach.lowest.min(ip);
+            reach.highest = reach.highest.max(ip);
+        }
+        reach
+    }
+
+    /// Whether one of them may hold at this IP.
+    #[inline(always)]
+    pub(crate) fn has(self, ip: u16) -> bool
+        ensures { IsTrue result ↔ ((self.lowest ≤ ip) × (ip ≤ self.highest)) }
+    {
+        self.lowest <= ip && ip <= self.highest
+    }
 }
 
 /// The conditions that a run may stop at, numbered from 1.
