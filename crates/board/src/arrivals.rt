@@ -1,8 +1,9 @@
 //! Keys that reach the keyboard at their clocks.
-ghost use Rattle.std.specs.Prelude.{ℕ, ◌≡◌, ◌+◌, ◌<◌, ◌^◌};
+ghost use Rattle.std.specs.Prelude.{ℕ, ◌≡◌, ◌+◌, ◌<◌, ◌≤◌, ◌^◌, IsTrue};
 ghost use Rattle.board_types.specs.Keys.{IsInOrder};
 ghost use Rattle.board.specs.Arrivals.{Awaits, HaveArrived, IsNextStamp};
 ghost use Rattle.wiring.specs.Wires.{after_arrivals};
+ghost use Rattle.board.specs.Leap.{ComesAfter};
 ghost use Rattle.board.specs.Plain.{chips_after_clock, codes_at};
 
 use board_bus::cached::CachedChips;
@@ -50,6 +51,35 @@ pub(crate) fn arrive_at(
     keys.len()
 }
 
+/// The keys that are stamped `clock` arrive, if there are any.
+#[inline(always)]
+fn let_arrive(chips: &mut CachedChips, keys: &[StampedKey], arrived: &mut Arrived, clock: u64)
+    requires some { 1 ≤ clock }
+    requires in_order { IsInOrder keys.now }
+    requires arrived { HaveArrived arrived.old clock keys.now }
+    ensures chips { chips.new ≡ after_arrivals chips.old (codes_at keys.now clock) }
+    ensures clock { chips.new.clock ≡ chips.old.clock }
+    ensures arrived { HaveArrived arrived.new (clock + 1) keys.now }
+{
+    if comes_after(clock, arrived.next) {
+        return;
+    }
+    arrive(chips, keys, arrived, clock);
+}
+
+/// The same where there may be some.
+#[inline(never)]
+fn arrive(chips: &mut CachedChips, keys: &[StampedKey], arrived: &mut Arrived, clock: u64)
+    requires in_order { IsInOrder keys.now }
+    requires arrived { HaveArrived arrived.old clock keys.now }
+    ensures chips { chips.new ≡ after_arrivals chips.old (codes_at keys.now clock) }
+    ensures clock { chips.new.clock ≡ chips.old.clock }
+    ensures arrived { HaveArrived arrived.new (clock + 1) keys.now }
+{
+    let count = arrive_at(chips, keys, arrived.count, clock);
+    *arrived = so_far(keys, count);
+}
+
 /// The chips' part of a clock, and the keys that arrive in it.
 #[inline(never)]
 #[tactic(auto, unfolding(crate::specs::Plain::chips_after_clock))]
@@ -63,9 +93,19 @@ pub(crate) fn pass_clock(chips: &mut CachedChips, keys: &[StampedKey], arrived: 
 {
     let clock = chips.clock().get() + 1;
     chips.sync(Clock::new(clock).unwrap());
-    let count = arrive_at(chips, keys, arrived.count, clock);
-    *arrived = so_far(keys, count);
+    let_arrive(chips, keys, arrived, clock);
     chips.settle();
+}
+
+/// Whether the next stamp, if there is one, is later than `clock`.
+#[inline(always)]
+pub(crate) fn comes_after(clock: u64, stamp: Option<Clock>) -> bool
+    ensures { IsTrue result → ComesAfter clock stamp }
+{
+    match stamp {
+        Some(at) => clock < at.get(),
+        None => true,
+    }
 }
 
 /// The next stamp at which keys arrive, of which the first `next` have arrived; none where all have.

@@ -1,5 +1,5 @@
 //! The board: run for a number of clocks, and read.
-ghost use Rattle.std.specs.Prelude.{IsTrue, All, ◌-◌, slice_get, ◌≡◌, ◌+◌, ◌*◌, ◌<◌, ◌≤◌, ◌^◌, [], ◌∷◌, ◌++◌, length, OnErr, OnOk, IfOk, IsOk, ◌↔◌, ◌⊎◌};
+ghost use Rattle.std.specs.Prelude.{IsTrue, true, All, ◌-◌, slice_get, ◌≡◌, ◌+◌, ◌*◌, ◌<◌, ◌≤◌, ◌^◌, [], ◌∷◌, ◌++◌, length, OnErr, OnOk, IfOk, IsOk, ◌↔◌, ◌⊎◌};
 ghost use Rattle.std.specs.Result.{IfErr, IsErrOf};
 ghost use Rattle.std.specs.String.{string_bytes};
 ghost use Rattle.memory.specs.Map.{IsRamSize, FitsRam};
@@ -9,7 +9,7 @@ ghost use Rattle.board.specs.Board.{Ran, StoppedEarly, board_fault_name, board_f
 ghost use Rattle.board.specs.HeldBack.{IsHeldBack};
 ghost use Rattle.board.specs.KeptAgain.{IsExact};
 ghost use Rattle.board.specs.Leap.{IsQuiet, leapt};
-ghost use Rattle.board.specs.Plain.{after_clock, after_clocks, byte_of, change_next, changes_in, clock_of, lost_codes, next_act, power_on, registers_of, screen_of, speaker_level, state_of};
+ghost use Rattle.board.specs.Plain.{after_clock, after_clocks, byte_of, change_next, changes_in, clock_of, is_free, lost_codes, next_act, power_on, registers_of, screen_of, speaker_level, state_of};
 ghost use Rattle.board.specs.Stops.{FitsRoom, HasAddress, IsStopOf, NoStop, run_length};
 ghost use Rattle.board.specs.Trail.{last, trail_in, trail_next};
 ghost use Rattle.board.specs.AwaitFree.{IsTurnBetween};
@@ -365,11 +365,30 @@ impl<A: Allocator> Board<A> {
         ensures fault { IfErr result (λ fault. fault ≡ BoardFault.Memory) }
     {
         self.plain.look_ahead();
+        if self.plain.is_free() {
+            return self.free_turn(end);
+        }
         if let Some(clocks) = self.plain.calm_clocks(end - self.clock().get()) {
             self.leap(clocks);
             return Ok(());
         }
-        let next = self.next_act();
+        self.turn_by(&Act::Nothing, end)
+    }
+
+    /// The same where the processor is free.
+    #[inline(never)]
+    fn free_turn(&mut self, end: u64) -> Result<(), BoardFault>
+        requires free { is_free self.old.plain ≡ true }
+        requires before_end { clock_of self.old.plain < end }
+        requires within { end ≤ 2 ^ 40 }
+        ensures ok { OnOk result (IsTurnOn end self.old self.new) }
+        ensures err { OnErr result (IsHeldBack self.old self.new) }
+        ensures fault { IfErr result (λ fault. fault ≡ BoardFault.Memory) }
+    {
+        if self.plain.takes_request() {
+            return self.turn_by(&Act::Request, end);
+        }
+        let next = self.plain.next_act();
         self.turn_by(&next, end)
     }
 
@@ -391,6 +410,7 @@ impl<A: Allocator> Board<A> {
     }
 
     /// That turn, `next` being what the processor does in its first clock.
+    #[inline(always)]
     fn turn_by(&mut self, next: &Act, end: u64) -> Result<(), BoardFault>
         requires next { next.now ≡ next_act self.old.plain }
         requires exact { IsExact self.old.plain.cpu self.old.plain.chips next.now }
@@ -448,6 +468,7 @@ impl<A: Allocator> Board<A> {
 
     /// One processor clock, `next` being what the processor does in it. The list of changes grows before anything else
     /// changes.
+    #[inline(always)]
     fn run_clock(&mut self, next: &Act) -> Result<(), BoardFault>
         requires within { clock_of self.old.plain < 2 ^ 40 }
         requires next { next.now ≡ next_act self.old.plain }
@@ -470,6 +491,7 @@ impl<A: Allocator> Board<A> {
     }
 
     /// Lists the change that the next clock brings, if it brings one; at it the speaker is `high`.
+    #[inline(always)]
     fn list_change(&mut self, high: bool) -> Result<(), BoardFault>
         requires within { clock_of self.old.plain < 2 ^ 40 }
         requires next { from_bool high ≡ speaker_level (after_clock self.old.plain) }
@@ -488,6 +510,7 @@ impl<A: Allocator> Board<A> {
     }
 
     /// Adds a change of the speaker's level at the next clock.
+    #[inline(never)]
     fn add_change(&mut self, high: bool) -> Result<(), BoardFault>
         requires { clock_of self.old.plain < 2 ^ 40 }
         ensures plain { self.new.plain ≡ self.old.plain }

@@ -3,5 +3,5 @@ pub mod Order
 mod Rows
 pub mod InRegisters
 pub mod GoesPlainly
-mod Again
 pub mod StoreAt
+mod Again

@@ -10,10 +10,9 @@ returns-clause-chips c =
     let told : c.unwrap.result ≡ c.get-clock.result + 1 = grind (arith, common_steps) in
     clock_passed c.args.chips.now c.args.keys.now _ _ _ _ (ap (λ n. n + 1) (c.get-clock.ensures.value ∙ c.clock.ensures))
     (c.sync.ensures.chips ∙ ap (λ n. after_clocks c.args.chips.now (n - c.args.chips.now.clock)) told)
-    c.arrive_at-count.ensures.chips c.settle.ensures.chips
+    c.let_arrive.ensures.chips c.settle.ensures.chips
 
 pub returns-clause-arrived : goal.returns-clause-arrived
 returns-clause-arrived c =
     let at : c.get-clock.result + 1 + 1 ≡ c.args.chips.now.clock + 2 = omega (arith, c.get-clock.ensures.value, c.clock.ensures) in
-    subst (λ n. HaveArrived c.so_far.result n c.args.keys.now) at
-    (c.so_far.ensures (c.get-clock.result + 1) c.arrive_at-count.ensures.awaits)
+    subst (λ n. HaveArrived c.let_arrive.new.arrived n c.args.keys.now) at c.let_arrive.ensures.arrived
