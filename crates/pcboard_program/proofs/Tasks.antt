@@ -6,11 +6,11 @@ use Rattle.board.specs.Board.{BoardState}
 use Rattle.loader.specs.declared.run_file.RunFile.{RunFile}
 use Rattle.pcboard_program.specs.declared.unanswered.Unanswered.{Unanswered}
 use Rattle.pcboard_program.specs.declared.unanswered.Unanswered.TheVariants.{Failed, Refused}
-use Rattle.pcboard_program.specs.Answer.{AppendsA, IsReport, session_about}
+use Rattle.pcboard_program.specs.Answer.{AppendsA, IsBoardOf, IsReport, IsSession, session_about}
 use Rattle.pcboard_program.specs.Ready.{IsAtPowerOn, IsReady}
 use Rattle.pcboard_program.specs.Refusal.{BeginsSession, BeginsTranscript}
 use Rattle.pcboard_program.specs.Report.{report_of}
-use Rattle.pcboard_program.specs.Transcript.{input_lines}
+use Rattle.pcboard_program.specs.Transcript.{input_lines, Transcript}
 use Rattle.pcboard_program.specs.Unanswered.{WhereRefused}
 
 -- the report of the board that two files give is the answer to `run`
@@ -26,22 +26,34 @@ printed_run (Some bytes) (Some run) old new hex board run_file ready prints = (
   prints ready.image ready.start,
 )
 
--- so far as a session about that board goes, it is the beginning of the answer to `debug`
+-- two files give that board
+given : (hex : Bool) (bytes run : List ℕ) (board : BoardState) (run_file : RunFile) → IsReady hex bytes run board run_file → IsBoardOf hex bytes run board
+given hex bytes run board run_file ready = record {
+  image = ready.image;
+  gives = ready.gives;
+  run_file = run_file;
+  says = ready.says;
+  plain = ready.start.plain;
+  changes = ready.start.changes;
+  trail = ready.start.trail;
+}
+
+-- what a session about it prints is the answer to `debug`
+pub printed_session : (file said input old new : Option (List ℕ)) (hex : Bool) (board : BoardState) (run_file : RunFile)
+    → IfSome file (λ bytes. IfSome said (λ run. IsReady hex bytes run board run_file))
+    → IfSome input (λ typed. AppendsA (Transcript (session_about board) (input_lines typed)) old new)
+    → IfSome file (λ bytes. IfSome said (λ run. IfSome input (λ typed. AppendsA (IsSession hex bytes run typed) old new)))
+printed_session None said input old new hex board run_file ready adds = tt
+printed_session (Some bytes) None input old new hex board run_file ready adds = tt
+printed_session (Some bytes) (Some run) None old new hex board run_file ready adds = tt
+printed_session (Some bytes) (Some run) (Some typed) old new hex board run_file ready adds =
+    (adds.0, record { board = board; is_board = given hex bytes run board run_file ready; prints = adds.1 }, adds.2)
+
+-- so far as such a session goes, it is the beginning of that answer
 
 begun : (hex : Bool) (bytes run typed text : List ℕ) (board : BoardState) (run_file : RunFile) → IsReady hex bytes run board run_file → BeginsTranscript (session_about board) (input_lines typed) text → BeginsSession hex bytes run typed text
-begun hex bytes run typed text board run_file ready begins = record {
-  board = board;
-  is_board = record {
-    image = ready.image;
-    gives = ready.gives;
-    run_file = run_file;
-    says = ready.says;
-    plain = ready.start.plain;
-    changes = ready.start.changes;
-    trail = ready.start.trail;
-  };
-  begins = begins;
-}
+begun hex bytes run typed text board run_file ready begins =
+    record { board = board; is_board = given hex bytes run board run_file ready; begins = begins }
 
 replies : (file said input old new : Option (List ℕ)) (hex : Bool) (board : BoardState) (run_file : RunFile)
     → IfSome file (λ bytes. IfSome said (λ run. IsReady hex bytes run board run_file))

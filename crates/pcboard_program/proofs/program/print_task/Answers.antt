@@ -4,7 +4,7 @@ use Rattle.std.proofs.lemmas.Result.{on_ok_weaker}
 use Rattle.pcboard_program.specs.Answer.{PrintsTask}
 use Rattle.pcboard_program.specs.Refusal.{PrintsReplies}
 use Rattle.pcboard_program.specs.Unanswered.{WhereRefused}
-use Rattle.pcboard_program.proofs.Tasks.{printed_run, replies_withheld}
+use Rattle.pcboard_program.proofs.Tasks.{printed_run, printed_session, replies_withheld}
 use Rattle.pcboard_program.proofs.program.print_task.Goals as goal
 
 pub returns-in_ok-board-in-Run-clause-printed : goal.returns-in_ok-board-in-Run-clause-printed
@@ -24,3 +24,13 @@ returns-in_ok-board-in-Debug-clause-withheld g c =
     subst (λ task. IfErr c.print_session.result (WhereRefused (new ≡ old ⊎ PrintsReplies task files input old new))) (sym c.in-Debug.is)
     (replies_withheld c.print_session.result (files c.in-Debug.file.now) (files c.in-Debug.run'.now) input old new c.in-Debug.hex c.in_ok-board-in-Debug.board c.in_ok-board-in-Debug.field-0-1
     c.in_ok-board-in-Debug.ensures.ready c.print_session.ensures.cut)
+
+pub returns-in_ok-board-in-Debug-clause-printed : goal.returns-in_ok-board-in-Debug-clause-printed
+returns-in_ok-board-in-Debug-clause-printed g c =
+    let files = g.F.Opener.file_bytes c.args.files.now in
+    let input = g.I.ByteInput.remaining c.args.input.now in
+    let old = g.O.Write.contents c.args.out.now in
+    let new = g.O.Write.contents c.print_session.new.out in
+    subst (λ task. OnOk c.print_session.result (PrintsTask task files input old new)) (sym c.in-Debug.is)
+    (on_ok_weaker c.print_session.result (printed_session (files c.in-Debug.file.now) (files c.in-Debug.run'.now) input old new c.in-Debug.hex c.in_ok-board-in-Debug.board c.in_ok-board-in-Debug.field-0-1
+    c.in_ok-board-in-Debug.ensures.ready) c.print_session.ensures.transcript)
