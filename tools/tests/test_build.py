@@ -1,13 +1,12 @@
 """tools/build and the launcher, over a repository of two crates and an `rt` that only writes what a build leaves."""
 import contextlib
-import importlib.machinery
-import importlib.util
 import io
 import os
 import shutil
 import subprocess
 
-from tests.support import TOOLS, TOP, ToolCase
+from board import building
+from tests.support import TOP, ToolCase
 
 # It leaves what was to be built; a program, which the linker makes, is a script that tells how it was called.
 RATTLE = r"""#!/bin/sh
@@ -26,7 +25,8 @@ class Build(ToolCase):
     def setUp(self) -> None:
         super().setUp()
         os.makedirs(f'{self.room}/top/tools/board')
-        for name in ('pcboard', 'tools/build', 'tools/board/__init__.py', 'tools/board/crates.py'):
+        for name in ('pcboard', 'tools/build', 'tools/board/__init__.py', 'tools/board/building.py',
+                     'tools/board/crates.py'):
             shutil.copy(f'{TOP}/{name}', f'{self.room}/top/{name}')
         for name in ('low', 'pcboard', 'other'):
             os.makedirs(f'{self.room}/top/crates/{name}/src')
@@ -95,15 +95,10 @@ class Build(ToolCase):
         self.assertRegex(ran.stderr, r'the build failed; the end of .*\n(.*\n)*not proved: .*/crates/low\n')
 
     def test_a_long_silence_is_broken(self) -> None:
-        loader = importlib.machinery.SourceFileLoader('build', f'{TOOLS}/build')
-        spec = importlib.util.spec_from_loader('build', loader)
-        assert spec
-        build = importlib.util.module_from_spec(spec)
-        loader.exec_module(build)
-        progress = build.Progress('pcboard', 37)
+        progress = building.Progress('pcboard', 37)
         told = io.StringIO()
         with contextlib.redirect_stderr(told):
             progress.stay_in_touch(['isa', 'board'])
-            progress.told -= build.QUIET_SECONDS
+            progress.told -= building.QUIET_SECONDS
             progress.stay_in_touch(['isa', 'board'])
         self.assertEqual(told.getvalue(), 'pcboard: proving board, isa; 0 of 37 crates, 0 s so far\n')

@@ -1,0 +1,254 @@
+"""Proving and building crates side by side, on copies of them that are kept from time to time.
+
+Libraries are kept as `rt ci` keeps them, without their proofs, which each crate above would have to load: that takes half the
+time of `rt lib`. What prints here goes to standard error."""
+import concurrent.futures as futures
+import fcntl
+import filecmp
+import hashlib
+import os
+import shutil
+import signal
+import subprocess
+import sys
+import threading
+import time
+
+from board.crates import KIT, TOP, Crates
+
+CACHE = os.environ.get('XDG_CACHE_HOME') or os.path.expanduser('~/.cache')
+STAGE = f'{CACHE}/zebludor/{hashlib.sha256(TOP.encode()).hexdigest()[:12]}'
+LOG = f'{STAGE}/build.log'
+MEMORY_OF_A_PROOF = 3 << 30
+SHOWN_LINES = 25
+TIMES = f'{STAGE}/times'  # the seconds of the last build from nothing, and its lanes
+QUIET_SECONDS = 8
+# Of a build from nothing on four processors: what a lane proves in a second, and what the compilation takes behind it.
+BYTES_A_SECOND, COMPILATION_SECONDS = 800, 110
+PARTS = ('src', 'specs', 'proofs')  # of a crate: what its library is made of
+
+
+def copy_new(source, target):
+    """Makes a folder's copy the same as the folder, but for what was built there."""
+    os.makedirs(target, exist_ok=True)
+    names = [it for it in os.listdir(source) if it != 'out']
+    for name in set(os.listdir(target)) - {*names, 'out', 'BUILD.bazel'}:
+        path = f'{target}/{name}'
+        shutil.rmtree(path) if os.path.isdir(path) else os.remove(path)
+    for name in names:
+        old, new = f'{source}/{name}', f'{target}/{name}'
+        if os.path.isdir(old):
+            copy_new(old, new)
+        elif not os.path.exists(new) or not filecmp.cmp(old, new, shallow=False):
+            shutil.copyfile(old, new)
+
+
+def stage(names):
+    """Copies the crates, and answers the copies."""
+    for name in names:
+        copy_new(f'{TOP}/crates/{name}', f'{STAGE}/crates/{name}')
+    shutil.copyfile(f'{TOP}/crates.txt', f'{STAGE}/crates.txt')
+    return Crates(STAGE)
+
+
+def lanes():
+    """How many proofs fit side by side."""
+    fixed = os.environ.get('RT_JOBS', '')
+    if fixed.isdigit() and int(fixed):
+        return int(fixed)
+    with open('/proc/meminfo', encoding='ascii') as lines:
+        free = next(int(line.split()[1]) << 10 for line in lines if line.startswith('MemAvailable:'))
+    return max(1, min(len(os.sched_getaffinity(0)), free // MEMORY_OF_A_PROOF))
+
+
+def folders(names, top=TOP):
+    """The folders of these crates' sources, definitions and proofs."""
+    return [folder for name in names for part in PARTS for folder, _, _ in os.walk(f'{top}/crates/{name}/{part}')]
+
+
+def files(names, top=TOP):
+    """The files in them."""
+    inside = [f'{folder}/{name}' for folder in folders(names, top) for name in os.listdir(folder)]
+    return [path for path in inside if path.endswith(('.rt', '.antt'))]
+
+
+def sources(names):
+    """What a program is made of: these folders, which change where a file comes or goes, and these files."""
+    return [f'{TOP}/crates.txt', *folders(names), *files(names)]
+
+
+def size(names):
+    return sum(map(os.path.getsize, files(names)))
+
+
+def estimate(names):
+    """About how many seconds a build takes, from nothing."""
+    count = lanes()
+    try:
+        with open(TIMES, encoding='ascii') as text:
+            seconds, before = map(int, text.read().split())
+        return seconds * before // count
+    except (OSError, ValueError):
+        return size(names) // (BYTES_A_SECOND * count) + COMPILATION_SECONDS
+
+
+class Progress:
+    """What standard error tells."""
+
+    def __init__(self, program, count):
+        self.program, self.count, self.done, self.began = program, count, 0, time.time()
+        self.renews = sys.stderr.isatty()
+        self.told = self.began
+
+    def tell(self, text, stays=True):
+        begin, end = ('\r\033[K', '\n' if stays else '') if self.renews else ('', '\n')
+        print(f'{begin}{self.program}: {text}', end=end, file=sys.stderr, flush=True)
+        self.told = time.time()
+
+    def proved(self, name):
+        self.done += 1
+        self.tell(f'crate {self.done} of {self.count}: {name}, {self.seconds()} s so far', stays=False)
+
+    def stay_in_touch(self, names):
+        """Tells what is at work, where nothing was told for some seconds."""
+        if time.time() - self.told >= QUIET_SECONDS:
+            what = f'proving {", ".join(sorted(names))}'
+            self.tell(f'{what}; {self.done} of {self.count} crates, {self.seconds()} s so far', stays=False)
+
+    def seconds(self):
+        return int(time.time() - self.began)
+
+
+class Work:
+    """Commands side by side, each in a session of its own, so that it can be stopped with all that it started."""
+
+    def __init__(self, log):
+        self.log, self.lock, self.running = log, threading.Lock(), set()
+
+    def run(self, words, folder):
+        """Runs a command to its end. What it prints goes to the log. Returns its status."""
+        process = subprocess.Popen(words, cwd=folder, stdin=subprocess.DEVNULL, stdout=subprocess.PIPE,
+                                   stderr=subprocess.STDOUT, text=True, errors='replace', start_new_session=True)
+        self.running.add(process)
+        printed = process.communicate()[0]
+        self.running.discard(process)
+        with self.lock:
+            self.log.write(f'== {os.path.basename(folder)}: {" ".join(words)}\n{printed}')
+            self.log.flush()
+        return process.returncode
+
+    def stop(self):
+        for process in list(self.running):
+            os.killpg(process.pid, signal.SIGTERM)
+
+
+def ways(below):
+    """How much there is to prove from each crate on up to the program, on the longest way."""
+    above = {name: [other for other in below if name in below[other]] for name in below}
+
+    def way(name):
+        if name not in found:
+            found[name] = size([name]) + max(map(way, above[name]), default=0)
+        return found[name]
+
+    found = {}
+    return {name: way(name) for name in below}
+
+
+def stamp(crates, name, known):
+    """A sum of all that a crate is made of: the kit, its line, its files, and those below it."""
+    if name not in known:
+        made_of = hashlib.sha256(crates.lines[name].encode())
+        with open(f'{KIT}/WHAT', 'rb') as kit:
+            made_of.update(kit.read())
+        for path in sorted(files([name], crates.top)):
+            with open(path, 'rb') as text:
+                made_of.update(f'{os.path.relpath(path, crates.top)}\0'.encode() + text.read())
+        for below in sorted(crates.below(name) - {name}):
+            made_of.update(stamp(crates, below, known).encode())
+        known[name] = made_of.hexdigest()
+    return known[name]
+
+
+def is_kept(path, made_of):
+    try:
+        with open(path, encoding='ascii') as text:
+            return text.read() == made_of
+    except OSError:
+        return False
+
+
+def prove(crates, name, jobs, made_of, work):
+    """Proves a crate and builds it, where that isn't kept. Returns the status."""
+    folder = crates.folder(name)
+    kept = f'{folder}/out/made_of'
+    if is_kept(kept, made_of):
+        return 0
+    shutil.rmtree(f'{folder}/out', ignore_errors=True)
+    os.makedirs(f'{folder}/out/rlib')
+    status = work.run(crates.command(name, jobs), folder)
+    if status == -signal.SIGKILL and jobs > 1:  # most likely for memory
+        status = work.run(crates.command(name, 1), folder)
+    if status == 0 and crates.is_program(name):
+        status = work.run(crates.link(name), folder)
+    if status == 0:
+        with open(kept, 'w', encoding='ascii') as to:
+            to.write(made_of)
+    return status
+
+
+def build_all(crates, names, work, progress):
+    """Proves and builds these crates, and so all that they stand on has to be among them: each once those that it names
+    stand, those on the longest way first, and what all else waits for with a job for each processor. Whether all could be
+    built."""
+    count, done, running, known = lanes(), set(), {}, {}
+    below = {name: set(crates.named[name]) & names for name in names}
+    to_do, way = set(names), ways(below)
+    with futures.ThreadPoolExecutor(count) as pool:
+        try:
+            while to_do or running:
+                ready = sorted((name for name in to_do if below[name] <= done), key=way.get, reverse=True)
+                longest = max(map(way.get, [*ready, *running.values()]), default=0)
+                share = max(1, count // max(1, len(ready) + len(running)))
+                for name in ready[:count - len(running)]:
+                    to_do.discard(name)
+                    jobs = count if way[name] == longest else share
+                    running[pool.submit(prove, crates, name, jobs, stamp(crates, name, known), work)] = name
+                for future in futures.wait(running, 1, futures.FIRST_COMPLETED)[0]:
+                    name = running.pop(future)
+                    if future.result():
+                        return False
+                    done.add(name)
+                    progress.proved(name)
+                progress.stay_in_touch(running.values())
+        finally:
+            work.stop()
+    return True
+
+
+def hand_out(crates, target):
+    """Puts what was built into the repository, and beside a program what it was made of."""
+    made = os.path.basename(crates.made(target)).removesuffix('.o')
+    to = f'{TOP}/crates/{target}/out/{made}'
+    os.makedirs(os.path.dirname(to), exist_ok=True)
+    shutil.copy(f'{crates.folder(target)}/out/{made}', f'{to}.new')
+    os.replace(f'{to}.new', to)
+    if crates.is_program(target):
+        list_sources(f'{to}.sources', crates.below(target))
+
+
+def list_sources(path, crates):
+    """Lists them for the launcher, where `find` can read such a list: it needn't look for them then."""
+    with open(path, 'w', encoding='utf-8') as text:
+        text.write(''.join(f'{it}\0' for it in sources(crates)))
+    if subprocess.run(['find', '-files0-from', path, '-maxdepth', '0', '-quit'], capture_output=True, check=False).returncode:
+        os.remove(path)
+
+
+def lock(log, progress):
+    """Waits until no other build is at work here."""
+    try:
+        fcntl.flock(log, fcntl.LOCK_EX | fcntl.LOCK_NB)
+    except BlockingIOError:
+        progress.tell('waiting for another build of it')
+        fcntl.flock(log, fcntl.LOCK_EX)
