@@ -6,6 +6,7 @@
 pub mod address;
 pub mod bits;
 pub mod bytes;
+pub mod choice;
 pub mod clock;
 pub mod digits;
 pub mod image;

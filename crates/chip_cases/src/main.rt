@@ -35,7 +35,8 @@
 //! `counter`, counter 0 of an 8253 at power-on, its case in parts parted by `|`: first operations, `Cxx` (a control word),
 //! `Wxx` (a byte written), `Rxx` (a byte read), `G0` and `G1` (its gate), `Tn` (n ticks, decimal), `P` (none); then
 //! `OUT COUNT UNTIL` (0 or 1; four digits as it reads; the ticks until OUT changes, decimal, or `none`), and parts
-//! `TICKS OUT COUNT UNTIL`, each so many ticks (decimal) after the operations. `raster`, the one of an adapter at
+//! `TICKS OUT COUNT UNTIL`, each so many ticks (decimal) after the operations. `counter_8254`, the same of an 8254: there are
+//! operations `Bxx` (a read-back) too, and behind each COUNT the status as a read-back gives it. `raster`, the one of an adapter at
 //! power-on: parts `CLOCKS STATUS UNTIL`, each so many clocks (decimal) after the one before.
 //!
 //! `mda`, a text adapter that goes on from case to case. A case is one command, its numbers hexadecimal: `new` (an
@@ -56,6 +57,7 @@ mod words;
 use ahead::{follow_counter, follow_raster};
 use anyhow::{Context, Result, bail};
 use bench::follow;
+use board_types::choice::TimerKind;
 use cases::judge_cases;
 use chips::Port;
 use mda_text::mda::Mda;
@@ -82,7 +84,8 @@ fn judge(mda: &mut Mda, alloc: Global, case: &str) -> Result<()> {
         "memory" => follow(&mut Memories::new(alloc), steps),
         "keys" => follow(&mut KeyCodes::new(alloc), steps),
         "words" => follow(&mut Words::new(), steps),
-        "counter" => follow_counter(steps),
+        "counter" => follow_counter(TimerKind::I8253, steps),
+        "counter_8254" => follow_counter(TimerKind::I8254, steps),
         "raster" => follow_raster(alloc, steps),
         "mda" => adapter::obey(mda, alloc, steps),
         _ => bail!("nothing has this name"),

@@ -12,13 +12,13 @@ use Rattle.pit8253.specs.declared.program.Mode.TheVariants.{TerminalCount, OneSh
 use Rattle.pit8253.specs.declared.program.Progress.{Progress}
 use Rattle.pit8253.specs.declared.program.Progress.TheVariants.{Awaited, Written, Loaded}
 use Rattle.pit8253.specs.Program.{modulus}
-use Rattle.pit8253.specs.Counter.{CounterState, is_loaded, out_at_load, after_load, after_count, after_countdown, after_rate_count, after_square_count, after_strobe_count, after_rest, after_tick, after_ticks}
+use Rattle.pit8253.specs.Counter.{CounterState, is_loaded, after_load, loads_less, after_square_load, after_due_load, after_count, after_countdown, after_rate_count, after_square_count, after_strobe_count, after_rest, after_tick, after_ticks}
 use Rattle.pit8253.specs.Laws.{size, ticks_left, Runs, after_fall, after_strobe_fall, after_rate_fall, half_left, after_half_fall}
-use Rattle.pit8253.specs.Ahead.{is_counting, after_rests, after_rate, half_ticks, after_turn, after_halves, after_square, after_counting, after_run, after_due_load}
+use Rattle.pit8253.specs.Ahead.{is_counting, after_rests, after_rate, half_ticks, after_turn, after_halves, after_square, after_counting, after_run}
 use Rattle.pit8253.proofs.Falls.{round_again, if_yes, if_no}
-use Rattle.pit8253.proofs.Counts.{differs, same, below, not_below, modulus_large, lengths}
+use Rattle.pit8253.proofs.Counts.{differs, same, below, not_below, lengths}
 use Rattle.pit8253.proofs.Ticking.{tick_counts}
-use Rattle.pit8253.proofs.Waves.{counts_down, counts_to_strobe, counts_period, counts_periods, counts_half, reloads_at_one, a_count_of_1}
+use Rattle.pit8253.proofs.Waves.{counts_down, counts_to_strobe, counts_period, counts_periods, counts_half, half_some, reloads_at_one, SquareLoad, square_loads, square_load_of_one, a_count_of_1}
 
 -- counts within their radices
 pub record Sound (c : CounterState) : Type 0 where
@@ -124,31 +124,24 @@ half_ends c runs mode gate = elim (one_or_other c.count) [
             ap (λ k. after_ticks c k) none ∙ iterate_zero after_tick c ∙ ap (λ k. after_half_fall c k) (sym none);
         end = ap (λ k. after_ticks c k) single ∙ iterate_more after_tick 0 c ∙ ap after_tick (iterate_zero after_tick c)
             ∙ reloads_at_one c runs mode gate one
-            ∙ ap (λ b. after_load c (if b || (c.newest == 1) then High else opposite c.out)) (sym (same c.count 1 one));
+            ∙ ap (λ b. after_square_load c (if b || (c.newest == 1) then High else opposite c.out)) (sym (same c.count 1 one));
         some = omega arith;
       }
   | inr other ↦
       let half : half_ticks c ≡ half_left c = if_no (c.count == 1) 1 (half_left c) (differs c.count 1 other) in
       let falls = counts_half c runs mode gate other in
       record {
-        within = λ n soon. falls.0 n (omega arith);
+        within = λ n soon. falls.0 n (subst (λ k. n < k) half soon);
         end = ap (λ k. after_ticks c k) half ∙ falls.1
-            ∙ ap (λ b. after_load c (if b || (c.newest == 1) then High else opposite c.out)) (sym (differs c.count 1 other));
-        some = half_some c runs other half;
+            ∙ ap (λ b. after_square_load c (if b || (c.newest == 1) then High else opposite c.out)) (sym (differs c.count 1 other));
+        some = subst (λ k. 0 < k) (sym half) (half_some c runs other);
       }
 ]
-  where
-    half_positive : (out : Line) (left : ℕ) → 2 ≤ left → 0 < (if is_high out then (left + 1) / 2 else left / 2)
-    half_positive High left two = omega arith
-    half_positive Low left two = omega arith
 
-    half_some : (c : CounterState) → Runs c → c.count ≢ 1 → half_ticks c ≡ half_left c → 0 < half_ticks c
-    half_some c runs other half =
-        let two : 2 ≤ ticks_left c = elim (lengths c.count_radix c.count runs.within).is [
-          | inl none ↦ omega (arith, none.1, modulus_large c.count_radix)
-          | inr more ↦ omega (arith, more.0, more.1)
-        ] in
-        subst (λ k. 0 < k) (sym half) (half_positive c.out (ticks_left c) two)
+-- the ticks of a half that is loaded
+loaded_half : (c : CounterState) (out : Line) → SquareLoad c out → half_ticks (after_square_load c out) ≡ (if is_high out then (size c + 1) / 2 else size c / 2)
+loaded_half c out load =
+    if_no ((after_square_load c out).count == 1) 1 (half_left (after_square_load c out)) (differs (after_square_load c out).count 1 load.other) ∙ load.half
 
 halves_of_one : (c : CounterState) → c.newest ≡ 1 → (n : ℕ) → after_halves (after_load c High) (n % size c) ≡ after_load c High
 unfolding after_halves
@@ -161,74 +154,82 @@ halves_of_one c one n =
     ∙ if_yes (nat_lt 0 (half_ticks d)) (after_half_fall d 0) (after_half_fall (after_turn d) (0 - half_ticks d)) (below 0 (half_ticks d) (omega arith))
 
 -- the turn of a half whose newest count isn't 1
-turn_of : (c : CounterState) (out : Line) → c.newest ≢ 1 → after_turn (after_load c out) ≡ after_load c (opposite out)
+turn_of : (c : CounterState) (out : Line) → SquareLoad c out → c.newest ≢ 1 → after_turn (after_square_load c out) ≡ after_square_load c (opposite out)
 unfolding after_turn
-turn_of c out other = ap (λ b. after_load c (if b || b then High else opposite out)) (differs c.newest 1 other)
+turn_of c out load other =
+    ap (λ b. after_square_load c (if b || (c.newest == 1) then High else opposite out)) (differs (after_square_load c out).count 1 load.other)
+    ∙ ap (λ b. after_square_load c (if b then High else opposite out)) (differs c.newest 1 other)
 
 -- the two halves of a period
-whole_period : (c : CounterState) (out : Line) → c.newest ≢ 1 → size c ≡ half_ticks (after_load c out) + half_ticks (after_load c (opposite out))
-whole_period c High other =
-    let no = differs c.newest 1 other in
-    let first : half_ticks (after_load c High) ≡ (size c + 1) / 2 = if_no (c.newest == 1) 1 ((size c + 1) / 2) no in
-    let second : half_ticks (after_load c Low) ≡ size c / 2 = if_no (c.newest == 1) 1 (size c / 2) no in
-    omega (arith, first, second)
-whole_period c Low other =
-    let no = differs c.newest 1 other in
-    let first : half_ticks (after_load c High) ≡ (size c + 1) / 2 = if_no (c.newest == 1) 1 ((size c + 1) / 2) no in
-    let second : half_ticks (after_load c Low) ≡ size c / 2 = if_no (c.newest == 1) 1 (size c / 2) no in
-    omega (arith, first, second)
-
-loaded_runs : (c : CounterState) (out : Line) → c.newest < modulus c.radix → Runs (after_load c out)
-loaded_runs c out within = record { loaded = refl; none_due = refl; within = within }
+whole_period : (c : CounterState) → c.newest < modulus c.radix → c.newest ≢ 1 → (out : Line) → size c ≡ half_ticks (after_square_load c out) + half_ticks (after_square_load c (opposite out))
+whole_period c within other High =
+    let first = loaded_half c High (square_loads c High within other) in
+    let second = loaded_half c Low (square_loads c Low within other) in
+    rw (first, second) (omega arith)
+whole_period c within other Low =
+    let first = loaded_half c High (square_loads c High within other) in
+    let second = loaded_half c Low (square_loads c Low within other) in
+    rw (first, second) (omega arith)
 
 opposite_twice : (out : Line) → opposite (opposite out) ≡ out
 opposite_twice High = refl
 opposite_twice Low = refl
 
-in_period : (c : CounterState) → c.mode ≡ SquareWave → c.gate ≡ High → c.newest < modulus c.radix → (out : Line) → c.newest ≢ 1 → (r : ℕ) → r < size c → after_ticks (after_load c out) r ≡ after_halves (after_load c out) r
+in_period : (c : CounterState) → c.mode ≡ SquareWave → c.gate ≡ High → c.newest < modulus c.radix → (out : Line) → c.newest ≢ 1 → (r : ℕ) → r < size c → after_ticks (after_square_load c out) r ≡ after_halves (after_square_load c out) r
 unfolding after_halves
 in_period c mode gate within out other r small =
-    let d : CounterState = after_load c out in
+    let d : CounterState = after_square_load c out in
+    let e : CounterState = after_square_load c (opposite out) in
     let half : ℕ = half_ticks d in
-    let first : HalfEnds d = half_ends d (loaded_runs c out within) mode gate in
-    let second : HalfEnds (after_load c (opposite out)) = half_ends (after_load c (opposite out)) (loaded_runs c (opposite out) within) mode gate in
-    let turns : after_turn d ≡ after_load c (opposite out) = turn_of c out other in
-    let whole : size c ≡ half + half_ticks (after_load c (opposite out)) = whole_period c out other in
+    let load : SquareLoad c out = square_loads c out within other in
+    let load_next : SquareLoad c (opposite out) = square_loads c (opposite out) within other in
+    let first : HalfEnds d = half_ends d load.runs mode gate in
+    let second : HalfEnds e = half_ends e load_next.runs mode gate in
+    let turns : after_turn d ≡ e = turn_of c out load other in
+    let whole : size c ≡ half + half_ticks e = whole_period c within other out in
     elim (cases_lt r half) [
       | inl before ↦
           first.within r before
           ∙ sym (if_yes (nat_lt r half) (after_half_fall d r) (after_half_fall (after_turn d) (r - half)) (below r half before))
       | inr after ↦
-          let parts : r ≡ half + (r - half) = omega arith in
-          ap (λ k. after_ticks d k) parts ∙ iterate_add after_tick half (r - half) d
+          ap (λ k. after_ticks d k) (parted r half after) ∙ iterate_add after_tick half (r - half) d
           ∙ ap (λ s. after_ticks s (r - half)) (first.end ∙ turns)
-          ∙ second.within (r - half) (omega arith)
+          ∙ second.within (r - half) (rest_below r half (half_ticks e) (size c) after small whole)
           ∙ ap (λ s. after_half_fall s (r - half)) (sym turns)
           ∙ sym (if_no (nat_lt r half) (after_half_fall d r) (after_half_fall (after_turn d) (r - half)) (not_below r half after))
     ]
+  where
+    parted : (r half : ℕ) → half ≤ r → r ≡ half + (r - half)
+    parted r half after = omega arith
+
+    rest_below : (r half next all : ℕ) → half ≤ r → r < all → all ≡ half + next → r - half < next
+    rest_below r half next all after small whole = omega arith
 
 -- after a load, any number of ticks on
-halves_ahead : (c : CounterState) → c.mode ≡ SquareWave → c.gate ≡ High → c.newest < modulus c.radix → (out : Line) → (c.newest ≡ 1 → out ≡ High) → (n : ℕ) → after_ticks (after_load c out) n ≡ after_halves (after_load c out) (n % size c)
+halves_ahead : (c : CounterState) → c.mode ≡ SquareWave → c.gate ≡ High → c.newest < modulus c.radix → (out : Line) → (c.newest ≡ 1 → out ≡ High) → (n : ℕ) → after_ticks (after_square_load c out) n ≡ after_halves (after_square_load c out) (n % size c)
 halves_ahead c mode gate within out at_one n = elim (one_or_other c.newest) [
   | inl one ↦
-      subst (λ o. after_ticks (after_load c o) n ≡ after_halves (after_load c o) (n % size c)) (sym (at_one one))
+      let load : after_square_load c out ≡ after_load c High = ap (λ o. after_square_load c o) (at_one one) ∙ square_load_of_one c High one in
+      subst (λ d. after_ticks d n ≡ after_halves d (n % size c)) (sym load)
       (a_count_of_1 c (inr mode) one n ∙ sym (halves_of_one c one n))
   | inr other ↦ of_other c mode gate within out other n
 ]
   where
-    round : (c : CounterState) → c.mode ≡ SquareWave → c.gate ≡ High → c.newest < modulus c.radix → (out : Line) → c.newest ≢ 1 → after_ticks (after_load c out) (size c) ≡ after_load c out
+    round : (c : CounterState) → c.mode ≡ SquareWave → c.gate ≡ High → c.newest < modulus c.radix → (out : Line) → c.newest ≢ 1 → after_ticks (after_square_load c out) (size c) ≡ after_square_load c out
     round c mode gate within out other =
-        let d : CounterState = after_load c out in
-        let e : CounterState = after_load c (opposite out) in
-        let first : HalfEnds d = half_ends d (loaded_runs c out within) mode gate in
-        let second : HalfEnds e = half_ends e (loaded_runs c (opposite out) within) mode gate in
-        ap (λ k. after_ticks d k) (whole_period c out other) ∙ iterate_add after_tick (half_ticks d) (half_ticks e) d
-        ∙ ap (λ s. after_ticks s (half_ticks e)) (first.end ∙ turn_of c out other)
-        ∙ second.end ∙ turn_of c (opposite out) other ∙ ap (λ o. after_load c o) (opposite_twice out)
+        let d : CounterState = after_square_load c out in
+        let e : CounterState = after_square_load c (opposite out) in
+        let load : SquareLoad c out = square_loads c out within other in
+        let load_next : SquareLoad c (opposite out) = square_loads c (opposite out) within other in
+        let first : HalfEnds d = half_ends d load.runs mode gate in
+        let second : HalfEnds e = half_ends e load_next.runs mode gate in
+        ap (λ k. after_ticks d k) (whole_period c within other out) ∙ iterate_add after_tick (half_ticks d) (half_ticks e) d
+        ∙ ap (λ s. after_ticks s (half_ticks e)) (first.end ∙ turn_of c out load other)
+        ∙ second.end ∙ turn_of c (opposite out) load_next other ∙ ap (λ o. after_square_load c o) (opposite_twice out)
 
-    of_other : (c : CounterState) → c.mode ≡ SquareWave → c.gate ≡ High → c.newest < modulus c.radix → (out : Line) → c.newest ≢ 1 → (n : ℕ) → after_ticks (after_load c out) n ≡ after_halves (after_load c out) (n % size c)
+    of_other : (c : CounterState) → c.mode ≡ SquareWave → c.gate ≡ High → c.newest < modulus c.radix → (out : Line) → c.newest ≢ 1 → (n : ℕ) → after_ticks (after_square_load c out) n ≡ after_halves (after_square_load c out) (n % size c)
     of_other c mode gate within out other n =
-        round_again after_tick (size c) (after_load c out) (round c mode gate within out other) n
+        round_again after_tick (size c) (after_square_load c out) (round c mode gate within out other) n
         ∙ in_period c mode gate within out other (n % size c) (mod_below n (size c) (lengths c.radix c.newest within).some)
 
 square_ahead : (c : CounterState) → Sound c → Runs c → c.mode ≡ SquareWave → c.gate ≡ High → (n : ℕ) → after_ticks c n ≡ after_square c n
@@ -238,17 +239,19 @@ square_ahead c sound runs mode gate n =
     let ends : HalfEnds c = half_ends c runs mode gate in
     let out : Line = (if (c.count == 1) || (c.newest == 1) then High else opposite c.out) in
     let early : CounterState = after_half_fall c n in
-    let late : CounterState = after_halves (after_load c out) ((n - half) % size c) in
+    let late : CounterState = after_halves (after_square_load c out) ((n - half) % size c) in
     elim (cases_lt n half) [
       | inl before ↦ ends.within n before ∙ sym (if_yes (nat_lt n half) early late (below n half before))
       | inr after ↦
-          let parts : n ≡ half + (n - half) = omega arith in
-          ap (λ k. after_ticks c k) parts ∙ iterate_add after_tick half (n - half) c
+          ap (λ k. after_ticks c k) (parted n half after) ∙ iterate_add after_tick half (n - half) c
           ∙ ap (λ s. after_ticks s (n - half)) ends.end
           ∙ halves_ahead c mode gate sound.newest out (λ one. high_at_one (c.count == 1) (c.newest == 1) c.out (same c.newest 1 one)) (n - half)
           ∙ sym (if_no (nat_lt n half) early late (not_below n half after))
     ]
   where
+    parted : (n half : ℕ) → half ≤ n → n ≡ half + (n - half)
+    parted n half after = omega arith
+
     high_at_one : (a b : Bool) (out : Line) → b ≡ true → (if a || b then High else opposite out) ≡ High
     high_at_one true b out one = refl
     high_at_one false true out one = refl
@@ -296,7 +299,7 @@ runs_hardware c sound due mode n false rests =
 
 -- all modes
 
-by_mode : (c : CounterState) → Sound c → c.load_due ≡ false → (n : ℕ) (mode : Mode) → c.mode ≡ mode → after_ticks c n ≡ (if is_counting c mode then after_counting c mode n else after_rests c mode n)
+pub by_mode : (c : CounterState) → Sound c → c.load_due ≡ false → (n : ℕ) (mode : Mode) → c.mode ≡ mode → after_ticks c n ≡ (if is_counting c mode then after_counting c mode n else after_rests c mode n)
 by_mode c sound due n TerminalCount is = runs_terminal c sound due is n (is_counting c TerminalCount) refl
 by_mode c sound due n OneShot is = runs_one_shot c sound due is n (is_counting c OneShot) refl
 by_mode c sound due n RateGenerator is = runs_rate c sound due is n (is_counting c RateGenerator) refl
@@ -309,19 +312,34 @@ unfolding after_run
 runs_ahead c sound due n = by_mode c sound due n c.mode refl
 
 -- a load that is due takes a tick
-pub due_load : (c : CounterState) → c.load_due ≡ true → after_tick c ≡ after_due_load c
+pub due_load : (c : CounterState) → c.load_due ≡ true → after_tick c ≡ after_due_load c c.mode
 unfolding after_tick
-due_load c due = if_yes c.load_due (after_load c (out_at_load c.mode c.out)) (after_count c c.mode) due
+due_load c due = if_yes c.load_due (after_due_load c c.mode) (after_count c c.mode) due
 
-pub loaded_sound : (c : CounterState) → Sound c → Sound (after_due_load c)
-loaded_sound c sound = record { newest = sound.newest; count = sound.newest }
+-- what such a load makes: counts within their radices, and none due
+pub record DueLoad (c d : CounterState) : Type 0 where
+  pub sound : Sound d
+  pub none : d.load_due ≡ false
 
-pub a_tick_first : (c : CounterState) (n : ℕ) → c.load_due ≡ true → after_ticks c (1 + n) ≡ after_ticks (after_due_load c) n
+pub due_loaded : (c : CounterState) → Sound c → (mode : Mode) → DueLoad c (after_due_load c mode)
+due_loaded c sound TerminalCount = record { sound = record { newest = sound.newest; count = sound.newest }; none = refl }
+due_loaded c sound OneShot = record { sound = record { newest = sound.newest; count = sound.newest }; none = refl }
+due_loaded c sound RateGenerator = record { sound = record { newest = sound.newest; count = sound.newest }; none = refl }
+due_loaded c sound SquareWave = record { sound = record { newest = sound.newest; count = less (loads_less c) c.newest (modulus c.radix) sound.newest }; none = refl }
+  where
+    less : (b : Bool) (n m : ℕ) → n < m → (if b then n - 1 else n) < m
+    less true n m within = omega arith
+    less false n m within = within
+due_loaded c sound SoftwareStrobe = record { sound = record { newest = sound.newest; count = sound.newest }; none = refl }
+due_loaded c sound HardwareStrobe = record { sound = record { newest = sound.newest; count = sound.newest }; none = refl }
+
+pub a_tick_first : (c : CounterState) (n : ℕ) → c.load_due ≡ true → after_ticks c (1 + n) ≡ after_ticks (after_due_load c c.mode) n
 a_tick_first c n due =
     iterate_add after_tick 1 n c
     ∙ ap (λ s. after_ticks s n) (iterate_more after_tick 0 c ∙ ap after_tick (iterate_zero after_tick c) ∙ due_load c due)
 
-pub goes_ahead : (c : CounterState) (n : ℕ) → Sound c → c.load_due ≡ true → 1 ≤ n → after_ticks c n ≡ after_run (after_due_load c) (n - 1)
+pub goes_ahead : (c : CounterState) (n : ℕ) → Sound c → c.load_due ≡ true → 1 ≤ n → after_ticks c n ≡ after_run (after_due_load c c.mode) (n - 1)
 goes_ahead c n sound due some =
     let more : n ≡ 1 + (n - 1) = omega arith in
-    ap (λ k. after_ticks c k) more ∙ a_tick_first c (n - 1) due ∙ runs_ahead (after_due_load c) (loaded_sound c sound) refl (n - 1)
+    let load : DueLoad c (after_due_load c c.mode) = due_loaded c sound c.mode in
+    ap (λ k. after_ticks c k) more ∙ a_tick_first c (n - 1) due ∙ runs_ahead (after_due_load c c.mode) load.sound load.none (n - 1)

@@ -1,6 +1,6 @@
 -- What a latch shows while the counter ticks on, and how decimal digits count.
 use Rattle.std.proofs.Common.{◌≡◌, ℕ, ◌+◌, ◌*◌, ◌/◌, ◌%◌, Bool, true, false, if◌then◌else◌, ◌&&◌, refl, sym, ap, ◌∙◌, arith, None, Some, unwrap_or}
-use Rattle.std.specs.Prelude.{◌==◌, is_none}
+use Rattle.std.specs.Prelude.{◌==◌, is_none, is_some}
 use Rattle.board_types.specs.declared.line.Line.{Line}
 use Rattle.board_types.specs.declared.line.Line.TheVariants.{Low, High}
 use Rattle.pit8253.specs.declared.program.Mode.{Mode}
@@ -9,29 +9,31 @@ use Rattle.pit8253.specs.declared.program.Access.{Access}
 use Rattle.pit8253.specs.declared.program.Access.TheVariants.{LowThenHigh}
 use Rattle.board_types.specs.Lines.{is_high, opposite}
 use Rattle.pit8253.specs.Program.{digits_of, count_minus}
-use Rattle.pit8253.specs.Counter.{CounterState, after_load, out_at_load, is_loaded, after_count, after_countdown, after_rate_count, half_step, after_square_count, after_strobe_count, after_rest, after_tick, after_ticks, reading, after_latch, reads_high, next_byte, after_read_by, after_read}
+use Rattle.pit8253.specs.Counter.{CounterState, after_load, after_square_load, after_due_load, is_loaded, after_count, after_countdown, after_rate_count, half_step, after_square_count, after_strobe_count, after_rest, after_tick, after_ticks, reading, after_latch, reads_high, next_byte, after_read_by, after_read}
 use Rattle.pit8253.specs.Laws.{LatchHolds, LatchHoldsBoth, LatchIsHeld, ReadsBoth, CountsInDecimal}
 use Rattle.pit8253.proofs.Falls.{keeping}
 
 -- what ticks leave alone
-record Kept (c d : CounterState) : Type 0 where
-  latch : d.latch ≡ c.latch
-  access : d.access ≡ c.access
-  high_next : d.high_next ≡ c.high_next
+pub record Kept (c d : CounterState) : Type 0 where
+  pub kind : d.kind ≡ c.kind
+  pub latch : d.latch ≡ c.latch
+  pub status : d.status ≡ c.status
+  pub access : d.access ≡ c.access
+  pub high_next : d.high_next ≡ c.high_next
 
 choose : (b : Bool) (c x y : CounterState) → Kept c x → Kept c y → Kept c (if b then x else y)
 choose true c x y first second = first
 choose false c x y first second = second
 
 none_changed : (c : CounterState) → Kept c c
-none_changed c = record { latch = refl; access = refl; high_next = refl }
+none_changed c = record { kind = refl; latch = refl; status = refl; access = refl; high_next = refl }
 
 loaded_keeps : (out : Line) (c : CounterState) → Kept c (after_load c out)
-loaded_keeps out c = record { latch = refl; access = refl; high_next = refl }
+loaded_keeps out c = record { kind = refl; latch = refl; status = refl; access = refl; high_next = refl }
 
 -- a state with another count, strobe and OUT
 moved_keeps : (c : CounterState) (count : ℕ) (due : Bool) (out : Line) → Kept c (record c { count = count; strobe_due = due; out = out })
-moved_keeps c count due out = record { latch = refl; access = refl; high_next = refl }
+moved_keeps c count due out = record { kind = refl; latch = refl; status = refl; access = refl; high_next = refl }
 
 rate_keeps : (c : CounterState) → Kept c (after_rate_count c)
 rate_keeps c =
@@ -39,21 +41,33 @@ rate_keeps c =
     let out : Line = (if count == 1 then Low else c.out) in
     choose (c.count == 1) c (after_load c High) (record c { count = count; out = out }) (loaded_keeps High c) (moved_keeps c count c.strobe_due out)
 
+square_loaded_keeps : (out : Line) (c : CounterState) → Kept c (after_square_load c out)
+square_loaded_keeps out c = record { kind = refl; latch = refl; status = refl; access = refl; high_next = refl }
+
+due_loaded_keeps : (mode : Mode) (c : CounterState) → Kept c (after_due_load c mode)
+due_loaded_keeps TerminalCount c = loaded_keeps c.out c
+due_loaded_keeps OneShot c = loaded_keeps Low c
+due_loaded_keeps RateGenerator c = loaded_keeps High c
+due_loaded_keeps SquareWave c = square_loaded_keeps High c
+due_loaded_keeps SoftwareStrobe c = loaded_keeps High c
+due_loaded_keeps HardwareStrobe c = loaded_keeps High c
+
 square_keeps : (c : CounterState) → Kept c (after_square_count c)
 square_keeps c =
     let count : ℕ = count_minus c.count_radix c.count (half_step c.count c.out) in
+    let ends : Bool = (if c.keeps_zero then c.count else count) == 0 in
     let turn : Line = (if c.newest == 1 then High else opposite c.out) in
-    choose (c.count == 1) c (after_load c High) (if count == 0 then after_load c turn else record c { count = count }) (loaded_keeps High c)
-    (choose (count == 0) c (after_load c turn) (record c { count = count }) (loaded_keeps turn c) (moved_keeps c count c.strobe_due c.out))
+    choose (c.count == 1) c (after_square_load c High) (if ends then after_square_load c turn else record c { count = count }) (square_loaded_keeps High c)
+    (choose ends c (after_square_load c turn) (record c { count = count }) (square_loaded_keeps turn c) (moved_keeps c count c.strobe_due c.out))
 
 out_keeps : (c : CounterState) → Kept c (after_countdown c)
-out_keeps c = record { latch = refl; access = refl; high_next = refl }
+out_keeps c = record { kind = refl; latch = refl; status = refl; access = refl; high_next = refl }
 
 strobed_keeps : (c : CounterState) → Kept c (after_strobe_count c)
-strobed_keeps c = record { latch = refl; access = refl; high_next = refl }
+strobed_keeps c = record { kind = refl; latch = refl; status = refl; access = refl; high_next = refl }
 
 rested_keeps : (c : CounterState) → Kept c (after_rest c)
-rested_keeps c = record { latch = refl; access = refl; high_next = refl }
+rested_keeps c = record { kind = refl; latch = refl; status = refl; access = refl; high_next = refl }
 
 counted_keeps : (mode : Mode) (c : CounterState) → Kept c (after_count c mode)
 counted_keeps TerminalCount c = choose (is_loaded c.progress && is_high c.gate && is_none c.first_byte) c (after_countdown c) c (out_keeps c) (none_changed c)
@@ -65,16 +79,18 @@ counted_keeps HardwareStrobe c = choose (is_loaded c.progress) c (after_strobe_c
 
 tick_keeps : (c : CounterState) → Kept c (after_tick c)
 unfolding after_tick
-tick_keeps c = choose c.load_due c (after_load c (out_at_load c.mode c.out)) (after_count c c.mode) (loaded_keeps (out_at_load c.mode c.out) c) (counted_keeps c.mode c)
+tick_keeps c = choose c.load_due c (after_due_load c c.mode) (after_count c c.mode) (due_loaded_keeps c.mode c) (counted_keeps c.mode c)
 
 more_kept : (c d : CounterState) → Kept c d → Kept c (after_tick d)
 more_kept c d kept = record {
+  kind = (tick_keeps d).kind ∙ kept.kind;
   latch = (tick_keeps d).latch ∙ kept.latch;
+  status = (tick_keeps d).status ∙ kept.status;
   access = (tick_keeps d).access ∙ kept.access;
   high_next = (tick_keeps d).high_next ∙ kept.high_next;
 }
 
-ticks_keep : (c : CounterState) (n : ℕ) → Kept c (after_ticks c n)
+pub ticks_keep : (c : CounterState) (n : ℕ) → Kept c (after_ticks c n)
 ticks_keep c n = keeping after_tick (λ d. Kept c d) (more_kept c) n c (none_changed c)
 
 -- a latched counter shows what it showed
@@ -83,12 +99,16 @@ unfolding after_latch
 shown_held c k =
     ap (λ o. unwrap_or o (digits_of (after_ticks (after_latch c) k).count_radix (after_ticks (after_latch c) k).count)) (ticks_keep (after_latch c) k).latch
 
-byte_of : Access → Bool → ℕ → ℕ
+unfoldable pub byte_of : Access → Bool → ℕ → ℕ
 byte_of access high_next word = if reads_high access high_next then word / 256 else word % 256
 
-read_is : (c : CounterState) → next_byte c ≡ byte_of c.access c.high_next (reading c)
+pub read_is : (c : CounterState) → next_byte c ≡ unwrap_or c.status (byte_of c.access c.high_next (reading c))
 unfolding next_byte byte_of
 read_is c = refl
+
+-- with no status latched
+pub read_counts : (c : CounterState) → c.status ≡ None → next_byte c ≡ byte_of c.access c.high_next (reading c)
+read_counts c free = read_is c ∙ ap (λ o. unwrap_or o (byte_of c.access c.high_next (reading c))) free
 
 latched_access : (c : CounterState) → (after_latch c).access ≡ c.access
 unfolding after_latch
@@ -98,13 +118,19 @@ latched_high_next : (c : CounterState) → (after_latch c).high_next ≡ c.high_
 unfolding after_latch
 latched_high_next c = refl
 
-held_byte : (c : CounterState) (k : ℕ) → next_byte (after_ticks (after_latch c) k) ≡ byte_of c.access c.high_next (reading c)
+latched_status : (c : CounterState) → (after_latch c).status ≡ c.status
+unfolding after_latch
+latched_status c = refl
+
+held_byte : (c : CounterState) (k : ℕ) → next_byte (after_ticks (after_latch c) k) ≡ unwrap_or c.status (byte_of c.access c.high_next (reading c))
 held_byte c k =
     let kept = ticks_keep (after_latch c) k in
-    read_is (after_ticks (after_latch c) k)
-    ∙ ap (λ a. byte_of a (after_ticks (after_latch c) k).high_next (reading (after_ticks (after_latch c) k))) (kept.access ∙ latched_access c)
-    ∙ ap (λ h. byte_of c.access h (reading (after_ticks (after_latch c) k))) (kept.high_next ∙ latched_high_next c)
-    ∙ ap (λ w. byte_of c.access c.high_next w) (shown_held c k)
+    let later : CounterState = after_ticks (after_latch c) k in
+    read_is later
+    ∙ ap (λ o. unwrap_or o (byte_of later.access later.high_next (reading later))) (kept.status ∙ latched_status c)
+    ∙ ap (λ a. unwrap_or c.status (byte_of a later.high_next (reading later))) (kept.access ∙ latched_access c)
+    ∙ ap (λ h. unwrap_or c.status (byte_of c.access h (reading later))) (kept.high_next ∙ latched_high_next c)
+    ∙ ap (λ w. unwrap_or c.status (byte_of c.access c.high_next w)) (shown_held c k)
 
 pub latch_holds : LatchHolds
 latch_holds c k = held_byte c k ∙ sym (read_is c)
@@ -117,43 +143,49 @@ latch_is_held c k =
     ap (λ o. record (after_ticks (after_latch c) k) { latch = o }) same
 
 -- the first of two reads, and the second
-first_read : (c : CounterState) → c.access ≡ LowThenHigh → c.high_next ≡ false → after_read c ≡ record c { high_next = true }
+count_read : (c : CounterState) → c.status ≡ None → after_read c ≡ after_read_by c c.access
 unfolding after_read
-first_read c access low =
-    ap (λ a. after_read_by c a) access ∙ ap (λ h. if h then record c { latch = None; high_next = false } else record c { high_next = true }) low
+count_read c free = ap (λ o. if is_some o then record c { status = None } else after_read_by c c.access) free
 
-second_read : (c : CounterState) → c.access ≡ LowThenHigh → c.high_next ≡ true → after_read c ≡ record c { latch = None; high_next = false }
-unfolding after_read
-second_read c access high =
-    ap (λ a. after_read_by c a) access ∙ ap (λ h. if h then record c { latch = None; high_next = false } else record c { high_next = true }) high
+pub first_read : (c : CounterState) → c.status ≡ None → c.access ≡ LowThenHigh → c.high_next ≡ false → after_read c ≡ record c { high_next = true }
+first_read c free access low =
+    count_read c free ∙ ap (λ a. after_read_by c a) access
+    ∙ ap (λ h. if h then record c { latch = None; high_next = false } else record c { high_next = true }) low
+
+pub second_read : (c : CounterState) → c.status ≡ None → c.access ≡ LowThenHigh → c.high_next ≡ true → after_read c ≡ record c { latch = None; high_next = false }
+second_read c free access high =
+    count_read c free ∙ ap (λ a. after_read_by c a) access
+    ∙ ap (λ h. if h then record c { latch = None; high_next = false } else record c { high_next = true }) high
 
 pub latch_holds_both : LatchHoldsBoth
 unfolding byte_of after_latch
-latch_holds_both c access low free k m =
+latch_holds_both c access low free none k m =
     let word : reading c ≡ digits_of c.count_radix c.count = ap (λ o. unwrap_or o (digits_of c.count_radix c.count)) free in
     let one : CounterState = after_ticks (after_latch c) k in
     let kept : Kept (after_latch c) one = ticks_keep (after_latch c) k in
-    let read : after_read one ≡ record one { high_next = true } = first_read one (kept.access ∙ access) (kept.high_next ∙ low) in
+    let read : after_read one ≡ record one { high_next = true } = first_read one (kept.status ∙ none) (kept.access ∙ access) (kept.high_next ∙ low) in
     let two : CounterState = after_ticks (after_read one) m in
     let again : Kept (after_read one) two = ticks_keep (after_read one) m in
+    let two_status : two.status ≡ None = again.status ∙ ap (λ s. s.status) read ∙ kept.status ∙ none in
     let two_access : two.access ≡ LowThenHigh = again.access ∙ ap (λ s. s.access) read ∙ kept.access ∙ access in
     let two_high : two.high_next ≡ true = again.high_next ∙ ap (λ s. s.high_next) read in
     let two_latch : two.latch ≡ Some (reading c) = again.latch ∙ ap (λ s. s.latch) read ∙ kept.latch in
     let two_shown : reading two ≡ digits_of c.count_radix c.count = ap (λ o. unwrap_or o (digits_of two.count_radix two.count)) two_latch ∙ word in (
-      held_byte c k ∙ ap (λ a. byte_of a c.high_next (reading c)) access ∙ ap (λ h. byte_of LowThenHigh h (reading c)) low ∙ ap (λ w. w % 256) word,
-      read_is two ∙ ap (λ a. byte_of a two.high_next (reading two)) two_access ∙ ap (λ h. byte_of LowThenHigh h (reading two)) two_high ∙ ap (λ w. w / 256) two_shown,
-      ap (λ s. s.latch) (second_read two two_access two_high),
+      held_byte c k ∙ ap (λ o. unwrap_or o (byte_of c.access c.high_next (reading c))) none
+          ∙ ap (λ a. byte_of a c.high_next (reading c)) access ∙ ap (λ h. byte_of LowThenHigh h (reading c)) low ∙ ap (λ w. w % 256) word,
+      read_counts two two_status ∙ ap (λ a. byte_of a two.high_next (reading two)) two_access ∙ ap (λ h. byte_of LowThenHigh h (reading two)) two_high ∙ ap (λ w. w / 256) two_shown,
+      ap (λ s. s.latch) (second_read two two_status two_access two_high),
     )
 
 -- two reads of a running count
 pub reads_both : ReadsBoth
 unfolding byte_of
-reads_both c access low free =
+reads_both c access low free none =
     let word : reading c ≡ digits_of c.count_radix c.count = ap (λ o. unwrap_or o (digits_of c.count_radix c.count)) free in
-    let first : after_read c ≡ record c { high_next = true } = first_read c access low in (
-      read_is c ∙ ap (λ a. byte_of a c.high_next (reading c)) access ∙ ap (λ h. byte_of LowThenHigh h (reading c)) low ∙ ap (λ w. w % 256) word,
-      ap next_byte first ∙ read_is (record c { high_next = true }) ∙ ap (λ a. byte_of a true (reading c)) access ∙ ap (λ w. w / 256) word,
-      ap after_read first ∙ second_read (record c { high_next = true }) access refl ∙ ap (λ o. record c { latch = o; high_next = false }) (sym free) ∙ ap (λ h. record c { high_next = h }) (sym low),
+    let first : after_read c ≡ record c { high_next = true } = first_read c none access low in (
+      read_counts c none ∙ ap (λ a. byte_of a c.high_next (reading c)) access ∙ ap (λ h. byte_of LowThenHigh h (reading c)) low ∙ ap (λ w. w % 256) word,
+      ap next_byte first ∙ read_counts (record c { high_next = true }) none ∙ ap (λ a. byte_of a true (reading c)) access ∙ ap (λ w. w / 256) word,
+      ap after_read first ∙ second_read (record c { high_next = true }) none access refl ∙ ap (λ o. record c { latch = o; high_next = false }) (sym free) ∙ ap (λ h. record c { high_next = h }) (sym low),
     )
 
 pub counts_in_decimal : CountsInDecimal

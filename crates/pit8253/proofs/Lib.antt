@@ -1,7 +1,9 @@
 pub mod Counts
 pub mod Falls
+pub mod TwoKinds
 pub mod Latches
 pub mod PitTicks
+pub mod ReadBack
 pub mod Ticking
 pub mod Told
 pub mod Waits

@@ -1,9 +1,10 @@
 -- The definitions on worked values: control words, counts and reads, worked out by hand from the data sheet.
 use Rattle.std.proofs.Common.{◌≡◌, ℕ, List, [], ◌∷◌, refl}
 use Rattle.std.specs.Prelude.{⊤}
+use Rattle.board_types.specs.declared.choice.TimerKind.TheVariants.{I8253, I8254}
 use Rattle.board_types.specs.declared.line.Line.{Line}
 use Rattle.board_types.specs.declared.line.Line.TheVariants.{Low, High}
-use Rattle.pit8253.specs.Counter.{CounterState, after_control_word, after_gate, after_latch, after_read, after_tick, after_write, next_byte, power_on}
+use Rattle.pit8253.specs.Counter.{CounterState, after_control_word, after_gate, after_latch, after_status_latch, after_read_back, after_read, after_tick, after_write, next_byte, power_on}
 
 -- what happens to a counter
 data Event : Type 0 where
@@ -12,10 +13,11 @@ data Event : Type 0 where
   gate : Line → Event
   tick : Event
   read : Event
+  back : ℕ → Event
 
 -- what a row unfolds
 unfoldable on_events : ⊤
-unfolding after_control_word after_gate after_latch after_read after_tick after_write next_byte
+unfolding after_control_word after_gate after_latch after_status_latch after_read_back after_read after_tick after_write next_byte
 on_events = tt
 
 abbrev after_event : CounterState → Event → CounterState
@@ -24,15 +26,20 @@ after_event c (write byte) = after_write c byte
 after_event c (gate line) = after_gate c line
 after_event c tick = after_tick c
 after_event c read = after_read c
+after_event c (back word) = after_read_back c word
 
 -- the state after events, the oldest first
 abbrev after : CounterState → List Event → CounterState
 after c [] = c
 after c (event ∷ later) = after (after_event c event) later
 
--- counter 0 with its gate high
+-- counter 0 of an 8253 with its gate high
 started : List Event → CounterState
-started events = after (power_on High) events
+started events = after (power_on I8253 High) events
+
+-- the same of an 8254
+started_8254 : List Event → CounterState
+started_8254 events = after (power_on I8254 High) events
 
 -- "Read/Load": one byte alone is the low one, the high one, or the first of two; the other byte is 0
 low_alone : (started (control 0x10 ∷ write 0x34 ∷ tick ∷ [])).count ≡ 0x0034
@@ -175,3 +182,57 @@ gate_lifts = refl
 gate_begins_anew : (started (control 0x14 ∷ write 5 ∷ tick ∷ tick ∷ gate Low ∷ gate High ∷ tick ∷ [])).count ≡ 5
 unfolding started on_events
 gate_begins_anew = refl
+
+-- the 8254's "Read-Back Command": OUT, the null count, the access, the mode and the radix
+status_at_power_on : next_byte (started_8254 (back 0xE2 ∷ [])) ≡ 0x70
+unfolding started_8254 on_events
+status_at_power_on = refl
+
+status_before_load : next_byte (started_8254 (control 0x16 ∷ write 5 ∷ back 0xE8 ∷ [])) ≡ 0xD6
+unfolding started_8254 on_events
+status_before_load = refl
+
+status_after_load : next_byte (started_8254 (control 0x16 ∷ write 5 ∷ tick ∷ back 0xE8 ∷ [])) ≡ 0x96
+unfolding started_8254 on_events
+status_after_load = refl
+
+status_comes_first : next_byte (started_8254 (control 0x16 ∷ write 5 ∷ tick ∷ tick ∷ tick ∷ tick ∷ back 0xC8 ∷ [])) ≡ 0x16
+unfolding started_8254 on_events
+status_comes_first = refl
+
+count_comes_next : next_byte (started_8254 (control 0x16 ∷ write 5 ∷ tick ∷ tick ∷ tick ∷ tick ∷ back 0xC8 ∷ tick ∷ read ∷ [])) ≡ 0x04
+unfolding started_8254 on_events
+count_comes_next = refl
+
+no_status_in_an_8253 : next_byte (started (control 0x16 ∷ write 5 ∷ tick ∷ back 0xE8 ∷ [])) ≡ 0x05
+unfolding started on_events
+no_status_in_an_8253 = refl
+
+-- its "Mode 3": five ticks as 4, 2 and 0 with OUT high, and 4 and 2 with OUT low
+odd_loads_less : (started_8254 (control 0x16 ∷ write 5 ∷ tick ∷ [])).count ≡ 4
+unfolding started_8254 on_events
+odd_loads_less = refl
+
+odd_keeps_0 : (started_8254 (control 0x16 ∷ write 5 ∷ tick ∷ tick ∷ tick ∷ [])).count ≡ 0
+unfolding started_8254 on_events
+odd_keeps_0 = refl
+
+odd_keeps_high : (started_8254 (control 0x16 ∷ write 5 ∷ tick ∷ tick ∷ tick ∷ [])).out ≡ High
+unfolding started_8254 on_events
+odd_keeps_high = refl
+
+odd_turns_low : (started_8254 (control 0x16 ∷ write 5 ∷ tick ∷ tick ∷ tick ∷ tick ∷ [])).out ≡ Low
+unfolding started_8254 on_events
+odd_turns_low = refl
+
+odd_low_loads_less : (started_8254 (control 0x16 ∷ write 5 ∷ tick ∷ tick ∷ tick ∷ tick ∷ [])).count ≡ 4
+unfolding started_8254 on_events
+odd_low_loads_less = refl
+
+odd_low_falls : (started_8254 (control 0x16 ∷ write 5 ∷ tick ∷ tick ∷ tick ∷ tick ∷ tick ∷ [])).count ≡ 2
+unfolding started_8254 on_events
+odd_low_falls = refl
+
+odd_low_keeps_none : (started_8254 (control 0x16 ∷ write 5 ∷ tick ∷ tick ∷ tick ∷ tick ∷ tick ∷ tick ∷ [])).out ≡ High
+unfolding started_8254 on_events
+odd_low_keeps_none = refl

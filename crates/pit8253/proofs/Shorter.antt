@@ -9,7 +9,7 @@ use Rattle.board_types.specs.declared.line.Line.TheVariants.{Low, High}
 use Rattle.pit8253.specs.declared.program.Radix.{Radix}
 use Rattle.pit8253.specs.Program.{modulus}
 use Rattle.pit8253.specs.Counter.{CounterState}
-use Rattle.pit8253.specs.Laws.{count_after, ticks_left, after_fall, after_strobe_fall, after_rate_fall, half_left, after_half_fall}
+use Rattle.pit8253.specs.Laws.{count_after, ticks_left, after_fall, after_strobe_fall, after_rate_fall, falls_left, half_left, after_half_fall}
 use Rattle.pit8253.specs.Ahead.{after_rate, half_ticks, after_square}
 use Rattle.pit8253.proofs.Falls.{if_yes, if_no}
 use Rattle.pit8253.proofs.Counts.{differs, below, length_some, high_part}
@@ -67,9 +67,13 @@ divides_short c n within short =
 abbrev pub half_short : CounterState → ℕ
 half_short c = if is_high c.out then (c.count + 1) / 2 else c.count / 2
 
-half_some : (c : CounterState) → 0 < c.count → half_left c ≡ half_short c
+half_some : (c : CounterState) → 0 < c.count → falls_left c ≡ half_short c
 half_some c some =
-    ap (λ k. if is_high c.out then (k + 1) / 2 else k / 2) (length_some c.count_radix c.count some)
+    ap (λ k. if is_high c.out then (k + 1) / 2 else k / 2) (either c.keeps_zero c.count (ticks_left c) (length_some c.count_radix c.count some))
+  where
+    either : (b : Bool) (x y : ℕ) → y ≡ x → (if b then x else y) ≡ x
+    either true x y is = refl
+    either false x y is = is
 
 halves_zero : (b : Bool) (count : ℕ) → count ≤ 1 → (if b then (count + 1) / 2 else count / 2) ≤ 1
 halves_zero true count small = omega arith
@@ -86,7 +90,11 @@ squares_short c n some short =
       | inl is ↦ is
       | inr small ↦ let low : half_short c ≤ 1 = halves_zero (is_high c.out) c.count small in omega arith
     ] in
-    let half : half_left c ≡ half_short c = half_some c (omega arith) in
-    let ticks : half_ticks c ≡ half_short c = if_no (c.count == 1) 1 (half_left c) (differs c.count 1 (omega arith)) ∙ half in
-    if_yes (nat_lt n (half_ticks c)) (after_half_fall c n) _ (ap (λ k. nat_lt n k) ticks ∙ below n (half_short c) (omega arith))
-    ∙ ap (λ k. record c { count = k }) (if_no (n == 0) c.count (2 * (half_left c - n)) (differs n 0 (omega arith)) ∙ ap (λ k. 2 * (k - n)) half)
+    let falls : falls_left c ≡ half_short c = half_some c (omega arith) in
+    let ticks : half_ticks c ≡ half_left c = if_no (c.count == 1) 1 (half_left c) (differs c.count 1 (omega arith)) in
+    if_yes (nat_lt n (half_ticks c)) (after_half_fall c n) _
+    (ap (λ k. nat_lt n k) ticks ∙ below n (half_left c) (before n (falls_left c) (half_short c) (if c.keeps_zero then 1 else 0) falls short))
+    ∙ ap (λ k. record c { count = k }) (if_no (n == 0) c.count (2 * (falls_left c - n)) (differs n 0 (omega arith)) ∙ ap (λ k. 2 * (k - n)) falls)
+  where
+    before : (n falls half more : ℕ) → falls ≡ half → 0 < half - n → n < falls + more
+    before n falls half more is short = omega arith

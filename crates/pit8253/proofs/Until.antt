@@ -11,12 +11,12 @@ use Rattle.board_types.specs.declared.line.Line.TheVariants.{Low, High}
 use Rattle.pit8253.specs.declared.program.Mode.{Mode}
 use Rattle.pit8253.specs.declared.program.Mode.TheVariants.{TerminalCount, OneShot, RateGenerator, SquareWave, SoftwareStrobe, HardwareStrobe}
 use Rattle.pit8253.specs.Program.{modulus}
-use Rattle.pit8253.specs.Counter.{CounterState, after_load, after_rest, after_tick, after_ticks, out_of}
+use Rattle.pit8253.specs.Counter.{CounterState, after_load, after_square_load, after_due_load, after_rest, after_tick, after_ticks, out_of}
 use Rattle.pit8253.specs.Laws.{size, ticks_left, Runs, after_fall, after_strobe_fall, half_left}
-use Rattle.pit8253.specs.Ahead.{is_counting, half_ticks, after_turn, after_due_load, until_end, until_pulse, until_half, until_strobe, until_counting, until_rest, until_turn, a_tick_later, differ}
+use Rattle.pit8253.specs.Ahead.{is_counting, half_ticks, after_turn, until_end, until_pulse, until_half, until_strobe, until_counting, until_rest, until_turn, a_tick_later, differ}
 use Rattle.pit8253.proofs.Falls.{if_yes, if_no}
 use Rattle.pit8253.proofs.Counts.{differs, same, below, not_below, modulus_large, lengths}
-use Rattle.pit8253.proofs.Waves.{counts_period, a_count_of_1, mode_2, mode_3}
+use Rattle.pit8253.proofs.Waves.{counts_period, square_load_of_one, a_count_of_1, mode_2, mode_3}
 use Rattle.pit8253.proofs.Ahead.{Sound, one_or_other, runs_of, runs_terminal, runs_one_shot, runs_rate, runs_square, runs_software, runs_hardware, HalfEnds, half_ends, enabled, Enabled, a_tick_first}
 
 -- OUT turns first after so many ticks, or never
@@ -219,7 +219,7 @@ pulse_first c sound runs mode gate = by_out c.out refl
 
 -- mode 3
 
-turn_is : (c : CounterState) → after_turn c ≡ after_load c (if (c.count == 1) || (c.newest == 1) then High else opposite c.out)
+turn_is : (c : CounterState) → after_turn c ≡ after_square_load c (if (c.count == 1) || (c.newest == 1) then High else opposite c.out)
 unfolding after_turn
 turn_is c = refl
 
@@ -261,7 +261,7 @@ half_first c sound runs mode gate = by_out c.out refl
           ])
     ]
       where
-        loaded : (out : Line) → after_turn c ≡ after_load c out → (k : ℕ) → half ≤ k → (after_ticks c k).out ≡ (after_ticks (after_load c out) (k - half)).out
+        loaded : (out : Line) → after_turn c ≡ after_square_load c out → (k : ℕ) → half ≤ k → (after_ticks c k).out ≡ (after_ticks (after_square_load c out) (k - half)).out
         loaded out load k late =
             let parts : k ≡ half + (k - half) = omega arith in
             ap (λ s. s.out) (ap (λ j. after_ticks c j) parts ∙ iterate_add after_tick half (k - half) c ∙ ap (λ s. after_ticks s (k - half)) (ends.end ∙ load))
@@ -270,9 +270,9 @@ half_first c sound runs mode gate = by_out c.out refl
         stays is single = λ k. elim (cases_lt k half) [
           | inl before ↦ inside k before
           | inr late ↦
-              let load : after_turn c ≡ after_load c High =
-              turn_is c ∙ ap (λ b. after_load c (if b then High else opposite c.out)) (or_true (c.count == 1) (c.newest == 1) (same c.newest 1 single)) in
-              loaded High load k late ∙ ap (λ s. s.out) (a_count_of_1 c (inr mode) single (k - half)) ∙ sym is
+              let load : after_turn c ≡ after_square_load c High =
+              turn_is c ∙ ap (λ b. after_square_load c (if b then High else opposite c.out)) (or_true (c.count == 1) (c.newest == 1) (same c.newest 1 single)) in
+              loaded High load k late ∙ ap (λ d. (after_ticks d (k - half)).out) (square_load_of_one c High single) ∙ ap (λ s. s.out) (a_count_of_1 c (inr mode) single (k - half)) ∙ sym is
         ]
 
         at_end : c.out ≡ High → c.newest ≢ 1 → c.count ≢ 1 → Turns c (Some half)
@@ -284,8 +284,8 @@ half_first c sound runs mode gate = by_out c.out refl
         after_load_turns : c.out ≡ High → c.newest ≢ 1 → c.count ≡ 1 → Turns c (Some (1 + (size c + 1) / 2))
         after_load_turns is other one =
             let single : half ≡ 1 = if_yes (c.count == 1) 1 (half_left c) (same c.count 1 one) in
-            let load : after_turn c ≡ after_load c High =
-            turn_is c ∙ ap (λ b. after_load c (if b || (c.newest == 1) then High else opposite c.out)) (same c.count 1 one) in
+            let load : after_turn c ≡ after_square_load c High =
+            turn_is c ∙ ap (λ b. after_square_load c (if b || (c.newest == 1) then High else opposite c.out)) (same c.count 1 one) in
             let some : 1 ≤ size c = (lengths c.radix c.newest sound.newest).some in
             let long : size c ≢ 1 = size_other c sound other in
             turns_at c (1 + (size c + 1) / 2) High Low is not_high (omega arith)
@@ -299,7 +299,7 @@ half_first c sound runs mode gate = by_out c.out refl
             (let late : half ≤ 1 + (size c + 1) / 2 = omega arith in
             let at : 1 + (size c + 1) / 2 - half ≡ (size c + 1) / 2 = omega arith in
             let small : (size c + 1) / 2 % size c ≡ (size c + 1) / 2 = mod-eq_of_lt (omega arith) in
-            loaded High load (1 + (size c + 1) / 2) late ∙ ap (λ j. (after_ticks (after_load c High) j).out) at
+            loaded High load (1 + (size c + 1) / 2) late ∙ ap (λ j. (after_ticks (after_square_load c High) j).out) at
             ∙ mode_3 c mode gate sound.newest other ((size c + 1) / 2)
             ∙ if_no (nat_lt ((size c + 1) / 2 % size c) ((size c + 1) / 2)) High Low (not_below ((size c + 1) / 2 % size c) ((size c + 1) / 2) (omega arith)))
 
@@ -329,7 +329,7 @@ turns_first c sound due = turns_in c sound due c.mode refl (is_counting c c.mode
 
 -- a load that is due
 
-loads_then : (c : CounterState) (k : ℕ) → c.load_due ≡ true → (after_ticks c (1 + k)).out ≡ (after_ticks (after_due_load c) k).out
+loads_then : (c : CounterState) (k : ℕ) → c.load_due ≡ true → (after_ticks c (1 + k)).out ≡ (after_ticks (after_due_load c c.mode) k).out
 loads_then c k due = ap (λ s. s.out) (a_tick_first c k due)
 
 apart : (a b : Line) → differ a b ≡ true → b ≢ a
@@ -344,18 +344,18 @@ alike High High holds = refl
 alike Low High holds = cc
 alike High Low holds = cc
 
-pub turns_at_load : (c : CounterState) → c.load_due ≡ true → differ c.out (after_due_load c).out ≡ true → TurnsFirst after_ticks out_of c 1
+pub turns_at_load : (c : CounterState) → c.load_due ≡ true → differ c.out (after_due_load c c.mode).out ≡ true → TurnsFirst after_ticks out_of c 1
 turns_at_load c due apart_now =
-    turns_at c 1 c.out (after_due_load c).out refl (apart c.out (after_due_load c).out apart_now) (omega arith)
+    turns_at c 1 c.out (after_due_load c c.mode).out refl (apart c.out (after_due_load c c.mode).out apart_now) (omega arith)
     (λ k soon. ap (λ j. (after_ticks c j).out) (omega arith) ∙ ap (λ s. s.out) (iterate_zero after_tick c))
-    (loads_then c 0 due ∙ ap (λ s. s.out) (iterate_zero after_tick (after_due_load c)))
+    (loads_then c 0 due ∙ ap (λ s. s.out) (iterate_zero after_tick (after_due_load c c.mode)))
 
-pub turns_later : (c : CounterState) (turn : Option ℕ) → c.load_due ≡ true → differ c.out (after_due_load c).out ≡ false → Turns (after_due_load c) turn → Turns c (a_tick_later turn)
+pub turns_later : (c : CounterState) (turn : Option ℕ) → c.load_due ≡ true → differ c.out (after_due_load c c.mode).out ≡ false → Turns (after_due_load c c.mode) turn → Turns c (a_tick_later turn)
 turns_later c None due same_now never = λ k. elim (cases_lt k 1) [
   | inl soon_one ↦ ap (λ j. (after_ticks c j).out) (omega arith) ∙ ap (λ s. s.out) (iterate_zero after_tick c)
   | inr more ↦
       let parts : k ≡ 1 + (k - 1) = omega arith in
-      ap (λ j. (after_ticks c j).out) parts ∙ loads_then c (k - 1) due ∙ never (k - 1) ∙ alike c.out (after_due_load c).out same_now
+      ap (λ j. (after_ticks c j).out) parts ∙ loads_then c (k - 1) due ∙ never (k - 1) ∙ alike c.out (after_due_load c c.mode).out same_now
 ]
 turns_later c (Some n) due same_now first = record {
   some = omega arith;
@@ -363,7 +363,7 @@ turns_later c (Some n) due same_now first = record {
     | inl soon_one ↦ ap (λ j. (after_ticks c j).out) (omega arith) ∙ ap (λ s. s.out) (iterate_zero after_tick c)
     | inr more ↦
         let parts : k ≡ 1 + (k - 1) = omega arith in
-        ap (λ j. (after_ticks c j).out) parts ∙ loads_then c (k - 1) due ∙ first.before (k - 1) (omega arith) ∙ alike c.out (after_due_load c).out same_now
+        ap (λ j. (after_ticks c j).out) parts ∙ loads_then c (k - 1) due ∙ first.before (k - 1) (omega arith) ∙ alike c.out (after_due_load c c.mode).out same_now
   ];
-  turns = λ same_then. first.turns (sym (loads_then c n due) ∙ same_then ∙ sym (alike c.out (after_due_load c).out same_now));
+  turns = λ same_then. first.turns (sym (loads_then c n due) ∙ same_then ∙ sym (alike c.out (after_due_load c c.mode).out same_now));
 }

@@ -9,14 +9,14 @@ use Rattle.pit8253.specs.declared.program.Mode.TheVariants.{TerminalCount, OneSh
 use Rattle.pit8253.specs.declared.program.Progress.TheVariants.{Loaded}
 use Rattle.board_types.specs.Lines.{is_high, opposite}
 use Rattle.pit8253.specs.Program.{count_minus}
-use Rattle.pit8253.specs.Counter.{CounterState, after_load, out_at_load, is_loaded, after_count, after_countdown, after_rate_count, half_step, after_square_count, after_strobe_count, after_rest, after_tick, reading, after_full_count, is_awaited, rises, is_triggered, out_at_gate, after_gate}
+use Rattle.pit8253.specs.Counter.{CounterState, after_load, after_square_load, after_due_load, is_loaded, after_count, after_countdown, after_rate_count, half_step, after_square_count, after_strobe_count, after_rest, after_tick, reading, after_full_count, is_awaited, rises, is_triggered, out_at_gate, after_gate}
 use Rattle.pit8253.specs.Laws.{GateStops, GateSetsHigh, RiseReloads, GateStopsStrobe, FirstByteStops, ends_half, NewCountWaits, WaitsForLoad}
 use Rattle.pit8253.proofs.Falls.{keeping, if_no}
 use Rattle.pit8253.proofs.Counts.{differs}
 
 no_load : (c : CounterState) → c.load_due ≡ false → after_tick c ≡ after_count c c.mode
 unfolding after_tick
-no_load c none = ap (λ b. if b then after_load c (out_at_load c.mode c.out) else after_count c c.mode) none
+no_load c none = ap (λ b. if b then after_due_load c c.mode else after_count c c.mode) none
 
 stopped : (b : Bool) → b && false ≡ false
 stopped true = refl
@@ -91,12 +91,13 @@ square_waits High c word goes_on =
     let d : CounterState = record c { gate = High; load_due = false; progress = Loaded; mode = SquareWave } in
     let e : CounterState = after_full_count d word in
     let count : ℕ = count_minus c.count_radix c.count (half_step c.count c.out) in
-    let facts = neither (c.count == 1) (count == 0) goes_on in
-    if_no (c.count == 1) (after_load e High) (if count == 0 then after_load e (if e.newest == 1 then High else opposite c.out) else record e { count = count }) facts.0
-    ∙ if_no (count == 0) (after_load e (if e.newest == 1 then High else opposite c.out)) (record e { count = count }) facts.1
+    let ends : Bool = (if c.keeps_zero then c.count else count) == 0 in
+    let facts = neither (c.count == 1) ends goes_on in
+    if_no (c.count == 1) (after_square_load e High) (if ends then after_square_load e (if e.newest == 1 then High else opposite c.out) else record e { count = count }) facts.0
+    ∙ if_no ends (after_square_load e (if e.newest == 1 then High else opposite c.out)) (record e { count = count }) facts.1
     ∙ sym (ap (λ s. after_full_count s word)
-    (if_no (c.count == 1) (after_load d High) (if count == 0 then after_load d (if d.newest == 1 then High else opposite c.out) else record d { count = count }) facts.0
-    ∙ if_no (count == 0) (after_load d (if d.newest == 1 then High else opposite c.out)) (record d { count = count }) facts.1))
+    (if_no (c.count == 1) (after_square_load d High) (if ends then after_square_load d (if d.newest == 1 then High else opposite c.out) else record d { count = count }) facts.0
+    ∙ if_no ends (after_square_load d (if d.newest == 1 then High else opposite c.out)) (record d { count = count }) facts.1))
 
 -- the state with its known parts written out
 written_out : (c : CounterState) (mode : Mode) → c.load_due ≡ false → c.progress ≡ Loaded → c.mode ≡ mode → record c { load_due = false; progress = Loaded; mode = mode } ≡ c
@@ -174,17 +175,19 @@ or_true : (b : Bool) → (b || true) ≡ true
 or_true true = refl
 or_true false = refl
 
-reloads : (c : CounterState) → is_triggered c.mode ≡ true → ((out : Line) → out_at_load c.mode out ≡ High) → c.gate ≡ Low → is_awaited c.progress ≡ false → after_tick (after_gate c High) ≡ after_load (record c { gate = High }) High
+reloads : (c : CounterState) → is_triggered c.mode ≡ true → c.gate ≡ Low → is_awaited c.progress ≡ false → after_tick (after_gate c High) ≡ after_due_load (after_gate c High) c.mode
 unfolding after_gate after_tick
-reloads c triggers high low full =
+reloads c triggers low full =
     let d : CounterState = after_gate c High in
     let due : (c.load_due || (rises c.gate High && is_triggered c.mode && not (is_awaited c.progress))) ≡ true =
     ap (λ g. c.load_due || (rises g High && is_triggered c.mode && not (is_awaited c.progress))) low
     ∙ ap (λ t. c.load_due || (t && not (is_awaited c.progress))) triggers
     ∙ ap (λ a. c.load_due || not a) full ∙ or_true c.load_due in
-    ap (λ b. if b then after_load d (out_at_load d.mode d.out) else after_count d d.mode) due
-    ∙ ap (λ o. after_load d o) (high d.out)
+    ap (λ b. if b then after_due_load d d.mode else after_count d d.mode) due
 
 pub rise_reloads : RiseReloads
-rise_reloads c (inl rate) low full = reloads c (ap is_triggered rate) (λ out. ap (λ m. out_at_load m out) rate) low full
-rise_reloads c (inr square) low full = reloads c (ap is_triggered square) (λ out. ap (λ m. out_at_load m out) square) low full
+unfolding after_gate
+rise_reloads c low full = (
+  λ rate. reloads c (ap is_triggered rate) low full ∙ ap (λ m. after_due_load (after_gate c High) m) rate,
+  λ square. reloads c (ap is_triggered square) low full ∙ ap (λ m. after_due_load (after_gate c High) m) square,
+)

@@ -2,19 +2,20 @@
 use Rattle.std.proofs.Common.{◌≡◌, ◌≢◌, ℕ, zero, suc, ◌+◌, ◌-◌, ◌*◌, ◌/◌, ◌%◌, ◌<◌, ◌≤◌, Bool, true, false, if◌then◌else◌, not, ◌&&◌, refl, sym, ap, ◌∙◌, subst, arith, inl, inr, nat_lt}
 use Rattle.std.specs.Prelude.{◌==◌}
 use Rattle.std.proofs.lemmas.Bool.{cases_lt}
+use Rattle.std.proofs.lemmas.Bool.Decides.{nat_tests}
 use Rattle.std.proofs.lemmas.Nat.{mod_below}
 use Rattle.board_types.proofs.Iterate.{iterate_more, iterate_add, iterate_fixed}
-use Rattle.board_types.specs.Lines.{is_high}
+use Rattle.board_types.specs.Lines.{is_high, opposite}
 use Rattle.board_types.specs.declared.line.Line.{Line}
 use Rattle.board_types.specs.declared.line.Line.TheVariants.{Low, High}
 use Rattle.pit8253.specs.declared.program.Mode.TheVariants.{RateGenerator, SquareWave}
 use Rattle.pit8253.specs.declared.program.Radix.{Radix}
 use Rattle.pit8253.specs.Program.{modulus, count_minus}
-use Rattle.pit8253.specs.Counter.{CounterState, after_load, after_count, after_countdown, after_rate_count, half_step, after_square_count, after_strobe_count, after_tick, after_ticks}
-use Rattle.pit8253.specs.Laws.{length_of, size, ticks_left, Runs, count_after, after_fall, after_strobe_fall, after_rate_fall, half_left, after_half_fall, TicksAdd, CountsDown, CountsToStrobe, CountsPeriod, CountsHalf, ReloadsAtOne, CountsPeriods, CountsHalves, CountsOut, ShootsOnce, Divides, MakesSquares, StaysHigh, StrobesOnce, StrobesOnTrigger}
+use Rattle.pit8253.specs.Counter.{CounterState, is_8254, after_load, loads_less, after_square_load, after_count, after_countdown, after_rate_count, half_step, after_square_count, after_strobe_count, after_tick, after_ticks}
+use Rattle.pit8253.specs.Laws.{length_of, size, ticks_left, Runs, count_after, after_fall, after_strobe_fall, after_rate_fall, falls_left, half_left, after_half_fall, TicksAdd, CountsDown, CountsToStrobe, CountsPeriod, CountsHalf, ReloadsAtOne, CountsPeriods, CountsHalves, CountsOut, ShootsOnce, Divides, MakesSquares, StaysHigh, StrobesOnce, StrobesOnTrigger}
 use Rattle.pit8253.proofs.Falls.{by_steps, round_again, if_yes, if_no}
-use Rattle.pit8253.proofs.Counts.{differs, same, below, not_below, modulus_even, modulus_large, minus_within, minus_around, after_none, after_more, after_within, after_end, Lengths, lengths}
-use Rattle.pit8253.proofs.Ticking.{with_count, tick_terminal_count, tick_one_shot, tick_rate, tick_square, tick_software_strobe, tick_hardware_strobe, countdown, rate_falls, rate_reloads, square_falls, square_turns, strobe_count}
+use Rattle.pit8253.proofs.Counts.{differs, same, below, not_below, modulus_even, modulus_large, minus_within, minus_around, length_some, after_none, after_more, after_within, after_end, Lengths, lengths}
+use Rattle.pit8253.proofs.Ticking.{with_count, tick_terminal_count, tick_one_shot, tick_rate, tick_square, tick_software_strobe, tick_hardware_strobe, countdown, rate_falls, rate_reloads, ends_at, square_falls, square_turns, strobe_count}
 
 pub ticks_add : TicksAdd
 ticks_add k m c = sym (iterate_add after_tick k m c)
@@ -336,63 +337,229 @@ half_falls radix count len out other start (suc k) before =
     subst (λ n. HalfStep radix n out (2 * (len - (suc k + 1)))) (sym is)
     (record { other = omega arith; falls_to = falls_by radix now 2 (2 * (len - (suc k + 1))) out (even_step now out (omega arith)) (omega arith) })
 
+-- how a half goes on from each of its ticks, and how the last of them ends it
+record HalfGoes (c : CounterState) (fall len : ℕ) : Type 0 where
+  some : 0 < len
+  goes : (k : ℕ) → k + 1 < len → after_square_count (with_count c (if k == 0 then c.count else 2 * (fall - k)) c.strobe_due c.out) ≡ with_count c (2 * (fall - (k + 1))) c.strobe_due c.out
+  ends : (k : ℕ) → k + 1 ≡ len → after_square_count (with_count c (if k == 0 then c.count else 2 * (fall - k)) c.strobe_due c.out) ≡ after_square_load c (if c.newest == 1 then High else opposite c.out)
+
+-- a fall to 0 ends it
+goes_plain : (c : CounterState) → Runs c → c.count ≢ 1 → c.keeps_zero ≡ false → (fall : ℕ) → Half c.count_radix c.count c.out fall → HalfGoes c fall fall
+goes_plain c runs other plain fall start = record {
+  some = start.some;
+  goes = λ k before.
+      let now : ℕ = (if k == 0 then c.count else 2 * (fall - k)) in
+      let next : ℕ = 2 * (fall - (k + 1)) in
+      let step : HalfStep c.count_radix now c.out next = half_falls c.count_radix c.count fall c.out other start k (omega arith) in
+      square_falls c now next c.strobe_due c.out step.other step.falls_to
+      (ap (λ b. ends_at b now next) plain ∙ differs next 0 (omega arith));
+  ends = λ k last.
+      let now : ℕ = (if k == 0 then c.count else 2 * (fall - k)) in
+      let next : ℕ = 2 * (fall - (k + 1)) in
+      let step : HalfStep c.count_radix now c.out next = half_falls c.count_radix c.count fall c.out other start k (omega arith) in
+      square_turns c now next c.strobe_due c.out step.other step.falls_to
+      (ap (λ b. ends_at b now next) plain ∙ same next 0 (omega arith));
+}
+
+-- a kept 0 ends it
+goes_kept : (c : CounterState) → c.count ≢ 1 → 0 < c.count → c.keeps_zero ≡ true → (fall : ℕ) → Half c.count_radix c.count c.out fall → HalfGoes c fall (fall + 1)
+goes_kept c other some kept fall start = record {
+  some = omega arith;
+  goes = λ k before.
+      let now : ℕ = (if k == 0 then c.count else 2 * (fall - k)) in
+      let next : ℕ = 2 * (fall - (k + 1)) in
+      let step : HalfStep c.count_radix now c.out next = half_falls c.count_radix c.count fall c.out other start k (omega arith) in
+      square_falls c now next c.strobe_due c.out step.other step.falls_to
+      (ap (λ b. ends_at b now next) kept ∙ differs now 0 (above c.count fall k some (omega arith)));
+  ends = λ k last.
+      let now : ℕ = (if k == 0 then c.count else 2 * (fall - k)) in
+      let first : 0 < fall = start.some in
+      let none : now ≡ 0 = if_no (k == 0) c.count (2 * (fall - k)) (differs k 0 (omega arith)) ∙ omega arith in
+      square_turns c now (count_minus c.count_radix now (half_step now c.out)) c.strobe_due c.out (omega arith) refl
+      (ap (λ b. ends_at b now (count_minus c.count_radix now (half_step now c.out))) kept ∙ same now 0 none);
+}
+  where
+    above : (count fall k : ℕ) → 0 < count → k < fall → (if k == 0 then count else 2 * (fall - k)) ≢ 0
+    above count fall zero some before = omega arith
+    above count fall (suc k) some before =
+        let is : (if suc k == 0 then count else 2 * (fall - suc k)) ≡ 2 * (fall - suc k) = if_no (suc k == 0) count (2 * (fall - suc k)) (differs (suc k) 0 (omega arith)) in
+        omega arith
+
+-- a kept 0 that is there
+goes_at_zero : (c : CounterState) → c.count ≡ 0 → c.keeps_zero ≡ true → (fall : ℕ) → HalfGoes c fall 1
+goes_at_zero c none kept fall = record {
+  some = omega arith;
+  goes = λ k before. absurd (too_far k before);
+  ends = λ k last.
+      let now : ℕ = (if k == 0 then c.count else 2 * (fall - k)) in
+      let is : now ≡ 0 = if_yes (k == 0) c.count (2 * (fall - k)) (same k 0 (omega arith)) ∙ none in
+      square_turns c now (count_minus c.count_radix now (half_step now c.out)) c.strobe_due c.out (omega arith) refl
+      (ap (λ b. ends_at b now (count_minus c.count_radix now (half_step now c.out))) kept ∙ same now 0 is);
+}
+  where
+    too_far : (k : ℕ) → k + 1 < 1 → ⊥
+    too_far k before = omega arith
+
+-- the falls of a count that isn't 0, whether its 0 is kept or not
+fall_of : ℕ → Line → ℕ
+fall_of count out = if is_high out then (count + 1) / 2 else count / 2
+
+fall_none : (count : ℕ) (out : Line) → count ≡ 0 → fall_of count out ≡ 0
+unfolding fall_of
+fall_none count High none = omega arith
+fall_none count Low none = omega arith
+
+half_goes : (c : CounterState) → Runs c → c.count ≢ 1 → (keeps : Bool) → c.keeps_zero ≡ keeps → HalfGoes c (falls_left c) (half_left c)
+unfolding fall_of
+half_goes c runs other false plain =
+    let falls : falls_left c ≡ fall_of (ticks_left c) c.out = ap (λ b. fall_of (if b then c.count else ticks_left c) c.out) plain in
+    let len : half_left c ≡ falls_left c = ap (λ b. falls_left c + (if b then 1 else 0)) plain ∙ omega arith in
+    subst (λ n. HalfGoes c (falls_left c) n) (sym len)
+    (subst (λ n. HalfGoes c n n) (sym falls)
+    (goes_plain c runs other plain (fall_of (ticks_left c) c.out) (half c.count_radix c.count c.out runs.within other)))
+half_goes c runs other true kept =
+    let falls : falls_left c ≡ fall_of c.count c.out = ap (λ b. fall_of (if b then c.count else ticks_left c) c.out) kept in
+    let len : half_left c ≡ falls_left c + 1 = ap (λ b. falls_left c + (if b then 1 else 0)) kept in
+    subst (λ n. HalfGoes c (falls_left c) n) (sym len)
+    (subst (λ n. HalfGoes c n (n + 1)) (sym falls)
+    (elim (cases_lt 0 c.count) [
+      | inl some ↦
+          let length : ticks_left c ≡ c.count = length_some c.count_radix c.count some in
+          goes_kept c other some kept (fall_of c.count c.out)
+          (subst (λ n. Half c.count_radix c.count c.out (fall_of n c.out)) length (half c.count_radix c.count c.out runs.within other))
+      | inr none ↦
+          let nothing : c.count ≡ 0 = omega arith in
+          subst (λ n. HalfGoes c n (n + 1)) (sym (fall_none c.count c.out nothing))
+          (subst (λ n. HalfGoes c 0 n) (omega arith) (goes_at_zero c nothing kept 0))
+    ]))
+
+pub half_some : (c : CounterState) → Runs c → c.count ≢ 1 → 0 < half_left c
+half_some c runs other = (half_goes c runs other c.keeps_zero refl).some
+
 pub counts_half : CountsHalf
 counts_half c runs mode gate other =
     let rule = tick_square c runs mode gate in
-    let start : Half c.count_radix c.count c.out (half_left c) = half c.count_radix c.count c.out runs.within other in
+    let half_of : HalfGoes c (falls_left c) (half_left c) = half_goes c runs other c.keeps_zero refl in
     let last : ℕ = half_left c - 1 in
+    let whole : last + 1 ≡ half_left c = omega (arith, half_of.some) in
     let within : (n : ℕ) → n ≤ last → after_ticks c n ≡ after_half_fall c n =
     by_steps after_tick (after_half_fall c) c last refl (λ k before.
-    let now : ℕ = (if k == 0 then c.count else 2 * (half_left c - k)) in
-    let next : ℕ = 2 * (half_left c - (k + 1)) in
-    let step : HalfStep c.count_radix now c.out next = half_falls c.count_radix c.count (half_left c) c.out other start k (omega arith) in
-    rule now c.strobe_due c.out
-    ∙ square_falls c now next c.strobe_due c.out step.other step.falls_to (omega arith)
-    ∙ ap (λ m. with_count c m c.strobe_due c.out) (sym (if_no (k + 1 == 0) c.count next (differs (k + 1) 0 (omega arith))))) in
-    let now : ℕ = (if last == 0 then c.count else 2 * (half_left c - last)) in
-    let end : HalfStep c.count_radix now c.out (2 * (half_left c - (last + 1))) =
-    half_falls c.count_radix c.count (half_left c) c.out other start last (omega (arith, start.some)) in
-    let whole : half_left c ≡ last + 1 = omega (arith, start.some) in
-    let none : 2 * (half_left c - (last + 1)) ≡ 0 = omega arith in (
+    let next : ℕ = 2 * (falls_left c - (k + 1)) in
+    rule (if k == 0 then c.count else 2 * (falls_left c - k)) c.strobe_due c.out
+    ∙ half_of.goes k (omega arith)
+    ∙ ap (λ m. with_count c m c.strobe_due c.out) (sym (if_no (k + 1 == 0) c.count next (differs (k + 1) 0 (omega arith))))) in (
       λ n before. within n (omega arith),
-      ap (λ k. after_ticks c k) whole ∙ iterate_more after_tick last c ∙ ap after_tick (within last (omega arith))
-          ∙ rule now c.strobe_due c.out ∙ square_turns c now c.strobe_due c.out end.other (end.falls_to ∙ none),
+      ap (λ k. after_ticks c k) (sym whole) ∙ iterate_more after_tick last c ∙ ap after_tick (within last (omega arith))
+          ∙ rule (if last == 0 then c.count else 2 * (falls_left c - last)) c.strobe_due c.out ∙ half_of.ends last whole,
     )
 
 pub reloads_at_one : ReloadsAtOne
 reloads_at_one c runs mode gate one =
     tick_square c runs mode gate c.count c.strobe_due c.out ∙ ap (λ k. after_square_count (with_count c k c.strobe_due c.out)) one
 
+-- what mode 3 loads of a newest count other than 1: another count than 1, whose half has the ticks that the newest
+-- count gives it
+pub record SquareLoad (c : CounterState) (out : Line) : Type 0 where
+  pub runs : Runs (after_square_load c out)
+  pub other : (after_square_load c out).count ≢ 1
+  pub half : half_left (after_square_load c out) ≡ (if is_high out then (size c + 1) / 2 else size c / 2)
+
+-- an odd count above 1
+pub record Odd (n : ℕ) : Type 0 where
+  pub odd : n % 2 ≡ 1
+  pub other : n ≢ 1
+
+pub less_odd : (c : CounterState) → loads_less c ≡ true → Odd c.newest
+less_odd c less = by_tests (is_8254 c.kind) (c.newest % 2 == 1) (c.newest == 1) refl refl less
+  where
+    by_tests : (a o i : Bool) → (c.newest % 2 == 1) ≡ o → (c.newest == 1) ≡ i → (a && o && not i) ≡ true → Odd c.newest
+    by_tests false o i odd one holds = cc
+    by_tests true false i odd one holds = cc
+    by_tests true true true odd one holds = cc
+    by_tests true true false odd one holds = record { odd = grind (arith, nat_tests); other = λ is. unequal (sym (same c.newest 1 is) ∙ one) }
+      where
+        unequal : true ≢ false
+        unequal is = cc
+
+-- what is loaded, by whether it is less
+abbrev pub square_form : CounterState → Bool → Line → CounterState
+square_form c b out = record (after_load c out) { count = (if b then c.newest - 1 else c.newest); keeps_zero = b && is_high out }
+
+pub square_loads : (c : CounterState) (out : Line) → c.newest < modulus c.radix → c.newest ≢ 1 → SquareLoad c out
+square_loads c out within other = by_less (loads_less c) refl out
+  where
+    long : Lengths c.radix c.newest
+    long = lengths c.radix c.newest within
+
+    by_less : (b : Bool) → loads_less c ≡ b → (out : Line) → SquareLoad c out
+    by_less false whole High =
+        let is : after_square_load c High ≡ square_form c false High = ap (λ b. square_form c b High) whole in
+        record {
+          runs = record { loaded = refl; none_due = refl; within = subst (λ s. s.count < modulus c.radix) (sym is) within };
+          other = subst (λ s. s.count ≢ 1) (sym is) other;
+          half = ap half_left is ∙ omega arith;
+        }
+    by_less false whole Low =
+        let is : after_square_load c Low ≡ square_form c false Low = ap (λ b. square_form c b Low) whole in
+        record {
+          runs = record { loaded = refl; none_due = refl; within = subst (λ s. s.count < modulus c.radix) (sym is) within };
+          other = subst (λ s. s.count ≢ 1) (sym is) other;
+          half = ap half_left is ∙ omega arith;
+        }
+    by_less true less High =
+        let is : after_square_load c High ≡ square_form c true High = ap (λ b. square_form c b High) less in
+        let odd : Odd c.newest = less_odd c less in
+        let length : size c ≡ c.newest = length_some c.radix c.newest (omega (arith, odd.odd)) in
+        record {
+          runs = record { loaded = refl; none_due = refl; within = subst (λ s. s.count < modulus c.radix) (sym is) (omega arith) };
+          other = subst (λ s. s.count ≢ 1) (sym is) (omega (arith, odd.odd));
+          half = ap half_left is ∙ omega (arith, odd.odd, length);
+        }
+    by_less true less Low =
+        let is : after_square_load c Low ≡ square_form c true Low = ap (λ b. square_form c b Low) less in
+        let odd : Odd c.newest = less_odd c less in
+        let length : size c ≡ c.newest = length_some c.radix c.newest (omega (arith, odd.odd)) in
+        let length_less : length_of c.radix (c.newest - 1) ≡ c.newest - 1 = length_some c.radix (c.newest - 1) (omega (arith, odd.odd, odd.other)) in
+        record {
+          runs = record { loaded = refl; none_due = refl; within = subst (λ s. s.count < modulus c.radix) (sym is) (omega arith) };
+          other = subst (λ s. s.count ≢ 1) (sym is) (omega (arith, odd.odd));
+          half = ap half_left is ∙ omega (arith, odd.odd, length, length_less);
+        }
+
 pub counts_halves : CountsHalves
 counts_halves c mode gate within other n =
-    let first = counts_half (after_load c High) (loaded_runs c High within) mode gate other in
-    let second = counts_half (after_load c Low) (loaded_runs c Low within) mode gate other in
+    let load_high : SquareLoad c High = square_loads c High within other in
+    let load_low : SquareLoad c Low = square_loads c Low within other in
+    let first = counts_half (after_square_load c High) load_high.runs mode gate load_high.other in
+    let second = counts_half (after_square_load c Low) load_low.runs mode gate load_low.other in
     let high : ℕ = (size c + 1) / 2 in
-    let turn : after_ticks (after_load c High) high ≡ after_load c Low = first.1 ∙ ap (λ b. after_load c (if b then High else Low)) (differs c.newest 1 other) in
-    let back : after_ticks (after_load c Low) (size c / 2) ≡ after_load c High = second.1 ∙ ap (λ b. after_load c (if b then High else High)) (differs c.newest 1 other) in
+    let turn : after_ticks (after_square_load c High) high ≡ after_square_load c Low =
+    ap (λ k. after_ticks (after_square_load c High) k) (sym load_high.half) ∙ first.1 ∙ ap (λ b. after_square_load c (if b then High else Low)) (differs c.newest 1 other) in
+    let back : after_ticks (after_square_load c Low) (size c / 2) ≡ after_square_load c High =
+    ap (λ k. after_ticks (after_square_load c Low) k) (sym load_low.half) ∙ second.1 ∙ ap (λ b. after_square_load c (if b then High else High)) (differs c.newest 1 other) in
     let whole : size c ≡ high + size c / 2 = omega arith in
-    let period : after_ticks (after_load c High) (size c) ≡ after_load c High =
-    ap (λ k. after_ticks (after_load c High) k) whole ∙ iterate_add after_tick high (size c / 2) (after_load c High)
+    let period : after_ticks (after_square_load c High) (size c) ≡ after_square_load c High =
+    ap (λ k. after_ticks (after_square_load c High) k) whole ∙ iterate_add after_tick high (size c / 2) (after_square_load c High)
     ∙ ap (λ s. after_ticks s (size c / 2)) turn ∙ back in
     let k : ℕ = n % size c in
     let left : k < size c = mod_below n (size c) (lengths c.radix c.newest within).some in
-    round_again after_tick (size c) (after_load c High) period n
+    round_again after_tick (size c) (after_square_load c High) period n
     ∙ elim (cases_lt k high) [
       | inl in_first ↦
-          first.0 k in_first
-          ∙ sym (if_yes (nat_lt k high) (after_half_fall (after_load c High) k) (after_half_fall (after_load c Low) (k - high)) (below k high in_first))
+          first.0 k (subst (λ j. k < j) (sym load_high.half) in_first)
+          ∙ sym (if_yes (nat_lt k high) (after_half_fall (after_square_load c High) k) (after_half_fall (after_square_load c Low) (k - high)) (below k high in_first))
       | inr in_second ↦
           let parts : k ≡ high + (k - high) = omega arith in
-          ap (λ j. after_ticks (after_load c High) j) parts
-          ∙ iterate_add after_tick high (k - high) (after_load c High)
+          ap (λ j. after_ticks (after_square_load c High) j) parts
+          ∙ iterate_add after_tick high (k - high) (after_square_load c High)
           ∙ ap (λ s. after_ticks s (k - high)) turn
-          ∙ second.0 (k - high) (omega arith)
-          ∙ sym (if_no (nat_lt k high) (after_half_fall (after_load c High) k) (after_half_fall (after_load c Low) (k - high)) (not_below k high in_second))
+          ∙ second.0 (k - high) (subst (λ j. k - high < j) (sym load_low.half) (omega arith))
+          ∙ sym (if_no (nat_lt k high) (after_half_fall (after_square_load c High) k) (after_half_fall (after_square_load c Low) (k - high)) (not_below k high in_second))
     ]
 
 pub mode_3 : MakesSquares
 mode_3 c mode gate within other n =
-    ap (λ s. s.out) (counts_halves c mode gate within other n) ∙ level (nat_lt (n % size c) ((size c + 1) / 2)) (after_half_fall (after_load c High) (n % size c)) (after_half_fall (after_load c Low) (n % size c - (size c + 1) / 2)) refl refl
+    ap (λ s. s.out) (counts_halves c mode gate within other n) ∙ level (nat_lt (n % size c) ((size c + 1) / 2)) (after_half_fall (after_square_load c High) (n % size c)) (after_half_fall (after_square_load c Low) (n % size c - (size c + 1) / 2)) refl refl
   where
     level : (b : Bool) (x y : CounterState) → x.out ≡ High → y.out ≡ Low → (if b then x else y).out ≡ (if b then High else Low)
     level true x y high low = high
@@ -407,12 +574,24 @@ rate_of_one c mode one =
     ap (λ m. after_count d m) mode
     ∙ either (is_high c.gate) (after_rate_count d) d (rate_reloads d c.newest true High one)
 
+-- a 1 is loaded as it is
+pub square_load_of_one : (c : CounterState) (out : Line) → c.newest ≡ 1 → after_square_load c out ≡ after_load c out
+square_load_of_one c out one =
+    let whole : loads_less c ≡ false = ap (λ b. is_8254 c.kind && (c.newest % 2 == 1) && not b) (same c.newest 1 one) ∙ never (is_8254 c.kind) (c.newest % 2 == 1) in
+    ap (λ b. square_form c b out) whole
+  where
+    never : (a b : Bool) → (a && b && not true) ≡ false
+    never true true = refl
+    never true false = refl
+    never false b = refl
+
 square_of_one : (c : CounterState) → c.mode ≡ SquareWave → c.newest ≡ 1 → after_tick (after_load c High) ≡ after_load c High
 unfolding after_tick
 square_of_one c mode one =
     let d : CounterState = after_load c High in
     ap (λ m. after_count d m) mode
-    ∙ either (is_high c.gate) (after_square_count d) d (ap (λ k. after_square_count (with_count d k true High)) one)
+    ∙ either (is_high c.gate) (after_square_count d) d
+    (ap (λ k. after_square_count (with_count d k true High)) one ∙ square_load_of_one c High one)
 
 pub a_count_of_1 : StaysHigh
 a_count_of_1 c (inl rate) one n = iterate_fixed after_tick n (after_load c High) (rate_of_one c rate one)

@@ -7,7 +7,7 @@ use Rattle.board_types.specs.declared.line.Line.{Line}
 use Rattle.board_types.specs.declared.line.Line.TheVariants.{Low, High}
 use Rattle.pit8253.specs.declared.program.Mode.{Mode}
 use Rattle.pit8253.specs.declared.program.Mode.TheVariants.{TerminalCount, OneShot, RateGenerator, SquareWave, SoftwareStrobe, HardwareStrobe}
-use Rattle.pit8253.specs.Counter.{CounterState, is_loaded, out_at_load, after_load, after_rest}
+use Rattle.pit8253.specs.Counter.{CounterState, is_loaded, after_load, after_square_load, after_rest}
 use Rattle.pit8253.specs.Laws.{size, ticks_left, after_fall, after_strobe_fall, after_rate_fall, half_left, after_half_fall}
 
 -- whether a tick that loads nothing counts
@@ -40,7 +40,7 @@ half_ticks c = if c.count == 1 then 1 else half_left c
 
 -- that load: OUT turns, but at a count of 1 and for a newest count of 1, where it is then high
 unfoldable pub after_turn : CounterState → CounterState
-after_turn c = after_load c (if (c.count == 1) || (c.newest == 1) then High else opposite c.out)
+after_turn c = after_square_load c (if (c.count == 1) || (c.newest == 1) then High else opposite c.out)
 
 -- at most one turn
 unfoldable pub after_halves : CounterState → ℕ → CounterState
@@ -63,10 +63,6 @@ after_counting c HardwareStrobe n = after_strobe_fall c n
 -- n ticks of which none loads what a write or a trigger asked for
 unfoldable pub after_run : CounterState → ℕ → CounterState
 after_run c n = if is_counting c c.mode then after_counting c c.mode n else after_rests c c.mode n
-
--- the load that a write or a trigger asked for
-abbrev pub after_due_load : CounterState → CounterState
-after_due_load c = after_load c (out_at_load c.mode c.out)
 
 -- The ticks up to the first change of OUT, where no load is due.
 

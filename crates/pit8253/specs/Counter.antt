@@ -1,8 +1,11 @@
 -- One counter of the timer: its state, what a tick makes of it, and what the processor and the gate do to it
--- (Intel 8253 data sheet, "Mode Definition" and "Programming the 8253").
+-- (Intel 8253 data sheet, "Mode Definition" and "Programming the 8253"; Intel 8254 data sheet, "Read-Back Command" and
+-- "Mode 3").
 -- To be believed: public contracts say what they say by these definitions.
-use Rattle.std.specs.Prelude.{ℕ, ◌+◌, ◌*◌, ◌/◌, ◌%◌, ◌==◌, Bool, true, false, not, ◌&&◌, ◌||◌, if◌then◌else◌, Option, None, Some, unwrap_or, is_none}
+use Rattle.std.specs.Prelude.{ℕ, ◌+◌, ◌-◌, ◌*◌, ◌/◌, ◌%◌, ◌==◌, Bool, true, false, not, ◌&&◌, ◌||◌, if◌then◌else◌, Option, None, Some, unwrap_or, is_none, is_some}
 use Rattle.board_types.specs.Iterate.{iterate}
+use Rattle.board_types.specs.declared.choice.TimerKind.{TimerKind}
+use Rattle.board_types.specs.declared.choice.TimerKind.TheVariants.{I8253, I8254}
 use Rattle.board_types.specs.declared.line.Line.{Line}
 use Rattle.board_types.specs.declared.line.Line.TheVariants.{Low, High}
 use Rattle.pit8253.specs.declared.program.Mode.{Mode}
@@ -14,9 +17,10 @@ use Rattle.pit8253.specs.declared.program.Radix.TheVariants.{Binary}
 use Rattle.pit8253.specs.declared.program.Progress.{Progress}
 use Rattle.pit8253.specs.declared.program.Progress.TheVariants.{Awaited, Written, Loaded}
 use Rattle.board_types.specs.Lines.{is_high, opposite}
-use Rattle.pit8253.specs.Program.{mode_of, access_of, radix_of, count_of, digits_of, count_minus}
+use Rattle.pit8253.specs.Program.{mode_of, access_of, radix_of, mode_number, access_number, radix_number, count_of, digits_of, count_minus}
 
 pub record CounterState : Type 0 where
+  pub kind : TimerKind
   pub mode : Mode
   pub access : Access
   -- the radix of the control word, in which counts are written
@@ -34,17 +38,28 @@ pub record CounterState : Type 0 where
   pub count_radix : Radix
   -- whether the loaded count's strobe is still to come
   pub strobe_due : Bool
+  -- whether a count is still to be loaded: the null count that the 8254 shows
+  pub is_null : Bool
+  -- whether the 8254's half in mode 3 keeps its fall to 0 for a tick
+  pub keeps_zero : Bool
   -- what a latch holds, as it is read
   pub latch : Option ℕ
+  -- what the 8254's latch of its status holds
+  pub status : Option ℕ
   -- whether the high byte is the next to be read of two: reading and writing keep byte orders of their own (this
   -- board's choice)
   pub high_next : Bool
   pub gate : Line
   pub out : Line
 
+abbrev pub is_8254 : TimerKind → Bool
+is_8254 I8253 = false
+is_8254 I8254 = true
+
 -- power-on: mode 0, two bytes, binary, no count, OUT low (this board's choice)
-abbrev pub power_on : Line → CounterState
-power_on gate = record {
+abbrev pub power_on : TimerKind → Line → CounterState
+power_on kind gate = record {
+  kind = kind;
   mode = TerminalCount;
   access = LowThenHigh;
   radix = Binary;
@@ -55,7 +70,10 @@ power_on gate = record {
   count = 0;
   count_radix = Binary;
   strobe_due = false;
+  is_null = true;
+  keeps_zero = false;
   latch = None;
+  status = None;
   high_next = false;
   gate = gate;
   out = Low;
@@ -90,8 +108,30 @@ after_load c out = record c {
   progress = Loaded;
   load_due = false;
   strobe_due = true;
+  is_null = false;
+  keeps_zero = false;
   out = out;
 }
+
+-- mode 3 of an 8254 loads an odd count above 1 less 1
+abbrev pub loads_less : CounterState → Bool
+loads_less c = is_8254 c.kind && (c.newest % 2 == 1) && not (c.newest == 1)
+
+-- mode 3: so loaded, the high half keeps its fall to 0 for a tick
+abbrev pub after_square_load : CounterState → Line → CounterState
+after_square_load c out = record (after_load c out) {
+  count = (if loads_less c then c.newest - 1 else c.newest);
+  keeps_zero = loads_less c && is_high out;
+}
+
+-- the load that a write or a trigger asked for
+abbrev pub after_due_load : CounterState → Mode → CounterState
+after_due_load c TerminalCount = after_load c (out_at_load TerminalCount c.out)
+after_due_load c OneShot = after_load c (out_at_load OneShot c.out)
+after_due_load c RateGenerator = after_load c (out_at_load RateGenerator c.out)
+after_due_load c SquareWave = after_square_load c (out_at_load SquareWave c.out)
+after_due_load c SoftwareStrobe = after_load c (out_at_load SoftwareStrobe c.out)
+after_due_load c HardwareStrobe = after_load c (out_at_load HardwareStrobe c.out)
 
 -- modes 0 and 1: the count falls by 1, and at 0 OUT goes high
 abbrev pub after_countdown : CounterState → CounterState
@@ -111,13 +151,14 @@ after_rate_count c =
 abbrev pub half_step : ℕ → Line → ℕ
 half_step count out = if count % 2 == 0 then 2 else (if is_high out then 1 else 3)
 
--- mode 3: a fall to 0 loads the newest count instead and turns OUT; a loaded 1 leaves OUT high, and the next
--- tick loads again with OUT high (this board's choice)
+-- mode 3: a fall to 0, or the tick after one that is kept, loads the newest count instead and turns OUT; a loaded 1
+-- leaves OUT high, and the next tick loads again with OUT high (this board's choice)
 abbrev pub after_square_count : CounterState → CounterState
 after_square_count c =
     let count : ℕ = count_minus c.count_radix c.count (half_step c.count c.out) in
-    if c.count == 1 then after_load c High else (
-    if count == 0 then after_load c (if c.newest == 1 then High else opposite c.out) else record c { count = count })
+    if c.count == 1 then after_square_load c High else (
+    if (if c.keeps_zero then c.count else count) == 0 then after_square_load c (if c.newest == 1 then High else opposite c.out)
+    else record c { count = count })
 
 -- modes 4 and 5: the count falls by 1; at 0, once for each load, OUT goes low for one tick (once: this board's
 -- choice)
@@ -144,7 +185,7 @@ after_count c HardwareStrobe = if is_loaded c.progress then after_strobe_count c
 
 -- one tick: a falling edge of CLK. A tick that loads doesn't count.
 unfoldable pub after_tick : CounterState → CounterState
-after_tick c = if c.load_due then after_load c (out_at_load c.mode c.out) else after_count c c.mode
+after_tick c = if c.load_due then after_due_load c c.mode else after_count c c.mode
 
 -- n ticks, one after another
 abbrev pub after_ticks : CounterState → ℕ → CounterState
@@ -174,7 +215,8 @@ unfoldable pub after_latch : CounterState → CounterState
 after_latch c = record c { latch = Some (reading c) }
 
 -- a control word that programs: the mode, the access and the radix are new, OUT takes the mode's first level,
--- and the count runs no more; it stays to be read. The gate is as before. Both byte orders begin anew.
+-- and the count runs no more; it stays to be read. The gate is as before. Both byte orders begin anew, and both latches
+-- end.
 abbrev pub after_program : CounterState → Mode → Access → Radix → CounterState
 after_program c mode access radix = record c {
   mode = mode;
@@ -185,7 +227,10 @@ after_program c mode access radix = record c {
   progress = Awaited;
   load_due = false;
   strobe_due = false;
+  is_null = true;
+  keeps_zero = false;
   latch = None;
+  status = None;
   high_next = false;
   out = out_at_control mode;
 }
@@ -223,6 +268,7 @@ after_full_count c word = record c {
   newest = count_of c.radix word;
   progress = (if is_loaded c.progress then Loaded else Written);
   load_due = c.load_due || loads_when_written c.mode c.progress;
+  is_null = true;
   out = out_at_write c.mode c.out;
 }
 
@@ -252,9 +298,9 @@ reads_high LowByte high_next = false
 reads_high HighByte high_next = true
 reads_high LowThenHigh high_next = high_next
 
--- the byte that a read gives
+-- the byte that a read gives: a latched status before all else
 unfoldable pub next_byte : CounterState → ℕ
-next_byte c = if reads_high c.access c.high_next then reading c / 256 else reading c % 256
+next_byte c = unwrap_or c.status (if reads_high c.access c.high_next then reading c / 256 else reading c % 256)
 
 -- a read ends the latch with its last byte, and turns the order of two bytes
 abbrev pub after_read_by : CounterState → Access → CounterState
@@ -263,8 +309,29 @@ after_read_by c HighByte = record c { latch = None }
 after_read_by c LowThenHigh =
     if c.high_next then record c { latch = None; high_next = false } else record c { high_next = true }
 
+-- a read of a latched status ends it, and leaves the order of two bytes
 unfoldable pub after_read : CounterState → CounterState
-after_read c = after_read_by c c.access
+after_read c = if is_some c.status then record c { status = None } else after_read_by c c.access
+
+-- Reading the 8254 back.
+
+-- the status byte: OUT, the null count, and the access, the mode and the radix of the control word. Modes x10 and x11 show
+-- as 2 and 3 (this board's choice).
+abbrev pub status_of : CounterState → ℕ
+status_of c =
+    128 * (if is_high c.out then 1 else 0) + 64 * (if c.is_null then 1 else 0) + 16 * access_number c.access
+    + 2 * mode_number c.mode + radix_number c.radix
+
+-- a latch of the status: what was latched before and isn't read yet stays
+unfoldable pub after_status_latch : CounterState → CounterState
+after_status_latch c = record c { status = Some (unwrap_or c.status (status_of c)) }
+
+-- a read-back that names the counter: it latches the count where bit 5 is 0, and the status where bit 4 is 0. The 8253 has
+-- none.
+unfoldable pub after_read_back : CounterState → ℕ → CounterState
+after_read_back c word =
+    let counted : CounterState = if word / 32 % 2 == 0 then after_latch c else c in
+    if is_8254 c.kind then (if word / 16 % 2 == 0 then after_status_latch counted else counted) else c
 
 -- The gate.
 

@@ -2,6 +2,8 @@
 -- something, so any bytes are some timer.
 -- To be believed: public contracts say what they say by these definitions.
 use Rattle.std.specs.Prelude.{ℕ, ◌%◌, ◌==◌, ◌<◌, Bool, true, false, if◌then◌else◌, Option, None, Some}
+use Rattle.board_types.specs.declared.choice.TimerKind.{TimerKind}
+use Rattle.board_types.specs.declared.choice.TimerKind.TheVariants.{I8253, I8254}
 use Rattle.board_types.specs.declared.line.Line.{Line}
 use Rattle.board_types.specs.declared.line.Line.TheVariants.{Low, High}
 use Rattle.pit8253.specs.declared.program.Progress.{Progress}
@@ -28,10 +30,15 @@ option_of is_there n = if is_there == 0 then None else Some n
 abbrev pub progress_of : ℕ → Progress
 progress_of n = if n == 0 then Awaited else (if n == 1 then Written else Loaded)
 
+-- 0 is an 8253, and any other number an 8254
+abbrev pub kind_of : ℕ → TimerKind
+kind_of n = if n == 0 then I8253 else I8254
+
 -- mode, access and radix are spelled as a control word's fields, their upper bits left out; a count past its radix
 -- counts modulo it
 unfoldable pub counter_of : CounterImage → CounterState
 counter_of i = record {
+  kind = kind_of i.kind;
   mode = mode_of (i.mode % 8);
   access = access_of (i.access % 4);
   radix = radix_of i.radix;
@@ -42,7 +49,10 @@ counter_of i = record {
   count = i.count % modulus (radix_of i.count_radix);
   count_radix = radix_of i.count_radix;
   strobe_due = flag_of i.strobe_due;
+  is_null = flag_of i.is_null;
+  keeps_zero = flag_of i.keeps_zero;
   latch = option_of i.has_latch i.latch;
+  status = option_of i.has_status i.status;
   high_next = flag_of i.high_next;
   gate = line_of i.gate;
   out = line_of i.out;

@@ -10,7 +10,7 @@ use Rattle.pit8253.specs.declared.program.Radix.{Radix}
 use Rattle.pit8253.specs.declared.program.Radix.TheVariants.{Binary, Decimal}
 use Rattle.pit8253.specs.declared.program.Progress.TheVariants.{Loaded}
 use Rattle.pit8253.specs.Program.{modulus, count_of, digits_of, count_minus}
-use Rattle.pit8253.specs.Counter.{CounterState, is_awaited, is_loaded, after_load, half_step, after_tick, after_ticks, reading, after_latch, after_control_word, after_full_count, after_write, next_byte, after_read, after_gate}
+use Rattle.pit8253.specs.Counter.{CounterState, is_awaited, is_loaded, after_load, after_square_load, half_step, after_tick, after_ticks, reading, after_latch, after_control_word, after_full_count, after_write, next_byte, after_read, after_gate}
 use Rattle.pit8253.specs.Pit as pit
 use Rattle.pit8253.specs.Pit.{PitState}
 
@@ -62,14 +62,21 @@ after_rate_fall c n = record c {
   out = (if n == 0 then c.out else (if n + 1 == ticks_left c then Low else c.out));
 }
 
--- mode 3: the ticks to the end of the half. Of an odd count the high half has one more.
-abbrev pub half_left : CounterState → ℕ
-half_left c = if is_high c.out then (ticks_left c + 1) / 2 else ticks_left c / 2
+-- mode 3: the falls that bring the count to 0; an odd count has one more in the high half. Where a 0 is kept, a count of 0
+-- is there already.
+abbrev pub falls_left : CounterState → ℕ
+falls_left c =
+    let count : ℕ = if c.keeps_zero then c.count else ticks_left c in
+    if is_high c.out then (count + 1) / 2 else count / 2
 
--- mode 3, n ticks on in the same half: the count is twice the ticks that are left. So an odd count falls by 1 first
+-- mode 3: the ticks to the end of the half. A 0 that is kept has a tick of its own.
+abbrev pub half_left : CounterState → ℕ
+half_left c = falls_left c + (if c.keeps_zero then 1 else 0)
+
+-- mode 3, n ticks on in the same half: the count is twice the falls that are left. So an odd count falls by 1 first
 -- while OUT is high and by 3 first while it is low, and then by 2.
 abbrev pub after_half_fall : CounterState → ℕ → CounterState
-after_half_fall c n = record c { count = (if n == 0 then c.count else 2 * (half_left c - n)) }
+after_half_fall c n = record c { count = (if n == 0 then c.count else 2 * (falls_left c - n)) }
 
 -- modes 0 and 1 count down, from any count and for any number of ticks
 abbrev pub CountsDown : Type 0
@@ -97,12 +104,13 @@ abbrev pub CountsHalf : Type 0
 CountsHalf =
     (c : CounterState) → Runs c → c.mode ≡ SquareWave → c.gate ≡ High → c.count ≢ 1
     → ((n : ℕ) → n < half_left c → after_ticks c n ≡ after_half_fall c n)
-    × (after_ticks c (half_left c) ≡ after_load c (if c.newest == 1 then High else opposite c.out))
+    × (after_ticks c (half_left c) ≡ after_square_load c (if c.newest == 1 then High else opposite c.out))
 
 -- mode 3: at a count of 1 the next tick loads the newest count with OUT high
 abbrev pub ReloadsAtOne : Type 0
 ReloadsAtOne =
-    (c : CounterState) → Runs c → c.mode ≡ SquareWave → c.gate ≡ High → c.count ≡ 1 → after_tick c ≡ after_load c High
+    (c : CounterState) → Runs c → c.mode ≡ SquareWave → c.gate ≡ High → c.count ≡ 1
+    → after_tick c ≡ after_square_load c High
 
 -- mode 2: after a load the count goes round its periods
 abbrev pub CountsPeriods : Type 0
@@ -114,13 +122,14 @@ CountsPeriods =
 abbrev pub after_square_fall : CounterState → ℕ → CounterState
 after_square_fall c k =
     let high : ℕ = (size c + 1) / 2 in
-    if nat_lt k high then after_half_fall (after_load c High) k else after_half_fall (after_load c Low) (k - high)
+    if nat_lt k high then after_half_fall (after_square_load c High) k
+    else after_half_fall (after_square_load c Low) (k - high)
 
 -- mode 3: after a load the count goes round its two halves
 abbrev pub CountsHalves : Type 0
 CountsHalves =
     (c : CounterState) → c.mode ≡ SquareWave → c.gate ≡ High → c.newest < modulus c.radix → c.newest ≢ 1 → (n : ℕ)
-    → after_ticks (after_load c High) n ≡ after_square_fall c (n % size c)
+    → after_ticks (after_square_load c High) n ≡ after_square_fall c (n % size c)
 
 -- modes 2 and 3: a count of 1 is loaded again at each tick, and OUT stays high
 abbrev pub StaysHigh : Type 0
@@ -152,7 +161,7 @@ Divides =
 abbrev pub MakesSquares : Type 0
 MakesSquares =
     (c : CounterState) → c.mode ≡ SquareWave → c.gate ≡ High → c.newest < modulus c.radix → c.newest ≢ 1 → (n : ℕ)
-    → (after_ticks (after_load c High) n).out ≡ (if nat_lt (n % size c) ((size c + 1) / 2) then High else Low)
+    → (after_ticks (after_square_load c High) n).out ≡ (if nat_lt (n % size c) ((size c + 1) / 2) then High else Low)
 
 -- mode 4: OUT is low for one tick, the one that ends the count, and never again
 abbrev pub StrobesOnce : Type 0
@@ -175,13 +184,14 @@ GateSetsHigh =
 -- there a rise after a full count reloads: the next tick loads the newest count with OUT high
 abbrev pub RiseReloads : Type 0
 RiseReloads =
-    (c : CounterState) → (c.mode ≡ RateGenerator) ⊎ (c.mode ≡ SquareWave) → c.gate ≡ Low → is_awaited c.progress ≡ false
-    → after_tick (after_gate c High) ≡ after_load (record c { gate = High }) High
+    (c : CounterState) → c.gate ≡ Low → is_awaited c.progress ≡ false
+    → (c.mode ≡ RateGenerator → after_tick (after_gate c High) ≡ after_load (record c { gate = High }) High)
+    × (c.mode ≡ SquareWave → after_tick (after_gate c High) ≡ after_square_load (record c { gate = High }) High)
 
 -- two reads of a running count, with no latch and no tick between, give its low byte and then its high one
 abbrev pub ReadsBoth : Type 0
 ReadsBoth =
-    (c : CounterState) → c.access ≡ LowThenHigh → c.high_next ≡ false → c.latch ≡ None
+    (c : CounterState) → c.access ≡ LowThenHigh → c.high_next ≡ false → c.latch ≡ None → c.status ≡ None
     → (next_byte c ≡ digits_of c.count_radix c.count % 256)
     × (next_byte (after_read c) ≡ digits_of c.count_radix c.count / 256)
     × (after_read (after_read c) ≡ c)
@@ -193,7 +203,7 @@ LatchHolds = (c : CounterState) (k : ℕ) → next_byte (after_ticks (after_latc
 -- two bytes of one latch, read low then high with any ticks between, are those of one count; then the latch ends
 abbrev pub LatchHoldsBoth : Type 0
 LatchHoldsBoth =
-    (c : CounterState) → c.access ≡ LowThenHigh → c.high_next ≡ false → c.latch ≡ None → (k m : ℕ)
+    (c : CounterState) → c.access ≡ LowThenHigh → c.high_next ≡ false → c.latch ≡ None → c.status ≡ None → (k m : ℕ)
     → (next_byte (after_ticks (after_latch c) k) ≡ digits_of c.count_radix c.count % 256)
     × (next_byte (after_ticks (after_read (after_ticks (after_latch c) k)) m) ≡ digits_of c.count_radix c.count / 256)
     × ((after_read (after_ticks (after_read (after_ticks (after_latch c) k)) m)).latch ≡ None)
@@ -229,7 +239,9 @@ FirstByteStops =
 
 -- mode 3: whether the next tick that counts ends the half
 abbrev pub ends_half : CounterState → Bool
-ends_half c = (c.count == 1) || (count_minus c.count_radix c.count (half_step c.count c.out) == 0)
+ends_half c =
+    let count : ℕ = count_minus c.count_radix c.count (half_step c.count c.out) in
+    (c.count == 1) || ((if c.keeps_zero then c.count else count) == 0)
 
 -- modes 2 and 3: a new count waits for the end of the period, or of the half. Before that, to write it and to
 -- tick is to tick and to write it.

@@ -4,3 +4,4 @@ pub mod Pit
 pub mod Laws
 pub mod Ahead
 pub mod Image
+pub mod Laws8254

@@ -1,7 +1,9 @@
--- The timer: three counters behind four ports (Intel 8253 data sheet, "Block Diagram" and "Programming the 8253").
+-- The timer: three counters behind four ports (Intel 8253 data sheet, "Block Diagram" and "Programming the 8253"; Intel
+-- 8254 data sheet, "Read-Back Command").
 -- To be believed: public contracts say what they say by these definitions.
-use Rattle.std.specs.Prelude.{ℕ, ◌/◌, ◌==◌, if◌then◌else◌}
+use Rattle.std.specs.Prelude.{ℕ, ◌/◌, ◌%◌, ◌==◌, if◌then◌else◌}
 use Rattle.board_types.specs.Iterate.{iterate}
+use Rattle.board_types.specs.declared.choice.TimerKind.{TimerKind}
 use Rattle.board_types.specs.declared.line.Line.{Line}
 use Rattle.board_types.specs.declared.line.Line.TheVariants.{Low, High}
 use Rattle.pit8253.specs.Counter as one
@@ -13,8 +15,12 @@ pub record PitState : Type 0 where
   pub counter_2 : CounterState
 
 -- gates 0 and 1 are high and gate 2 is low, as this board wires them
-unfoldable pub power_on : PitState
-power_on = record { counter_0 = one.power_on High; counter_1 = one.power_on High; counter_2 = one.power_on Low }
+unfoldable pub power_on : TimerKind → PitState
+power_on kind = record {
+  counter_0 = one.power_on kind High;
+  counter_1 = one.power_on kind High;
+  counter_2 = one.power_on kind Low;
+}
 
 -- counter n, n below 3
 abbrev pub counter : PitState → ℕ → CounterState
@@ -39,9 +45,24 @@ after_tick p = record {
 abbrev pub after_ticks : PitState → ℕ → PitState
 after_ticks p n = iterate after_tick n p
 
--- a control word goes to the counter that its bits 7 and 6 name; 11 names none (this board's choice)
+-- a counter at a read-back, which names it where its bit is set
+abbrev pub read_back_where : CounterState → ℕ → ℕ → CounterState
+read_back_where c bit word = if bit == 1 then one.after_read_back c word else c
+
+-- a read-back names counters 0, 1 and 2 by bits 1, 2 and 3; bit 0 names none (this board's choice)
+abbrev pub after_read_back : PitState → ℕ → PitState
+after_read_back p word = record {
+  counter_0 = read_back_where p.counter_0 (word / 2 % 2) word;
+  counter_1 = read_back_where p.counter_1 (word / 4 % 2) word;
+  counter_2 = read_back_where p.counter_2 (word / 8 % 2) word;
+}
+
+-- a control word goes to the counter that its bits 7 and 6 name; 11 is a read-back, which the 8253 doesn't know and
+-- leaves all as it is (this board's choice)
 abbrev pub after_control_word : PitState → ℕ → PitState
-after_control_word p word = with_counter p (word / 64) (one.after_control_word (counter p (word / 64)) word)
+after_control_word p word =
+    if word / 64 == 3 then after_read_back p word
+    else with_counter p (word / 64) (one.after_control_word (counter p (word / 64)) word)
 
 -- a byte written to port 0, 1 or 2 goes to that counter, one written to port 3 is a control word
 unfoldable pub after_write : PitState → ℕ → ℕ → PitState

@@ -26,6 +26,24 @@ access_of bits = if bits == 1 then LowByte else (if bits == 2 then HighByte else
 abbrev pub radix_of : ℕ → Radix
 radix_of bit = if bit == 0 then Binary else Decimal
 
+-- and back: the bits that spell each of them
+abbrev pub mode_number : Mode → ℕ
+mode_number TerminalCount = 0
+mode_number OneShot = 1
+mode_number RateGenerator = 2
+mode_number SquareWave = 3
+mode_number SoftwareStrobe = 4
+mode_number HardwareStrobe = 5
+
+abbrev pub access_number : Access → ℕ
+access_number LowByte = 1
+access_number HighByte = 2
+access_number LowThenHigh = 3
+
+abbrev pub radix_number : Radix → ℕ
+radix_number Binary = 0
+radix_number Decimal = 1
+
 -- how many counts there are
 abbrev pub modulus : Radix → ℕ
 modulus Binary = 65536

@@ -1,11 +1,12 @@
-//! One counter of the timer (Intel 8253 data sheet, "Mode Definition").
+//! One counter of the timer (Intel 8253 data sheet, "Mode Definition"; Intel 8254 data sheet, "Read-Back Command").
 ghost use Rattle.std.specs.Prelude.{◌≡◌, ◌≤◌, ◌<◌, ◌/◌, ◌%◌, ◌+◌, ◌*◌, IfSome, IsTrue};
+ghost use Rattle.board_types.specs.declared.choice.TimerKind.{TimerKind};
 ghost use Rattle.board_types.specs.declared.line.Line.{Line};
 ghost use Rattle.pit8253.specs.Program.{mode_of, access_of, radix_of, modulus, count_of, digits_of};
-ghost use Rattle.pit8253.specs.Laws.{size, ticks_left, after_fall, after_strobe_fall, after_rate_fall, half_left, after_half_fall};
-ghost use Rattle.pit8253.specs.Ahead.{after_rests, after_rate, half_ticks, after_turn, after_halves, after_square, after_run, after_due_load, until_end, until_pulse, until_half, until_strobe, until_rest, until_turn, differ, a_tick_later};
+ghost use Rattle.pit8253.specs.Laws.{size, ticks_left, after_fall, after_strobe_fall, after_rate_fall, falls_left, half_left, after_half_fall};
+ghost use Rattle.pit8253.specs.Ahead.{after_rests, after_rate, half_ticks, after_turn, after_halves, after_square, after_run, until_end, until_pulse, until_half, until_strobe, until_rest, until_turn, differ, a_tick_later};
 ghost use Rattle.pit8253.specs.Image.{counter_of};
-ghost use Rattle.pit8253.specs.Counter.{power_on, is_awaited, out_at_load, after_load, out_at_control, reading, after_latch, after_program, after_control_word, loads_when_written, after_full_count, after_first_byte, after_write, next_byte, after_read, rises, is_triggered, out_at_gate, after_gate};
+ghost use Rattle.pit8253.specs.Counter.{power_on, is_awaited, out_at_load, after_load, loads_less, after_square_load, after_due_load, out_at_control, reading, after_latch, after_program, after_control_word, loads_when_written, after_full_count, after_first_byte, after_write, next_byte, after_read, status_of, after_status_latch, after_read_back, rises, is_triggered, out_at_gate, after_gate};
 
 use crate::count::{
     count_after, count_of, digits_of, half_of, high_byte, left_after, length_of, low_byte, word_of,
@@ -13,6 +14,7 @@ use crate::count::{
 use crate::image;
 use crate::image::CounterImage;
 use crate::program::{Access, Mode, Progress, Radix};
+use board_types::choice::TimerKind;
 use board_types::line::Line;
 use board_types::timed::Timed;
 use std::marker::Model;
@@ -20,6 +22,7 @@ use std::marker::Model;
 /// A counter: its mode, its count, its latch, its gate and its output.
 #[derive(Clone, Copy)]
 pub struct Counter {
+    kind: TimerKind,
     mode: Mode,
     access: Access,
     radix: Radix,
@@ -30,7 +33,10 @@ pub struct Counter {
     count: u16,
     count_radix: Radix,
     strobe_due: bool,
+    is_null: bool,
+    keeps_zero: bool,
     latch: Option<u16>,
+    status: Option<u8>,
     high_next: bool,
     gate: Line,
     out: Line,
@@ -44,6 +50,7 @@ impl Model for Counter {
     ghost Value = { CounterState };
 
     ghost view = { λ c. record {
+      kind = c.kind;
       mode = c.mode;
       access = c.access;
       radix = c.radix;
@@ -54,13 +61,17 @@ impl Model for Counter {
       count = c.count;
       count_radix = c.count_radix;
       strobe_due = c.strobe_due;
+      is_null = c.is_null;
+      keeps_zero = c.keeps_zero;
       latch = c.latch;
+      status = c.status;
       high_next = c.high_next;
       gate = c.gate;
       out = c.out;
     } };
 
     ghost inverse = { λ c. record {
+      kind = c.kind;
       mode = c.mode;
       access = c.access;
       radix = c.radix;
@@ -71,7 +82,10 @@ impl Model for Counter {
       count = c.count;
       count_radix = c.count_radix;
       strobe_due = c.strobe_due;
+      is_null = c.is_null;
+      keeps_zero = c.keeps_zero;
       latch = c.latch;
+      status = c.status;
       high_next = c.high_next;
       gate = c.gate;
       out = c.out;
@@ -82,10 +96,11 @@ impl Model for Counter {
 
 impl Counter {
     /// A counter at power-on, its gate at the level `gate`: mode 0, two bytes, binary, no count, OUT low.
-    pub fn new(gate: Line) -> Self
-        ensures { result ≡ power_on gate }
+    pub fn new(kind: TimerKind, gate: Line) -> Self
+        ensures { result ≡ power_on kind gate }
     {
         Counter {
+            kind,
             mode: Mode::TerminalCount,
             access: Access::LowThenHigh,
             radix: Radix::Binary,
@@ -96,7 +111,10 @@ impl Counter {
             count: 0,
             count_radix: Radix::Binary,
             strobe_due: false,
+            is_null: true,
+            keeps_zero: false,
             latch: None,
+            status: None,
             high_next: false,
             gate,
             out: Line::Low,
@@ -111,6 +129,7 @@ impl Counter {
         let radix = radix_of(image.radix);
         let count_radix = radix_of(image.count_radix);
         Counter {
+            kind: image::kind_of(image.kind),
             mode: mode_of(image.mode % 8),
             access: image::access_of(image.access % 4),
             radix,
@@ -121,7 +140,10 @@ impl Counter {
             count: image::count_within(count_radix, image.count),
             count_radix,
             strobe_due: image::flag_of(image.strobe_due),
+            is_null: image::flag_of(image.is_null),
+            keeps_zero: image::flag_of(image.keeps_zero),
             latch: image::word_where(image.has_latch, image.latch),
+            status: image::byte_where(image.has_status, image.status),
             high_next: image::flag_of(image.high_next),
             gate: image::line_of(image.gate),
             out: image::line_of(image.out),
@@ -135,6 +157,7 @@ impl Counter {
     {
         let (has_first_byte, first_byte) = image::byte_numbers(self.first_byte);
         let (has_latch, latch) = image::word_numbers(self.latch);
+        let (has_status, status) = image::byte_numbers(self.status);
         CounterImage {
             newest: self.newest,
             count: self.count,
@@ -152,6 +175,11 @@ impl Counter {
             high_next: image::flag_number(self.high_next),
             gate: image::line_number(self.gate),
             out: image::line_number(self.out),
+            kind: image::kind_number(self.kind),
+            status,
+            has_status,
+            is_null: image::flag_number(self.is_null),
+            keeps_zero: image::flag_number(self.keeps_zero),
         }
     }
 
@@ -184,6 +212,23 @@ impl Counter {
         self.latch = Some(self.reading());
     }
 
+    /// A read-back that names the counter. An 8254 latches the count where bit 5 of `word` is 0, and the status where
+    /// bit 4 is 0; an 8253 does nothing.
+    #[tactic(auto, unfolding(crate::specs::Counter::after_read_back))]
+    pub fn read_back(&mut self, word: u8)
+        ensures { self.new ≡ after_read_back self.old word }
+    {
+        if self.kind == TimerKind::I8253 {
+            return;
+        }
+        if word / 32 % 2 == 0 {
+            self.latch();
+        }
+        if word / 16 % 2 == 0 {
+            self.latch_status();
+        }
+    }
+
     /// A byte of a count. With two-byte access the low byte comes first; with one-byte access the other byte is 0.
     #[tactic(auto, unfolding(crate::specs::Counter::after_write))]
     pub fn write(&mut self, value: u8)
@@ -199,12 +244,16 @@ impl Counter {
         }
     }
 
-    /// The byte that is read: of the latch, or else of the running count, by the access.
+    /// The byte that is read: a latched status, or else of the latch or the running count, by the access.
     #[tactic(auto, unfolding(crate::specs::Counter::next_byte, crate::specs::Counter::after_read))]
     pub fn read(&mut self) -> u8
         ensures byte { result ≡ next_byte self.old }
         ensures state { self.new ≡ after_read self.old }
     {
+        if let Some(status) = self.status {
+            self.status = None;
+            return status;
+        }
         let word = self.reading();
         match self.access {
             Access::LowByte => {
@@ -259,7 +308,7 @@ impl Counter {
             count: self.count,
             count_radix: self.count_radix,
             out: out_at_control(mode),
-            ..Counter::new(self.gate)
+            ..Counter::new(self.kind, self.gate)
         };
     }
 
@@ -278,6 +327,7 @@ impl Counter {
         self.first_byte = None;
         self.newest = count_of(self.radix, word);
         self.load_due = self.load_due || loads_when_written(self.mode, self.progress);
+        self.is_null = true;
         if is_awaited(self.progress) {
             self.progress = Progress::Written;
         }
@@ -303,14 +353,57 @@ impl Counter {
         self.progress = Progress::Loaded;
         self.load_due = false;
         self.strobe_due = true;
+        self.is_null = false;
+        self.keeps_zero = false;
         self.out = out;
     }
 
+    // whether mode 3 loads the newest count less 1
+    fn loads_less(&self) -> bool
+        ensures { result ≡ loads_less self.now }
+    {
+        self.kind == TimerKind::I8254 && self.newest % 2 == 1 && self.newest != 1
+    }
+
+    fn square_load(&mut self, out: Line)
+        ensures { self.new ≡ after_square_load self.old out }
+    {
+        let less = self.loads_less();
+        self.load(out);
+        if less {
+            self.count = self.newest.saturating_sub(1);
+            self.keeps_zero = out == Line::High;
+        }
+    }
+
     fn load_due_count(&mut self)
-        ensures { self.new ≡ after_due_load self.old }
+        ensures { self.new ≡ after_due_load self.old self.old.mode }
     {
         let out = out_at_load(self.mode, self.out);
-        self.load(out);
+        match self.mode {
+            Mode::SquareWave => self.square_load(out),
+            _ => self.load(out),
+        }
+    }
+
+    #[tactic(auto, unfolding(crate::specs::Counter::after_status_latch))]
+    fn latch_status(&mut self)
+        ensures { self.new ≡ after_status_latch self.old }
+    {
+        if self.status.is_none() {
+            self.status = Some(self.status());
+        }
+    }
+
+    // the status byte
+    fn status(&self) -> u8
+        ensures { result ≡ status_of self.now }
+    {
+        128 * image::line_number(self.out)
+            + 64 * image::flag_number(self.is_null)
+            + 16 * image::access_number(self.access)
+            + 2 * image::mode_number(self.mode)
+            + image::radix_number(self.radix)
     }
 
     fn ticks_left(&self) -> u64
@@ -433,21 +526,34 @@ impl Counter {
         self.fall_in_half(ticks - half);
     }
 
-    // the ticks to the end of the half, where an odd count has one more in the high one
-    fn half_left(&self) -> u64
-        ensures ticks { result ≡ half_left self.now }
+    // the falls that bring the count to 0, where an odd count has one more in the high half
+    fn falls_left(&self) -> u64
+        ensures ticks { result ≡ falls_left self.now }
         ensures bound { 2 * result ≤ modulus self.now.count_radix }
     {
-        let left = self.ticks_left();
+        let left = if self.keeps_zero {
+            u64::from(self.count)
+        } else {
+            self.ticks_left()
+        };
         match self.out {
             Line::High => (left + 1) / 2,
             Line::Low => left / 2,
         }
     }
 
+    // the ticks to the end of the half, in which a 0 that is kept has one of its own
+    fn half_left(&self) -> u64
+        ensures ticks { result ≡ half_left self.now }
+        ensures bound { result ≤ 32769 }
+    {
+        let falls = self.falls_left();
+        if self.keeps_zero { falls + 1 } else { falls }
+    }
+
     fn half_ticks(&self) -> u64
         ensures ticks { result ≡ half_ticks self.now }
-        ensures bound { result ≤ 32768 }
+        ensures bound { result ≤ 32769 }
     {
         if self.count == 1 { 1 } else { self.half_left() }
     }
@@ -456,7 +562,7 @@ impl Counter {
         ensures { self.new ≡ after_half_fall self.old ticks }
     {
         if ticks > 0 {
-            let left = self.half_left().saturating_sub(ticks);
+            let left = self.falls_left().saturating_sub(ticks);
             self.count = (2 * left) as u16;
         }
     }
@@ -470,7 +576,7 @@ impl Counter {
         } else {
             self.out.opposite()
         };
-        self.load(out);
+        self.square_load(out);
     }
 
     #[tactic(auto, using(crate::proofs::Shorter::strobes_short))]

@@ -1,14 +1,16 @@
 //! A timer as plain numbers, laid out as C lays them out: for callers that know no enums, as benches in C.
-ghost use Rattle.std.specs.Prelude.{◌≡◌, ◌<◌, ◌%◌};
+ghost use Rattle.std.specs.Prelude.{◌≡◌, ◌<◌, ◌≤◌, ◌%◌, if◌then◌else◌};
 ghost use Rattle.board_types.specs.declared.line.Line.{Line};
-ghost use Rattle.pit8253.specs.Program.{mode_of, access_of, radix_of, modulus};
-ghost use Rattle.pit8253.specs.Image.{flag_of, line_of, option_of, progress_of};
+ghost use Rattle.board_types.specs.Lines.{is_high};
+ghost use Rattle.pit8253.specs.Program.{mode_of, access_of, radix_of, mode_number, access_number, radix_number, modulus};
+ghost use Rattle.pit8253.specs.Image.{flag_of, kind_of, line_of, option_of, progress_of};
 
 use crate::pit::Pit;
 use crate::program::{Access, Mode, Progress, Radix};
+use board_types::choice::TimerKind;
 use board_types::line::Line;
 
-/// A counter in 20 bytes. All numbers stand for something: where a field names its values, any other number stands
+/// A counter in 24 bytes. All numbers stand for something: where a field names its values, any other number stands
 /// for what is said there.
 #[repr(C)]
 #[derive(Clone, Copy)]
@@ -43,9 +45,18 @@ pub struct CounterImage {
     pub gate: u8,
     /// 0 low, else high.
     pub out: u8,
+    /// 0 an 8253, else an 8254.
+    pub kind: u8,
+    /// What the latch of an 8254's status holds, where `has_status` isn't 0.
+    pub status: u8,
+    pub has_status: u8,
+    /// Whether a count is still to be loaded, which an 8254 shows: 0 no, else yes.
+    pub is_null: u8,
+    /// Whether an 8254's half in mode 3 keeps its fall to 0 for a tick: 0 no, else yes.
+    pub keeps_zero: u8,
 }
 
-/// A timer in 60 bytes.
+/// A timer in 72 bytes.
 #[repr(C)]
 #[derive(Clone, Copy)]
 pub struct PitImage {
@@ -61,8 +72,29 @@ pub fn goes_through_its_image(pit: &Pit) -> Pit
     Pit::from_image(&pit.image())
 }
 
+pub(crate) fn kind_of(number: u8) -> TimerKind
+    ensures { result ≡ kind_of number }
+{
+    if number == 0 {
+        TimerKind::I8253
+    } else {
+        TimerKind::I8254
+    }
+}
+
+pub(crate) fn kind_number(kind: TimerKind) -> u8
+    ensures { kind_of result ≡ kind }
+{
+    match kind {
+        TimerKind::I8253 => 0,
+        TimerKind::I8254 => 1,
+    }
+}
+
 pub(crate) fn mode_number(mode: Mode) -> u8
-    ensures { mode_of (result % 8) ≡ mode }
+    ensures number { result ≡ mode_number mode }
+    ensures bound { result ≤ 5 }
+    ensures means { mode_of (result % 8) ≡ mode }
 {
     match mode {
         Mode::TerminalCount => 0,
@@ -85,7 +117,9 @@ pub(crate) fn access_of(bits: u8) -> Access
 }
 
 pub(crate) fn access_number(access: Access) -> u8
-    ensures { access_of (result % 4) ≡ access }
+    ensures number { result ≡ access_number access }
+    ensures bound { result ≤ 3 }
+    ensures means { access_of (result % 4) ≡ access }
 {
     match access {
         Access::LowByte => 1,
@@ -95,7 +129,9 @@ pub(crate) fn access_number(access: Access) -> u8
 }
 
 pub(crate) fn radix_number(radix: Radix) -> u8
-    ensures { radix_of result ≡ radix }
+    ensures number { result ≡ radix_number radix }
+    ensures bound { result ≤ 1 }
+    ensures means { radix_of result ≡ radix }
 {
     match radix {
         Radix::Binary => 0,
@@ -130,7 +166,9 @@ pub(crate) fn line_of(number: u8) -> Line
 }
 
 pub(crate) fn line_number(line: Line) -> u8
-    ensures { line_of result ≡ line }
+    ensures number { result ≡ (if is_high line then 1 else 0) }
+    ensures bound { result ≤ 1 }
+    ensures means { line_of result ≡ line }
 {
     match line {
         Line::Low => 0,
@@ -145,7 +183,9 @@ pub(crate) fn flag_of(number: u8) -> bool
 }
 
 pub(crate) fn flag_number(flag: bool) -> u8
-    ensures { flag_of result ≡ flag }
+    ensures number { result ≡ (if flag then 1 else 0) }
+    ensures bound { result ≤ 1 }
+    ensures means { flag_of result ≡ flag }
 {
     if flag { 1 } else { 0 }
 }

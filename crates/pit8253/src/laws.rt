@@ -2,6 +2,7 @@
 //! does nothing: its contract speaks of the definition alone.
 ghost use Rattle.pit8253.specs.Image.{AnyNumbersAreATimer};
 ghost use Rattle.pit8253.specs.Laws.{TicksAdd, CountsDown, CountsToStrobe, CountsPeriod, CountsHalf, ReloadsAtOne, CountsPeriods, CountsHalves, CountsOut, ShootsOnce, Divides, MakesSquares, StaysHigh, StrobesOnce, StrobesOnTrigger, LatchHolds, LatchHoldsBoth, LatchIsHeld, ReadsBoth, CountsInDecimal, GateSetsHigh, RiseReloads, GateStops, GateStopsStrobe, FirstByteStops, NewCountWaits, WaitsForLoad, CountsOutAsTold, ShootsAsTriggered, DividesAsTold, MakesSquaresAsTold, StrobesAsTold, StrobesAsTriggered, CountersTickAlike};
+ghost use Rattle.pit8253.specs.Laws8254.{ReadsBack, ReadBackIsHeld, NullTillLoaded, CountsEven, KnowsNoReadBack, MakesTheSameWave};
 
 /// Ticks, and then more ticks, are as many ticks together.
 #[tactic(auto, using(crate::proofs::Waves::ticks_add))]
@@ -141,4 +142,36 @@ pub fn counters_tick_alike()
 #[tactic(auto, using(crate::proofs::Numbers::any_numbers_are_a_timer))]
 pub fn any_numbers_are_a_timer()
     ensures { AnyNumbersAreATimer }
+{}
+
+/// An 8254 read back: its status first and then its count, as they were, whatever ticks follow; a second read-back before
+/// any read changes nothing.
+#[tactic(auto, using(crate::proofs::ReadBack::reads_back, crate::proofs::ReadBack::read_back_is_held))]
+pub fn reads_back()
+    ensures reads { ReadsBack }
+    ensures held { ReadBackIsHeld }
+{}
+
+/// The null count is set by a full count, and cleared by the tick that loads one and by no other.
+#[tactic(auto, using(crate::proofs::ReadBack::null_till_loaded))]
+pub fn null_till_loaded()
+    ensures { NullTillLoaded }
+{}
+
+/// Mode 3 of an 8254 counts an odd N above 1 from N - 1 by 2, in either half.
+#[tactic(auto, using(crate::proofs::TwoKinds::counts_even))]
+pub fn counts_even()
+    ensures { CountsEven }
+{}
+
+/// An 8253 ignores a read-back.
+#[tactic(auto, using(crate::proofs::ReadBack::knows_no_read_back))]
+pub fn knows_no_read_back()
+    ensures { KnowsNoReadBack }
+{}
+
+/// From a load on OUT of an 8254 is that of an 8253, in each mode.
+#[tactic(auto, using(crate::proofs::TwoKinds::makes_the_same_wave))]
+pub fn makes_the_same_wave()
+    ensures { MakesTheSameWave }
 {}

@@ -1,19 +1,23 @@
-//! The timer: three counters behind four ports (Intel 8253 data sheet, "Block Diagram").
+//! The timer: three counters behind four ports (Intel 8253 data sheet, "Block Diagram"; Intel 8254 data sheet, "Read-Back
+//! Command").
 ghost use Rattle.std.specs.Prelude.{◌≡◌, ◌≤◌, ◌<◌, IfSome, IsTrue};
 ghost use Rattle.board_types.specs.Timed.{IsUntilTurn};
+ghost use Rattle.board_types.specs.declared.choice.TimerKind.{TimerKind};
+ghost use Rattle.board_types.specs.declared.choice.TimerKind.TheVariants.{I8253};
 ghost use Rattle.board_types.specs.declared.line.Line.{Line};
 ghost use Rattle.pit8253.specs.Image.{pit_of};
 ghost use Rattle.pit8253.specs.Counter as one;
 ghost use Rattle.pit8253.specs.Counter.{CounterState, out_of};
-ghost use Rattle.pit8253.specs.Pit.{power_on, counter, after_ticks, after_control_word, after_write, byte_at, after_read, after_gate};
+ghost use Rattle.pit8253.specs.Pit.{power_on, counter, after_ticks, after_read_back, after_control_word, after_write, byte_at, after_read, after_gate};
 
 use crate::counter::Counter;
 use crate::image::PitImage;
+use board_types::choice::TimerKind;
 use board_types::line::Line;
 use board_types::timed::Timed;
 use std::marker::Model;
 
-/// The 8253: counters 0, 1 and 2. Its ports are numbered by A1 and A0, from 0 to 3.
+/// The 8253 or the 8254: counters 0, 1 and 2. Its ports are numbered by A1 and A0, from 0 to 3.
 #[derive(Clone, Copy)]
 pub struct Pit {
     counter_0: Counter,
@@ -32,15 +36,22 @@ impl Model for Pit {
 }
 
 impl Pit {
-    /// The timer at power-on: each counter in mode 0 with no count, gates 0 and 1 high, gate 2 low.
-    #[tactic(auto, unfolding(crate::specs::Pit::power_on))]
+    /// An 8253 at power-on.
     pub fn new() -> Self
-        ensures { result ≡ power_on }
+        ensures { result ≡ power_on I8253 }
+    {
+        Pit::with(TimerKind::I8253)
+    }
+
+    /// A timer of the kind at power-on: each counter in mode 0 with no count, gates 0 and 1 high, gate 2 low.
+    #[tactic(auto, unfolding(crate::specs::Pit::power_on))]
+    pub fn with(kind: TimerKind) -> Self
+        ensures { result ≡ power_on kind }
     {
         Pit {
-            counter_0: Counter::new(Line::High),
-            counter_1: Counter::new(Line::High),
-            counter_2: Counter::new(Line::Low),
+            counter_0: Counter::new(kind, Line::High),
+            counter_1: Counter::new(kind, Line::High),
+            counter_2: Counter::new(kind, Line::Low),
         }
     }
 
@@ -84,7 +95,7 @@ impl Pit {
     }
 
     /// Writes a byte of a count to counter `port`, or a control word to port 3. A control word whose bits 7
-    /// and 6 are 11 does nothing.
+    /// and 6 are 11 is a read-back, of which an 8253 makes nothing.
     #[tactic(auto, unfolding(crate::specs::Pit::after_write))]
     pub fn write(&mut self, port: u8, value: u8)
         requires { port < 4 }
@@ -170,7 +181,21 @@ impl Pit {
             0 => self.counter_0.write_control(word),
             1 => self.counter_1.write_control(word),
             2 => self.counter_2.write_control(word),
-            _ => (),
+            _ => self.read_back(word),
+        }
+    }
+
+    fn read_back(&mut self, word: u8)
+        ensures { self.new ≡ after_read_back self.old word }
+    {
+        if word / 2 % 2 == 1 {
+            self.counter_0.read_back(word);
+        }
+        if word / 4 % 2 == 1 {
+            self.counter_1.read_back(word);
+        }
+        if word / 8 % 2 == 1 {
+            self.counter_2.read_back(word);
         }
     }
 }
