@@ -8,3 +8,4 @@ pub mod Parts
 pub mod Clocks
 pub mod Laws
 pub mod Rows
+pub mod Words

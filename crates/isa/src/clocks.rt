@@ -1,20 +1,32 @@
 //! How many processor clocks an instruction takes.
 ghost use Rattle.std.specs.Prelude.{◌≡◌, ◌≤◌, ◌+◌};
+ghost use Rattle.isa.specs.Words.{clocks_in};
 ghost use Rattle.isa.specs.Clocks.{address_clocks, base_clocks, can_repeat, clocks_of, first_clocks, is_counted, is_repeated, place_clocks, row_clocks};
 
 use crate::form::{Base, Instr, Place};
 use crate::outcome::{Cost, Outcome};
 use crate::row::Clocks;
+use crate::words::word_clocks;
+use board_types::choice::ClockTable;
 
-/// The clocks that a step of `instr` takes which found `outcome`.
+/// The clocks that a step of `instr` takes which found `outcome`, by a table.
+#[tactic(auto, unfolding(crate::specs::Words::clocks_in))]
+pub fn cost(instr: &Instr, outcome: &Outcome, table: ClockTable) -> Cost
+    ensures value { result.0 ≡ clocks_in table instr.now outcome.now }
+    ensures bound { result.0 ≤ 1414 }
+{
+    Cost(step_clocks(instr, outcome) + word_clocks(table, instr.data_words(outcome)))
+}
+
+/// The same by the first table.
 #[tactic(auto, unfolding(crate::specs::Clocks::clocks_of))]
-pub fn cost(instr: &Instr, outcome: &Outcome) -> Cost
-    ensures value { result.0 ≡ clocks_of instr.now outcome.now }
-    ensures bound { result.0 ≤ 1374 }
+pub fn step_clocks(instr: &Instr, outcome: &Outcome) -> u16
+    ensures value { result ≡ clocks_of instr.now outcome.now }
+    ensures bound { result ≤ 1374 }
 {
     let repeated = instr.is_repeated();
     if repeated && outcome.cx_zero {
-        return Cost(first_clocks(instr));
+        return first_clocks(instr);
     }
     let first = if outcome.first_step {
         first_clocks(instr)
@@ -22,7 +34,7 @@ pub fn cost(instr: &Instr, outcome: &Outcome) -> Cost
         0
     };
     let fault = if outcome.fault { 51 } else { 0 };
-    Cost(row_clocks(instr.form.row.clocks, instr.form.place, repeated, outcome) + first + fault)
+    row_clocks(instr.form.row.clocks, instr.form.place, repeated, outcome) + first + fault
 }
 
 impl Instr {

@@ -12,3 +12,4 @@ pub mod parts;
 pub mod register;
 pub mod row;
 pub mod table;
+pub mod words;
