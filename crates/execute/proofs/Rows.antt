@@ -2,6 +2,8 @@
 -- step is due, and when a repeat goes on and where IP then stands (8086 Family User's Manual, "Interrupts",
 -- "Single-Step", "String Instructions").
 use Rattle.std.proofs.Common.{◌≡◌, Bool, true, false, Option, Some, None, refl}
+use Rattle.board_types.specs.declared.choice.ClockTable.{ClockTable}
+use Rattle.board_types.specs.declared.choice.ClockTable.TheVariants.{C1, C2}
 use Rattle.board_types.specs.declared.state.State.{State}
 use Rattle.board_types.specs.declared.state.State.TheVariants.{Running, Halted, Jammed}
 use Rattle.isa.specs.declared.form.Instr.{Instr}
@@ -141,11 +143,17 @@ due_behind_a_request = refl
 done_behind_its_own : still_due true SingleStep ≡ false
 done_behind_its_own = refl
 
-request_clocks : entry_clocks Request ≡ 61
+request_clocks : entry_clocks C1 Request ≡ 61
 request_clocks = refl
 
-step_clocks : entry_clocks SingleStep ≡ 50
+step_clocks : entry_clocks C1 SingleStep ≡ 50
 step_clocks = refl
+
+request_clocks_by_words : entry_clocks C2 Request ≡ 81
+request_clocks_by_words = refl
+
+step_clocks_by_words : entry_clocks C2 SingleStep ≡ 70
+step_clocks_by_words = refl
 
 -- REP MOVSB at 0100h, and two prefixes before MOVSB at 0000h: between iterations IP is the last prefix's
 at_the_prefix : (p : CpuState) (r : Registers) (i : Instr) → form_length i.form ≡ 1
@@ -157,15 +165,15 @@ at_the_last_prefix : (p : CpuState) (r : Registers) (i : Instr) → form_length 
 at_the_last_prefix p r i one = rw one refl
 
 -- with CX 0 a repeat does nothing, and IP is the next instruction's
-empty_repeat : {S : Type 0} (bus : BusMeaning S) (p : CpuState) (r : Registers) (s : S) (op : Strings) (i : Instr)
-    → (after_repeat bus (record p { registers = record r { cx = 0; ip = 0x102 } }) s op i).cpu.registers.ip ≡ 0x102
+empty_repeat : {S : Type 0} (bus : BusMeaning S) (table : ClockTable) (p : CpuState) (r : Registers) (s : S) (op : Strings) (i : Instr)
+    → (after_repeat bus table (record p { registers = record r { cx = 0; ip = 0x102 } }) s op i).cpu.registers.ip ≡ 0x102
 unfolding after_repeat
-empty_repeat bus p r s op i = refl
+empty_repeat bus table p r s op i = refl
 
-none_in_progress : {S : Type 0} (bus : BusMeaning S) (p : CpuState) (r : Registers) (s : S) (op : Strings) (i : Instr)
-    → (after_repeat bus (record p { registers = record r { cx = 0 } }) s op i).cpu.repeat ≡ None
+none_in_progress : {S : Type 0} (bus : BusMeaning S) (table : ClockTable) (p : CpuState) (r : Registers) (s : S) (op : Strings) (i : Instr)
+    → (after_repeat bus table (record p { registers = record r { cx = 0 } }) s op i).cpu.repeat ≡ None
 unfolding after_repeat
-none_in_progress bus p r s op i = refl
+none_in_progress bus table p r s op i = refl
 
 -- a repeat ends where CX is 0, and of a comparison under REPE where ZF is 0, under REPNE where it is 1
 ends_with_cx : (r : Registers) (op : Strings) (i : Instr) → goes_on (record r { cx = 0 }) op i ≡ false

@@ -6,6 +6,7 @@ use crate::words::{read_bytes, read_cell, read_regs, words_in};
 use anyhow::{Context, Result, bail};
 use arrayvec::ArrayVec;
 use board_types::address::physical;
+use board_types::choice::ClockTable;
 use board_types::regs::Regs;
 use cases::Judged;
 use decode::decode::decode;
@@ -30,6 +31,8 @@ pub struct Done {
 pub struct Bench {
     pub cpu: Cpu,
     pub ram: Ram,
+    /// By which table clocks count.
+    table: ClockTable,
 }
 
 impl Bench {
@@ -38,6 +41,7 @@ impl Bench {
         Ok(Bench {
             cpu: Cpu::new(Regs::default()),
             ram: Ram::new(alloc)?,
+            table: ClockTable::C1,
         })
     }
 
@@ -48,6 +52,14 @@ impl Bench {
             "begin" => {
                 self.begin(read_regs(rest)?);
                 judge_kept(self, "none")?;
+                return Ok(Judged::Setting);
+            }
+            "table" => {
+                self.table = match rest.trim() {
+                    "C1" => ClockTable::C1,
+                    "C2" => ClockTable::C2,
+                    _ => bail!("no such table"),
+                };
                 return Ok(Judged::Setting);
             }
             "memory" => {
@@ -179,13 +191,27 @@ impl Bench {
         self.ram.begin_step();
         let mut told = ArrayVec::new();
         let clocks = match boundary {
-            Boundary::Request => enter(&mut self.cpu, &mut self.ram, kind, Cause::Request).0,
-            Boundary::SingleStep => enter(&mut self.cpu, &mut self.ram, kind, Cause::SingleStep).0,
-            Boundary::Iteration => again(&mut self.cpu, &mut self.ram).0,
+            Boundary::Request => enter(
+                &mut self.cpu,
+                &mut self.ram,
+                kind,
+                Cause::Request,
+                self.table,
+            )
+            .0,
+            Boundary::SingleStep => enter(
+                &mut self.cpu,
+                &mut self.ram,
+                kind,
+                Cause::SingleStep,
+                self.table,
+            )
+            .0,
+            Boundary::Iteration => again(&mut self.cpu, &mut self.ram, self.table).0,
             Boundary::Instruction => {
                 let decoded = decode(&self.ram, self.cpu.cs(), self.cpu.ip());
                 told = port_writes(&self.cpu, &decoded);
-                step(&mut self.cpu, &mut self.ram, &decoded).0
+                step(&mut self.cpu, &mut self.ram, &decoded, self.table).0
             }
             Boundary::Nothing => 0,
         };
