@@ -1,22 +1,43 @@
-//! One counter of the Intel 8253 by itself: a third of the timer's image, and a third of its work.
+//! One counter of the Intel 8253 or 8254 by itself: a third of the timer's image, and a third of its work.
 ghost use Rattle.std.specs.Prelude.{◌≡◌, ◌≤◌, if◌then◌else◌};
+ghost use Rattle.board_types.specs.declared.choice.TimerKind.TheVariants.{I8253};
 ghost use Rattle.board_types.specs.Lines.{is_high};
 ghost use Rattle.board_types.specs.Timed.{IsUntilTurn};
-ghost use Rattle.pit8253.specs.Counter.{after_control_word, after_gate, after_read, after_ticks, after_write, next_byte, out_of, power_on};
-ghost use Rattle.pit8253.specs.Image.{counter_of, line_of};
+ghost use Rattle.pit8253.specs.Counter.{after_control_word, after_gate, after_read, after_read_back, after_ticks, after_write, next_byte, out_of, power_on};
+ghost use Rattle.pit8253.specs.Image.{counter_of, kind_of, line_of};
 ghost use Rattle.c_interface.specs.Turns.{turn_of};
 
-use crate::levels::{line_of, number_of};
+use crate::levels::{kind_of, line_of, number_of};
+use board_types::choice::TimerKind;
 use board_types::timed::Timed;
 use pit8253::counter::Counter;
 use pit8253::image::CounterImage;
 
-/// Power-on, with the gate at a level: mode 0, no count, OUT low. Any bytes may stand there.
+/// Power-on of a counter of an 8253, with the gate at a level: mode 0, no count, OUT low. Any bytes may stand there.
 #[unsafe(no_mangle)]
 pub extern "C" fn zebludor_counter_power_on(counter: &mut CounterImage, gate: u8)
-    ensures { counter_of counter.new ≡ power_on (line_of gate) }
+    ensures { counter_of counter.new ≡ power_on I8253 (line_of gate) }
 {
-    *counter = Counter::new(line_of(gate)).image();
+    *counter = Counter::new(TimerKind::I8253, line_of(gate)).image();
+}
+
+/// The same of the kind: 0 an 8253, else an 8254.
+#[unsafe(no_mangle)]
+pub extern "C" fn zebludor_counter_power_on_as(counter: &mut CounterImage, kind: u8, gate: u8)
+    ensures { counter_of counter.new ≡ power_on (kind_of kind) (line_of gate) }
+{
+    *counter = Counter::new(kind_of(kind), line_of(gate)).image();
+}
+
+/// A read-back that names the counter: an 8254 latches the count where bit 5 of `word` is 0, and the status where bit 4
+/// is 0; an 8253 does nothing.
+#[unsafe(no_mangle)]
+pub extern "C" fn zebludor_counter_read_back(counter: &mut CounterImage, word: u8)
+    ensures { counter_of counter.new ≡ after_read_back (counter_of counter.old) word }
+{
+    let mut chip = Counter::from_image(counter);
+    chip.read_back(word);
+    *counter = chip.image();
 }
 
 /// A control word, of which bits 5 to 0 count here: access 00 latches, any other programs the counter anew.

@@ -1,9 +1,20 @@
-//! Levels of wires as numbers.
+//! Levels of wires, and kinds of timers, as numbers.
 ghost use Rattle.std.specs.Prelude.{◌≡◌, if◌then◌else◌};
 ghost use Rattle.board_types.specs.Lines.{is_high};
-ghost use Rattle.pit8253.specs.Image.{line_of};
+ghost use Rattle.pit8253.specs.Image.{kind_of, line_of};
 
+use board_types::choice::TimerKind;
 use board_types::line::Line;
+
+pub(crate) fn kind_of(number: u8) -> TimerKind
+    ensures { result ≡ kind_of number }
+{
+    if number == 0 {
+        TimerKind::I8253
+    } else {
+        TimerKind::I8254
+    }
+}
 
 pub(crate) fn line_of(level: u8) -> Line
     ensures { result ≡ line_of level }

@@ -1,25 +1,34 @@
-//! The Intel 8253. Ports are numbered by A1 and A0, counters from 0 to 2.
+//! The Intel 8253 and 8254. Ports are numbered by A1 and A0, counters from 0 to 2.
 ghost use Rattle.std.specs.Prelude.{◌≡◌, ◌≤◌, ◌%◌, if◌then◌else◌};
+ghost use Rattle.board_types.specs.declared.choice.TimerKind.TheVariants.{I8253};
 ghost use Rattle.board_types.specs.Lines.{is_high};
 ghost use Rattle.board_types.specs.Timed.{IsUntilTurn};
 ghost use Rattle.pit8253.specs.Counter as one;
 ghost use Rattle.pit8253.specs.Counter.{out_of};
-ghost use Rattle.pit8253.specs.Image.{counter_of, line_of, pit_of};
+ghost use Rattle.pit8253.specs.Image.{counter_of, kind_of, line_of, pit_of};
 ghost use Rattle.pit8253.specs.Pit.{power_on, counter, after_gate, after_read, after_ticks, after_write, byte_at};
 ghost use Rattle.c_interface.specs.Turns.{turn_of};
 
-use crate::levels::{line_of, number_of};
+use crate::levels::{kind_of, line_of, number_of};
 use board_types::timed::Timed;
 use pit8253::counter::Counter;
 use pit8253::image::{CounterImage, PitImage};
 use pit8253::pit::Pit;
 
-/// Power-on: each counter in mode 0 with no count, OUT low; gates 0 and 1 high, gate 2 low. Any bytes may stand there.
+/// Power-on of an 8253: each counter in mode 0 with no count, OUT low; gates 0 and 1 high, gate 2 low. Any bytes may stand there.
 #[unsafe(no_mangle)]
 pub extern "C" fn zebludor_pit_power_on(pit: &mut PitImage)
-    ensures { pit_of pit.new ≡ power_on }
+    ensures { pit_of pit.new ≡ power_on I8253 }
 {
     *pit = Pit::new().image();
+}
+
+/// The same of the kind: 0 an 8253, else an 8254.
+#[unsafe(no_mangle)]
+pub extern "C" fn zebludor_pit_power_on_as(pit: &mut PitImage, kind: u8)
+    ensures { pit_of pit.new ≡ power_on (kind_of kind) }
+{
+    *pit = Pit::with(kind_of(kind)).image();
 }
 
 /// Reads a byte of counter `port` modulo 4; port 3 gives FFh.

@@ -1,5 +1,5 @@
 -- Two states that differ, in the timer's counter 2, only in what its reads change sound alike.
-use Rattle.std.proofs.Common.{◌≡◌, ℕ, ◌+◌, ◌/◌, ◌%◌, Bool, true, false, if◌then◌else◌, List, [], ◌∷◌, refl, ap, ◌∙◌}
+use Rattle.std.proofs.Common.{◌≡◌, ℕ, ◌+◌, ◌/◌, ◌%◌, Bool, true, false, if◌then◌else◌, List, [], ◌∷◌, refl, sym, ap, ◌∙◌}
 use Rattle.std.specs.Prelude.{◌==◌, ◌&&◌}
 use Rattle.board_types.specs.Bits.{has_bit}
 use Rattle.board_types.specs.Lines.{is_high}
@@ -18,7 +18,7 @@ use Rattle.wiring.specs.Wires.{port_b_line, pit_after_clock, after_settling, aft
 use Rattle.wiring.specs.Speaker.{is_speaker_high, is_speaker_high_after}
 use Rattle.wiring.specs.Laws.{SoundsAlike, DependsOnWrites, NoKeyTouches, NoReadTouches}
 use Rattle.wiring.proofs.TimerGates.{changed_at}
-use Rattle.wiring.proofs.Unread.{unread, IsUnread, tick_unread, control_unread, write_unread, gate_unread, read_leaves, same_rest}
+use Rattle.wiring.proofs.Unread.{unread, IsUnread, tick_unread, control_unread, write_unread, gate_unread, read_leaves, back_where_leaves, same_rest}
 
 same_all : (s : ChipsState) → SoundsAlike s s
 same_all s = record { clock = refl; ppi = refl; counter_2 = refl }
@@ -47,7 +47,11 @@ one_of false p x q y first second = second
 write_rest : (n byte : ℕ) (p q : PitState) → unread p.counter_2 ≡ unread q.counter_2 → unread (pit.after_write p n byte).counter_2 ≡ unread (pit.after_write q n byte).counter_2
 unfolding pit.after_write
 write_rest n byte p q same =
-    one_of (n == 3) _ _ _ _ (changed (byte / 64) (λ c. one.after_control_word c byte) p q (control_unread byte) same) (changed n (λ c. one.after_write c byte) p q (write_unread byte) same)
+    one_of (n == 3) _ _ _ _
+    (one_of (byte / 64 == 3) (pit.after_read_back p byte) _ (pit.after_read_back q byte) _
+    (back_where_leaves p.counter_2 (byte / 8 % 2) byte ∙ same ∙ sym (back_where_leaves q.counter_2 (byte / 8 % 2) byte))
+    (changed (byte / 64) (λ c. one.after_control_word c byte) p q (control_unread byte) same))
+    (changed n (λ c. one.after_write c byte) p q (write_unread byte) same)
 
 clock_rest : (clock : ℕ) (p q : PitState) → unread p.counter_2 ≡ unread q.counter_2 → unread (pit_after_clock p clock).counter_2 ≡ unread (pit_after_clock q clock).counter_2
 unfolding pit.after_tick

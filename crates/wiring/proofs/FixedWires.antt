@@ -6,6 +6,7 @@ use Rattle.std.proofs.Math.ListN.{get_or-map}
 use Rattle.memory.specs.Regions.{is_text_address}
 use Rattle.board_types.specs.Lines.{from_bool, is_high}
 use Rattle.keyboard.specs.Keyboard.{KeyboardState}
+use Rattle.board_types.specs.declared.choice.TimerKind.{TimerKind}
 use Rattle.pic8259.specs.Levels.{Levels, all_levels, contains}
 use Rattle.pit8253.specs.Pit.{PitState}
 use Rattle.pit8253.specs.Pit as pit
@@ -58,9 +59,9 @@ settled_fixed s fixed =
           ∙ fixed.low level from to;
     }
 
-first_fixed : (image : List (ℕ × ℕ)) (ram_size sw1 sw2 : ℕ) → FixedWires (power_on image ram_size sw1 sw2)
+first_fixed : (image : List (ℕ × ℕ)) (ram_size sw1 sw2 : ℕ) (kind : TimerKind) → FixedWires (power_on image ram_size sw1 sw2 kind)
 unfolding power_on pit.power_on
-first_fixed image ram_size sw1 sw2 = record {
+first_fixed image ram_size sw1 sw2 kind = record {
   lines = refl;
   gate_0 = refl;
   gate_1 = refl;

@@ -4,6 +4,7 @@ use Rattle.std.specs.Prelude.{is_some}
 use Rattle.std.proofs.lemmas.Grind.{common_steps}
 use Rattle.board_types.specs.Bits.{has_bit}
 use Rattle.board_types.specs.Lines.{from_bool}
+use Rattle.board_types.specs.declared.choice.TimerKind.{TimerKind}
 use Rattle.pic8259.specs.Pic.{PicState, after_line}
 use Rattle.pit8253.specs.Counter as counter
 use Rattle.pit8253.specs.Pit as pit
@@ -60,16 +61,16 @@ arrivals_settled : (codes : List ℕ) (s : ChipsState) → after_settling s ≡ 
 arrivals_settled [] s still empty = still
 arrivals_settled (code ∷ codes) s still empty = arrivals_settled codes (after_arrival s code) (arrival_settled s code still empty) (arrival_empty s code empty)
 
-first_settled : (image : List (ℕ × ℕ)) (size sw1 sw2 : ℕ) → after_settling (power_on image size sw1 sw2) ≡ power_on image size sw1 sw2
+first_settled : (image : List (ℕ × ℕ)) (size sw1 sw2 : ℕ) (kind : TimerKind) → after_settling (power_on image size sw1 sw2 kind) ≡ power_on image size sw1 sw2 kind
 unfolding after_settling power_on pit.power_on pit.after_gate counter.after_gate after_line
-first_settled image size sw1 sw2 = refl
+first_settled image size sw1 sw2 kind = refl
 
-empty_first : (image : List (ℕ × ℕ)) (size sw1 sw2 : ℕ) → (power_on image size sw1 sw2).keyboard.latch ≡ None
+empty_first : (image : List (ℕ × ℕ)) (size sw1 sw2 : ℕ) (kind : TimerKind) → (power_on image size sw1 sw2 kind).keyboard.latch ≡ None
 unfolding power_on
-empty_first image size sw1 sw2 = refl
+empty_first image size sw1 sw2 kind = refl
 
-pub power_on_settled : (image : List (ℕ × ℕ)) (size sw1 sw2 : ℕ) (codes : List ℕ) → after_settling (after_arrivals (power_on image size sw1 sw2) codes) ≡ after_arrivals (power_on image size sw1 sw2) codes
-power_on_settled image size sw1 sw2 codes = arrivals_settled codes (power_on image size sw1 sw2) (first_settled image size sw1 sw2) (empty_first image size sw1 sw2)
+pub power_on_settled : (image : List (ℕ × ℕ)) (size sw1 sw2 : ℕ) (kind : TimerKind) (codes : List ℕ) → after_settling (after_arrivals (power_on image size sw1 sw2 kind) codes) ≡ after_arrivals (power_on image size sw1 sw2 kind) codes
+power_on_settled image size sw1 sw2 kind codes = arrivals_settled codes (power_on image size sw1 sw2 kind) (first_settled image size sw1 sw2 kind) (empty_first image size sw1 sw2 kind)
 
 -- line 6 of port B is 0, so no code moves
 ppi_after_arrival : (s : ChipsState) (code : ℕ) → (after_arrival s code).ppi ≡ s.ppi
@@ -80,15 +81,15 @@ ppi_after_arrivals : (codes : List ℕ) (s : ChipsState) → (after_arrivals s c
 ppi_after_arrivals [] s = refl
 ppi_after_arrivals (code ∷ codes) s = ppi_after_arrivals codes (after_arrival s code) ∙ ppi_after_arrival s code
 
-ppi_first : (image : List (ℕ × ℕ)) (size sw1 sw2 : ℕ) → (power_on image size sw1 sw2).ppi ≡ ppi.power_on sw1 sw2
+ppi_first : (image : List (ℕ × ℕ)) (size sw1 sw2 : ℕ) (kind : TimerKind) → (power_on image size sw1 sw2 kind).ppi ≡ ppi.power_on sw1 sw2
 unfolding power_on
-ppi_first image size sw1 sw2 = refl
+ppi_first image size sw1 sw2 kind = refl
 
 quiet : (k : KeyboardState) (sw1 sw2 : ℕ) → keys.after_settling k (lines_b (ppi.power_on sw1 sw2)) ≡ k
 unfolding keys.after_settling
 quiet k sw1 sw2 = refl
 
-pub power_on_keys_settled : (image : List (ℕ × ℕ)) (size sw1 sw2 : ℕ) (codes : List ℕ) → KeysSettled (after_arrivals (power_on image size sw1 sw2) codes)
-power_on_keys_settled image size sw1 sw2 codes =
-    ap (λ (ports : PpiState). keys.after_settling (after_arrivals (power_on image size sw1 sw2) codes).keyboard (lines_b ports)) (ppi_after_arrivals codes (power_on image size sw1 sw2) ∙ ppi_first image size sw1 sw2)
-    ∙ quiet (after_arrivals (power_on image size sw1 sw2) codes).keyboard sw1 sw2
+pub power_on_keys_settled : (image : List (ℕ × ℕ)) (size sw1 sw2 : ℕ) (kind : TimerKind) (codes : List ℕ) → KeysSettled (after_arrivals (power_on image size sw1 sw2 kind) codes)
+power_on_keys_settled image size sw1 sw2 kind codes =
+    ap (λ (ports : PpiState). keys.after_settling (after_arrivals (power_on image size sw1 sw2 kind) codes).keyboard (lines_b ports)) (ppi_after_arrivals codes (power_on image size sw1 sw2 kind) ∙ ppi_first image size sw1 sw2 kind)
+    ∙ quiet (after_arrivals (power_on image size sw1 sw2 kind) codes).keyboard sw1 sw2

@@ -8,7 +8,7 @@ use Rattle.board_types.specs.declared.line.Line.TheVariants.{Low, High}
 use Rattle.pit8253.specs.declared.program.Mode.{Mode}
 use Rattle.pit8253.specs.declared.program.Mode.TheVariants.{TerminalCount, OneShot, RateGenerator, SquareWave, SoftwareStrobe, HardwareStrobe}
 use Rattle.pit8253.specs.Counter as one
-use Rattle.pit8253.specs.Counter.{CounterState, is_loaded, is_awaited, is_triggered, after_load, after_count, after_rate_count, after_square_count, out_at_gate}
+use Rattle.pit8253.specs.Counter.{CounterState, is_loaded, is_awaited, is_triggered, after_due_load, after_count, after_rate_count, after_square_count, out_at_gate}
 use Rattle.pit8253.specs.Pit as pit
 use Rattle.pit8253.specs.Pit.{PitState}
 use Rattle.ppi8255.specs.Ppi.{PpiState}
@@ -43,12 +43,12 @@ tick_out c OneShot gate still = refl
 tick_out c RateGenerator High still = refl
 tick_out c RateGenerator Low still =
     let x : CounterState = record c { mode = RateGenerator; gate = Low } in
-    out_by c.load_due High (after_load x High) (after_count x RateGenerator) refl
+    out_by c.load_due High (after_due_load x RateGenerator) (after_count x RateGenerator) refl
     (still ∙ ap (λ b. (if b then after_rate_count x else x).out) (sym (none_of (is_loaded c.progress))))
 tick_out c SquareWave High still = refl
 tick_out c SquareWave Low still =
     let x : CounterState = record c { mode = SquareWave; gate = Low } in
-    out_by c.load_due High (after_load x High) (after_count x SquareWave) refl
+    out_by c.load_due High (after_due_load x SquareWave) (after_count x SquareWave) refl
     (still ∙ ap (λ b. (if b then after_square_count x else x).out) (sym (none_of (is_loaded c.progress))))
 tick_out c SoftwareStrobe gate still = refl
 tick_out c HardwareStrobe gate still = refl

@@ -1,6 +1,6 @@
 -- The gates of counters 0 and 1, through every operation of the timer.
-use Rattle.std.proofs.Common.{◌≡◌, ℕ, ◌/◌, ◌%◌, Bool, true, false, if◌then◌else◌, Option, None, Some, refl, ap}
-use Rattle.std.specs.Prelude.{◌==◌, ◌&&◌, is_none}
+use Rattle.std.proofs.Common.{◌≡◌, ℕ, ◌/◌, ◌%◌, Bool, true, false, if◌then◌else◌, Option, None, Some, refl, ap, ◌∙◌}
+use Rattle.std.specs.Prelude.{◌==◌, ◌&&◌, is_none, is_some}
 use Rattle.board_types.specs.Lines.{is_high}
 use Rattle.board_types.specs.declared.line.Line.{Line}
 use Rattle.pit8253.specs.declared.program.Mode.{Mode}
@@ -9,9 +9,9 @@ use Rattle.pit8253.specs.declared.program.Access.{Access}
 use Rattle.pit8253.specs.declared.program.Access.TheVariants.{LowByte, HighByte, LowThenHigh}
 use Rattle.pit8253.specs.Program.{count_minus}
 use Rattle.pit8253.specs.Counter as one
-use Rattle.pit8253.specs.Counter.{CounterState, is_loaded, after_count, after_rate_count, half_step, after_square_count, after_latch, after_byte_of_two, after_write_by, after_read_by}
+use Rattle.pit8253.specs.Counter.{CounterState, is_8254, is_loaded, after_count, after_rate_count, half_step, after_square_count, after_due_load, after_latch, after_status_latch, after_byte_of_two, after_write_by, after_read_by}
 use Rattle.pit8253.specs.Pit as pit
-use Rattle.pit8253.specs.Pit.{PitState, counter, with_counter}
+use Rattle.pit8253.specs.Pit.{PitState, counter, with_counter, read_back_where}
 
 -- a counter's mode and its gate
 abbrev pub setup : CounterState → Mode × Line
@@ -27,7 +27,7 @@ rate_setup c = choose_setup (c.count == 1) (setup c) _ _ refl refl
 square_setup : (c : CounterState) → setup (after_square_count c) ≡ setup c
 square_setup c =
     choose_setup (c.count == 1) (setup c) _ _ refl
-    (choose_setup (count_minus c.count_radix c.count (half_step c.count c.out) == 0) (setup c) _ _ refl refl)
+    (choose_setup ((if c.keeps_zero then c.count else count_minus c.count_radix c.count (half_step c.count c.out)) == 0) (setup c) _ _ refl refl)
 
 count_setup : (c : CounterState) (mode : Mode) → setup (after_count c mode) ≡ setup c
 count_setup c TerminalCount = choose_setup (is_loaded c.progress && is_high c.gate && is_none c.first_byte) (setup c) _ _ refl refl
@@ -37,10 +37,18 @@ count_setup c SquareWave = choose_setup (is_loaded c.progress && is_high c.gate)
 count_setup c SoftwareStrobe = choose_setup (is_loaded c.progress && is_high c.gate) (setup c) _ _ refl refl
 count_setup c HardwareStrobe = choose_setup (is_loaded c.progress) (setup c) _ _ refl refl
 
+due_setup : (c : CounterState) (mode : Mode) → setup (after_due_load c mode) ≡ setup c
+due_setup c TerminalCount = refl
+due_setup c OneShot = refl
+due_setup c RateGenerator = refl
+due_setup c SquareWave = refl
+due_setup c SoftwareStrobe = refl
+due_setup c HardwareStrobe = refl
+
 -- a tick leaves both
 pub tick_setup : (c : CounterState) → setup (one.after_tick c) ≡ setup c
 unfolding one.after_tick
-tick_setup c = choose_setup c.load_due (setup c) _ _ refl (count_setup c c.mode)
+tick_setup c = choose_setup c.load_due (setup c) _ _ (due_setup c c.mode) (count_setup c c.mode)
 
 pub tick_gate : (c : CounterState) → (one.after_tick c).gate ≡ c.gate
 tick_gate c = ap (λ (s : Mode × Line). s.1) (tick_setup c)
@@ -73,7 +81,28 @@ by_read_gate c LowThenHigh = choose c.high_next c.gate _ _ refl refl
 
 read_gate : (c : CounterState) → (one.after_read c).gate ≡ c.gate
 unfolding one.after_read
-read_gate c = by_read_gate c c.access
+read_gate c = choose (is_some c.status) c.gate _ _ refl (by_read_gate c c.access)
+
+-- a read-back leaves it
+counted_gate : (b : Bool) (c : CounterState) → (if b then after_latch c else c).gate ≡ c.gate
+unfolding after_latch
+counted_gate true c = refl
+counted_gate false c = refl
+
+told_gate : (c : CounterState) → (after_status_latch c).gate ≡ c.gate
+unfolding after_status_latch
+told_gate c = refl
+
+back_gate : (word : ℕ) (c : CounterState) → (one.after_read_back c word).gate ≡ c.gate
+unfolding one.after_read_back
+back_gate word c =
+    let d : CounterState = (if word / 32 % 2 == 0 then after_latch c else c) in
+    let same : d.gate ≡ c.gate = counted_gate (word / 32 % 2 == 0) c in
+    choose (is_8254 c.kind) c.gate (if word / 16 % 2 == 0 then after_status_latch d else d) c
+    (choose (word / 16 % 2 == 0) c.gate (after_status_latch d) d (told_gate d ∙ same) same) refl
+
+back_where_gate : (c : CounterState) (bit word : ℕ) → (read_back_where c bit word).gate ≡ c.gate
+back_where_gate c bit word = choose (bit == 1) c.gate _ _ (back_gate word c) refl
 
 -- gates 0 and 1 of one state are those of another
 pub record SameGates (p q : PitState) : Type 0 where
@@ -103,7 +132,11 @@ changed n rule p keeps = changed_by (n == 0) (n == 1) (n == 2) rule p keeps
 pub write_gates : (p : PitState) (n byte : ℕ) → SameGates (pit.after_write p n byte) p
 unfolding pit.after_write
 write_gates p n byte =
-    one_of (n == 3) _ _ p (changed (byte / 64) (λ c. one.after_control_word c byte) p (control_gate byte)) (changed n (λ c. one.after_write c byte) p (write_gate byte))
+    one_of (n == 3) _ _ p
+    (one_of (byte / 64 == 3) (pit.after_read_back p byte) _ p
+    (record { gate_0 = back_where_gate p.counter_0 (byte / 2 % 2) byte; gate_1 = back_where_gate p.counter_1 (byte / 4 % 2) byte })
+    (changed (byte / 64) (λ c. one.after_control_word c byte) p (control_gate byte)))
+    (changed n (λ c. one.after_write c byte) p (write_gate byte))
 
 pub read_gates : (p : PitState) (n : ℕ) → SameGates (pit.after_read p n) p
 unfolding pit.after_read

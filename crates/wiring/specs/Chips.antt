@@ -7,6 +7,7 @@ use Rattle.memory.specs.Map as map
 use Rattle.memory.specs.Map.{MemoryMap}
 use Rattle.pic8259.specs.Pic as pic
 use Rattle.pic8259.specs.Pic.{PicState}
+use Rattle.board_types.specs.declared.choice.TimerKind.{TimerKind}
 use Rattle.pit8253.specs.Pit as pit
 use Rattle.pit8253.specs.Pit.{PitState}
 use Rattle.ppi8255.specs.Ppi as ppi
@@ -26,13 +27,13 @@ pub record ChipsState : Type 0 where
   pub keyboard : KeyboardState
   pub mda : MdaState
 
--- power-on, with an image's bytes in memory and the two switch blocks
-unfoldable pub power_on : List (ℕ × ℕ) → ℕ → ℕ → ℕ → ChipsState
-power_on image ram_size sw1 sw2 = record {
+-- power-on, with an image's bytes in memory, the two switch blocks and a timer of the kind
+unfoldable pub power_on : List (ℕ × ℕ) → ℕ → ℕ → ℕ → TimerKind → ChipsState
+power_on image ram_size sw1 sw2 kind = record {
   clock = 0;
   memory = map.power_on image ram_size;
   pic = pic.power_on;
-  pit = pit.power_on;
+  pit = pit.power_on kind;
   ppi = ppi.power_on sw1 sw2;
   keyboard = keyboard.power_on;
   mda = mda.power_on;

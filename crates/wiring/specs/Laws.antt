@@ -3,6 +3,7 @@
 use Rattle.std.specs.Prelude.{◌≡◌, ℕ, ◌+◌, ◌-◌, ◌/◌, ◌<◌, ◌≤◌, ◌&&◌, ◌||◌, not, true, false, if◌then◌else◌, List, length, None, is_some, ◌≢◌}
 use Rattle.board_types.specs.Bits.{has_bit}
 use Rattle.board_types.specs.Lines.{is_high}
+use Rattle.board_types.specs.declared.choice.TimerKind.{TimerKind}
 use Rattle.board_types.specs.declared.line.Line.TheVariants.{High}
 use Rattle.bus.specs.PortWrites.{after_port_writes}
 use Rattle.keyboard.specs.Keyboard as keys
@@ -74,7 +75,7 @@ pub record FixedWires (s : ChipsState) : Type 0 where
 
 -- they are so at power-on, and stay so
 pub record WiresStay : Type 0 where
-  pub first : (image : List (ℕ × ℕ)) (ram_size sw1 sw2 : ℕ) → FixedWires (power_on image ram_size sw1 sw2)
+  pub first : (image : List (ℕ × ℕ)) (ram_size sw1 sw2 : ℕ) (kind : TimerKind) → FixedWires (power_on image ram_size sw1 sw2 kind)
   pub byte : (s : ChipsState) (address byte : ℕ) → FixedWires s → FixedWires (with_byte s address byte)
   pub input : (s : ChipsState) (port : ℕ) → FixedWires s → FixedWires (after_input s port)
   pub output : (s : ChipsState) (port byte : ℕ) → FixedWires s → FixedWires (after_output s port byte)
@@ -84,12 +85,12 @@ pub record WiresStay : Type 0 where
   pub request : (s : ChipsState) → FixedWires s → FixedWires (after_acknowledge s)
 
 -- what the speaker's next level can depend on is the same: the clock, the parallel port, and of counter 2 all but what
--- its reads change, the latch and the byte that is next
+-- its reads change, the latches of the count and of the status and the byte that is next
 pub record SoundsAlike (s t : ChipsState) : Type 0 where
   pub clock : s.clock ≡ t.clock
   pub ppi : s.ppi ≡ t.ppi
-  pub counter_2 : record s.pit.counter_2 { latch = None; high_next = false }
-      ≡ record t.pit.counter_2 { latch = None; high_next = false }
+  pub counter_2 : record s.pit.counter_2 { latch = None; status = None; high_next = false }
+      ≡ record t.pit.counter_2 { latch = None; status = None; high_next = false }
 
 -- the speaker's next level depends on these and on the port writes alone
 abbrev pub DependsOnWrites : Type 0

@@ -8,6 +8,7 @@ ghost use Rattle.pit8253.specs.Counter.{out_of};
 ghost use Rattle.wiring.specs.Timer.{is_before, later_turn, IsSoon};
 ghost use Rattle.pit8253.specs.Pit.{power_on, after_ticks, after_gate, after_write, byte_at, after_read};
 
+use board_types::choice::TimerKind;
 use board_types::line::Line;
 use pit8253::pit::Pit;
 use std::marker::Model;
@@ -37,11 +38,11 @@ impl Model for Timer {
 }
 
 impl Timer {
-    /// The timer at power-on.
-    pub(crate) fn new() -> Timer
-        ensures { result ≡ power_on }
+    /// A timer of the kind at power-on.
+    pub(crate) fn new(kind: TimerKind) -> Timer
+        ensures { result ≡ power_on kind }
     {
-        Timer::standing(Pit::new())
+        Timer::standing(Pit::with(kind))
     }
 
     /// A timer that isn't behind.
