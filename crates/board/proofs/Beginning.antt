@@ -42,8 +42,8 @@ chips_go_on c keys =
 clock_goes_by : (s : Plain) → clock_of (after_clock s) ≡ clock_of s + 1
 unfolding clock_of after_clock
 clock_goes_by s =
-    chips_go_on (after_act s.cpu s.busy s.chips (next_act s)).bus s.keys
-    ∙ ap (λ n. n + 1) (clock_of_act s.cpu s.busy s.chips (next_act s))
+    chips_go_on (after_act s.clocks s.cpu s.busy s.chips (next_act s)).bus s.keys
+    ∙ ap (λ n. n + 1) (clock_of_act s.clocks s.cpu s.busy s.chips (next_act s))
 
 -- the board's first clock of a step, in which nothing is listed, and the rest of it that is leapt over
 
@@ -101,8 +101,8 @@ pub goes_on : (end : ℕ) (s t : Plain) → clock_of s < end → PassesOn end (a
 goes_on end s t before passed = goes_from end s (after_clock s) t (clock_goes_by s) before passed
 
 -- the plain board's clock, told by what the processor does in it
-pub clock_by_act : (s : Plain) (a : Act) (acted : StepResult ChipsState) → a ≡ next_act s → acted ≡ after_act s.cpu s.busy s.chips a → record { cpu = acted.cpu; busy = acted.clocks - 1; chips = chips_after_clock acted.bus s.keys; keys = s.keys } ≡ after_clock s
+pub clock_by_act : (s : Plain) (a : Act) (acted : StepResult ChipsState) → a ≡ next_act s → acted ≡ after_act s.clocks s.cpu s.busy s.chips a → record { cpu = acted.cpu; busy = acted.clocks - 1; chips = chips_after_clock acted.bus s.keys; keys = s.keys; clocks = s.clocks } ≡ after_clock s
 unfolding after_clock
 clock_by_act s a acted now is =
-    ap (λ (r : StepResult ChipsState). record { cpu = r.cpu; busy = r.clocks - 1; chips = chips_after_clock r.bus s.keys; keys = s.keys })
-    (is ∙ ap (after_act s.cpu s.busy s.chips) now)
+    ap (λ (r : StepResult ChipsState). record { cpu = r.cpu; busy = r.clocks - 1; chips = chips_after_clock r.bus s.keys; keys = s.keys; clocks = s.clocks })
+    (is ∙ ap (after_act s.clocks s.cpu s.busy s.chips) now)

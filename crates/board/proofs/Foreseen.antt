@@ -1,5 +1,6 @@
 -- The speaker's level at the next clock, known from the port writes of what the processor does.
 use Rattle.std.proofs.Common.{◌≡◌, ℕ, ◌+◌, ◌-◌, Bool, true, false, if◌then◌else◌, List, [], ◌∷◌, refl, sym, ap, ◌∙◌, subst}
+use Rattle.board_types.specs.declared.choice.ClockTable.{ClockTable}
 use Rattle.board_types.specs.Lines.{from_bool}
 use Rattle.board_types.specs.declared.keys.StampedKey.{StampedKey}
 use Rattle.bus.specs.PortWrites.{after_port_writes}
@@ -101,12 +102,12 @@ none_more : (s : ChipsState) (writes : List (ℕ × ℕ)) → is_speaker_high_af
 unfolding is_speaker_high_after
 none_more s writes = refl
 
-step_foreseen : (cpu : CpuState) (s : ChipsState) (decoded : Decoded) → after_settling s ≡ s → is_speaker_high_after (after_step chips_bus cpu s decoded).bus [] ≡ is_speaker_high_after s (port_writes_of cpu decoded)
-step_foreseen cpu s decoded still =
-    let after : ChipsState = (after_step chips_bus cpu s decoded).bus in
+step_foreseen : (table : ClockTable) (cpu : CpuState) (s : ChipsState) (decoded : Decoded) → after_settling s ≡ s → is_speaker_high_after (after_step chips_bus table cpu s decoded).bus [] ≡ is_speaker_high_after s (port_writes_of cpu decoded)
+step_foreseen table cpu s decoded still =
+    let after : ChipsState = (after_step chips_bus table cpu s decoded).bus in
     let writes : List (ℕ × ℕ) = port_writes_of cpu decoded in
     depends_on_writes after (sounding s after) [] (sounds_from s after)
-    ∙ ap (λ t. is_speaker_high_after t []) (port_writes_tell chips_bus after_settling (λ t. t) (sounding s) (λ t port byte. sounding s (after_output t port byte)) accesses_settle (writes_alone s) cpu s decoded still)
+    ∙ ap (λ t. is_speaker_high_after t []) (port_writes_tell chips_bus after_settling (λ t. t) (sounding s) (λ t port byte. sounding s (after_output t port byte)) accesses_settle (writes_alone s) table cpu s decoded still)
     ∙ depends_on_writes _ (after_port_writes after_output s writes) [] (writes_sound s s (sounding s s) writes (sounds_as s s))
     ∙ none_more s writes
 
@@ -118,17 +119,17 @@ byte_alike s address byte =
 byte_foreseen : (s t : ChipsState) (address byte : ℕ) → is_speaker_high_after t [] ≡ is_speaker_high_after s [] → is_speaker_high_after (with_byte t address byte) [] ≡ is_speaker_high_after s []
 byte_foreseen s t address byte same = depends_on_writes (with_byte t address byte) t [] (byte_alike t address byte) ∙ same
 
-enter_foreseen : (cpu : CpuState) (s : ChipsState) (kind : ℕ) (cause : Cause) → is_speaker_high_after (after_enter chips_bus cpu s kind cause).bus [] ≡ is_speaker_high_after s []
-enter_foreseen cpu s kind cause =
-    enter_keeps_any chips_bus (λ (t : ChipsState). is_speaker_high_after t [] ≡ is_speaker_high_after s []) (byte_foreseen s) cpu s kind cause refl
+enter_foreseen : (table : ClockTable) (cpu : CpuState) (s : ChipsState) (kind : ℕ) (cause : Cause) → is_speaker_high_after (after_enter chips_bus table cpu s kind cause).bus [] ≡ is_speaker_high_after s []
+enter_foreseen table cpu s kind cause =
+    enter_keeps_any chips_bus table (λ (t : ChipsState). is_speaker_high_after t [] ≡ is_speaker_high_after s []) (byte_foreseen s) cpu s kind cause refl
 
-act_foreseen : (cpu : CpuState) (busy : ℕ) (s : ChipsState) (next : Act) → after_settling s ≡ s → is_speaker_high_after (after_act cpu busy s next).bus [] ≡ is_speaker_high_after s (writes_of cpu next)
-act_foreseen cpu busy s Nothing still = refl
-act_foreseen cpu busy s Request still = enter_foreseen cpu (after_acknowledge s) (requested_type s) causes.Request ∙ no_entry_touches s []
-act_foreseen cpu busy s SingleStep still = enter_foreseen cpu s 1 causes.SingleStep
-act_foreseen cpu busy s Iteration still =
-    again_keeps_any chips_bus (λ (t : ChipsState). is_speaker_high_after t [] ≡ is_speaker_high_after s []) (byte_foreseen s) cpu s refl
-act_foreseen cpu busy s (Instruction decoded) still = step_foreseen cpu s decoded still
+act_foreseen : (table : ClockTable) (cpu : CpuState) (busy : ℕ) (s : ChipsState) (next : Act) → after_settling s ≡ s → is_speaker_high_after (after_act table cpu busy s next).bus [] ≡ is_speaker_high_after s (writes_of cpu next)
+act_foreseen table cpu busy s Nothing still = refl
+act_foreseen table cpu busy s Request still = enter_foreseen table cpu (after_acknowledge s) (requested_type s) causes.Request ∙ no_entry_touches s []
+act_foreseen table cpu busy s SingleStep still = enter_foreseen table cpu s 1 causes.SingleStep
+act_foreseen table cpu busy s Iteration still =
+    again_keeps_any chips_bus table (λ (t : ChipsState). is_speaker_high_after t [] ≡ is_speaker_high_after s []) (byte_foreseen s) cpu s refl
+act_foreseen table cpu busy s (Instruction decoded) still = step_foreseen table cpu s decoded still
 
 clock_foreseen : (s : ChipsState) (keys : List StampedKey) → is_speaker_high (chips_after_clock s keys) ≡ is_speaker_high_after s []
 unfolding chips_after_clock
@@ -137,7 +138,7 @@ clock_foreseen s keys = no_key_touches s [] (codes_at keys (s.clock + 1))
 pub foreseen : LevelIsForeseen
 unfolding after_clock speaker_level
 foreseen s holds =
-    ap from_bool (clock_foreseen (after_act s.cpu s.busy s.chips (next_act s)).bus s.keys ∙ act_foreseen s.cpu s.busy s.chips (next_act s) holds.settled)
+    ap from_bool (clock_foreseen (after_act s.clocks s.cpu s.busy s.chips (next_act s)).bus s.keys ∙ act_foreseen s.clocks s.cpu s.busy s.chips (next_act s) holds.settled)
 
 pub foreseen_by : (s : Plain) (next : Act) (high : Bool) → WiresHold s.chips → next ≡ next_act s → high ≡ is_speaker_high_after s.chips (writes_of s.cpu next) → from_bool high ≡ speaker_level (after_clock s)
 foreseen_by s next high holds is told = ap from_bool told ∙ ap (λ n. from_bool (is_speaker_high_after s.chips (writes_of s.cpu n))) is ∙ sym (foreseen s holds)

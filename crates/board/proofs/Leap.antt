@@ -50,7 +50,7 @@ busy_by free a is = ap (λ f. if f then a else Nothing) is
 idle_clock : (s : Plain) (b : ℕ) (c : ChipsState) → next_act (record s { busy = b; chips = c }) ≡ Nothing → chips_after_clock c s.keys ≡ wires.after_clock c → after_clock (record s { busy = b; chips = c }) ≡ record s { busy = b - 1; chips = wires.after_clock c }
 unfolding after_clock
 idle_clock s b c nothing alone =
-    ap (λ (a : Act). let acted : StepResult ChipsState = after_act s.cpu b c a in record { cpu = acted.cpu; busy = acted.clocks - 1; chips = chips_after_clock acted.bus s.keys; keys = s.keys }) nothing
+    ap (λ (a : Act). let acted : StepResult ChipsState = after_act s.clocks s.cpu b c a in record { cpu = acted.cpu; busy = acted.clocks - 1; chips = chips_after_clock acted.bus s.keys; keys = s.keys; clocks = s.clocks }) nothing
     ∙ ap (λ t. record s { busy = b - 1; chips = t }) alone
 
 -- clocks in each of which it does nothing, while no key comes; `most` is their number at the end

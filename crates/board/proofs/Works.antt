@@ -194,7 +194,7 @@ pit_of_clock s keys still =
 chips_next : (p : Plain) → next_act p ≡ Nothing → (after_clock p).chips ≡ chips_after_clock p.chips p.keys
 unfolding after_clock
 chips_next p nothing =
-    ap (λ (a : Act). let acted : StepResult ChipsState = after_act p.cpu p.busy p.chips a in chips_after_clock acted.bus p.keys) nothing
+    ap (λ (a : Act). let acted : StepResult ChipsState = after_act p.clocks p.cpu p.busy p.chips a in chips_after_clock acted.bus p.keys) nothing
 
 ticks_add : (p : PitState) (a b c : ℕ) → a + b ≡ c → pit.after_ticks (pit.after_ticks p a) b ≡ pit.after_ticks p c
 ticks_add p a b c is = sym (iterate_add pit.after_tick a b p) ∙ ap (λ k. pit.after_ticks p k) is

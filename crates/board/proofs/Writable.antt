@@ -3,6 +3,8 @@ use Rattle.std.proofs.Common.{◌≡◌, ℕ, ◌+◌, ◌*◌, ◌-◌, ◌<◌
 use Rattle.std.specs.Prelude.{nat_lt}
 use Rattle.std.proofs.lemmas.Grind.{common_steps}
 use Rattle.std.proofs.lemmas.Bool.Decides.{nat_tests}
+use Rattle.board_types.specs.declared.choice.ClockTable.{ClockTable}
+use Rattle.board_types.specs.declared.choice.TimerKind.{TimerKind}
 use Rattle.board_types.specs.Iterate.{iterate}
 use Rattle.board_types.specs.declared.keys.StampedKey.{StampedKey}
 use Rattle.execute.specs.Cpu.{CpuState}
@@ -56,23 +58,23 @@ chips_take s keys address =
 byte_takes : (s t : ChipsState) (address other byte : ℕ) → is_writable t address ≡ is_writable s address → is_writable (chips_bus.after_write t other byte) address ≡ is_writable s address
 byte_takes s t address other byte same = chips_keep_bytes.fixed t other byte address ∙ same
 
-enter_takes : (cpu : CpuState) (s : ChipsState) (kind : ℕ) (cause : Cause) (address : ℕ) → is_writable (after_enter chips_bus cpu s kind cause).bus address ≡ is_writable s address
-enter_takes cpu s kind cause address =
-    enter_keeps_any chips_bus (λ (t : ChipsState). is_writable t address ≡ is_writable s address) (λ t other byte same. byte_takes s t address other byte same) cpu s kind cause refl
+enter_takes : (table : ClockTable) (cpu : CpuState) (s : ChipsState) (kind : ℕ) (cause : Cause) (address : ℕ) → is_writable (after_enter chips_bus table cpu s kind cause).bus address ≡ is_writable s address
+enter_takes table cpu s kind cause address =
+    enter_keeps_any chips_bus table (λ (t : ChipsState). is_writable t address ≡ is_writable s address) (λ t other byte same. byte_takes s t address other byte same) cpu s kind cause refl
 
 same_after_acknowledge : (s : ChipsState) → SameBytes (after_acknowledge s) s
 unfolding after_acknowledge
 same_after_acknowledge s = record { memory = refl; text = refl }
 
-act_takes : (cpu : CpuState) (busy : ℕ) (s : ChipsState) (next : Act) (address : ℕ) → is_writable (after_act cpu busy s next).bus address ≡ is_writable s address
-act_takes cpu busy s Nothing address = refl
-act_takes cpu busy s Request address =
-    enter_takes cpu (after_acknowledge s) (requested_type s) causes.Request address ∙ same_writable (after_acknowledge s) s address (same_after_acknowledge s)
-act_takes cpu busy s SingleStep address = enter_takes cpu s 1 causes.SingleStep address
-act_takes cpu busy s Iteration address =
-    again_keeps_any chips_bus (λ (t : ChipsState). is_writable t address ≡ is_writable s address) (λ t other byte same. byte_takes s t address other byte same) cpu s refl
-act_takes cpu busy s (Instruction decoded) address =
-    step_keeps_any chips_bus (λ (t : ChipsState). is_writable t address ≡ is_writable s address)
+act_takes : (table : ClockTable) (cpu : CpuState) (busy : ℕ) (s : ChipsState) (next : Act) (address : ℕ) → is_writable (after_act table cpu busy s next).bus address ≡ is_writable s address
+act_takes table cpu busy s Nothing address = refl
+act_takes table cpu busy s Request address =
+    enter_takes table cpu (after_acknowledge s) (requested_type s) causes.Request address ∙ same_writable (after_acknowledge s) s address (same_after_acknowledge s)
+act_takes table cpu busy s SingleStep address = enter_takes table cpu s 1 causes.SingleStep address
+act_takes table cpu busy s Iteration address =
+    again_keeps_any chips_bus table (λ (t : ChipsState). is_writable t address ≡ is_writable s address) (λ t other byte same. byte_takes s t address other byte same) cpu s refl
+act_takes table cpu busy s (Instruction decoded) address =
+    step_keeps_any chips_bus table (λ (t : ChipsState). is_writable t address ≡ is_writable s address)
     (λ t other byte same. byte_takes s t address other byte same)
     (λ t port same. chips_keep_bytes.input_fixed t port address ∙ same)
     (λ t port byte same. chips_keep_bytes.output_fixed t port byte address ∙ same)
@@ -81,7 +83,7 @@ act_takes cpu busy s (Instruction decoded) address =
 one_takes : (s : Plain) (address : ℕ) → is_writable (after_clock s).chips address ≡ is_writable s.chips address
 unfolding after_clock
 one_takes s address =
-    chips_take (after_act s.cpu s.busy s.chips (next_act s)).bus s.keys address ∙ act_takes s.cpu s.busy s.chips (next_act s) address
+    chips_take (after_act s.clocks s.cpu s.busy s.chips (next_act s)).bus s.keys address ∙ act_takes s.clocks s.cpu s.busy s.chips (next_act s) address
 
 all_take : (n : ℕ) (s : Plain) (address : ℕ) → is_writable (after_clocks s n).chips address ≡ is_writable s.chips address
 unfolding iterate
@@ -90,9 +92,9 @@ all_take (suc n) s address = one_takes (after_clocks s n) address ∙ all_take n
 
 -- at power-on
 
-text_first : (image : List (ℕ × ℕ)) (size sw1 sw2 address : ℕ) → IsTextAddress address → is_writable (chips.power_on image size sw1 sw2) address ≡ true
+text_first : (image : List (ℕ × ℕ)) (size sw1 sw2 : ℕ) (kind : TimerKind) (address : ℕ) → IsTextAddress address → is_writable (chips.power_on image size sw1 sw2 kind) address ≡ true
 unfolding is_writable chips.power_on
-text_first image size sw1 sw2 address text = let whole = is_blank.size in grind (arith, nat_tests, common_steps, whole)
+text_first image size sw1 sw2 kind address text = let whole = is_blank.size in grind (arith, nat_tests, common_steps, whole)
 
 not_text : (address : ℕ) → address < 0xA0000 → is_text_address address ≡ false
 not_text address below = grind (arith, nat_tests)
@@ -101,17 +103,17 @@ ram_within : (image : List (ℕ × ℕ)) (size address : ℕ) → address < size
 unfolding map.power_on
 ram_within image size address within = within
 
-ram_first : (image : List (ℕ × ℕ)) (size sw1 sw2 address : ℕ) → size ≤ 0xA0000 → address < size → is_writable (chips.power_on image size sw1 sw2) address ≡ true
+ram_first : (image : List (ℕ × ℕ)) (size sw1 sw2 : ℕ) (kind : TimerKind) (address : ℕ) → size ≤ 0xA0000 → address < size → is_writable (chips.power_on image size sw1 sw2 kind) address ≡ true
 unfolding is_writable chips.power_on
-ram_first image size sw1 sw2 address least within =
+ram_first image size sw1 sw2 kind address least within =
     ap (λ b. if b then nat_lt (address - 0xB0000) (length mda.power_on.bytes) else map.is_writable (map.power_on image size) address) (not_text address (omega arith))
     ∙ ram_written (map.power_on image size) address (whole_at_power_on image size least) (ram_within image size address within)
 
-takes_first : (image : List (ℕ × ℕ)) (config : Config) (address : ℕ) → IsRamSize config.ram_kb → (address < 1024 * config.ram_kb) ⊎ IsTextAddress address → is_writable (chips.power_on image (1024 * config.ram_kb) config.sw1 config.sw2) address ≡ true
+takes_first : (image : List (ℕ × ℕ)) (config : Config) (address : ℕ) → IsRamSize config.ram_kb → (address < 1024 * config.ram_kb) ⊎ IsTextAddress address → is_writable (chips.power_on image (1024 * config.ram_kb) config.sw1 config.sw2 config.timer) address ≡ true
 takes_first image config address size at =
     elim at [
-      | inl ram ↦ ram_first image (1024 * config.ram_kb) config.sw1 config.sw2 address (let most = size.most in omega arith) ram
-      | inr text ↦ text_first image (1024 * config.ram_kb) config.sw1 config.sw2 address text
+      | inl ram ↦ ram_first image (1024 * config.ram_kb) config.sw1 config.sw2 config.timer address (let most = size.most in omega arith) ram
+      | inr text ↦ text_first image (1024 * config.ram_kb) config.sw1 config.sw2 config.timer address text
     ]
 
 power_on_takes : (image : List (ℕ × ℕ)) (config : Config) (keys : List StampedKey) (address : ℕ) → IsRamSize config.ram_kb → (address < 1024 * config.ram_kb) ⊎ IsTextAddress address → is_writable (power_on image config keys).chips address ≡ true

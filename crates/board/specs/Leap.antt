@@ -2,6 +2,7 @@
 -- many there are at least, and what is left of a board after them.
 -- For proofs alone: no public contract rests on it.
 use Rattle.std.specs.Prelude.{ℕ, ◌≡◌, ◌≢◌, ◌+◌, ◌-◌, ◌<◌, ◌≤◌, ◌^◌, ◌⊎◌, List, [], Bool, true, false, Option, None, Some}
+use Rattle.board_types.specs.declared.choice.ClockTable.{ClockTable}
 use Rattle.board_types.specs.Timed.{IsSteady}
 use Rattle.board_types.specs.declared.keys.StampedKey.{StampedKey}
 use Rattle.board_bus.specs.Calm.{IsCalm}
@@ -95,12 +96,12 @@ pub record IsPassed (end : ℕ) (s t : Plain) : Type 0 where
 abbrev pub PassesOn : ℕ → Plain → Plain → Type 0
 PassesOn end s t = (t ≡ s) ⊎ IsPassed end s t
 
--- the chips pass the first clock of a step of so many clocks, or all, whatever processor makes it
+-- the chips pass the first clock of a step of so many clocks, or all, whatever processor makes it, and by whatever table
 abbrev pub PassStep : ℕ → ℕ → ChipsState → List StampedKey → ℕ → ChipsState → Type 0
 PassStep end busy chips keys left after =
-    (cpu : CpuState) → WiresHold (chips_after_clock chips keys)
-    → PassesOn end (record { cpu = cpu; busy = busy - 1; chips = chips_after_clock chips keys; keys = keys })
-    (record { cpu = cpu; busy = left; chips = after; keys = keys })
+    (cpu : CpuState) (table : ClockTable) → WiresHold (chips_after_clock chips keys)
+    → PassesOn end (record { cpu = cpu; busy = busy - 1; chips = chips_after_clock chips keys; keys = keys; clocks = table })
+    (record { cpu = cpu; busy = left; chips = after; keys = keys; clocks = table })
 
 -- the clock at which a busy processor is free, where there is such a clock
 abbrev pub IsFreeClock : Plain → Option ℕ → Type 0

@@ -2,6 +2,7 @@
 -- To be believed: public contracts say what they say by these definitions.
 use Rattle.std.specs.Prelude.{ℕ, ◌+◌, ◌-◌, ◌*◌, ◌==◌, Bool, if◌then◌else◌, List, [], ◌∷◌, map, filter}
 use Rattle.std.specs.Bool.{beq}
+use Rattle.board_types.specs.declared.choice.ClockTable.{ClockTable}
 use Rattle.board_types.specs.Iterate.{iterate, gathered}
 use Rattle.board_types.specs.Lines.{from_bool, is_high}
 use Rattle.board_types.specs.declared.keys.StampedKey.{StampedKey}
@@ -36,6 +37,8 @@ pub record Plain : Type 0 where
   pub chips : ChipsState
   -- every key code with its clock; those whose clock is reached have arrived
   pub keys : List StampedKey
+  -- by which table the processor's clocks count
+  pub clocks : ClockTable
 
 -- the clock that the board stands at
 unfoldable pub clock_of : Plain → ℕ
@@ -62,13 +65,13 @@ unfoldable pub next_act : Plain → Act
 next_act s = if is_free s then act_at s.cpu s.chips (boundary_of s.cpu (is_requested s.chips)) else Nothing
 
 -- The processor's part of a clock, at once and whole (this board's choice). A request is acknowledged as it is entered.
-abbrev pub after_act : CpuState → ℕ → ChipsState → Act → StepResult ChipsState
-after_act cpu busy chips Nothing = step_result cpu chips busy
-after_act cpu busy chips Request =
-    after_enter chips_bus cpu (after_acknowledge chips) (requested_type chips) causes.Request
-after_act cpu busy chips SingleStep = after_enter chips_bus cpu chips 1 causes.SingleStep
-after_act cpu busy chips Iteration = after_again chips_bus cpu chips
-after_act cpu busy chips (Instruction decoded) = after_step chips_bus cpu chips decoded
+abbrev pub after_act : ClockTable → CpuState → ℕ → ChipsState → Act → StepResult ChipsState
+after_act table cpu busy chips Nothing = step_result cpu chips busy
+after_act table cpu busy chips Request =
+    after_enter chips_bus table cpu (after_acknowledge chips) (requested_type chips) causes.Request
+after_act table cpu busy chips SingleStep = after_enter chips_bus table cpu chips 1 causes.SingleStep
+after_act table cpu busy chips Iteration = after_again chips_bus table cpu chips
+after_act table cpu busy chips (Instruction decoded) = after_step chips_bus table cpu chips decoded
 
 -- the codes of the keys that are stamped with a clock, in order
 abbrev pub codes_at : List StampedKey → ℕ → List ℕ
@@ -83,8 +86,14 @@ chips_after_clock s keys = after_key_settling (after_arrivals (wires.after_clock
 -- board's choice)
 unfoldable pub after_clock : Plain → Plain
 after_clock s =
-    let acted : StepResult ChipsState = after_act s.cpu s.busy s.chips (next_act s) in
-    record { cpu = acted.cpu; busy = acted.clocks - 1; chips = chips_after_clock acted.bus s.keys; keys = s.keys }
+    let acted : StepResult ChipsState = after_act s.clocks s.cpu s.busy s.chips (next_act s) in
+    record {
+      cpu = acted.cpu;
+      busy = acted.clocks - 1;
+      chips = chips_after_clock acted.bus s.keys;
+      keys = s.keys;
+      clocks = s.clocks;
+    }
 
 abbrev pub after_clocks : Plain → ℕ → Plain
 after_clocks s n = iterate after_clock n s
@@ -94,8 +103,9 @@ unfoldable pub power_on : List (ℕ × ℕ) → Config → List StampedKey → P
 power_on image config keys = record {
   cpu = initial_cpu reset;
   busy = 0;
-  chips = after_arrivals (chips.power_on image (1024 * config.ram_kb) config.sw1 config.sw2) (codes_at keys 0);
+  chips = after_arrivals (chips.power_on image (1024 * config.ram_kb) config.sw1 config.sw2 config.timer) (codes_at keys 0);
   keys = keys;
+  clocks = config.clocks;
 }
 
 -- the plain board after n clocks from power-on

@@ -22,6 +22,7 @@ use crate::plain::PlainBoard;
 use crate::stop::{Reach, Stop, Stopped, Stops, all_await_free};
 use crate::trail::{Trail, TrailEntry};
 use board_types::bytes::Bytes;
+use board_types::choice::{ClockTable, TimerKind};
 use board_types::clock::Clock;
 use board_types::image::Image;
 use board_types::keys::Keys;
@@ -86,6 +87,10 @@ pub struct Config {
     pub sw1: u8,
     /// The five switches of the second block that the board reads, 0 to 31.
     pub sw2: u8,
+    /// Which chip the timer is.
+    pub timer: TimerKind,
+    /// By which table the processor's clocks count.
+    pub clocks: ClockTable,
 }
 
 /// A change of the speaker's level, at a clock.

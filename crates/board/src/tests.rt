@@ -7,6 +7,7 @@ ghost use Rattle.std.specs.Prelude.{◌≡◌, [], IfOk};
 
 use crate::board::{Board, BoardFault, Config};
 use crate::trail::{TRAIL_LENGTH, TrailEntry, TrailEvent};
+use board_types::choice::{ClockTable, TimerKind};
 use board_types::clock::Clock;
 use board_types::image::{Image, is_loadable};
 use board_types::keys::Keys;
@@ -169,6 +170,8 @@ const CONFIG: Config = Config {
     ram_kb: 64,
     sw1: 0,
     sw2: 0,
+    timer: TimerKind::I8253,
+    clocks: ClockTable::C1,
 };
 
 /// A board with a program at F0000h, to which the reset vector leads.
