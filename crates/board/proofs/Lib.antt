@@ -22,3 +22,5 @@ pub mod Wires
 pub mod Works
 pub mod Writable
 mod Stores
+pub mod Latest
+pub mod Joining

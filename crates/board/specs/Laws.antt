@@ -23,7 +23,7 @@ use Rattle.board.specs.declared.board.Config.{Config}
 use Rattle.board.specs.declared.stop.Condition.{Condition}
 use Rattle.board.specs.declared.stop.Stop.{Stop}
 use Rattle.board.specs.Board.{BoardState, Ran}
-use Rattle.board.specs.Stops.{holding, holds, IsStopOf}
+use Rattle.board.specs.Stops.{holding, holds, IsStopOf, NoStop}
 use Rattle.board.specs.Plain.{Plain, after_clock, after_clocks, board_after, clock_of, next_act, speaker_level}
 
 -- the port writes of what the processor does: an instruction alone writes to ports
@@ -171,3 +171,9 @@ LeastNumberIsTold =
 -- a run and the next one are one run of both their clocks, with the lists of the whole
 abbrev pub RunsJoin : Type 0
 RunsJoin = (a b : ℕ) (s t u : BoardState) → Ran a s t → Ran b t u → Ran (a + b) s u
+
+-- a search that finds nothing and the next one are one search of both their clocks
+abbrev pub SearchesJoin : Type 0
+SearchesJoin =
+    (stops : List Condition) (a b : ℕ) (s t : BoardState) (stopped : Option Stop) → Ran a s t → NoStop stops a s.plain
+    → IsStopOf stops b t.plain stopped → IsStopOf stops (a + b) s.plain stopped

@@ -14,3 +14,5 @@ pub mod Leap
 pub mod Clear
 pub mod Turns
 pub mod AwaitFree
+pub mod Lasts
+pub mod Found

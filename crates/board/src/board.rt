@@ -1,5 +1,5 @@
 //! The board: run for a number of clocks, and read.
-ghost use Rattle.std.specs.Prelude.{IsTrue, true, All, ◌-◌, slice_get, ◌≡◌, ◌+◌, ◌*◌, ◌<◌, ◌≤◌, ◌^◌, [], ◌∷◌, ◌++◌, length, OnErr, OnOk, IfOk, IsOk, ◌↔◌, ◌⊎◌};
+ghost use Rattle.std.specs.Prelude.{IsTrue, None, true, All, ◌-◌, slice_get, ◌≡◌, ◌+◌, ◌*◌, ◌<◌, ◌≤◌, ◌^◌, [], ◌∷◌, ◌++◌, length, OnErr, OnOk, IfOk, IsOk, ◌↔◌, ◌⊎◌};
 ghost use Rattle.std.specs.Result.{IfErr, IsErrOf};
 ghost use Rattle.std.specs.String.{string_bytes};
 ghost use Rattle.memory.specs.Map.{IsRamSize, FitsRam};
@@ -9,8 +9,11 @@ ghost use Rattle.board.specs.Board.{Ran, StoppedEarly, board_fault_name, board_f
 ghost use Rattle.board.specs.HeldBack.{IsHeldBack};
 ghost use Rattle.board.specs.KeptAgain.{IsExact};
 ghost use Rattle.board.specs.Leap.{IsQuiet, leapt};
+ghost use Rattle.board.specs.Reach.{AllWithin};
 ghost use Rattle.board.specs.Plain.{after_clock, after_clocks, byte_of, change_next, changes_in, clock_of, is_free, lost_codes, next_act, power_on, registers_of, screen_of, speaker_level, state_of};
-ghost use Rattle.board.specs.Stops.{FitsRoom, HasAddress, IsStopOf, NoStop, run_length};
+ghost use Rattle.board.specs.Stops.{FitsRoom, HasAddress, IsStopOf, NoStop, holding, run_length};
+ghost use Rattle.board.specs.Lasts.{IsLastOf};
+ghost use Rattle.board.specs.Found.{found_at, found_before};
 ghost use Rattle.board.specs.Trail.{last, trail_in, trail_next};
 ghost use Rattle.board.specs.AwaitFree.{IsTurnBetween};
 ghost use Rattle.board.specs.Turns.{IsStepOn, IsStrideOn, IsTickOn, IsTurnOn};
@@ -170,6 +173,7 @@ impl Board {
         ensures changes { IfOk result (λ board. board.changes ≡ self.now.changes) }
         ensures trail { IfOk result (λ board. board.trail ≡ self.now.trail) }
         ensures turns { IfOk result (λ board. board.turns ≡ self.now.turns) }
+        ensures few { length self.now.trail ≤ 32 }
         ensures err { IfErr result (λ fault. fault ≡ BoardFault.Memory) }
     {
         Ok(Board {
@@ -275,6 +279,45 @@ impl<A: Allocator> Board<A> {
         }
     }
 
+    /// Runs the board for `count` processor clocks, and answers the last clock, from the start to the end, both among them, at
+    /// which one of `stops` holds, with the least number of one that does. Refused as `run` is.
+    pub fn run_last(
+        &mut self,
+        count: u64,
+        stops: &Stops,
+    ) -> Result<Option<(Clock, usize)>, BoardFault>
+        requires { All HasAddress stops.now.items }
+        ensures last { IfOk result (λ found. IsLastOf stops.now.items (count + 1) self.old.plain found) }
+        ensures ran { OnOk result (Ran count self.old self.new) }
+        ensures limit { IsErrOf result BoardFault.ClockLimit ↔ (2 ^ 40 < clock_of self.old.plain + count) }
+        ensures limit_kept { IsErrOf result BoardFault.ClockLimit → self.new ≡ self.old }
+        ensures memory { IsErrOf result BoardFault.Memory → StoppedEarly count self.old self.new }
+        ensures no_ram_size { ¬ (IsErrOf result BoardFault.RamSize) }
+        ensures succeeds { clock_of self.old.plain + count ≤ 2 ^ 40
+            → length (changes_in self.old.plain count) ≤ self.old.room → IsOk result }
+        ensures room { self.old.room + length self.old.changes ≤ self.new.room + length self.new.changes }
+        ensures turns_least { self.old.turns + steps_in self.old.plain (clock_of self.new.plain - clock_of self.old.plain)
+            ≤ self.new.turns }
+        ensures turns_most { self.new.turns
+            ≤ self.old.turns + 3 * work_in self.old.plain (clock_of self.new.plain - clock_of self.old.plain) + 3 }
+    {
+        if self.is_past_limit(count) {
+            return Err(BoardFault::ClockLimit);
+        }
+        let end = self.clock().get() + count;
+        let whole = all_await_free(stops.as_slice());
+        let reach = Reach::of(stops.as_slice());
+        let mut last = None;
+        'turns: while self.clock().get() < end {
+            let here = self.holding(stops, reach);
+            // where none holds, a step with the leap behind it passes none
+            self.turn(end, passes_none(whole, here))?;
+            // else what holds does so up to the clock before the turn's last one
+            last = later(last, here, self.clock());
+        }
+        Ok(latest(last, self.holding(stops, reach), self.clock()))
+    }
+
     /// Runs the board for `count` processor clocks, each made by itself, in place of the leaps of `run`.
     #[cfg(test)]
     pub(crate) fn run_ticking(&mut self, count: u64) -> Result<(), BoardFault> {
@@ -302,6 +345,16 @@ impl<A: Allocator> Board<A> {
     {
         self.changes.try_reserve(n)?;
         Ok(())
+    }
+
+    /// The least number of a condition that holds, `reach` being where IP has to be for that.
+    #[inline(always)]
+    fn holding(&self, stops: &Stops, reach: Reach) -> Option<usize>
+        requires address { All HasAddress stops.now.items }
+        requires within { AllWithin reach stops.now.items }
+        ensures { result ≡ holding stops.now.items self.now.plain }
+    {
+        self.plain.holding_within(stops.as_slice(), reach)
     }
 
     /// Whether a run of `count` clocks would go past the last clock.
@@ -616,5 +669,36 @@ impl<A: Allocator> Board<A> {
         ensures err { IfErr result (λ fault. fault ≡ BoardFault.Memory) }
     {
         Ok(self.plain.chips.text()?)
+    }
+}
+
+/// Whether a step with the leap behind it passes no stop: where `whole`, and nothing holds here.
+fn passes_none(whole: bool, here: Option<usize>) -> bool
+    ensures { IsTrue result → IsTrue whole × (here ≡ None) }
+{
+    match here {
+        Some(_) => false,
+        None => whole,
+    }
+}
+
+/// What is found last where `here` holds up to the clock before `clock`, `last` being what was found before.
+fn later(last: Option<(Clock, usize)>, here: Option<usize>, clock: Clock) -> Option<(Clock, usize)>
+    requires { 1 ≤ clock }
+    ensures { result ≡ found_before last here clock }
+{
+    match here {
+        Some(number) => Some((Clock::new(clock.get() - 1).unwrap(), number)),
+        None => last,
+    }
+}
+
+/// What is found last where `here` holds at `clock`.
+fn latest(last: Option<(Clock, usize)>, here: Option<usize>, clock: Clock) -> Option<(Clock, usize)>
+    ensures { result ≡ found_at last here clock }
+{
+    match here {
+        Some(number) => Some((clock, number)),
+        None => last,
     }
 }

@@ -1,5 +1,5 @@
 //! What holds of every plain board, over the definitions alone.
-ghost use Rattle.board.specs.Laws.{HaltIsQuiet, JamIsQuiet, LeastNumberIsTold, LevelIsForeseen, MemoryTakesBytes, NoRequestWithoutIf, RequestIsTaken, RunsHaveOneEnd, RunsJoin, StayingRequestIsTaken, WiresAlwaysHold};
+ghost use Rattle.board.specs.Laws.{HaltIsQuiet, JamIsQuiet, LeastNumberIsTold, LevelIsForeseen, MemoryTakesBytes, NoRequestWithoutIf, RequestIsTaken, RunsHaveOneEnd, RunsJoin, SearchesJoin, StayingRequestIsTaken, WiresAlwaysHold};
 
 /// Where the wires hold, the speaker's level at the next clock is known from the port writes that the processor is
 /// about to make: no read, entry, iteration or key touches it.
@@ -55,4 +55,9 @@ pub fn least_number_is_told()
 /// A run and the next one are one run of both their clocks: the changes and the trail are those of the whole.
 pub fn runs_join()
     ensures { RunsJoin }
+{}
+
+/// A search that finds nothing and the next one are one search of both their clocks.
+pub fn searches_join()
+    ensures { SearchesJoin }
 {}

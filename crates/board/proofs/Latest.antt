@@ -1,0 +1,116 @@
+-- A run that keeps the last clock at which a condition held.
+use Rattle.std.proofs.Common.{◌≡◌, ℕ, ◌+◌, ◌-◌, ◌<◌, ◌≤◌, inl, inr, Bool, true, false, List, length, Option, None, Some, refl, sym, ap, ◌∙◌, subst, arith}
+use Rattle.std.specs.Bool.{IsTrue}
+use Rattle.std.specs.Prelude.{◌⊎◌}
+use Rattle.std.proofs.lemmas.Bool.{cases_lt}
+use Rattle.board_types.proofs.Iterate.{iterate_add, iterate_zero}
+use Rattle.board.specs.declared.stop.Condition.{Condition}
+use Rattle.board.specs.AwaitFree.{AllAwaitFree, IsTurnBetween}
+use Rattle.board.specs.Board.{BoardState, Ran}
+use Rattle.board.specs.Found.{found_at, found_before}
+use Rattle.board.specs.Lasts.{HeldLast, IsLastOf, NoneHeld}
+use Rattle.board.specs.Plain.{Plain, after_clock, after_clocks, clock_of}
+use Rattle.board.specs.Stops.{holding}
+use Rattle.board.specs.Turns.{IsLeapOn, IsStrideOn, IsTickOn, IsTurnOn}
+use Rattle.board.specs.Work.{work_next}
+use Rattle.board.proofs.Leap.{holding_stays}
+use Rattle.board.proofs.Search.{none_held}
+use Rattle.board.proofs.Turns.{SoFar, before_rest, so_far_leap, so_far_none, so_far_tick}
+
+-- what holds at a clock after some is told from where the board stands then
+later_on : (stops : List Condition) (n j : ℕ) (s p : Plain) (here : Option ℕ) → p ≡ after_clocks s n → n ≤ j → holding stops (after_clocks p (j - n)) ≡ here → holding stops (after_clocks s j) ≡ here
+later_on stops n j s p here is past holds =
+    let place : n + (j - n) ≡ j = omega (arith, past) in
+    ap (λ k. holding stops (after_clocks s k)) (sym place)
+    ∙ ap (holding stops) (iterate_add after_clock n (j - n) s ∙ ap (λ q. after_clocks q (j - n)) (sym is))
+    ∙ holds
+
+-- nothing holds in m clocks more
+none_more : (stops : List Condition) (n m j : ℕ) (s p : Plain) → p ≡ after_clocks s n → (j < n → holding stops (after_clocks s j) ≡ None) → ((i : ℕ) → i < m → holding stops (after_clocks p i) ≡ None) → j < n + m → holding stops (after_clocks s j) ≡ None
+none_more stops n m j s p is before after within =
+    elim (cases_lt j n) [
+      | inl early ↦ before early
+      | inr late ↦ later_on stops n j s p None is late (after (j - n) (omega (arith, late, within)))
+    ]
+
+-- the same is told at each of m clocks more
+last_more : (stops : List Condition) (n m clock : ℕ) (s p : Plain) (last : Option (ℕ × ℕ)) (here : Option ℕ) → p ≡ after_clocks s n → IsLastOf stops n s last → 1 ≤ m → ((i : ℕ) → i < m → holding stops (after_clocks p i) ≡ here) → clock + 1 ≡ clock_of s + (n + m) → IsLastOf stops (n + m) s (found_at last here clock)
+last_more stops n m clock s p None None is none some after at = λ j within. none_more stops n m j s p is (none j) after within
+last_more stops n m clock s p (Some found) None is last some after at = record {
+  passed = last.passed;
+  within = let w = last.within in omega (arith, w);
+  holds_there = last.holds_there;
+  none_later = λ j past within. none_more stops n m j s p is (last.none_later j past) after within;
+  clock_is = last.clock_is;
+}
+last_more stops n m clock s p last (Some number) is found some after at = record {
+  passed = n + (m - 1);
+  within = omega (arith, some);
+  holds_there = later_on stops n (n + (m - 1)) s p (Some number) is (omega arith) (ap (λ k. holding stops (after_clocks p k)) (omega arith) ∙ after (m - 1) (omega (arith, some)));
+  none_later = λ j past within. absurd (omega (arith, past, within, some));
+  clock_is = omega (arith, at, some);
+}
+
+-- a run so far, with what it found before the clock where it stands
+pub record Looked (stops : List Condition) (end : ℕ) (s t : BoardState) (last : Option (ℕ × ℕ)) : Type 0 where
+  pub so_far : SoFar 1 end s t
+  pub last_is : IsLastOf stops so_far.passed s.plain last
+
+pub looked_none : (stops : List Condition) (end : ℕ) (s : BoardState) → length s.trail ≤ 32 → clock_of s.plain ≤ end → Looked stops end s s None
+looked_none stops end s few within =
+    let so_far = so_far_none end s few within in
+    let gone = so_far.ran.clock in record {
+      so_far = so_far;
+      last_is = λ j before. absurd (omega (arith, before, gone));
+    }
+
+looked_leap : (stops : List Condition) (end count : ℕ) (s t u : BoardState) (last : Option (ℕ × ℕ)) (here : Option ℕ) → count ≤ 1 → Looked stops end s t last → holding stops t.plain ≡ here → clock_of t.plain < end → IsLeapOn end count t u → Looked stops end s u (found_before last here (clock_of u.plain))
+unfolding so_far_leap
+looked_leap stops end count s t u last here one looked is before leap =
+    let next = so_far_leap 1 end count s t u one looked.so_far before leap in
+    let gone = next.ran.clock in
+    let some = leap.some in record {
+      so_far = next;
+      last_is = last_more stops looked.so_far.passed leap.clocks (clock_of u.plain - 1) s.plain t.plain last here looked.so_far.ran.plain looked.last_is some
+          (λ i within. holding_stays stops t.plain leap.clocks i within leap.wires leap.quiet ∙ is) (omega (arith, gone, some));
+    }
+
+looked_tick : (stops : List Condition) (end : ℕ) (s t u : BoardState) (last : Option (ℕ × ℕ)) (here : Option ℕ) → Looked stops end s t last → holding stops t.plain ≡ here → clock_of t.plain < end → IsTickOn t u → 1 ≤ work_next t.plain → Looked stops end s u (found_before last here (clock_of u.plain))
+unfolding so_far_tick
+looked_tick stops end s t u last here looked is before tick work =
+    let next = so_far_tick 1 end s t u looked.so_far before tick work in
+    let gone = next.ran.clock in record {
+      so_far = next;
+      last_is = last_more stops looked.so_far.passed 1 (clock_of u.plain - 1) s.plain t.plain last here looked.so_far.ran.plain looked.last_is (omega arith)
+          (λ i within. ap (λ k. holding stops (after_clocks t.plain k)) (omega (arith, within)) ∙ ap (holding stops) (iterate_zero after_clock t.plain) ∙ is) (omega (arith, gone));
+    }
+
+looked_turn : (stops : List Condition) (end : ℕ) (s t u : BoardState) (last : Option (ℕ × ℕ)) (here : Option ℕ) → Looked stops end s t last → holding stops t.plain ≡ here → clock_of t.plain < end → IsTurnOn end t u → Looked stops end s u (found_before last here (clock_of u.plain))
+looked_turn stops end s t u last here looked is before (inl leap) = looked_leap stops end 1 s t u last here (omega arith) looked is before leap
+looked_turn stops end s t u last here looked is before (inr tick) = looked_tick stops end s t u last here looked is before tick.0 tick.1
+
+-- a step with the leap behind it, where nothing holds at its start and all wait for a free processor
+looked_rest : (stops : List Condition) (end : ℕ) (s b u : BoardState) (last : Option (ℕ × ℕ)) → AllAwaitFree stops → Looked stops end s b last → (u ≡ b) ⊎ ((1 ≤ b.plain.busy) × IsLeapOn end 0 b u) → Looked stops end s u last
+looked_rest stops end s b u last waits looked (inl same) = subst (λ x. Looked stops end s x last) (sym same) looked
+looked_rest stops end s b u last waits looked (inr rest) =
+    looked_leap stops end 0 s b u last None (omega arith) looked (none_held stops b.plain rest.0 waits) (before_rest end b u rest.1) rest.1
+
+looked_stride : (stops : List Condition) (end : ℕ) (s t u : BoardState) (last : Option (ℕ × ℕ)) → AllAwaitFree stops → Looked stops end s t last → holding stops t.plain ≡ None → clock_of t.plain < end → IsStrideOn end t u → Looked stops end s u last
+looked_stride stops end s t u last waits looked is before (inl turn) = looked_turn stops end s t u last None looked is before turn
+looked_stride stops end s t u last waits looked is before (inr step) =
+    looked_rest stops end s step.begun u last waits (looked_tick stops end s t step.begun last None looked is before step.first step.work) step.rest
+
+pub looked_between : (stops : List Condition) (end : ℕ) (whole : Bool) (s t u : BoardState) (last : Option (ℕ × ℕ)) (here : Option ℕ) → (IsTrue whole → AllAwaitFree stops × (here ≡ None)) → Looked stops end s t last → holding stops t.plain ≡ here → clock_of t.plain < end → IsTurnBetween whole end t u → Looked stops end s u (found_before last here (clock_of u.plain))
+looked_between stops end true s t u last here waits looked is before on =
+    let none : here ≡ None = (waits refl).1 in
+    subst (λ h. Looked stops end s u (found_before last h (clock_of u.plain))) (sym none) (looked_stride stops end s t u last (waits refl).0 looked (is ∙ none) before on)
+looked_between stops end false s t u last here waits looked is before on = looked_turn stops end s t u last here looked is before on
+
+-- at the end of a run: what holds there is later than what was found
+pub found_last : (stops : List Condition) (end count : ℕ) (s t : BoardState) (last : Option (ℕ × ℕ)) (here : Option ℕ) → Looked stops end s t last → end ≡ clock_of s.plain + count → end ≤ clock_of t.plain → holding stops t.plain ≡ here → IsLastOf stops (count + 1) s.plain (found_at last here (clock_of t.plain))
+found_last stops end count s t last here looked is past holds =
+    let gone = looked.so_far.ran.clock in
+    let within = looked.so_far.within in
+    subst (λ n. IsLastOf stops n s.plain (found_at last here (clock_of t.plain))) (omega (arith, gone, within, is, past))
+    (last_more stops looked.so_far.passed 1 (clock_of t.plain) s.plain t.plain last here looked.so_far.ran.plain looked.last_is (omega arith)
+    (λ i below. ap (λ k. holding stops (after_clocks t.plain k)) (omega (arith, below)) ∙ ap (holding stops) (iterate_zero after_clock t.plain) ∙ holds) (omega (arith, gone)))

@@ -1,0 +1,38 @@
+use Rattle.std.proofs.Common.{◌≡◌, ◌<◌, ◌+◌, ◌∙◌, refl, sym, ap, subst, arith, Option, None, Some}
+use Rattle.std.specs.Bool.{IsTrue}
+use Rattle.board.specs.AwaitFree.{AllAwaitFree}
+use Rattle.board.specs.Found.{found_before}
+use Rattle.board.proofs.Latest.{Looked}
+use Rattle.board.specs.Plain.{clock_of}
+use Rattle.board.proofs.Latest.{found_last, looked_between, looked_none}
+use Rattle.board.proofs.Search.{between_moves}
+use Rattle.board.proofs.Turns.{held_run, not_counted, ran_whole}
+use Rattle.board.proofs.board.Board.run_last.Goals as goal
+
+pub returns-then-is_past_limit-clause-turns_least : goal.returns-then-is_past_limit-clause-turns_least
+returns-then-is_past_limit-clause-turns_least g c = (not_counted c.args.self.now c.args.self.now refl).least
+
+pub turns-init : goal.turns-init
+turns-init g c = looked_none c.args.stops.now.items _ c.args.self.now c.is_past_limit.ensures.trail (omega (arith, c.clock.ensures, c.get.ensures.value))
+
+pub turns-smaller : goal.turns-smaller
+turns-smaller g c =
+    between_moves _ _ _ _ (omega (arith, c.turns-test.true, c.clock-in-turns.ensures, c.get-in-turns.ensures.value)) c.in_ok-turn.ensures.ok
+
+pub returns-in_err-turn-clause-succeeds : goal.returns-in_err-turn-clause-succeeds
+returns-in_err-turn-clause-succeeds g c = λ within enough.
+    absurd ((held_run 1 _ c.args.count _ _ _ c.turns.invariant.so_far (omega arith) (omega (arith, c.clock.ensures, c.get.ensures.value))
+    (omega (arith, c.turns-test.true, c.clock-in-turns.ensures, c.get-in-turns.ensures.value)) c.in_err-turn.ensures.err).enough enough)
+
+pub later-last-requires : goal.later-last-requires
+later-last-requires g c =
+    let moves = between_moves (c.get.result + c.args.count) _ c.turns.self c.turn.new.self (omega (arith, c.turns-test.true, c.clock-in-turns.ensures, c.get-in-turns.ensures.value)) c.in_ok-turn.ensures.ok in
+    omega (arith, moves, c.clock-in-turns-2.ensures)
+
+pub turns-preserved : goal.turns-preserved
+turns-preserved g c =
+    let before : clock_of c.turns.self.plain < c.get.result + c.args.count = omega (arith, c.turns-test.true, c.clock-in-turns.ensures, c.get-in-turns.ensures.value) in
+    let waits : IsTrue c.passes_none.result → AllAwaitFree c.args.stops.now.items × (c.holding-here.result ≡ None) =
+    λ yes. (subst AllAwaitFree c.as_slice.ensures.value (c.all_await_free-whole.ensures (c.passes_none.ensures yes).0), (c.passes_none.ensures yes).1) in
+    subst (Looked c.args.stops.now.items (c.get.result + c.args.count) c.args.self.now c.turn.new.self) (sym (c.later-last.ensures ∙ ap (found_before c.turns.last c.holding-here.result) c.clock-in-turns-2.ensures))
+    (looked_between c.args.stops.now.items (c.get.result + c.args.count) c.passes_none.result c.args.self.now c.turns.self c.turn.new.self c.turns.last c.holding-here.result waits c.turns.invariant (sym c.holding-here.ensures) before c.in_ok-turn.ensures.ok)
