@@ -1,17 +1,19 @@
 -- Words and commands read back from their lines.
-use Rattle.std.proofs.Common.{◌≡◌, ℕ, ◌+◌, ◌*◌, ◌-◌, ◌/◌, ◌%◌, ◌^◌, ◌<◌, ◌≤◌, List, [], ◌∷◌, ◌++◌, codes, length, refl, ap, ◌∙◌, arith, Bool, true, false, not, ◌&&◌, if◌then◌else◌, nat_le, Option, None, Some}
+use Rattle.std.proofs.Common.{◌≡◌, ℕ, ◌+◌, ◌*◌, ◌-◌, ◌/◌, ◌%◌, ◌^◌, ◌<◌, ◌≤◌, List, [], ◌∷◌, ◌++◌, codes, length, refl, sym, ap, ◌∙◌, arith, Bool, true, false, not, ◌&&◌, if◌then◌else◌, nat_le, Option, None, Some}
 use Rattle.std.specs.Prelude.{position, option_map}
 use Rattle.std.specs.Fmt.{decimal, digit_glyph}
+use Rattle.std.specs.Str.{bytes_eq}
 use Rattle.std.proofs.lemmas.Fmt.{decimal_by_steps, decimal_nonempty}
 use Rattle.std.proofs.lemmas.Bool.Decides.{nat_tests}
+use Rattle.std.proofs.lemmas.Slice.Eq.{bytes_eq-Decides}
 use Rattle.std.proofs.Math.Nat.{min-eq_left}
 use Rattle.board_types.specs.Digits.{hex_byte_text, hex_word, spelled}
 use Rattle.board_types.specs.TextLines.{onto_first}
 use Rattle.debugger.specs.Words.{words_from, words_of, is_space, hex_number, count_of}
 use Rattle.debugger.specs.Dump.{address_text}
-use Rattle.debugger.specs.Commands.{is_colon, break_command, break_round, break_of, byte_command, command_in, command_of, command_with, command_with_two, dump_command, plain_command}
+use Rattle.debugger.specs.Commands.{back_by, back_command, is_colon, break_command, break_round, break_of, byte_command, command_in, command_of, command_with, command_with_two, dump_command, plain_command}
 use Rattle.debugger.specs.declared.command.Command.{Command}
-use Rattle.debugger.specs.declared.command.Command.TheVariants.{Break, Byte, Sound, Halted, Go, Step, Regs, Screen, Dump, Trail}
+use Rattle.debugger.specs.declared.command.Command.TheVariants.{Break, Byte, Sound, Halted, Go, Step, Regs, Screen, Dump, Trail, Back, BackStep, BackStop}
 use Rattle.debugger.specs.Laws.{CommandsReadBack}
 use Rattle.debugger.proofs.Spelling.{byte_spelled, word_spelled, decimal_spelled, digit_spelled}
 
@@ -140,6 +142,30 @@ dump_back first count low some most within =
     rw (address_back first low, count_back count small)
     (dump_by (nat_le 1 count && (nat_le count 4096 && nat_le (first + count) 1048576)) first count (dump_test first count some most within))
 
+-- a count is no word of letters
+count_differs : (word name : List ℕ) (n : ℕ) (test : Bool) → (test ≡ true → word ≡ name) → count_of word ≡ Some n → count_of name ≡ None → test ≡ false
+count_differs word name n true same is none = absurd (let never : ◌≡◌ {A = Option ℕ} (Some n) None = sym is ∙ ap count_of (same refl) ∙ none in cc)
+count_differs word name n false same is none = refl
+
+no_word : (word name : List ℕ) (n : ℕ) → count_of word ≡ Some n → count_of name ≡ None → bytes_eq word name ≡ false
+no_word word name n is none = count_differs word name n (bytes_eq word name) (bytes_eq-Decides word name).0 is none
+
+step_is_none : count_of (codes "step") ≡ None
+unfolding count_of
+step_is_none = refl
+
+stop_is_none : count_of (codes "stop") ≡ None
+unfolding count_of
+stop_is_none = refl
+
+back_test : (n : ℕ) (test : Bool) → test ≡ true → (if test then Some (Back n) else None) ≡ Some (Back n)
+back_test n test is = rw is refl
+
+pub back_counts : (n : ℕ) (word : List ℕ) → 1 ≤ n → count_of word ≡ Some n → back_command word ≡ Some (Back n)
+unfolding back_command
+back_counts n word some is =
+    rw (no_word word (codes "step") n is step_is_none, no_word word (codes "stop") n is stop_is_none, is) (back_test n (nat_le 1 n) (some_length n some))
+
 -- a line of two words, and one of three
 two_words : (name word : List ℕ) (command : Option Command) → 0 < length name → NoSpace name → 0 < length word → NoSpace word
     → command_with name word ≡ command → command_of (name ++ 32 ∷ word) ≡ command
@@ -166,6 +192,18 @@ break_line segment offset first second = break_back segment offset first second
 go_line : (count : ℕ) → count < 2 ^ 64 → command_with (codes "go") (decimal count) ≡ Some (Go count)
 unfolding command_with
 go_line count low = ap (option_map Go) (count_back count low)
+
+back_line : (count : ℕ) → 1 ≤ count → count < 2 ^ 64 → command_with (codes "back") (decimal count) ≡ Some (Back count)
+unfolding command_with
+back_line count some low = back_counts count (decimal count) some (count_back count low)
+
+pub back_step_line : command_with (codes "back") (codes "step") ≡ Some BackStep
+unfolding command_with back_command
+back_step_line = refl
+
+pub back_stop_line : command_with (codes "back") (codes "stop") ≡ Some BackStop
+unfolding command_with back_command
+back_stop_line = refl
 
 byte_line : (address byte : ℕ) → address < 1048576 → byte < 256 → command_with_two (codes "byte") (address_text address) (hex_byte_text byte) ≡ Some (Byte address byte)
 unfolding command_with_two
@@ -218,3 +256,7 @@ read_back (Dump first count) meant =
     three_words (codes "dump") (address_text first) (decimal count) _ (omega arith) (refl, (refl, (refl, (refl, tt)))) (omega arith) (address_no_space first) (decimal_nonempty count small) (decimal_no_space count small)
     (dump_line first count meant.0 meant.1.0 meant.1.1.0 meant.1.1.1)
 read_back Trail meant = one_word (codes "trail") _ (omega arith) (refl, (refl, (refl, (refl, (refl, tt))))) trail_line
+read_back (Back count) meant =
+    two_words (codes "back") (decimal count) _ (omega arith) (refl, (refl, (refl, (refl, tt)))) (decimal_nonempty count meant.1) (decimal_no_space count meant.1) (back_line count meant.0 meant.1)
+read_back BackStep meant = two_words (codes "back") (codes "step") _ (omega arith) (refl, (refl, (refl, (refl, tt)))) (omega arith) (refl, (refl, (refl, (refl, tt)))) back_step_line
+read_back BackStop meant = two_words (codes "back") (codes "stop") _ (omega arith) (refl, (refl, (refl, (refl, tt)))) (omega arith) (refl, (refl, (refl, (refl, tt)))) back_stop_line

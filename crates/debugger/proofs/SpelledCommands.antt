@@ -9,13 +9,13 @@ use Rattle.std.proofs.lemmas.List.{take_at}
 use Rattle.std.proofs.lemmas.Slice.Eq.{bytes_eq-Decides}
 use Rattle.board_types.specs.Digits.{digit_of, spelled}
 use Rattle.debugger.specs.Words.{words_of, hex_number, at_most_greatest, count_of}
-use Rattle.debugger.specs.Commands.{plain_command, is_colon, break_of, break_round, break_command, go_command, command_with, byte_of, byte_command, dump_of, dump_command, command_with_two, command_in, command_of}
+use Rattle.debugger.specs.Commands.{back_by, back_command, plain_command, is_colon, break_of, break_round, break_command, go_command, command_with, byte_of, byte_command, dump_of, dump_command, command_with_two, command_in, command_of}
 use Rattle.debugger.specs.Spellings.{IsShown, Says, SpellsCommand, SpellsCount, SpellsHex, SpellsPlace}
 use Rattle.debugger.specs.Laws.{CommandsAreSaid}
 use Rattle.debugger.specs.declared.command.Command.{Command}
-use Rattle.debugger.specs.declared.command.Command.TheVariants.{Break, Byte, Sound, Halted, Go, Step, Regs, Screen, Dump, Trail}
+use Rattle.debugger.specs.declared.command.Command.TheVariants.{Break, Byte, Sound, Halted, Go, Step, Regs, Screen, Dump, Trail, Back, BackStep, BackStop}
 use Rattle.debugger.proofs.Parting.{words_are}
-use Rattle.debugger.proofs.Reading.{sound_line, halted_line, step_line, regs_line, screen_line, trail_line}
+use Rattle.debugger.proofs.Reading.{back_counts, back_step_line, back_stop_line, sound_line, halted_line, step_line, regs_line, screen_line, trail_line}
 
 some_is : {A : Type 0} (x y : A) → ◌≡◌ {A = Option A} (Some x) (Some y) → x ≡ y
 some_is x y is = cc
@@ -241,6 +241,27 @@ alone name word d c spells at is =
 none_is : {P : Type 0} (c : Command) → ◌≡◌ {A = Option Command} None (Some c) → P
 none_is c is = absurd (cc)
 
+-- a way back
+way_spelled : (way word : List ℕ) (d c : Command) → SpellsCommand d (codes "back" ∷ word ∷ []) → bytes_eq way word ≡ true → Some d ≡ Some c → SpellsCommand c (codes "back" ∷ way ∷ [])
+way_spelled way word d c spells at is =
+    subst (λ (e : Command). SpellsCommand e (codes "back" ∷ way ∷ [])) (some_is d c is) (subst (λ (n : List ℕ). SpellsCommand d (codes "back" ∷ n ∷ [])) (named way word at) spells)
+
+way_by : (n : ℕ) (word : List ℕ) (c : Command) (test : Bool) → nat_le 1 n ≡ test → SpellsCount n word → (if test then Some (Back n) else None) ≡ Some c → SpellsCommand c (codes "back" ∷ word ∷ [])
+way_by n word c true at count is =
+    subst (λ (d : Command). SpellsCommand d (codes "back" ∷ word ∷ [])) (some_is (Back n) c is) (record { word = word; are = refl; says = count }, at_most 1 n at)
+way_by n word c false at count is = absurd (cc)
+
+way_found : (found : Option ℕ) (word : List ℕ) (c : Command) → count_of word ≡ found → back_by found ≡ Some c → SpellsCommand c (codes "back" ∷ word ∷ [])
+way_found (Some n) word c at is = way_by n word c (nat_le 1 n) refl (count_spelled n word at) is
+way_found None word c at is = absurd (cc)
+
+back_spelled : (way : List ℕ) (c : Command) → back_command way ≡ Some c → SpellsCommand c (codes "back" ∷ way ∷ [])
+unfolding back_command
+back_spelled way c is =
+    branch (bytes_eq way (codes "step")) (Some BackStep) _ c (way_spelled way (codes "step") BackStep c refl)
+    (λ is. branch (bytes_eq way (codes "stop")) (Some BackStop) _ c (way_spelled way (codes "stop") BackStop c refl)
+    (λ is. way_found (count_of way) way c refl is) is) is
+
 plain_spelled : (name : List ℕ) (c : Command) → plain_command name ≡ Some c → SpellsCommand c (name ∷ [])
 unfolding plain_command
 plain_spelled name c is =
@@ -255,7 +276,8 @@ with_spelled : (name rest : List ℕ) (c : Command) → command_with name rest �
 unfolding command_with
 with_spelled name rest c is =
     branch (bytes_eq name (codes "break")) (break_command rest) _ c (λ at is. one_spelled name (codes "break") rest c at (break_spelled rest c is))
-    (λ is. branch (bytes_eq name (codes "go")) (go_command rest) None c (λ at is. one_spelled name (codes "go") rest c at (go_found (count_of rest) rest c refl is)) (none_is c) is) is
+    (λ is. branch (bytes_eq name (codes "go")) (go_command rest) _ c (λ at is. one_spelled name (codes "go") rest c at (go_found (count_of rest) rest c refl is))
+    (λ is. branch (bytes_eq name (codes "back")) (back_command rest) None c (λ at is. one_spelled name (codes "back") rest c at (back_spelled rest c is)) (none_is c) is) is) is
 
 two_words_spelled : (name first second : List ℕ) (c : Command) → command_with_two name first second ≡ Some c → SpellsCommand c (name ∷ first ∷ second ∷ [])
 unfolding command_with_two
@@ -278,6 +300,10 @@ go_with : (word : List ℕ) → command_with (codes "go") word ≡ option_map Go
 unfolding command_with
 go_with word = refl
 
+back_with : (word : List ℕ) → command_with (codes "back") word ≡ back_command word
+unfolding command_with
+back_with word = refl
+
 byte_with : (first second : List ℕ) → command_with_two (codes "byte") first second ≡ byte_command first second
 unfolding command_with_two
 byte_with first second = refl
@@ -298,6 +324,9 @@ command_read Screen ws is = ap command_in is ∙ screen_line
 command_read (Dump first count) ws is =
     ap command_in is.0.are ∙ dump_with is.0.first is.0.second ∙ dump_read first count is.0.first is.0.second is.0.says_first is.0.says_second is.1
 command_read Trail ws is = ap command_in is ∙ trail_line
+command_read (Back count) ws is = ap command_in is.0.are ∙ back_with is.0.word ∙ back_counts count is.0.word is.1 (count_read count is.0.word is.0.says)
+command_read BackStep ws is = ap command_in is ∙ back_step_line
+command_read BackStop ws is = ap command_in is ∙ back_stop_line
 
 says_what_is_read : (line : List ℕ) (c : Command) → command_of line ≡ Some c → Says line c
 unfolding command_of

@@ -6,7 +6,7 @@ use Rattle.std.specs.String.{string_bytes}
 use Rattle.debugger.specs.declared.answer.Answer.{Answer}
 use Rattle.debugger.specs.declared.answer.Answer.TheVariants.{Stop, Clock, StopAt, Text}
 use Rattle.debugger.specs.declared.fault.DebugFault.{DebugFault}
-use Rattle.debugger.specs.declared.fault.DebugFault.TheVariants.{ClockLimit, BadCommand, TooManyStops, Memory}
+use Rattle.debugger.specs.declared.fault.DebugFault.TheVariants.{ClockLimit, BadCommand, TooManyStops, Memory, BeforeStart}
 
 -- an answer, each line of it ended by a line feed
 abbrev pub answer_text : Answer → List ℕ
@@ -21,12 +21,14 @@ fault_number ClockLimit = 42
 fault_number BadCommand = 51
 fault_number TooManyStops = 52
 fault_number (Memory clock) = 53
+fault_number BeforeStart = 54
 
 abbrev pub fault_name : DebugFault → List ℕ
 fault_name ClockLimit = codes "ClockLimit"
 fault_name BadCommand = codes "BadCommand"
 fault_name TooManyStops = codes "TooManyStops"
 fault_name (Memory clock) = codes "Memory"
+fault_name BeforeStart = codes "BeforeStart"
 
 -- the clock that a refusal for want of memory tells
 abbrev pub fault_clock : DebugFault → Option ℕ
@@ -34,3 +36,4 @@ fault_clock ClockLimit = None
 fault_clock BadCommand = None
 fault_clock TooManyStops = None
 fault_clock (Memory clock) = clock
+fault_clock BeforeStart = None

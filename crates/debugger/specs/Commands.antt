@@ -3,7 +3,7 @@
 use Rattle.std.specs.Prelude.{ℕ, ◌+◌, ◌^◌, ◌<◌, ◌≤◌, ⊤, Bool, false, ◌==◌, ◌&&◌, take, drop, position, nat_le, if◌then◌else◌, List, [], ◌∷◌, codes, Option, None, Some, option_map}
 use Rattle.std.specs.Str.{bytes_eq}
 use Rattle.debugger.specs.declared.command.Command.{Command}
-use Rattle.debugger.specs.declared.command.Command.TheVariants.{Break, Byte, Sound, Halted, Go, Step, Regs, Screen, Dump, Trail}
+use Rattle.debugger.specs.declared.command.Command.TheVariants.{Break, Byte, Sound, Halted, Go, Step, Regs, Screen, Dump, Trail, Back, BackStep, BackStop}
 use Rattle.debugger.specs.Words.{words_of, hex_number, count_of}
 
 -- a command of one word
@@ -35,11 +35,25 @@ break_command place = break_round place (position is_colon place)
 abbrev pub go_command : List ℕ → Option Command
 go_command count = option_map Go (count_of count)
 
+-- back to a boundary, to a stop, or by so many clocks, one at least
+abbrev pub back_within : ℕ → Option Command
+back_within count = if nat_le 1 count then Some (Back count) else None
+
+abbrev pub back_by : Option ℕ → Option Command
+back_by None = None
+back_by (Some count) = back_within count
+
+unfoldable pub back_command : List ℕ → Option Command
+back_command way =
+    if bytes_eq way (codes "step") then Some BackStep else (
+    if bytes_eq way (codes "stop") then Some BackStop else back_by (count_of way))
+
 -- a command of a word and what follows it
 unfoldable pub command_with : List ℕ → List ℕ → Option Command
 command_with name rest =
     if bytes_eq name (codes "break") then break_command rest else (
-    if bytes_eq name (codes "go") then go_command rest else None)
+    if bytes_eq name (codes "go") then go_command rest else (
+    if bytes_eq name (codes "back") then back_command rest else None))
 
 -- an address of one to five digits and a byte of one or two
 abbrev pub byte_of : Option ℕ → Option ℕ → Option Command
@@ -89,8 +103,9 @@ is_quit_in (name ∷ second ∷ rest) = false
 unfoldable pub is_quit : List ℕ → Bool
 is_quit line = is_quit_in (words_of line)
 
--- the addresses that a command names are below 100000h
+-- the addresses that a command names are below 100000h, and it goes back by a clock at least
 abbrev pub IsWithin : Option Command → Type 0
 IsWithin (Some (Byte address byte)) = address < 2 ^ 20
 IsWithin (Some (Dump first count)) = (1 ≤ count) × ((count ≤ 4096) × (first + count ≤ 2 ^ 20))
+IsWithin (Some (Back count)) = 1 ≤ count
 IsWithin _ = ⊤

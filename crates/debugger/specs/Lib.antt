@@ -3,6 +3,9 @@ pub mod Commands
 pub mod Answers
 pub mod Dump
 pub mod TrailText
+pub mod Stands
+pub mod Back
+pub mod Kept
 pub mod Session
 pub mod Laws
 pub mod Spellings

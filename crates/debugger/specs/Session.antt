@@ -15,19 +15,18 @@ use Rattle.debugger.specs.declared.answer.Answer.TheVariants.{Stop, Clock, StopA
 use Rattle.debugger.specs.declared.command.Command.{Command}
 use Rattle.debugger.specs.declared.command.Command.TheVariants as commands
 use Rattle.debugger.specs.declared.fault.DebugFault.{DebugFault}
-use Rattle.debugger.specs.declared.fault.DebugFault.TheVariants.{ClockLimit, BadCommand, TooManyStops, Memory}
+use Rattle.debugger.specs.declared.fault.DebugFault.TheVariants.{ClockLimit, BadCommand, TooManyStops, Memory, BeforeStart}
+use Rattle.debugger.specs.Back.{GoesBack, GoesBackTo, RefusesBack, RefusesBackTo, tell_clock}
 use Rattle.debugger.specs.Dump.{dump_text}
+use Rattle.debugger.specs.Stands.{SessionState}
 use Rattle.debugger.specs.TrailText.{entry_line}
-
-pub record SessionState : Type 0 where
-  pub board : BoardState
-  pub stops : List Condition
 
 -- A stop is added, and told its number; stops are numbered from 1. The board stands still.
 pub record Adds (condition : Condition) (old new : SessionState) (answer : Answer) : Type 0 where
   pub room : length old.stops < 16
   pub stops : new.stops ≡ old.stops ++ condition ∷ []
   pub board : new.board ≡ old.board
+  pub first : new.first ≡ old.first
   pub answer_is : answer ≡ Stop (length old.stops + 1)
 
 -- a seventeenth stop
@@ -57,6 +56,7 @@ RefusesRun stops n old new BadCommand = ⊥
 RefusesRun stops n old new TooManyStops = ⊥
 RefusesRun stops n old new (Memory None) = ⊥
 RefusesRun stops n old new (Memory (Some clock)) = FindsNoMemory stops n old new clock
+RefusesRun stops n old new BeforeStart = ⊥
 
 -- what a run's end is answered: its stop's number and clock, or the clock that was reached
 abbrev pub told_of : Option StopType → ℕ → Answer
@@ -68,10 +68,12 @@ pub record Goes (n : ℕ) (old new : SessionState) (answer : Answer) : Type 0 wh
   pub stopped : Option StopType
   pub runs : Runs old.stops n old.board new.board stopped
   pub stops : new.stops ≡ old.stops
+  pub first : new.first ≡ old.first
   pub answer_is : answer ≡ told_of stopped (clock_of new.board.plain)
 
 abbrev pub RefusesGo : ℕ → SessionState → SessionState → DebugFault → Type 0
-RefusesGo n old new fault = RefusesRun old.stops n old.board new.board fault × (new.stops ≡ old.stops)
+RefusesGo n old new fault =
+    RefusesRun old.stops n old.board new.board fault × (new.stops ≡ old.stops) × (new.first ≡ old.first)
 
 -- the clocks up to the last one, 2^40
 abbrev pub clocks_left : BoardState → ℕ
@@ -83,6 +85,7 @@ pub record Steps (old new : SessionState) (answer : Answer) : Type 0 where
   pub before_last : clock_of old.board.plain < 2 ^ 40
   pub runs : Runs (conditions.Free ∷ []) (clocks_left old.board) old.board new.board stopped
   pub stops : new.stops ≡ old.stops
+  pub first : new.first ≡ old.first
   pub answer_is : answer ≡ Clock (clock_of new.board.plain)
 
 -- a step is refused at the last clock, and for want of memory
@@ -92,7 +95,9 @@ RefusesStep old new BadCommand = ⊥
 RefusesStep old new TooManyStops = ⊥
 RefusesStep old new (Memory None) = ⊥
 RefusesStep old new (Memory (Some clock)) =
-    FindsNoMemory (conditions.Free ∷ []) (clocks_left old.board) old.board new.board clock × (new.stops ≡ old.stops)
+    FindsNoMemory (conditions.Free ∷ []) (clocks_left old.board) old.board new.board clock
+    × (new.stops ≡ old.stops) × (new.first ≡ old.first)
+RefusesStep old new BeforeStart = ⊥
 
 abbrev pub IsText : List ℕ → Answer → Type 0
 IsText bytes (Stop number) = ⊥
@@ -119,6 +124,11 @@ Answers commands.Regs old result new = Shows (register_lines (registers_of old.b
 Answers commands.Screen old result new = Shows (screen_of old.board.plain) result × (new ≡ old)
 Answers (commands.Dump first count) old result new = Shows (dump_text old.board.plain first count) result × (new ≡ old)
 Answers commands.Trail old result new = Shows (flat_map entry_line old.board.trail) result × (new ≡ old)
+Answers (commands.Back n) old result new = MatchResult result (GoesBack n old new) (RefusesBack n old new)
+Answers commands.BackStep old result new =
+    MatchResult result (GoesBackTo (conditions.Free ∷ []) tell_clock old new) (RefusesBackTo (conditions.Free ∷ []) old new)
+Answers commands.BackStop old result new =
+    MatchResult result (GoesBackTo old.stops StopAt old new) (RefusesBackTo old.stops old new)
 
 -- the same of a line, which may be no command
 abbrev pub AnswersLine : Option Command → SessionState → Result Answer DebugFault → SessionState → Type 0

@@ -4,7 +4,7 @@ use Rattle.std.specs.Prelude.{ℕ, ◌≡◌, ◌≢◌, ◌+◌, ◌-◌, ◌^�
 use Rattle.std.specs.List.{AllByRecursion}
 use Rattle.board_types.specs.Digits.{spelled}
 use Rattle.debugger.specs.declared.command.Command.{Command}
-use Rattle.debugger.specs.declared.command.Command.TheVariants.{Break, Byte, Sound, Halted, Go, Step, Regs, Screen, Dump, Trail}
+use Rattle.debugger.specs.declared.command.Command.TheVariants.{Break, Byte, Sound, Halted, Go, Step, Regs, Screen, Dump, Trail, Back, BackStep, BackStop}
 
 -- spaces, or nothing
 abbrev pub AreSpaces : List ℕ → Type 0
@@ -72,6 +72,9 @@ pub record WithTwo (name : List ℕ) (First Second : List ℕ → Type 0) (words
 abbrev pub Alone : List ℕ → List (List ℕ) → Type 0
 Alone name words = words ≡ name ∷ []
 
+abbrev pub Both : List ℕ → List ℕ → List (List ℕ) → Type 0
+Both name second words = words ≡ name ∷ second ∷ []
+
 -- 1 to 4,096 bytes are shown, all of them below 100000h
 abbrev pub IsShown : ℕ → ℕ → Type 0
 IsShown first count = (1 ≤ count) × ((count ≤ 4096) × (first + count ≤ 2 ^ 20))
@@ -88,6 +91,9 @@ SpellsCommand Screen = Alone (codes "screen")
 SpellsCommand (Dump first count) =
     λ words. WithTwo (codes "dump") (SpellsHex 5 first) (SpellsCount count) words × IsShown first count
 SpellsCommand Trail = Alone (codes "trail")
+SpellsCommand (Back count) = λ words. WithOne (codes "back") (SpellsCount count) words × (1 ≤ count)
+SpellsCommand BackStep = Both (codes "back") (codes "step")
+SpellsCommand BackStop = Both (codes "back") (codes "stop")
 
 -- a line says a command that its words spell
 pub record Says (line : List ℕ) (command : Command) : Type 0 where

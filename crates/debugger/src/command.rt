@@ -1,6 +1,6 @@
 //! Commands, and the reading of a line as one.
 ghost use Rattle.std.specs.Prelude.{◌≡◌, ◌+◌, ◌<◌, ◌≤◌, ◌^◌, IfSome, position, length};
-ghost use Rattle.debugger.specs.Commands.{IsWithin, break_command, byte_command, command_of, command_with, command_with_two, dump_command, is_colon, is_quit, plain_command};
+ghost use Rattle.debugger.specs.Commands.{IsWithin, back_command, break_command, byte_command, command_of, command_with, command_with_two, dump_command, is_colon, is_quit, plain_command};
 
 use crate::word::{count_of, hex_number, next_word};
 
@@ -27,6 +27,12 @@ pub enum Command {
     Dump(u32, u32),
     /// The last instruction starts and entries.
     Trail,
+    /// Back by so many clocks, 1 at least. A count above the greatest `u64` is that one.
+    Back(u64),
+    /// Back to the last earlier clock at which the processor was free.
+    BackStep,
+    /// Back to the last earlier clock at which a stop held.
+    BackStop,
 }
 
 /// The command that a line is, if it is one. Its words are parted by spaces, and written in lower case; segments,
@@ -94,9 +100,30 @@ fn command_with(name: &[u8], rest: &[u8]) -> Option<Command>
         break_command(rest)
     } else if name == b"go".as_slice() {
         Some(Command::Go(count_of(rest)?))
+    } else if name == b"back".as_slice() {
+        back_command(rest)
     } else {
         None
     }
+}
+
+/// A way back: to a boundary, to a stop, or by so many clocks.
+#[tactic(auto, unfolding(crate::specs::Commands::back_command))]
+fn back_command(way: &[u8]) -> Option<Command>
+    ensures value { result ≡ back_command way.now }
+    ensures within { IsWithin result }
+{
+    if way == b"step".as_slice() {
+        return Some(Command::BackStep);
+    }
+    if way == b"stop".as_slice() {
+        return Some(Command::BackStop);
+    }
+    let count = count_of(way)?;
+    if count < 1 {
+        return None;
+    }
+    Some(Command::Back(count))
 }
 
 /// Where the first colon stands.

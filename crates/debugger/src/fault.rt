@@ -16,10 +16,12 @@ pub enum DebugFault {
     BadCommand,
     #[error("there are sixteen stops already")]
     TooManyStops,
-    /// There is no memory: for a text, or for the changes of the speaker's level in a run, which then has gone up to
-    /// this clock.
+    /// There is no memory: for a text, for a copy of the board, or for the changes of the speaker's level in a run, which
+    /// then has gone up to this clock.
     #[error("out of memory")]
     Memory(Option<Clock>),
+    #[error("no such clock since the session's first")]
+    BeforeStart,
 }
 
 /// There is no memory for a text.
@@ -41,6 +43,7 @@ impl DebugFault {
             DebugFault::BadCommand => 51,
             DebugFault::TooManyStops => 52,
             DebugFault::Memory(_) => 53,
+            DebugFault::BeforeStart => 54,
         }
     }
 
@@ -53,6 +56,7 @@ impl DebugFault {
             DebugFault::BadCommand => "BadCommand",
             DebugFault::TooManyStops => "TooManyStops",
             DebugFault::Memory(_) => "Memory",
+            DebugFault::BeforeStart => "BeforeStart",
         }
     }
 
@@ -62,7 +66,10 @@ impl DebugFault {
     {
         match self {
             DebugFault::Memory(clock) => clock,
-            DebugFault::ClockLimit | DebugFault::BadCommand | DebugFault::TooManyStops => None,
+            DebugFault::ClockLimit
+            | DebugFault::BadCommand
+            | DebugFault::TooManyStops
+            | DebugFault::BeforeStart => None,
         }
     }
 }

@@ -1,5 +1,5 @@
-//! What holds of lines and commands, over the definitions alone.
-ghost use Rattle.debugger.specs.Laws.{CommandsAreSaid, CommandsReadBack, WordsAreRead};
+//! What holds of lines, commands and sessions, over the definitions alone.
+ghost use Rattle.debugger.specs.Laws.{CommandsAreSaid, CommandsReadBack, SessionsStand, WordsAreRead};
 
 /// Every command has a line that reads as it.
 pub fn commands_read_back()
@@ -14,4 +14,9 @@ pub fn words_are_read()
 /// A line is read as a command exactly where its words spell it.
 pub fn commands_are_said()
     ensures { CommandsAreSaid }
+{}
+
+/// After any commands, forth and back, a session stands some clocks after the board with which it began.
+pub fn sessions_stand()
+    ensures { SessionsStand }
 {}

@@ -2,10 +2,13 @@
 #![tactic(auto)]
 
 pub mod answer;
+mod checkpoints;
 pub mod command;
 mod dump;
 pub mod fault;
 pub mod laws;
 pub mod session;
+#[cfg(test)]
+mod tests;
 mod trail_text;
 mod word;

@@ -1,16 +1,23 @@
 //! A session: a board and its stops, and what commands do to them.
-ghost use Rattle.std.specs.Prelude.{◌≡◌, ◌+◌, ◌≤◌, ◌^◌, [], All, IfOk, MatchResult, None, Some};
+ghost use Rattle.std.specs.Prelude.{◌≡◌, ◌+◌, ◌-◌, ◌≤◌, ◌^◌, [], ◌∷◌, All, IfOk, OnErr, OnOk, MatchResult, None, Some};
 ghost use Rattle.std.specs.Result.{IfErr};
 ghost use Rattle.std.specs.List.{flat_map};
-ghost use Rattle.board.specs.Plain.{registers_of, screen_of};
+ghost use Rattle.board.specs.Lasts.{HeldLast};
+ghost use Rattle.board.specs.Plain.{clock_of, registers_of, screen_of};
 ghost use Rattle.board.specs.Stops.{HasAddress};
+ghost use Rattle.board.specs.declared.stop.Condition.TheVariants.{Free};
+ghost use Rattle.debugger.specs.declared.answer.Answer.TheVariants as answers;
 ghost use Rattle.board_report.specs.Text.{register_lines};
+ghost use Rattle.debugger.specs.Back.{GoesBack, GoesBackTo, RefusesBack, RefusesBackTo, tell_clock};
 ghost use Rattle.debugger.specs.Commands.{IsWithin, command_of};
 ghost use Rattle.debugger.specs.Dump.{dump_text};
+ghost use Rattle.debugger.specs.Kept.{FindsNone, LacksMemory, StandsNow};
 ghost use Rattle.debugger.specs.Session.{Answers, AnswersLine, AnswersStop, Goes, RefusesGo, RefusesRun, RefusesStep, Runs, Shows, Steps};
+ghost use Rattle.debugger.specs.Stands.{Stands, StandsAfter, gone, session_about, shown_of};
 ghost use Rattle.debugger.specs.TrailText.{entry_line};
 
 use crate::answer::Answer;
+use crate::checkpoints::{Checkpoints, copy_of};
 use crate::command::{Command, read_command};
 use crate::dump::dump_text;
 use crate::fault::DebugFault;
@@ -19,52 +26,99 @@ use board::board::{Board, BoardFault};
 use board::stop::{Condition, Stopped, Stops};
 use board_report::text::register_lines;
 use board_types::clock::Clock;
-use std::alloc::Global;
+use std::alloc::{Allocator, Global};
 use std::marker::Model;
 
-/// A board that runs and stops by commands.
+/// The clocks of a run after which it is asked whether a copy of the board is to be kept.
+const PIECE: u64 = 1 << 26;
+
+/// A board that runs and stops by commands, and goes back. Copies of the board are listed in memory of the allocator `A`.
 #[derive(Drop)]
-pub struct Session {
+pub struct Session<A: Allocator = Global> {
+    /// The board with which the session began.
+    first: Board,
     board: Board,
+    checkpoints: Checkpoints<A>,
     stops: Stops,
 }
 
-impl Model for Session {
-    ghost use Rattle.std.specs.Prelude.{All};
-    ghost use Rattle.board.specs.Stops.{HasAddress};
-    ghost use Rattle.debugger.specs.Session.{SessionState};
+impl<A: Allocator> Model for Session<A> {
+    ghost use Rattle.debugger.specs.Kept.{IsSession};
+    ghost use Rattle.debugger.specs.Stands.{SessionState, shown_of};
 
     ghost Value = { SessionState };
 
-    ghost view = { λ s. record { board = s.board; stops = s.stops.items } };
+    ghost view = { λ s. record { first = shown_of s.first; board = s.board; stops = s.stops.items } };
 
-    ghost invariant = { λ s. All HasAddress s.stops.items };
+    ghost invariant = { λ s. IsSession s.first s.board s.checkpoints s.stops.items };
 }
 
 impl Session {
     /// A session with the board where it stands, and without stops. The board is dropped where there is no memory.
-    pub fn new(board: Board) -> Result<Session, DebugFault>
-        ensures board { IfOk result (λ session. session.board ≡ board) }
-        ensures stops { IfOk result (λ session. session.stops ≡ []) }
+    pub fn new(alloc: Global, board: Board) -> Result<Session, DebugFault>
+        ensures session { IfOk result (λ session. session ≡ session_about board) }
+        ensures stands { IfOk result Stands }
         ensures fault { IfErr result (λ fault. fault ≡ DebugFault.Memory None) }
     {
+        Session::with_checkpoints_in(alloc, board)
+    }
+}
+
+impl<A: Allocator> Session<A> {
+    /// The same, with the copies of the board listed in memory of this allocator.
+    pub(crate) fn with_checkpoints_in(alloc: A, board: Board) -> Result<Session<A>, DebugFault>
+        ensures session { IfOk result (λ session. session ≡ session_about board) }
+        ensures stands { IfOk result Stands }
+        ensures fault { IfErr result (λ fault. fault ≡ DebugFault.Memory None) }
+    {
+        let first = copy_of(&board)?;
         Ok(Session {
+            first,
             board,
+            checkpoints: Checkpoints::new(alloc),
             stops: Stops::new(),
         })
     }
 
-    /// Does what the line commands, and answers. A line that is no command is refused as `BadCommand`, a seventeenth
-    /// stop as `TooManyStops`, a run past clock 2^40, or a step at it, as `ClockLimit`, and what finds no memory as
-    /// `Memory`. A refusal changes nothing, but a run that found no memory stands where it has come to, and its refusal
-    /// tells the clock; no stop was passed.
-    pub fn command(&mut self, alloc: Global, line: &str) -> Result<Answer, DebugFault>
-        ensures { AnswersLine (command_of line.now) self.old result self.new }
+    /// How many copies of the board are kept, to go back from.
+    pub fn checkpoints(&self) -> usize
+        ensures { result ≤ 8 }
     {
-        match read_command(line) {
+        self.checkpoints.len()
+    }
+
+    /// Does what the line commands, and answers. A line that is no command is refused as `BadCommand`, a seventeenth
+    /// stop as `TooManyStops`, a run past clock 2^40, or a step at it, as `ClockLimit`, a way back to a clock that there
+    /// isn't since the session's first one as `BeforeStart`, and what finds no memory as `Memory`. A refusal changes nothing,
+    /// but a run that found no memory stands where it has come to, and its refusal tells the clock; no stop was passed.
+    /// After each command the board stands where it stood so many clocks after the first one.
+    pub fn command(&mut self, alloc: Global, line: &str) -> Result<Answer, DebugFault>
+        ensures answers { AnswersLine (command_of line.now) self.old result self.new }
+        ensures stands { Stands self.new }
+    {
+        let answer = match read_command(line) {
             None => Err(DebugFault::BadCommand),
             Some(command) => self.answer(alloc, command),
-        }
+        };
+        let _clock = self.clock();
+        answer
+    }
+
+    /// The clock at which the board stands.
+    fn clock(&self) -> Clock
+        ensures clock { result ≡ clock_of self.now.board.plain }
+        ensures addresses { All HasAddress self.now.stops }
+        ensures stands { Stands self.now }
+    {
+        self.board.clock()
+    }
+
+    /// The clock at which it stood first.
+    fn first_clock(&self) -> Clock
+        ensures clock { result ≡ clock_of self.now.first.plain }
+        ensures earlier { clock_of self.now.first.plain ≤ clock_of self.now.board.plain }
+    {
+        self.first.clock()
     }
 
     fn answer(&mut self, alloc: Global, command: Command) -> Result<Answer, DebugFault>
@@ -82,6 +136,9 @@ impl Session {
             Command::Screen => self.screen(),
             Command::Dump(first, count) => self.dump(alloc, first, count),
             Command::Trail => self.trail(alloc),
+            Command::Back(count) => self.back(count),
+            Command::BackStep => self.back_step(),
+            Command::BackStop => self.back_stop(),
         }
     }
 
@@ -100,10 +157,32 @@ impl Session {
     fn go(&mut self, count: u64) -> Result<Answer, DebugFault>
         ensures { MatchResult result (Goes count self.old self.new) (RefusesGo count self.old self.new) }
     {
-        match run(&mut self.board, count, &self.stops)? {
-            Some(stop) => Ok(Answer::StopAt(stop.number, stop.clock)),
-            None => Ok(Answer::Clock(self.board.clock())),
+        if Clock::LAST - self.clock().get() < count {
+            return Err(DebugFault::ClockLimit);
         }
+        let mut left = count;
+        'pieces: loop {
+            let piece = left.min(PIECE);
+            if let Some(stop) = self.go_piece(piece)? {
+                return Ok(Answer::StopAt(stop.number, stop.clock));
+            }
+            left -= piece;
+            if left == 0 {
+                return Ok(Answer::Clock(self.clock()));
+            }
+        }
+    }
+
+    /// Runs for `count` clocks, or up to the first stop after the start, after which a copy of the board may be kept.
+    fn go_piece(&mut self, count: u64) -> Result<Stopped, DebugFault>
+        ensures runs { MatchResult result (Runs self.old.stops count self.old.board self.new.board)
+            (RefusesRun self.old.stops count self.old.board self.new.board) }
+        ensures stops { self.new.stops ≡ self.old.stops }
+        ensures first { self.new.first ≡ self.old.first }
+    {
+        let stopped = run(&mut self.board, count, &self.stops)?;
+        self.checkpoints.keep(self.first.clock(), &self.board);
+        Ok(stopped)
     }
 
     /// Runs up to the next clock at which the processor is free, or to the last clock.
@@ -117,7 +196,96 @@ impl Session {
         let mut free = Stops::new();
         free.push(Condition::Free);
         run(&mut self.board, left, &free)?;
+        self.checkpoints.keep(self.first.clock(), &self.board);
         Ok(Answer::Clock(self.board.clock()))
+    }
+
+    /// Goes back by `count` clocks.
+    fn back(&mut self, count: u64) -> Result<Answer, DebugFault>
+        requires { 1 ≤ count }
+        ensures { MatchResult result (GoesBack count self.old self.new) (RefusesBack count self.old self.new) }
+    {
+        let now = self.clock().get();
+        if now - self.first_clock().get() < count {
+            return Err(DebugFault::BeforeStart);
+        }
+        self.stand_at(now - count)?;
+        Ok(Answer::Clock(self.clock()))
+    }
+
+    /// Goes back to the last earlier clock at which the processor was free.
+    fn back_step(&mut self) -> Result<Answer, DebugFault>
+        ensures { MatchResult result (GoesBackTo (Free ∷ []) tell_clock self.old self.new) (RefusesBackTo (Free ∷ []) self.old self.new) }
+    {
+        let mut free = Stops::new();
+        free.push(Condition::Free);
+        let (clock, _) = self.last_held(&free)?;
+        self.stand_at(clock.get())?;
+        Ok(Answer::Clock(clock))
+    }
+
+    /// Goes back to the last earlier clock at which a stop held.
+    fn back_stop(&mut self) -> Result<Answer, DebugFault>
+        ensures { MatchResult result (GoesBackTo self.old.stops answers.StopAt self.old self.new) (RefusesBackTo self.old.stops self.old self.new) }
+    {
+        if self.stops.is_empty() {
+            return Err(DebugFault::BeforeStart);
+        }
+        let (clock, number) = self.last_held(&self.stops)?;
+        self.stand_at(clock.get())?;
+        Ok(Answer::StopAt(number, clock))
+    }
+
+    /// The last earlier clock at which one of `stops` held, with the least number of one there.
+    fn last_held(&self, stops: &Stops) -> Result<(Clock, usize), DebugFault>
+        requires { All HasAddress stops.now.items }
+        ensures { MatchResult result (λ found. HeldLast stops.now.items (gone self.now) self.now.first.plain found.0 found.1)
+            (FindsNone stops.now.items self.now) }
+    {
+        let first = self.first_clock().get();
+        let mut bound = self.clock().get();
+        // stretch by stretch, each from a board that is kept
+        'stretches: while first < bound {
+            let mut board = self.board_before(bound - 1)?;
+            let from = board.clock().get();
+            match board.run_last(bound - 1 - from, stops) {
+                Ok(Some(found)) => return Ok(found),
+                Ok(None) => bound = from,
+                Err(_) => return Err(DebugFault::Memory(None)),
+            }
+        }
+        Err(DebugFault::BeforeStart)
+    }
+
+    /// Goes to an earlier clock, by a copy.
+    fn stand_at(&mut self, clock: u64) -> Result<(), DebugFault>
+        requires from { clock_of self.old.first.plain ≤ clock }
+        ensures ok { OnOk result (StandsNow clock self.old self.new) }
+        ensures fault { IfErr result LacksMemory }
+        ensures err { OnErr result (self.new ≡ self.old) }
+    {
+        let mut board = self.board_before(clock)?;
+        let left = clock - board.clock().get();
+        match board.run(left) {
+            Ok(()) => {
+                self.board = board;
+                Ok(())
+            }
+            Err(_) => Err(DebugFault::Memory(None)),
+        }
+    }
+
+    /// A copy of the latest board that is kept for a clock at or before this one, or else of the first.
+    fn board_before(&self, clock: u64) -> Result<Board, DebugFault>
+        requires { clock_of self.now.first.plain ≤ clock }
+        ensures stands { IfOk result (StandsAfter self.now.first) }
+        ensures before { IfOk result (λ board. clock_of board.plain ≤ clock) }
+        ensures fault { IfErr result LacksMemory }
+    {
+        match self.checkpoints.latest(clock) {
+            Some(kept) => copy_of(kept),
+            None => copy_of(&self.first),
+        }
     }
 
     fn registers(&self, alloc: Global) -> Result<Answer, DebugFault>

@@ -7,7 +7,7 @@ use lib.Utf8.{encode}
 use Rattle.debugger.specs.declared.command.Command.TheVariants.{Go}
 use Rattle.debugger.specs.declared.fault.DebugFault.TheVariants.{BadCommand, Memory}
 use Rattle.debugger.specs.Commands.{command_of, command_with, is_quit, plain_command}
-use Rattle.debugger.specs.Session.{SessionState}
+use Rattle.debugger.specs.Stands.{SessionState}
 use Rattle.debugger.specs.Words.{count_of, words_of}
 use Rattle.pcboard_program.specs.Transcript.{Transcript, ends_session, input_lines, refusal_text, typed_command}
 

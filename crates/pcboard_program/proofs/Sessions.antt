@@ -9,7 +9,8 @@ use Rattle.board_types.specs.TextLines.{onto_first}
 use Rattle.debugger.specs.declared.answer.Answer.{Answer}
 use Rattle.debugger.specs.declared.fault.DebugFault.{DebugFault}
 use Rattle.debugger.specs.Commands.{command_of, is_quit}
-use Rattle.debugger.specs.Session.{AnswersLine, SessionState}
+use Rattle.debugger.specs.Session.{AnswersLine}
+use Rattle.debugger.specs.Stands.{SessionState}
 use Rattle.loader.specs.ByteInput.{CountsNone}
 use Rattle.pcboard_program.specs.declared.unanswered.Unanswered.{Unanswered}
 use Rattle.pcboard_program.specs.declared.unanswered.Unanswered.TheVariants.{Failed, Refused}

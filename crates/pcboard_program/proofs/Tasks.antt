@@ -6,7 +6,8 @@ use Rattle.board.specs.Board.{BoardState}
 use Rattle.loader.specs.declared.run_file.RunFile.{RunFile}
 use Rattle.pcboard_program.specs.declared.unanswered.Unanswered.{Unanswered}
 use Rattle.pcboard_program.specs.declared.unanswered.Unanswered.TheVariants.{Failed, Refused}
-use Rattle.pcboard_program.specs.Answer.{AppendsA, IsBoardOf, IsReport, IsSession, session_about}
+use Rattle.pcboard_program.specs.Answer.{AppendsA, IsBoardOf, IsReport, IsSession}
+use Rattle.debugger.specs.Stands.{session_about}
 use Rattle.pcboard_program.specs.Ready.{IsAtPowerOn, IsReady}
 use Rattle.pcboard_program.specs.Refusal.{BeginsSession, BeginsTranscript}
 use Rattle.pcboard_program.specs.Report.{report_of}

@@ -9,7 +9,7 @@ use Rattle.assembler.specs.Gives.{Gives}
 use Rattle.assembler.specs.FirstFault.{IsFirst}
 use Rattle.board.specs.Board.{BoardState}
 use Rattle.board.specs.Plain.{power_on}
-use Rattle.debugger.specs.Session.{SessionState}
+use Rattle.debugger.specs.Stands.{session_about}
 use Rattle.pcboard_words.specs.CommandLine.{Answers as AnswersWords}
 use Rattle.pcboard_words.specs.declared.task.Task.{Task}
 use Rattle.pcboard_words.specs.declared.task.Task.TheVariants as tasks
@@ -64,10 +64,6 @@ pub record IsBoardOf (hex : Bool) (bytes run : List ℕ) (board : BoardState) : 
   pub plain : board.plain ≡ power_on image (config_of run_file) run_file.keys
   pub changes : board.changes ≡ []
   pub trail : board.trail ≡ []
-
--- a session with a board, and without stops
-abbrev pub session_about : BoardState → SessionState
-session_about board = record { board = board; stops = [] }
 
 -- the bytes and the run file's text give a board, and this is what a session about it prints on the typed bytes
 pub record IsSession (hex : Bool) (bytes run typed text : List ℕ) : Type 0 where

@@ -70,6 +70,7 @@ IsWantOfMemory (Session (sessions.Memory clock)) = Unit {0}
 IsWantOfMemory (Session sessions.ClockLimit) = ⊥
 IsWantOfMemory (Session sessions.BadCommand) = ⊥
 IsWantOfMemory (Session sessions.TooManyStops) = ⊥
+IsWantOfMemory (Session sessions.BeforeStart) = ⊥
 
 -- a board's refusal is true of an image: its RAM doesn't fit, or there was no memory
 abbrev pub IsTrueOfBoard : List (ℕ × ℕ) → RunFile → BoardFault → Type 0

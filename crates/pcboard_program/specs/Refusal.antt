@@ -12,8 +12,8 @@ use Rattle.pcboard_words.specs.declared.task.Task.TheVariants as tasks
 use Rattle.pcboard_program.specs.declared.fault.Fault.{Fault}
 use Rattle.pcboard_program.specs.declared.fault.Fault.TheVariants.{Source, Hex, Run, Board, Session}
 use Rattle.pcboard_program.specs.Faults.{IsWantOfMemory, fault_text}
-use Rattle.debugger.specs.Session.{SessionState}
-use Rattle.pcboard_program.specs.Answer.{AppendsA, IsBoardOf, IsTrueRefusal, run_text_of, session_about, source_of}
+use Rattle.debugger.specs.Stands.{SessionState, session_about}
+use Rattle.pcboard_program.specs.Answer.{AppendsA, IsBoardOf, IsTrueRefusal, run_text_of, source_of}
 use Rattle.pcboard_program.specs.Transcript.{Transcript, input_lines}
 
 -- a refusal is true of a source that is to be assembled: it is its first fault

@@ -9,7 +9,8 @@ use Rattle.debugger.specs.declared.command.Command.{Command}
 use Rattle.debugger.specs.declared.fault.DebugFault.{DebugFault}
 use Rattle.debugger.specs.Answers.{answer_text, fault_clock, fault_name, fault_number}
 use Rattle.debugger.specs.Commands.{command_of, is_quit}
-use Rattle.debugger.specs.Session.{AnswersLine, SessionState}
+use Rattle.debugger.specs.Session.{AnswersLine}
+use Rattle.debugger.specs.Stands.{SessionState}
 
 -- The lines of an input. A line feed ends a line and isn't part of it; what follows the last line feed is a line only
 -- where it isn't empty.

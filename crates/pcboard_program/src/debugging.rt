@@ -3,7 +3,8 @@ ghost use Rattle.std.specs.Prelude.{◌≡◌, ◌⊎◌, option_map, IfErr, IfO
 ghost use Rattle.std.specs.Io.KnownBytes.{Appends};
 ghost use Rattle.loader.specs.ByteInput.{CountsNone};
 ghost use Rattle.debugger.specs.Session.{AnswersLine};
-ghost use Rattle.pcboard_program.specs.Answer.{AppendsA, session_about};
+ghost use Rattle.debugger.specs.Stands.{session_about};
+ghost use Rattle.pcboard_program.specs.Answer.{AppendsA};
 ghost use Rattle.pcboard_program.specs.Refusal.{BeginsTranscript};
 ghost use Rattle.pcboard_program.specs.Taking.{TakesLine};
 ghost use Rattle.pcboard_program.specs.Transcript.{Transcript, ends_session, input_lines, refusal_text, reply_text, typed_command};
@@ -38,7 +39,7 @@ pub(crate) fn print_session<I: ByteInput, O: Write>(
     ensures end { IfErr result IsUnjudged }
     ensures unfailed { UnlessFailed (CountsNone (I.failures input.old) (I.failures input.new)) result }
 {
-    match Session::new(board) {
+    match Session::new(alloc, board) {
         Ok(mut session) => answer_lines(alloc, &mut session, input, out),
         Err(fault) => Err(Unanswered::Refused(Fault::Session(fault))),
     }

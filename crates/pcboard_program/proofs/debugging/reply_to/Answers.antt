@@ -8,7 +8,7 @@ use Rattle.pcboard_program.proofs.debugging.reply_to.Goals as goal
 pub returns-in-Ok : goal.returns-in-Ok
 returns-in-Ok c =
     subst (λ command. AnswersLine command c.args.session.now c.command.result c.command.new.self)
-    (ap command_of c.in-Ok.ensures.cases.0 ∙ sym (typed_text c.args.line.now c.in-Ok.ensures.cases.1)) c.command.ensures
+    (ap command_of c.in-Ok.ensures.cases.0 ∙ sym (typed_text c.args.line.now c.in-Ok.ensures.cases.1)) c.command.ensures.answers
 
 pub returns-in-Err : goal.returns-in-Err
 returns-in-Err c =

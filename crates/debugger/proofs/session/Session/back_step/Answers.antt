@@ -1,0 +1,16 @@
+use Rattle.std.proofs.Common.{◌≡◌, ℕ, List, [], ◌∷◌, ◌++◌, refl, ap, ◌∙◌, subst}
+use Rattle.board.specs.declared.stop.Condition.{Condition}
+use Rattle.board.specs.declared.stop.Condition.TheVariants.{Free}
+use Rattle.board.specs.Lasts.{HeldLast}
+use Rattle.debugger.specs.Back.{tell_clock}
+use Rattle.debugger.specs.Kept.{StandsNow}
+use Rattle.debugger.specs.Stands.{gone}
+use Rattle.debugger.proofs.Returning.{goes_back_to}
+use Rattle.debugger.proofs.session.Session.back_step.Goals as goal
+
+pub returns : goal.returns
+returns g c =
+    let free : c.push.new.self.items ≡ Free ∷ [] = c.push.ensures.items ∙ ap (λ (xs : List Condition). xs ++ Free ∷ []) c.new-free.ensures in
+    goes_back_to (Free ∷ []) tell_clock c.in_ok-clock.clock c.in_ok-clock.field-0-1 c.args.self.now c.stand_at.new.self _
+    (subst (λ (sought : List Condition). HeldLast sought (gone c.args.self.now) c.args.self.now.first.plain c.in_ok-clock.clock c.in_ok-clock.field-0-1) free c.in_ok-clock.ensures)
+    (subst (λ (clock : ℕ). StandsNow clock c.args.self.now c.stand_at.new.self) c.get.ensures.value c.in_ok-stand_at.ensures.ok) refl

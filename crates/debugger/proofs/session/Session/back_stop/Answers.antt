@@ -1,0 +1,19 @@
+use Rattle.std.proofs.Common.{◌≡◌, ℕ, List, [], refl, sym, ap, ◌∙◌, subst}
+use Rattle.board.specs.declared.stop.Condition.{Condition}
+use Rattle.board.specs.Lasts.{HeldLast}
+use Rattle.debugger.specs.declared.answer.Answer.TheVariants.{StopAt}
+use Rattle.debugger.specs.Kept.{StandsNow}
+use Rattle.debugger.specs.Stands.{SessionState, gone}
+use Rattle.debugger.proofs.Returning.{goes_back_to, is_empty_list, none_sought}
+use Rattle.debugger.proofs.session.Session.back_stop.Goals as goal
+
+pub returns-then-is_empty : goal.returns-then-is_empty
+returns-then-is_empty g c =
+    let none : c.args.self.now.stops ≡ [] = sym (ap (λ (s : SessionState). s.stops) c.self.view_is) ∙ is_empty_list c.self.inside.stops.items (sym c.is_empty.ensures ∙ c.if-is_empty.true) in
+    (none_sought c.args.self.now.stops (gone c.args.self.now) c.args.self.now.first.plain none, refl)
+
+pub returns : goal.returns
+returns g c =
+    goes_back_to c.args.self.now.stops StopAt c.in_ok-clock.clock c.in_ok-clock.number c.args.self.now c.stand_at.new.self _
+    (subst (λ (sought : List Condition). HeldLast sought (gone c.args.self.now) c.args.self.now.first.plain c.in_ok-clock.clock c.in_ok-clock.number) (ap (λ (s : SessionState). s.stops) c.self.view_is) c.in_ok-clock.ensures)
+    (subst (λ (clock : ℕ). StandsNow clock c.args.self.now c.stand_at.new.self) c.get.ensures.value c.in_ok-stand_at.ensures.ok) refl

@@ -1,0 +1,149 @@
+//! Copies of a board at some of the clocks that a session went by, from which it goes back.
+ghost use Rattle.std.specs.Prelude.{◌≡◌, ◌+◌, ◌<◌, ◌≤◌, [], All, Contains, IfOk, IfSome, length, take, None};
+ghost use Rattle.std.specs.Result.{IfErr};
+ghost use Rattle.board.specs.Plain.{clock_of};
+ghost use Rattle.debugger.specs.Kept.{AreKept};
+ghost use Rattle.debugger.specs.Stands.{shown_of};
+
+use crate::fault::DebugFault;
+use board::board::Board;
+use board_types::clock::Clock;
+use std::alloc::Allocator;
+use std::marker::Model;
+
+/// How many copies are kept at most.
+const MOST: usize = 8;
+
+/// The turns of the board after which a further copy is kept.
+const FAR: u64 = 1 << 22;
+
+/// Copies of a board, by their clocks, listed in memory of the allocator `A`.
+#[derive(Drop)]
+pub(crate) struct Checkpoints<A: Allocator> {
+    kept: Vec<Board, A>,
+}
+
+impl<A: Allocator> Model for Checkpoints<A> {
+    ghost use Rattle.std.specs.Prelude.{List, ◌≤◌, length};
+    ghost use Rattle.board.specs.Board.{BoardState};
+
+    ghost Value = { List BoardState };
+
+    ghost view = { λ c. c.kept.items };
+
+    ghost invariant = { λ c. length c.kept.items ≤ 8 };
+}
+
+impl<A: Allocator> Checkpoints<A> {
+    /// None yet.
+    pub(crate) fn new(alloc: A) -> Checkpoints<A>
+        ensures { result ≡ [] }
+    {
+        Checkpoints {
+            kept: Vec::new(alloc),
+        }
+    }
+
+    /// How many copies are kept.
+    pub(crate) fn len(&self) -> usize
+        ensures { result ≤ 8 }
+    {
+        self.kept.len()
+    }
+
+    /// The latest copy at or before a clock.
+    pub(crate) fn latest(&self, clock: u64) -> Option<&Board>
+        ensures { IfSome result (λ board. Contains self.now board.now × (clock_of board.now.plain ≤ clock)) }
+    {
+        let place = place_after(&self.kept, clock);
+        if place == 0 {
+            return None;
+        }
+        Some(&self.kept[place - 1])
+    }
+
+    /// Keeps a copy of the board where the latest one is far away in turns, and there is memory for it; `first` is the clock
+    /// of the board with which the session began.
+    pub(crate) fn keep(&mut self, first: Clock, board: &Board)
+        ensures { AreKept self.old board.now self.new }
+    {
+        let now = board.clock().get();
+        let place = place_after(&self.kept, now);
+        if !is_far(&self.kept, place, board) {
+            return;
+        }
+        if self.kept.try_reserve(1).is_err() {
+            return;
+        }
+        let Ok(copy) = copy_of(board) else {
+            return;
+        };
+        let _ = self.kept.insert(place, copy);
+        if self.kept.len() > MOST {
+            let thinnest = thinnest(&self.kept, first.get(), now);
+            let _ = self.kept.remove(thinnest);
+        }
+    }
+}
+
+/// A copy of a board, with its lists.
+pub(crate) fn copy_of(board: &Board) -> Result<Board, DebugFault>
+    ensures same { IfOk result (λ copy. shown_of copy ≡ shown_of board.now) }
+    ensures few { length board.now.trail ≤ 32 }
+    ensures fault { IfErr result (λ fault. fault ≡ DebugFault.Memory None) }
+{
+    match board.copy() {
+        Ok(copy) => Ok(copy),
+        Err(_) => Err(DebugFault::Memory(None)),
+    }
+}
+
+/// How many of the boards, from the front, stand at or before a clock.
+fn place_after(kept: &[Board], clock: u64) -> usize
+    ensures within { result ≤ length kept.now }
+    ensures before { All (λ board. clock_of board.plain ≤ clock) (take result kept.now) }
+{
+    for index in 0..kept.len() {
+        if clock < kept[index].clock().get() {
+            return index;
+        }
+    }
+    kept.len()
+}
+
+/// Whether the last of the boards before this place is far from this one in turns, or there is none.
+fn is_far(kept: &[Board], place: usize, board: &Board) -> bool
+    requires { place ≤ length kept.now }
+{
+    if place == 0 {
+        return true;
+    }
+    FAR <= board.turns().saturating_sub(kept[place - 1].turns())
+}
+
+/// Of these boards, the last one aside, the one that is missed least: without it the gap between those beside it is least
+/// against how far the earlier one of them, or the first clock, lies behind.
+fn thinnest(kept: &[Board], first: u64, now: u64) -> usize
+    requires { 1 ≤ length kept.now }
+    ensures { result < length kept.now }
+{
+    let mut best = 0;
+    let mut best_gap = 0u64;
+    let mut best_age = 0u64;
+    for index in 0..kept.len() - 1 {
+        let before = if index == 0 {
+            first
+        } else {
+            kept[index - 1].clock().get()
+        };
+        // clocks have 40 bits, so products of these have 62
+        let gap = kept[index + 1].clock().get().saturating_sub(before) >> 9;
+        let age = now.saturating_sub(before) >> 9;
+        if index == 0 || gap.saturating_mul(best_age) < best_gap.saturating_mul(age) {
+            best = index;
+            best_gap = gap;
+            best_age = age;
+        }
+    }
+    best
+}

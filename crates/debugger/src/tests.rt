@@ -1,0 +1,93 @@
+//! A session that goes back, with memory for the copies of its board and without.
+use crate::session::Session;
+use board::board::{Board, Config};
+use board_types::image::{Image, is_loadable};
+use board_types::keys::Keys;
+use linked_list_allocator::LocalHeap;
+use std::alloc::{Allocator, Global};
+use std::process::Abort;
+use std::test::Fail;
+
+/// JMP FAR 0F000h:0, from the reset vector.
+const JUMP: [u8; 5] = [0xEA, 0x00, 0x00, 0x00, 0xF0];
+
+/// Counter 2 divides by 2 and is let through to the speaker; then MUL BL, and HLT.
+const TONE: [u8; 19] = [
+    0xB0, 0x94, 0xE6, 0x43, 0xB0, 0x02, 0xE6, 0x42, 0xB0, 0x99, 0xE6, 0x63, 0xB0, 0x03, 0xE6, 0x61,
+    0xF6, 0xE3, 0xF4,
+];
+
+const FORTH: [(&str, &str); 3] = [
+    ("go 70", "clock 70\n"),
+    ("sound", "stop 1\n"),
+    ("go 100", "stop 1 clock 72\n"),
+];
+
+const BACK: [(&str, &str); 7] = [
+    ("back stop", "stop 1 clock 67\n"),
+    ("back 5", "clock 62\n"),
+    ("back stop", "BeforeStart"),
+    ("back step", "clock 61\n"),
+    ("back 61", "clock 0\n"),
+    ("back 1", "BeforeStart"),
+    ("go 70", "stop 1 clock 62\n"),
+];
+
+#[test]
+fn goes_back_by_copies_of_its_board(rt: HostRuntime) -> Result<(), Fail> {
+    let mut session = Session::new(rt.alloc(), tone(&rt, rt.alloc())?)?;
+    assert_replies(&rt, rt.alloc(), &mut session, &FORTH)?;
+    assert!(rt; session.checkpoints() >= 1);
+    assert_replies(&rt, rt.alloc(), &mut session, &BACK)
+}
+
+#[test]
+fn goes_back_without_memory_for_a_copy(rt: HostRuntime) -> Result<(), Fail> {
+    let heap = LocalHeap::new(rt.alloc(), 64)?;
+    let mut session = Session::with_checkpoints_in(&heap, tone(&rt, rt.alloc())?)?;
+    assert_replies(&rt, rt.alloc(), &mut session, &FORTH)?;
+    assert_eq!(rt; session.checkpoints(), 0);
+    assert_replies(&rt, rt.alloc(), &mut session, &BACK)
+}
+
+/// Whether a session answers these commands so; a refusal is told by its name.
+fn assert_replies<A: Allocator>(
+    rt: &impl Abort,
+    alloc: Global,
+    session: &mut Session<A>,
+    replies: &[(&str, &str)],
+) -> Result<(), Fail> {
+    for (command, wanted) in replies {
+        match session.command(alloc, command) {
+            Ok(answer) => {
+                let text = format!(in alloc; "{answer}")?;
+                assert_eq!(rt; text.as_str(), *wanted);
+            }
+            Err(fault) => assert_eq!(rt; fault.name(), *wanted),
+        }
+    }
+    Ok(())
+}
+
+fn tone(rt: &impl Abort, alloc: Global) -> Result<Board, Fail> {
+    let mut image = Image::new(alloc);
+    put_all(rt, &mut image, 0xF_FFF0, &JUMP)?;
+    put_all(rt, &mut image, 0xF_0000, &TONE)?;
+    let config = Config {
+        ram_kb: 64,
+        sw1: 0,
+        sw2: 0,
+    };
+    let board = Board::new(alloc, &image, config, Keys::new(alloc))?;
+    Ok(board)
+}
+
+fn put_all(rt: &impl Abort, image: &mut Image, start: u32, bytes: &[u8]) -> Result<(), Fail> {
+    let mut addr = start;
+    for byte in bytes {
+        assert!(rt; is_loadable(addr));
+        image.put(addr, *byte)?;
+        addr += 1;
+    }
+    Ok(())
+}

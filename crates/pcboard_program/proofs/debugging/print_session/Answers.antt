@@ -1,0 +1,27 @@
+use Rattle.std.proofs.Common.{◌≡◌, ◌⊎◌, inr, IfErr, IfSome, OnOk, Result, Ok, Err, subst}
+use Rattle.debugger.specs.Stands.{SessionState}
+use Rattle.pcboard_program.specs.declared.unanswered.Unanswered.{Unanswered}
+use Rattle.pcboard_program.specs.declared.unanswered.Unanswered.TheVariants.{Failed, Refused}
+use Rattle.pcboard_program.specs.Answer.{AppendsA}
+use Rattle.pcboard_program.specs.Refusal.{BeginsTranscript}
+use Rattle.pcboard_program.specs.Transcript.{Transcript, input_lines}
+use Rattle.pcboard_program.specs.Unanswered.{WhereRefused}
+use Rattle.pcboard_program.proofs.debugging.print_session.Goals as goal
+
+or_nothing : {T : Type 0} (A B : Type 0) (result : Result T Unanswered) → IfErr result (WhereRefused B) → IfErr result (WhereRefused (A ⊎ B))
+or_nothing A B (Ok value) is = tt
+or_nothing A B (Err Failed) is = tt
+or_nothing A B (Err (Refused fault)) is = inr is
+
+pub returns-in-Ok-clause-transcript : goal.returns-in-Ok-clause-transcript
+returns-in-Ok-clause-transcript g c =
+    subst
+    (λ (session : SessionState). OnOk c.answer_lines.result (IfSome (g.I.ByteInput.remaining c.args.input.now)
+    (λ typed. AppendsA (Transcript session (input_lines typed)) (g.O.Write.contents c.args.out.now) (g.O.Write.contents c.answer_lines.new.out)))) c.in-Ok.ensures.session c.answer_lines.ensures.transcript
+
+pub returns-in-Ok-clause-cut : goal.returns-in-Ok-clause-cut
+returns-in-Ok-clause-cut g c =
+    or_nothing (g.O.Write.contents c.answer_lines.new.out ≡ g.O.Write.contents c.args.out.now) _ c.answer_lines.result
+    (subst
+    (λ (session : SessionState). IfErr c.answer_lines.result (WhereRefused (IfSome (g.I.ByteInput.remaining c.args.input.now)
+    (λ typed. AppendsA (BeginsTranscript session (input_lines typed)) (g.O.Write.contents c.args.out.now) (g.O.Write.contents c.answer_lines.new.out))))) c.in-Ok.ensures.session c.answer_lines.ensures.cut)
