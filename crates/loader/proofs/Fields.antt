@@ -10,12 +10,12 @@ use Rattle.serde_json.specs.Read.{read}
 use Rattle.serde_json.specs.View.{members_view}
 use Rattle.serde_json.specs.declared.value.Value.{Value}
 use Rattle.loader.specs.declared.run_fault.RunFault.TheVariants.{BadField}
-use Rattle.loader.specs.RunFile.{are_fields, is_field, value_of}
+use Rattle.loader.specs.RunFile.{are_fields, is_field_of, value_of}
 
-pub are_fields_view : (members : List (String Global × Value)) → are_fields (members_view members) ≡ list_all (λ name. is_field (string_bytes name)) (map (λ m. m.0) members)
+pub are_fields_view : (version : ℕ) (members : List (String Global × Value)) → are_fields version (members_view members) ≡ list_all (λ name. is_field_of version (string_bytes name)) (map (λ m. m.0) members)
 unfolding are_fields
-are_fields_view [] = refl
-are_fields_view (member ∷ others) = ap (λ b. is_field (string_bytes member.0) && b) (are_fields_view others)
+are_fields_view version [] = refl
+are_fields_view version (member ∷ others) = ap (λ b. is_field_of version (string_bytes member.0) && b) (are_fields_view version others)
 
 pub value_read : (text : List ℕ) (d : Data) → IsUtf8 text → read text ≡ Some d → value_of text ≡ Some d
 unfolding value_of

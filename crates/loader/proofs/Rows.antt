@@ -3,23 +3,25 @@ use Rattle.std.proofs.Common.{◌≡◌, codes, [], ◌∷◌, refl, Ok, Err}
 use Rattle.std.specs.Prelude.{⊤}
 use Rattle.std.specs.Str.{chars, is_utf8}
 use Rattle.serde_json.proofs.OnLiterals.{serde_json_on_literals}
+use Rattle.board_types.specs.declared.choice.ClockTable.TheVariants.{C1, C2}
+use Rattle.board_types.specs.declared.choice.TimerKind.TheVariants.{I8253, I8254}
 use Rattle.loader.specs.declared.run_fault.RunFault.TheVariants.{NotJson, BadField, BadScan, StampsFall, BudgetTooLarge}
-use Rattle.loader.specs.RunFile.{run_of, run_of_text, value_of, has_only_fields, are_fields, is_field, number_of, number_within, entry_of, entries_in, keys_of}
+use Rattle.loader.specs.RunFile.{run_of, run_of_text, value_of, has_only_fields, are_fields, is_field, is_field_of, text_of, timer_of, clocks_of, number_of, number_within, entry_of, entries_in, keys_of}
 
 -- what a row unfolds
 unfoldable on_texts : ⊤
-unfolding serde_json_on_literals chars is_utf8 run_of_text run_of value_of has_only_fields are_fields is_field number_of number_within entry_of entries_in keys_of
+unfolding serde_json_on_literals chars is_utf8 run_of_text run_of value_of has_only_fields are_fields is_field is_field_of text_of timer_of clocks_of number_of number_within entry_of entries_in keys_of
 on_texts = tt
 
 -- the run file of examples/hello.json
 hello : run_of_text (codes "{\"version\":1,\"ram\":64,\"sw1\":0,\"sw2\":0,\"budget\":100,\"keys\":[]}\n")
-    ≡ Ok (record { ram_kb = 64; sw1 = 0; sw2 = 0; budget = 100; keys = [] })
+    ≡ Ok (record { ram_kb = 64; sw1 = 0; sw2 = 0; timer = I8253; clocks = C1; budget = 100; keys = [] })
 unfolding on_texts
 hello = refl
 
 -- of a field that stands twice the last value counts
 twice : run_of_text (codes "{\"ram\":65536,\"version\":1,\"sw1\":255,\"sw2\":31,\"budget\":1099511627776,\"keys\":[],\"ram\":65535}")
-    ≡ Ok (record { ram_kb = 65535; sw1 = 255; sw2 = 31; budget = 1099511627776; keys = [] })
+    ≡ Ok (record { ram_kb = 65535; sw1 = 255; sw2 = 31; timer = I8253; clocks = C1; budget = 1099511627776; keys = [] })
 unfolding on_texts
 twice = refl
 
@@ -42,7 +44,7 @@ no_number = refl
 
 -- keys, the last of which comes at the last clock
 keys : run_of_text (codes "{\"version\":1,\"ram\":64,\"sw1\":0,\"sw2\":0,\"budget\":100,\"keys\":[[0,1],[0,211],[1099511627776,83]]}")
-    ≡ Ok (record { ram_kb = 64; sw1 = 0; sw2 = 0; budget = 100; keys = (record { stamp = 0; code = 1 }) ∷ (record { stamp = 0; code = 211 }) ∷ (record { stamp = 1099511627776; code = 83 }) ∷ [] })
+    ≡ Ok (record { ram_kb = 64; sw1 = 0; sw2 = 0; timer = I8253; clocks = C1; budget = 100; keys = (record { stamp = 0; code = 1 }) ∷ (record { stamp = 0; code = 211 }) ∷ (record { stamp = 1099511627776; code = 83 }) ∷ [] })
 unfolding on_texts
 keys = refl
 
@@ -65,6 +67,43 @@ falls = refl
 scan : run_of_text (codes "{\"version\":1,\"ram\":64,\"sw1\":0,\"sw2\":0,\"budget\":1,\"keys\":[[5,1],[4,300]]}") ≡ Err BadScan
 unfolding on_texts
 scan = refl
+
+-- version 2, whose last value counts too
+second : run_of_text (codes "{\"version\":1,\"ram\":64,\"sw1\":0,\"sw2\":0,\"timer\":\"8254\",\"clocks\":\"C2\",\"budget\":100,\"keys\":[],\"version\":2}")
+    ≡ Ok (record { ram_kb = 64; sw1 = 0; sw2 = 0; timer = I8254; clocks = C2; budget = 100; keys = [] })
+unfolding on_texts
+second = refl
+
+-- of its two fields neither brings the other
+timer_alone : run_of_text (codes "{\"version\":2,\"ram\":64,\"sw1\":0,\"sw2\":0,\"timer\":\"8253\",\"budget\":100,\"keys\":[]}") ≡ Err BadField
+unfolding on_texts
+timer_alone = refl
+
+clocks_alone : run_of_text (codes "{\"version\":2,\"ram\":64,\"sw1\":0,\"sw2\":0,\"clocks\":\"C1\",\"budget\":100,\"keys\":[]}") ≡ Err BadField
+unfolding on_texts
+clocks_alone = refl
+
+-- version 1 has neither
+timer_of_version_1 : run_of_text (codes "{\"version\":1,\"ram\":64,\"sw1\":0,\"sw2\":0,\"timer\":\"8253\",\"budget\":100,\"keys\":[]}") ≡ Err BadField
+unfolding on_texts
+timer_of_version_1 = refl
+
+clocks_of_version_1 : run_of_text (codes "{\"version\":1,\"ram\":64,\"sw1\":0,\"sw2\":0,\"clocks\":\"C1\",\"budget\":100,\"keys\":[]}") ≡ Err BadField
+unfolding on_texts
+clocks_of_version_1 = refl
+
+third : run_of_text (codes "{\"version\":3,\"ram\":64,\"sw1\":0,\"sw2\":0,\"timer\":\"8253\",\"clocks\":\"C1\",\"budget\":100,\"keys\":[]}") ≡ Err BadField
+unfolding on_texts
+third = refl
+
+-- a timer as a number, and a table in small letters, come before a budget that is too large
+timer_as_number : run_of_text (codes "{\"version\":2,\"ram\":64,\"sw1\":0,\"sw2\":0,\"timer\":8254,\"clocks\":\"C1\",\"budget\":1099511627777,\"keys\":[]}") ≡ Err BadField
+unfolding on_texts
+timer_as_number = refl
+
+small_letters : run_of_text (codes "{\"version\":2,\"ram\":64,\"sw1\":0,\"sw2\":0,\"timer\":\"8254\",\"clocks\":\"c1\",\"budget\":1099511627777,\"keys\":[]}") ≡ Err BadField
+unfolding on_texts
+small_letters = refl
 
 open_brace : run_of_text (codes "{") ≡ Err NotJson
 unfolding on_texts

@@ -1,32 +1,64 @@
--- A run file is a JSON object (RFC 8259) with the fields version, ram, sw1, sw2, budget and keys, all of
--- them and no others. Its rules are this board's choice.
+-- A run file is a JSON object (RFC 8259) with the fields version, ram, sw1, sw2, budget and keys, and in version 2 timer
+-- and clocks; all of them and no others. Its rules are this board's choice.
 -- To be believed: public contracts say what they say by these definitions.
-use Rattle.std.specs.Prelude.{◌≡◌, ℕ, ◌^◌, Bool, true, ◌&&◌, false, ◌||◌, if◌then◌else◌, nat_le, nat_lt, List, [], ◌∷◌, map, codes, Option, None, Some, option_and_then, Result, Ok, Err}
+use Rattle.std.specs.Prelude.{◌≡◌, ℕ, ◌^◌, Bool, true, ◌&&◌, false, ◌||◌, ◌==◌, if◌then◌else◌, nat_le, nat_lt, List, [], ◌∷◌, map, codes, Option, None, Some, option_and_then, Result, Ok, Err}
 use Rattle.std.specs.Option.{option_map_or}
 use Rattle.std.specs.Str.{bytes_eq, is_utf8}
 use Rattle.serde_json.specs.Data.{Data, object, Items, no_items, item, Members, no_members, member}
-use Rattle.serde_json.specs.Find.{get, as_number, as_u64, as_array}
+use Rattle.serde_json.specs.Find.{get, as_number, as_u64, as_str, as_array}
 use Rattle.serde_json.specs.Read.{read}
 use Rattle.board_types.specs.Keys.{names_key}
+use Rattle.board_types.specs.declared.choice.ClockTable.{ClockTable}
+use Rattle.board_types.specs.declared.choice.ClockTable.TheVariants.{C1, C2}
+use Rattle.board_types.specs.declared.choice.TimerKind.{TimerKind}
+use Rattle.board_types.specs.declared.choice.TimerKind.TheVariants.{I8253, I8254}
 use Rattle.board_types.specs.declared.keys.StampedKey.{StampedKey}
 use Rattle.loader.specs.declared.run_fault.RunFault.{RunFault}
 use Rattle.loader.specs.declared.run_fault.RunFault.TheVariants.{NotJson, BadField, BadScan, StampsFall, BudgetTooLarge, Memory}
 use Rattle.loader.specs.declared.run_file.RunFile.{RunFile}
 use Rattle.loader.specs.declared.run_file.KeyEntry.{KeyEntry}
 
+-- a field of either version
 unfoldable pub is_field : List ℕ → Bool
 is_field name =
     bytes_eq name (codes "version") || bytes_eq name (codes "ram") || bytes_eq name (codes "sw1")
     || bytes_eq name (codes "sw2") || bytes_eq name (codes "budget") || bytes_eq name (codes "keys")
 
-unfoldable pub are_fields : Members → Bool
-are_fields no_members = true
-are_fields (member name value others) = is_field name && are_fields others
+-- a field of that version
+unfoldable pub is_field_of : ℕ → List ℕ → Bool
+is_field_of version name =
+    is_field name || (version == 2 && (bytes_eq name (codes "timer") || bytes_eq name (codes "clocks")))
+
+unfoldable pub are_fields : ℕ → Members → Bool
+are_fields version no_members = true
+are_fields version (member name value others) = is_field_of version name && are_fields version others
 
 -- an object in which each name is a field's
-unfoldable pub has_only_fields : Data → Bool
-has_only_fields (object members) = are_fields members
-has_only_fields _ = false
+unfoldable pub has_only_fields : ℕ → Data → Bool
+has_only_fields version (object members) = are_fields version members
+has_only_fields version _ = false
+
+-- the characters of a field, where it is a string
+unfoldable pub text_of : List ℕ → Data → Option (List ℕ)
+text_of name d = option_and_then as_str (get name d)
+
+abbrev pub timer_named : List ℕ → Option TimerKind
+timer_named name =
+    if bytes_eq name (codes "8253") then Some I8253 else (if bytes_eq name (codes "8254") then Some I8254 else None)
+
+-- the timer, which version 1 leaves unsaid
+unfoldable pub timer_of : ℕ → Data → Option TimerKind
+timer_of version d =
+    if version == 2 then option_and_then timer_named (text_of (codes "timer") d) else Some I8253
+
+abbrev pub clocks_named : List ℕ → Option ClockTable
+clocks_named name =
+    if bytes_eq name (codes "C1") then Some C1 else (if bytes_eq name (codes "C2") then Some C2 else None)
+
+-- the table of clocks, which version 1 leaves unsaid
+unfoldable pub clocks_of : ℕ → Data → Option ClockTable
+clocks_of version d =
+    if version == 2 then option_and_then clocks_named (text_of (codes "clocks") d) else Some C1
 
 -- the number, where `Value` holds it as a u64
 abbrev pub u64_of : Data → Option ℕ
@@ -91,26 +123,38 @@ unless (Some fault) value = Err fault
 unfoldable pub keys_of : List KeyEntry → Result (List StampedKey) RunFault
 keys_of entries = unless (keys_fault 0 entries) (map key_of entries)
 
-abbrev pub with_keys : ℕ → ℕ → ℕ → ℕ → Result (List StampedKey) RunFault → Result RunFile RunFault
-with_keys ram sw1 sw2 budget (Ok keys) =
-    Ok (record { ram_kb = ram; sw1 = sw1; sw2 = sw2; budget = budget; keys = keys })
-with_keys ram sw1 sw2 budget (Err fault) = Err fault
+abbrev pub with_keys : TimerKind → ClockTable → ℕ → ℕ → ℕ → ℕ → Result (List StampedKey) RunFault
+    → Result RunFile RunFault
+with_keys timer clocks ram sw1 sw2 budget (Ok keys) = Ok (record {
+  ram_kb = ram;
+  sw1 = sw1;
+  sw2 = sw2;
+  timer = timer;
+  clocks = clocks;
+  budget = budget;
+  keys = keys;
+})
+with_keys timer clocks ram sw1 sw2 budget (Err fault) = Err fault
 
 -- what fields that are all good come to: 35 before the faults of the keys
-abbrev pub run_of_fields : Option ℕ → Option ℕ → Option ℕ → Option ℕ → Option ℕ → Option (List KeyEntry)
-    → Result RunFile RunFault
-run_of_fields (Some version) (Some ram) (Some sw1) (Some sw2) (Some budget) (Some entries) =
-    if nat_le budget (2 ^ 40) then with_keys ram sw1 sw2 budget (keys_of entries) else Err BudgetTooLarge
-run_of_fields _ _ _ _ _ _ = Err BadField
+abbrev pub run_of_fields : Option TimerKind → Option ClockTable → Option ℕ → Option ℕ → Option ℕ → Option ℕ
+    → Option (List KeyEntry) → Result RunFile RunFault
+run_of_fields (Some timer) (Some clocks) (Some ram) (Some sw1) (Some sw2) (Some budget) (Some entries) =
+    if nat_le budget (2 ^ 40) then with_keys timer clocks ram sw1 sw2 budget (keys_of entries) else Err BudgetTooLarge
+run_of_fields _ _ _ _ _ _ _ = Err BadField
 
--- what a value says as a run file, or the first fault: 32 before 35
-unfoldable pub run_of : Data → Result RunFile RunFault
-run_of d =
-    if has_only_fields d then run_of_fields (number_within 1 1 (codes "version") d)
+-- what a value says as a run file of that version
+abbrev pub run_of_version : Data → ℕ → Result RunFile RunFault
+run_of_version d version =
+    if has_only_fields version d then run_of_fields (timer_of version d) (clocks_of version d)
     (number_within 0 65535 (codes "ram") d)
     (number_within 0 255 (codes "sw1") d) (number_within 0 31 (codes "sw2") d)
     (number_of (codes "budget") d) (entries_in (get (codes "keys") d))
     else Err BadField
+
+-- what a value says as a run file, or the first fault: 32 before 35
+unfoldable pub run_of : Data → Result RunFile RunFault
+run_of d = option_map_or (run_of_version d) (number_within 1 2 (codes "version") d) (Err BadField)
 
 -- the value of a text, where it is JSON in UTF-8 that `serde_json` takes
 unfoldable pub value_of : List ℕ → Option Data

@@ -1,4 +1,5 @@
 //! What a run file says.
+use board_types::choice::{ClockTable, TimerKind};
 use board_types::clock::Clock;
 use board_types::keys::Keys;
 
@@ -11,6 +12,10 @@ pub struct RunFile {
     pub sw1: u8,
     /// The five switches of the second block that port C reads.
     pub sw2: u8,
+    /// Which chip the timer is: in version 1 the 8253.
+    pub timer: TimerKind,
+    /// By which table the processor's clocks count: in version 1 the first.
+    pub clocks: ClockTable,
     /// How many processor clocks the board runs, from power-on.
     pub budget: Clock,
     /// The key codes that reach the keyboard, each with its clock.

@@ -6,17 +6,19 @@ ghost use Rattle.std.specs.Result.{IfErr};
 ghost use Rattle.board_types.specs.Keys.{last_stamp};
 ghost use Rattle.std.specs.Option.{ok_or, option_map};
 ghost use Rattle.serde_json.specs.View.{view, items_view};
-ghost use Rattle.loader.specs.RunFile.{Answers, FaultAnswer, IsBadList, entries_in, entries_of, entry_fault, entry_from, entry_of, has_only_fields, is_field, key_of, keys_of, number_of, number_within, pair_of, run_of, run_of_text, u64_of};
+ghost use Rattle.loader.specs.RunFile.{Answers, FaultAnswer, IsBadList, clocks_of, entries_in, entries_of, entry_fault, entry_from, entry_of, has_only_fields, is_field, is_field_of, key_of, keys_of, number_of, number_within, pair_of, run_of, run_of_text, text_of, timer_of, u64_of};
 
 use crate::run_fault::RunFault;
 use crate::run_file::{KeyEntry, RunFile};
+use board_types::choice::{ClockTable, TimerKind};
 use board_types::clock::Clock;
 use board_types::keys::{KeyFault, Keys};
 use serde_json::{Map, Value};
 use std::alloc::Global;
 
-/// Reads the JSON value of a run file: an object with the fields `version` (1), `ram` (0 to 65,535), `sw1`
-/// (0 to 255), `sw2` (0 to 31), `budget` and `keys` (a list of `[stamp, code]`), all of them and no others.
+/// Reads the JSON value of a run file: an object with the fields `version` (1 or 2), `ram` (0 to 65,535), `sw1`
+/// (0 to 255), `sw2` (0 to 31), `budget` and `keys` (a list of `[stamp, code]`), in version 2 also `timer` ("8253" or
+/// "8254") and `clocks` ("C1" or "C2"), all of them and no others. A run file of version 1 has the 8253 and table C1.
 /// Refused as `BadField` where a field is missing, unknown, of another kind or out of its range, or a stamp
 /// is above 2^40; else as `BudgetTooLarge` where the budget is above 2^40; else by the first key that isn't
 /// taken, as `BadScan` where no key has its code or else `StampsFall` where the key before has a later stamp.
@@ -25,10 +27,12 @@ use std::alloc::Global;
 pub fn read_run(alloc: Global, value: &Value) -> Result<RunFile, RunFault>
     ensures meant { Answers result (run_of (view value.now)) }
 {
-    if !has_only_fields(value) {
+    let version = number_within(value, "version", 1, 2)?;
+    if !has_only_fields(value, version) {
         return Err(RunFault::BadField);
     }
-    number_within(value, "version", 1, 1)?;
+    let timer = timer_of(value, version).ok_or(RunFault::BadField)?;
+    let clocks = clocks_of(value, version).ok_or(RunFault::BadField)?;
     let ram_kb = number_within(value, "ram", 0, u16::MAX as u64)? as u16;
     let sw1 = number_within(value, "sw1", 0, u8::MAX as u64)? as u8;
     let sw2 = number_within(value, "sw2", 0, 31)? as u8;
@@ -40,6 +44,8 @@ pub fn read_run(alloc: Global, value: &Value) -> Result<RunFile, RunFault>
         ram_kb,
         sw1,
         sw2,
+        timer,
+        clocks,
         budget,
         keys,
     })
@@ -59,19 +65,28 @@ pub fn read_run_text(alloc: Global, text: &[u8]) -> Result<RunFile, RunFault>
 }
 
 #[tactic(auto, unfolding(crate::specs::RunFile::has_only_fields), using(crate::proofs::Fields::are_fields_view))]
-fn has_only_fields(value: &Value) -> bool
-    ensures { result ≡ has_only_fields (view value.now) }
+fn has_only_fields(value: &Value, version: u64) -> bool
+    ensures { result ≡ has_only_fields version (view value.now) }
 {
     match value.as_object() {
-        Some(members) => are_fields(members),
+        Some(members) => are_fields(members, version),
         None => false,
     }
 }
 
-fn are_fields(members: &Map<String, Value>) -> bool
-    ensures { result ≡ list_all (λ name. is_field (string_bytes name)) (keys members.now) }
+fn are_fields(members: &Map<String, Value>, version: u64) -> bool
+    ensures { result ≡ list_all (λ name. is_field_of version (string_bytes name)) (keys members.now) }
 {
-    members.keys().all(|name| is_field(name.as_str()))
+    members
+        .keys()
+        .all(|name| is_field_of(name.as_str(), version))
+}
+
+#[tactic(auto, unfolding(crate::specs::RunFile::is_field_of))]
+fn is_field_of(name: &str, version: u64) -> bool
+    ensures { result ≡ is_field_of version name.now }
+{
+    is_field(name) || version == 2 && (name == "timer" || name == "clocks")
 }
 
 #[tactic(auto, unfolding(crate::specs::RunFile::is_field))]
@@ -84,6 +99,36 @@ fn is_field(name: &str) -> bool
         || name == "sw2"
         || name == "budget"
         || name == "keys"
+}
+
+/// The timer that the run file has.
+#[tactic(auto, unfolding(crate::specs::RunFile::timer_of))]
+fn timer_of(value: &Value, version: u64) -> Option<TimerKind>
+    ensures { result ≡ timer_of version (view value.now) }
+{
+    if version != 2 {
+        return Some(TimerKind::I8253);
+    }
+    match text(value, "timer")? {
+        "8253" => Some(TimerKind::I8253),
+        "8254" => Some(TimerKind::I8254),
+        _ => None,
+    }
+}
+
+/// The table that the run file's clocks count by.
+#[tactic(auto, unfolding(crate::specs::RunFile::clocks_of))]
+fn clocks_of(value: &Value, version: u64) -> Option<ClockTable>
+    ensures { result ≡ clocks_of version (view value.now) }
+{
+    if version != 2 {
+        return Some(ClockTable::C1);
+    }
+    match text(value, "clocks")? {
+        "C1" => Some(ClockTable::C1),
+        "C2" => Some(ClockTable::C2),
+        _ => None,
+    }
 }
 
 /// The keys as the field `keys` writes them.
@@ -187,4 +232,11 @@ fn number(value: &Value, name: &str) -> Option<u64>
     ensures { result ≡ number_of name.now (view value.now) }
 {
     value.get(name).and_then(Value::as_u64)
+}
+
+#[tactic(auto, unfolding(crate::specs::RunFile::text_of))]
+fn text<'a>(value: &'a Value, name: &str) -> Option<&'a str>
+    ensures { option_map (λ text. text.now) result ≡ text_of name.now (view value.now) }
+{
+    value.get(name).and_then(Value::as_str)
 }
