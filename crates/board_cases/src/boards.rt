@@ -41,6 +41,8 @@ impl BoardBench {
             ram_kb,
             sw1: parts.sw1,
             sw2: parts.sw2,
+            timer: parts.timer,
+            clocks: parts.clocks,
         };
         match Board::new(parts.alloc, &parts.image, config, parts.keys.copy().ok()?) {
             Ok(board) => {

@@ -26,7 +26,14 @@ impl ChipsBench {
     fn build(&mut self, mut words: Words) -> Option<bool> {
         let ram_kb = u16::try_from(words.count()?).ok()?;
         let parts = &self.parts;
-        match Chips::new(parts.alloc, &parts.image, ram_kb, parts.sw1, parts.sw2) {
+        match Chips::new(
+            parts.alloc,
+            &parts.image,
+            ram_kb,
+            parts.sw1,
+            parts.sw2,
+            parts.timer,
+        ) {
             Ok(chips) => {
                 self.chips = Some(chips);
                 Some(words.word()? == "taken")

@@ -1,11 +1,12 @@
 //! Cases of outside values for the system board. Of a case that differs the step that didn't come out is printed.
 //!
-//! A case is one line: `chips`, `board` or `timer`, a colon, and steps parted by semicolons, each a verb and its words. Ports,
-//! addresses, bytes and registers are hexadecimal; clocks, counts, sizes in KB, fault numbers and the screen's lines,
-//! from 0, are decimal. Levels are `H` and `L`.
+//! A case is one line: `chips`, `board`, `timer` or `timer_8254`, a colon, and steps parted by semicolons, each a verb and
+//! its words. Ports, addresses, bytes and registers are hexadecimal; clocks, counts, sizes in KB, fault numbers and the
+//! screen's lines, from 0, are decimal. Levels are `H` and `L`.
 //!
 //! Before the chips or the board are made: `put ADDRESS BYTE ..` into the image, from the address on,
-//! `keys STAMP CODE ..`, `switches SW1 SW2`, and `ram KB taken`, which makes them, or `ram KB FAULT`, which is
+//! `keys STAMP CODE ..`, `switches SW1 SW2`, `timer 8253` (so it is without this step) or `timer 8254`, `clocks C1` (the
+//! same) or `clocks C2`, the table of a board's clocks, and `ram KB taken`, which makes them, or `ram KB FAULT`, which is
 //! refused (by a fault of this number; a board's fault has its name behind).
 //!
 //! `chips`: `in PORT BYTE`, `out PORT BYTE`, `write ADDRESS BYTE`, `read ADDRESS BYTE`, `arrive CODE`, `settle`,
@@ -30,7 +31,7 @@
 //! `timer`, the chips of a board with 16 KB, which make the timer's ticks late and many at once, beside a timer that makes
 //! each by itself: `out PORT BYTE`, `gate LEVEL` (of counter 2), `pass CLOCKS` (OUT2 has to agree after them), `in PORT`
 //! (the two bytes have to agree), `edge N` (the clock at which OUT 0 or 2 turns next, or none, has to be the one that
-//! single ticks find), `copy`.
+//! single ticks find), `copy`. `timer_8254`, the same of an 8254.
 #![tactic(auto)]
 
 mod bench;
@@ -45,6 +46,7 @@ mod words;
 
 use anyhow::{Context, Result, bail};
 use bench::follow;
+use board_types::choice::TimerKind;
 use boards::BoardBench;
 use cases::judge_cases;
 use chips::ChipsBench;
@@ -62,7 +64,12 @@ fn judge(alloc: Global, case: &str) -> Result<()> {
     match name {
         "chips" => follow(&mut ChipsBench::new(alloc), steps),
         "board" => follow(&mut BoardBench::new(alloc), steps),
-        "timer" => follow(&mut TimerBench::new(alloc).context("no memory")?, steps),
+        "timer" => follow(&mut timers(alloc, TimerKind::I8253)?, steps),
+        "timer_8254" => follow(&mut timers(alloc, TimerKind::I8254)?, steps),
         _ => bail!("nothing has this name"),
     }
+}
+
+fn timers(alloc: Global, kind: TimerKind) -> Result<TimerBench> {
+    TimerBench::new(alloc, kind).context("no memory")
 }

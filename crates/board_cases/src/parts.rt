@@ -1,10 +1,11 @@
 //! What chips and boards are made of.
 use crate::words::Words;
+use board_types::choice::{ClockTable, TimerKind};
 use board_types::image::{Image, is_loadable};
 use board_types::keys::Keys;
 use std::alloc::Global;
 
-/// The image, the key codes to come and the switches.
+/// The image, the key codes to come, the switches, the timer and the table of clocks.
 #[derive(Drop)]
 pub struct Parts {
     pub alloc: Global,
@@ -12,10 +13,12 @@ pub struct Parts {
     pub keys: Keys,
     pub sw1: u8,
     pub sw2: u8,
+    pub timer: TimerKind,
+    pub clocks: ClockTable,
 }
 
 impl Parts {
-    /// An empty image, no key codes, and all switches 0.
+    /// An empty image, no key codes, all switches 0, an 8253 and table C1.
     pub fn new(alloc: Global) -> Self {
         Parts {
             alloc,
@@ -23,6 +26,8 @@ impl Parts {
             keys: Keys::new(alloc),
             sw1: 0,
             sw2: 0,
+            timer: TimerKind::I8253,
+            clocks: ClockTable::C1,
         }
     }
 
@@ -34,6 +39,14 @@ impl Parts {
             "switches" => {
                 self.sw1 = words.byte()?;
                 self.sw2 = words.byte()?;
+                Some(true)
+            }
+            "timer" => {
+                self.timer = words.timer()?;
+                Some(true)
+            }
+            "clocks" => {
+                self.clocks = words.clocks()?;
                 Some(true)
             }
             _ => None,

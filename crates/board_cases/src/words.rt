@@ -2,6 +2,7 @@
 ghost use Rattle.std.specs.Prelude.{◌<◌, ◌^◌, IfSome};
 
 use board_types::address::ADDRESS_COUNT;
+use board_types::choice::{ClockTable, TimerKind};
 use board_types::clock::Clock;
 
 /// The words of a step that are still to be read.
@@ -58,6 +59,24 @@ impl<'a> Words<'a> {
         match self.word()? {
             "H" => Some(true),
             "L" => Some(false),
+            _ => None,
+        }
+    }
+
+    /// A timer, by its number.
+    pub fn timer(&mut self) -> Option<TimerKind> {
+        match self.word()? {
+            "8253" => Some(TimerKind::I8253),
+            "8254" => Some(TimerKind::I8254),
+            _ => None,
+        }
+    }
+
+    /// A table of clocks, by its name.
+    pub fn clocks(&mut self) -> Option<ClockTable> {
+        match self.word()? {
+            "C1" => Some(ClockTable::C1),
+            "C2" => Some(ClockTable::C2),
             _ => None,
         }
     }

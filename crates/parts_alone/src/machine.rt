@@ -7,15 +7,18 @@ ghost use Rattle.board.specs.Stops.{IsStopOf, run_length};
 
 use board::board::{Board, BoardFault, Config};
 use board::stop::{Condition, Stopped, Stops};
+use board_types::choice::{ClockTable, TimerKind};
 use board_types::image::Image;
 use board_types::keys::Keys;
 use std::alloc::Global;
 
-/// 64 KB of RAM, all switches on.
+/// 64 KB of RAM, all switches on, an 8253, and the first table of clocks.
 pub const CONFIG: Config = Config {
     ram_kb: 64,
     sw1: 0,
     sw2: 0,
+    timer: TimerKind::I8253,
+    clocks: ClockTable::C1,
 };
 
 /// A source that waits for a key's code, shows a character, for the key A an A, and halts.

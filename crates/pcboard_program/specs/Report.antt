@@ -13,7 +13,8 @@ use Rattle.board_report.specs.Text.{report_text}
 
 -- how a run file fits out the board
 abbrev pub config_of : RunFile → Config
-config_of run = record { ram_kb = run.ram_kb; sw1 = run.sw1; sw2 = run.sw2 }
+config_of run =
+    record { ram_kb = run.ram_kb; sw1 = run.sw1; sw2 = run.sw2; timer = run.timer; clocks = run.clocks }
 
 -- the plain board after the run file's budget
 abbrev pub plain_of : List (ℕ × ℕ) → RunFile → Plain

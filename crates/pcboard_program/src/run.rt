@@ -56,6 +56,8 @@ pub(crate) fn new_board(alloc: Global, image: &Image, run: &RunFile) -> Result<B
         ram_kb: run.ram_kb,
         sw1: run.sw1,
         sw2: run.sw2,
+        timer: run.timer,
+        clocks: run.clocks,
     };
     let keys = run.keys.copy()?;
     Board::new(alloc, image, config, keys).map_err(Fault::Board)
