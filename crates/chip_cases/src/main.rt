@@ -8,7 +8,7 @@
 //!
 //! `pit`, an 8253 at power-on: `write PORT BYTE ..`, `read PORT BYTE ..`, `gate N LEVEL`, `tick TICKS` (decimal),
 //! `out N LEVEL`, `wave N LEVEL ..` (OUT after a tick for each level) and `each N BYTE-LEVEL ..`, as `each 0 03L 02H`
-//! (what counter N reads after a tick for each, and the level of its OUT).
+//! (what counter N reads after a tick for each, and the level of its OUT). `pit_8254`, the same of an 8254.
 //!
 //! `pic`, an 8259A at power-on: `write A0 BYTE ..`, `read A0 BYTE ..`, `line N LEVEL`, `request TRUTH`,
 //! `acknowledge VECTOR ..`.
@@ -78,6 +78,7 @@ fn judge(mda: &mut Mda, alloc: Global, case: &str) -> Result<()> {
     let (name, steps) = case.split_once(':').context("no colon")?;
     match name {
         "pit" => follow(&mut Pit::new(), steps),
+        "pit_8254" => follow(&mut Pit::with(TimerKind::I8254), steps),
         "pic" => follow(&mut Pic::new(), steps),
         "ppi" => follow(&mut Port::new(), steps),
         "keyboard" => follow(&mut Keyboards::new(alloc)?, steps),

@@ -1,4 +1,5 @@
-//! Cases of outside values for the processor. The lines `begin` and `memory` are no cases: they only set it up.
+//! Cases of outside values for the processor. The lines `table`, `begin` and `memory` are no cases: they only set it up.
+//! `table C1` and `table C2` say by which table clocks count from there on, at first by C1.
 //!
 //! One step, over memory where every address takes a byte:
 //!
