@@ -1,5 +1,6 @@
-/* An IBM PC 5150 for benches in C and C++: the timer (Intel 8253), the interrupt controller (Intel 8259A), the parallel
- * port (Intel 8255A, mode 0), and whole runs of the board. The chips are in libc_interface.a, the runs in libc_run.a.
+/* An IBM PC 5150 for benches in C and C++: the timer (Intel 8253 or 8254), the interrupt controller (Intel 8259A), the
+ * parallel port (Intel 8255A, mode 0), and whole runs of the board. The chips are in libc_interface.a, the runs in
+ * libc_run.a.
  *
  * A chip is a struct of numbers in the caller's memory, and each call works on that struct alone. Structs may be
  * copied, compared field by field, kept in files. Any bytes in one are some chip, so no call can be refused: a level or
@@ -46,19 +47,26 @@ typedef struct zebludor_counter {
     uint8_t high_next;      /* the high byte is the next to be read of two */
     uint8_t gate;
     uint8_t out;
+    uint8_t kind;       /* 0 an 8253, else an 8254 */
+    uint8_t status;     /* what an 8254's latch of its status holds, where has_status */
+    uint8_t has_status; /* a flag, as all below */
+    uint8_t is_null;    /* a count is still to be loaded, which an 8254 shows */
+    uint8_t keeps_zero; /* an 8254's half in mode 3 keeps its fall to 0 for a tick */
 } zebludor_counter;
 
-ZEBLUDOR_ASSERT(sizeof(zebludor_counter) == 20);
+ZEBLUDOR_ASSERT(sizeof(zebludor_counter) == 24);
 ZEBLUDOR_ASSERT(ZEBLUDOR_ALIGNOF(zebludor_counter) == 2);
 ZEBLUDOR_ASSERT(offsetof(zebludor_counter, mode) == 6);
 ZEBLUDOR_ASSERT(offsetof(zebludor_counter, out) == 18);
+ZEBLUDOR_ASSERT(offsetof(zebludor_counter, kind) == 19);
+ZEBLUDOR_ASSERT(offsetof(zebludor_counter, keeps_zero) == 23);
 
-/* A timer. */
+/* A timer. Its counters have a kind each, and each acts by its own. */
 typedef struct zebludor_pit {
     zebludor_counter counter_0, counter_1, counter_2;
 } zebludor_pit;
 
-ZEBLUDOR_ASSERT(sizeof(zebludor_pit) == 60);
+ZEBLUDOR_ASSERT(sizeof(zebludor_pit) == 72);
 ZEBLUDOR_ASSERT(ZEBLUDOR_ALIGNOF(zebludor_pit) == 2);
 
 /* An interrupt controller. In the sets bit n stands for level n. */
@@ -103,15 +111,20 @@ ZEBLUDOR_ASSERT(ZEBLUDOR_ALIGNOF(zebludor_ppi) == 1);
 
 /* The timer. The definitions are those of crates/pit8253/specs/Pit.antt, of the timer that the struct stands for. */
 
-/* Power-on: each counter in mode 0 with no count, OUT low; gates 0 and 1 high, gate 2 low. `*pit` may hold anything
- * before. Leaves power_on. */
+/* Power-on of an 8253: each counter in mode 0 with no count, OUT low; gates 0 and 1 high, gate 2 low. `*pit` may hold
+ * anything before. Leaves power_on of an 8253. */
 void zebludor_pit_power_on(zebludor_pit *pit);
 
-/* Reads a byte of counter `port` (modulo 4), by its access and latch; port 3 gives FFh. Answers byte_at, leaves
- * after_read. */
+/* The same of a kind: 0 an 8253, else an 8254. Leaves power_on of that kind. */
+void zebludor_pit_power_on_as(zebludor_pit *pit, uint8_t kind);
+
+/* Reads a byte of counter `port` (modulo 4), by its access and latches, an 8254's latched status before its count; port 3
+ * gives FFh. Answers byte_at, leaves after_read. */
 uint8_t zebludor_pit_read(zebludor_pit *pit, uint8_t port);
 
-/* Writes a byte of a count to counter `port` (modulo 4), or a control word to port 3. Leaves after_write. */
+/* Writes a byte of a count to counter `port` (modulo 4), or a control word to port 3. A word from C0h on is an 8254's
+ * read-back: bits 1, 2 and 3 name counters 0, 1 and 2; of each it latches the count where bit 5 is 0, the status where bit
+ * 4 is 0. An 8253 ignores it. Leaves after_write. */
 void zebludor_pit_write(zebludor_pit *pit, uint8_t port, uint8_t value);
 
 /* Gate `n` (modulo 3) takes a level. Leaves after_gate. */
@@ -131,16 +144,26 @@ uint64_t zebludor_pit_until_change(const zebludor_pit *pit, uint8_t n);
 /* One counter of the timer by itself, for a third of the work: `&pit.counter_2`, or one of your own. The definitions are
  * those of crates/pit8253/specs/Counter.antt. */
 
-/* Power-on, with the gate at a level: mode 0, no count, OUT low. `*counter` may hold anything before. Leaves power_on. */
+/* Power-on of an 8253's counter, with the gate at a level: mode 0, no count, OUT low. `*counter` may hold anything before.
+ * Leaves power_on of an 8253. */
 void zebludor_counter_power_on(zebludor_counter *counter, uint8_t gate);
+
+/* The same of a kind: 0 an 8253, else an 8254. Leaves power_on of that kind. */
+void zebludor_counter_power_on_as(zebludor_counter *counter, uint8_t kind, uint8_t gate);
 
 /* A control word, of which bits 5 to 0 count here: access 00 latches, any other programs. Leaves after_control_word. */
 void zebludor_counter_write_control(zebludor_counter *counter, uint8_t word);
 
+/* A read-back that names the counter; only bits 5 and 4 of the word count here: an 8254 latches the count where bit 5 is 0,
+ * and the status where bit 4 is 0. What is latched already and isn't read yet stays. An 8253 does nothing. Leaves
+ * after_read_back. */
+void zebludor_counter_read_back(zebludor_counter *counter, uint8_t word);
+
 /* Writes a byte of a count. Leaves after_write. */
 void zebludor_counter_write(zebludor_counter *counter, uint8_t value);
 
-/* Reads a byte of the latch, or else of the running count. Answers next_byte, leaves after_read. */
+/* Reads a latched status, else a byte of the latched count, else one of the running count. Answers next_byte, leaves
+ * after_read. */
 uint8_t zebludor_counter_read(zebludor_counter *counter);
 
 /* The gate takes a level. Leaves after_gate. */

@@ -60,18 +60,74 @@ static void timer_reads(void) {
     expect("OUT 0 after power-on never changes", zebludor_pit_until_change(&pit, 0), 0);
 }
 
-/* Each call of a counter by itself leaves what the timer's does. */
-static void counter_is_the_timers(void) {
-    zebludor_pit pit = square(7);
+/* Counter 2 of a kind in mode 3 with the count 5 of one byte, its gate high. */
+static zebludor_pit square_of_5(uint8_t kind) {
+    zebludor_pit pit;
+    memset(&pit, 0xA5, sizeof pit);
+    zebludor_pit_power_on_as(&pit, kind);
+    zebludor_pit_set_gate(&pit, 2, 1);
+    zebludor_pit_write(&pit, 3, 0x96);
+    zebludor_pit_write(&pit, 2, 5);
+    return pit;
+}
+
+/* The count and OUT after each tick ("Mode 3" of both data sheets): the 8253 counts 5 down by 1 in the high half and by 3
+ * in the low one, the 8254 counts 4 down by 2, its high half with one tick more. OUT is the same. */
+static void kinds_count(void) {
+    static const uint8_t counts[2][6] = {{5, 4, 2, 5, 2, 5}, {4, 2, 0, 4, 2, 4}}, outs[] = {1, 1, 1, 0, 0, 1};
+    for (uint8_t kind = 0; kind < 2; kind++) {
+        zebludor_pit pit = square_of_5(kind);
+        for (int tick = 0; tick < 6; tick++) {
+            zebludor_pit_advance(&pit, 1);
+            expect(kind ? "an 8254's count" : "an 8253's count", zebludor_pit_read(&pit, 2), counts[kind][tick]);
+            expect(kind ? "an 8254's OUT" : "an 8253's OUT", zebludor_pit_out(&pit, 2), outs[tick]);
+        }
+    }
+}
+
+/* The status byte ("Read-Back Command"): bit 7 OUT, 6 null count, 5 and 4 the access, 3 to 1 the mode, 0 decimal. Here the
+ * access is 01 and the mode 3, so bits 5 to 0 are 16h; at power-on 11 and 0, so 30h. */
+static void timer_reads_back(void) {
+    zebludor_pit pit = square_of_5(1);
+    zebludor_pit_write(&pit, 3, 0xE8); /* counter 2's status */
+    expect("OUT high, the count not loaded", zebludor_pit_read(&pit, 2), 0xD6);
+    zebludor_pit_advance(&pit, 1);
+    zebludor_pit_write(&pit, 3, 0xE8);
+    expect("OUT high, the count loaded", zebludor_pit_read(&pit, 2), 0x96);
+    zebludor_pit_advance(&pit, 3);
+    zebludor_pit_write(&pit, 3, 0xC8); /* its status and its count, 4 in the low half */
+    zebludor_pit_advance(&pit, 1);
+    zebludor_pit_write(&pit, 3, 0xC8); /* ignored, since neither is read yet */
+    expect("OUT low, the count loaded", zebludor_pit_read(&pit, 2), 0x16);
+    expect("the count at the first read-back", zebludor_pit_read(&pit, 2), 4);
+    expect("the running count", zebludor_pit_read(&pit, 2), 2);
+    zebludor_pit_power_on_as(&pit, 255);
+    zebludor_pit_write(&pit, 3, 0xE2); /* counter 0's status */
+    expect("the status at power-on", zebludor_pit_read(&pit, 0), 0x70);
+    pit = square_of_5(0);
+    zebludor_pit_advance(&pit, 2);
+    zebludor_pit_write(&pit, 3, 0xC8);
+    zebludor_pit_advance(&pit, 1);
+    expect("an 8253 has no read-back", zebludor_pit_read(&pit, 2), 2);
+}
+
+/* Each call of a counter by itself leaves what the timer's does, of either kind. */
+static void counter_is_the_timers(uint8_t kind) {
+    zebludor_pit pit = square_of_5(kind);
     zebludor_counter alone;
     memset(&alone, 0xA5, sizeof alone);
-    zebludor_counter_power_on(&alone, 1);
+    zebludor_counter_power_on_as(&alone, kind, 1);
     zebludor_counter_write_control(&alone, 0x36);
     zebludor_counter_write(&alone, 7);
     zebludor_counter_write(&alone, 0);
-    for (int tick = 0; tick < 30; tick++) {
+    zebludor_pit_write(&pit, 3, 0xB6);
+    zebludor_pit_write(&pit, 2, 7);
+    zebludor_pit_write(&pit, 2, 0);
+    for (int tick = 0; tick < 60; tick++) {
         zebludor_pit_advance(&pit, 1);
         zebludor_counter_advance(&alone, 1);
+        uint8_t word = (uint8_t)(0xC8 + tick % 4 * 16); /* both, the status, the count, neither */
+        if (tick % 5 == 0) zebludor_pit_write(&pit, 3, word), zebludor_counter_read_back(&alone, word);
         zebludor_pit_set_gate(&pit, 2, tick % 11 != 3);
         zebludor_counter_set_gate(&alone, tick % 11 != 3);
         expect("a byte", zebludor_counter_read(&alone), zebludor_pit_read(&pit, 2));
@@ -137,6 +193,7 @@ static void take_any_bytes(long rounds) {
         zebludor_pit_read(pit, any[0]);
         zebludor_pit_write(pit, any[0], any[1]);
         zebludor_pit_set_gate(pit, any[1], any[2]);
+        zebludor_counter_read_back(&pit->counter_1, any[2]);
         uint64_t change = zebludor_pit_until_change(pit, any[0]);
         if (change > 65537) expect("a change within", change, 65537);
         uint8_t level = zebludor_pit_out(pit, any[0]);
@@ -193,7 +250,10 @@ static void tell_times(void) {
 int main(int count, char **words) {
     timer_makes_squares();
     timer_reads();
-    counter_is_the_timers();
+    kinds_count();
+    timer_reads_back();
+    counter_is_the_timers(0);
+    counter_is_the_timers(1);
     controller_takes();
     port_shows_switches();
     take_any_bytes(count > 2 && !strcmp(words[1], "random") ? atol(words[2]) : 10000);

@@ -9,7 +9,8 @@ class Counter(ctypes.Structure):
     _fields_ = [(name, ctypes.c_uint16) for name in ('newest', 'count', 'latch')] + [
         (name, ctypes.c_uint8) for name in (
             'mode', 'access', 'radix', 'count_radix', 'progress', 'first_byte', 'has_first_byte', 'has_latch',
-            'load_due', 'strobe_due', 'high_next', 'gate', 'out')]
+            'load_due', 'strobe_due', 'high_next', 'gate', 'out', 'kind', 'status', 'has_status', 'is_null',
+            'keeps_zero')]
 
 
 class Pit(ctypes.Structure):
@@ -28,22 +29,23 @@ def chips_of(path):
     library = ctypes.CDLL(path)
     byte, ticks = ctypes.c_uint8, ctypes.c_uint64
     for chip, calls in {
-            Pit: {'pit_power_on': (), 'pit_read': (byte,), 'pit_write': (byte, byte), 'pit_set_gate': (byte, byte),
-                  'pit_out': (byte,), 'pit_advance': (ticks,), 'pit_until_change': (byte,)},
+            Pit: {'pit_power_on': (), 'pit_power_on_as': (byte,), 'pit_read': (byte,), 'pit_write': (byte, byte),
+                  'pit_set_gate': (byte, byte), 'pit_out': (byte,), 'pit_advance': (ticks,), 'pit_until_change': (byte,)},
             Pic: {'pic_power_on': (), 'pic_set_line': (byte, byte), 'pic_read': (byte,), 'pic_write': (byte, byte),
                   'pic_request': (), 'pic_acknowledge': ()}}.items():
         for name, types in calls.items():
             call = getattr(library, f'zebludor_{name}')
             call.argtypes = [ctypes.POINTER(chip), *types]
             call.restype = ticks if name == 'pit_until_change' else byte
-    for name in ('pit_power_on', 'pit_write', 'pit_set_gate', 'pit_advance', 'pic_power_on', 'pic_set_line', 'pic_write'):
+    for name in ('pit_power_on', 'pit_power_on_as', 'pit_write', 'pit_set_gate', 'pit_advance', 'pic_power_on',
+                 'pic_set_line', 'pic_write'):
         getattr(library, f'zebludor_{name}').restype = None
     return library
 
 
 def main():
     chips = chips_of(sys.argv[1])
-    assert ctypes.sizeof(Pit) == 60 and ctypes.sizeof(Pic) == 18
+    assert ctypes.sizeof(Pit) == 72 and ctypes.sizeof(Pic) == 18
 
     pit = Pit()
     chips.zebludor_pit_power_on(pit)
@@ -57,6 +59,19 @@ def main():
             level = 1 - level
             turns.append(tick)
     assert turns == [5, 8, 12, 15, 19, 22], turns
+
+    for kind, wanted in ((0, [0, 5, 4, 2, 5, 2, 5]), (1, [0xD6, 0x96, 2, 0, 4, 2, 4])):
+        chips.zebludor_pit_power_on_as(pit, kind)
+        chips.zebludor_pit_set_gate(pit, 2, 1)
+        chips.zebludor_pit_write(pit, 3, 0x96)  # counter 2, low byte, mode 3
+        chips.zebludor_pit_write(pit, 2, 5)
+        read = []
+        for tick in range(7):  # before the load and behind it the status, which only an 8254 has
+            if tick < 2:
+                chips.zebludor_pit_write(pit, 3, 0xE8)
+            read.append(chips.zebludor_pit_read(pit, 2))
+            chips.zebludor_pit_advance(pit, 1)
+        assert read == wanted, (kind, read)
 
     pic = Pic()
     chips.zebludor_pic_power_on(pic)
