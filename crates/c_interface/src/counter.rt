@@ -60,7 +60,7 @@ pub extern "C" fn zebludor_counter_write(counter: &mut CounterImage, value: u8)
     *counter = chip.image();
 }
 
-/// Reads a byte of the latch, or else of the running count.
+/// Reads a latched status, else a byte of the latched count, else one of the running count.
 #[unsafe(no_mangle)]
 pub extern "C" fn zebludor_counter_read(counter: &mut CounterImage) -> u8
     ensures byte { result ≡ next_byte (counter_of counter.old) }

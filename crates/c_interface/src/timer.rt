@@ -15,7 +15,8 @@ use pit8253::counter::Counter;
 use pit8253::image::{CounterImage, PitImage};
 use pit8253::pit::Pit;
 
-/// Power-on of an 8253: each counter in mode 0 with no count, OUT low; gates 0 and 1 high, gate 2 low. Any bytes may stand there.
+/// Power-on of an 8253: each counter in mode 0 with no count, OUT low; gates 0 and 1 high, gate 2 low. Any bytes may
+/// stand there.
 #[unsafe(no_mangle)]
 pub extern "C" fn zebludor_pit_power_on(pit: &mut PitImage)
     ensures { pit_of pit.new ≡ power_on I8253 }
@@ -31,7 +32,7 @@ pub extern "C" fn zebludor_pit_power_on_as(pit: &mut PitImage, kind: u8)
     *pit = Pit::with(kind_of(kind)).image();
 }
 
-/// Reads a byte of counter `port` modulo 4; port 3 gives FFh.
+/// Reads a byte of counter `port` modulo 4, an 8254's latched status before its count; port 3 gives FFh.
 #[unsafe(no_mangle)]
 pub extern "C" fn zebludor_pit_read(pit: &mut PitImage, port: u8) -> u8
     ensures byte { result ≡ byte_at (pit_of pit.old) (port % 4) }
@@ -43,7 +44,8 @@ pub extern "C" fn zebludor_pit_read(pit: &mut PitImage, port: u8) -> u8
     byte
 }
 
-/// Writes a byte of a count to counter `port` modulo 4, or a control word to port 3.
+/// Writes a byte of a count to counter `port` modulo 4, or a control word to port 3: from C0h on an 8254's read-back,
+/// which an 8253 ignores.
 #[unsafe(no_mangle)]
 pub extern "C" fn zebludor_pit_write(pit: &mut PitImage, port: u8, value: u8)
     ensures { pit_of pit.new ≡ after_write (pit_of pit.old) (port % 4) value }
