@@ -13,6 +13,9 @@ from board.program import Files, answer_of
 from board.report import Report, report_of
 
 DEFAULTS: dict[str, Any] = {'version': 1, 'ram': 64, 'sw1': 0, 'sw2': 0, 'budget': 100000, 'keys': []}
+# What version 2 has besides: which chip the timer is, and which table the clocks. Of version 1 they are the first ones.
+CHOICES: dict[str, tuple[str, ...]] = {'timer': ('8253', '8254'), 'clocks': ('C1', 'C2')}
+FIRST_CHOICES = {name: them[0] for name, them in CHOICES.items()}
 
 
 def read_run_file(path: str) -> dict[str, Any]:
@@ -28,8 +31,15 @@ def read_run_file(path: str) -> dict[str, Any]:
 
 def text_of(fields: dict[str, Any]) -> str:
     """A run file in one line, the fields in the order of docs/FORMATS.md."""
-    ordered = {name: fields[name] for name in DEFAULTS if name in fields}
+    ordered = {name: fields[name] for name in (*DEFAULTS, *CHOICES) if name in fields}
     return json.dumps(ordered | fields, separators=(',', ':')) + '\n'
+
+
+def chosen(fields: dict[str, Any], choices: dict[str, str]) -> dict[str, Any]:
+    """A run file's fields with these of `timer` and `clocks`, which make it one of version 2 with both."""
+    if not choices:
+        return fields
+    return fields | {'version': 2} | FIRST_CHOICES | {name: fields[name] for name in CHOICES if name in fields} | choices
 
 
 @contextlib.contextmanager

@@ -42,6 +42,12 @@ class ToolCase(unittest.TestCase):
         source = self.file('it.asm', f'SEGMENT MAIN AT 0F000h\nstart:\n{lines}\n{RESET}')
         return source, self.file('it.json', f'{{"version":1,"ram":64,"sw1":0,"sw2":0,"budget":{budget},"keys":[]}}')
 
+    def hello_by_c2(self, budget: int = 100) -> tuple[str, str]:
+        """The example `hello` under the second clock table: each STOSW costs 4 clocks more, so OUT begins in clock 71 and not 63,
+        HLT in 79 and not 71."""
+        fields = f'"version":2,"ram":64,"sw1":0,"sw2":0,"budget":{budget},"keys":[],"timer":"8253","clocks":"C2"'
+        return example('hello')[0], self.file('c2.json', f'{{{fields}}}')
+
     def tool(self, name: str, *words: str, given: str = '', status: int | None = 0) -> tuple[str, str]:
         """What a tool prints on its two streams, where it ends with this status."""
         ran = subprocess.run([sys.executable, '-S', f'{TOOLS}/{name}', *words], input=given, capture_output=True, text=True,

@@ -62,6 +62,12 @@ class Sessions(ToolCase):
         self.assertEqual(told[5:8], ['clock 100: halted since clock 72', '0 keys lost', 'speaker low, 0 changes'])
         self.assertIn('the run file ends at clock 100', told[8])
 
+    def test_keeps_the_clock_table(self) -> None:
+        out, _ = self.tool('dbg', *self.hello_by_c2(), given='go\nstate\nback\nto 70\nback\n')
+        told = out.splitlines()
+        self.assertIn('clock 100: halted since clock 80', told)
+        self.assertEqual([it.split(': ')[0] for it in told[-3:]], ['clock 79', 'clock 70', 'clock 67'])
+
     def test_tells_a_jam(self) -> None:
         files = self.program('        NOP\n        DB 0Fh', 100)
         out, _ = self.tool('dbg', *files, given='go\nstate\nlist\n')

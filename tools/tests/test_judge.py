@@ -57,6 +57,12 @@ class Runs(ToolCase):
         out, _ = self.tool('judge', page, *example('fibonacci'), status=1)
         self.assertEqual(out.splitlines()[3:], ['no  memory 0 = 1: came 00', 'ok  AX = 0738', '4 met, 1 not'])
 
+    def test_keeps_the_clock_table(self) -> None:
+        page = self.file('page', "line 1 = HI\nstate = running\nmemory b0000 = 48 07 49 07\n")
+        self.tool('judge', page, *self.hello_by_c2(72))
+        out, _ = self.tool('judge', page, *self.hello_by_c2(71), status=1)
+        self.assertEqual(out.splitlines()[0], "no  line 1 = HI: came ''")
+
     def test_a_text_in_memory(self) -> None:
         page = self.file('page', "memory codes+10 = 'QWERTYUIOP'\nmemory codes = 'x'\n")
         out, _ = self.tool('judge', page, *example('keys'), status=1)

@@ -48,6 +48,21 @@ class Tools(ToolCase):
         again, _ = self.tool('runfile', '--from', self.file('r.json', out), '--ram', '128')
         self.assertEqual(json.loads(again) | {'ram': 64}, json.loads(out))
 
+    def test_run_files_of_version_2(self) -> None:
+        rest = '"ram":64,"sw1":0,"sw2":0,"budget":100000,"keys":[]'
+        for words, wanted in ((['--timer', '8254'], '"timer":"8254","clocks":"C1"'), (['--clocks', 'c2'], '"timer":"8253","clocks":"C2"'),
+                              (['--timer', '8253'], '"timer":"8253","clocks":"C1"')):
+            out, _ = self.tool('runfile', *words)
+            self.assertEqual(out, f'{{"version":2,{rest},{wanted}}}\n')
+        two = self.file('two.json', self.tool('runfile', '--timer', '8254', '--clocks', 'C2')[0])
+        fields = json.loads(self.tool('runfile', '--from', two, '--budget', '50')[0])
+        self.assertEqual([fields[it] for it in ('version', 'timer', 'clocks', 'budget')], [2, '8254', 'C2', 50])
+        fields = json.loads(self.tool('runfile', '--from', two, '--clocks', 'c1')[0])
+        self.assertEqual([fields[it] for it in ('version', 'timer', 'clocks')], [2, '8254', 'C1'])
+        fields = json.loads(self.tool('keys', 'a', '--run', two)[0])
+        self.assertEqual([fields[it] for it in ('version', 'timer', 'clocks', 'keys')], [2, '8254', 'C2', [[2000, 30], [2500, 158]]])
+        self.assertIn('8253', self.tool('runfile', '--timer', '8255', status=2)[1])
+
     def test_reads_keys(self) -> None:
         out, _ = self.tool('keys', '--read', example('keys')[1])
         self.assertEqual(out.splitlines()[1].split(), ['700', 'h', 'up'])

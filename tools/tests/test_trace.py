@@ -85,6 +85,12 @@ class Runs(ToolCase):
         sound, _ = self.tool('trace', '--vcd', '-', *example('tone'))
         self.assertIn(f'#{74 * 210}\n1&\n', sound)
 
+    def test_keeps_the_clock_table(self) -> None:
+        out, _ = self.tool('trace', *self.hello_by_c2())
+        self.assertEqual([it.split()[0] for it in out.splitlines()],
+                         ['0', '15', '19', '21', '25', '29', '44', '48', '63', '67', '71', '79', '100'])
+        self.assertIn('halted', out.splitlines()[-1])
+
     def test_changed_code_has_no_line(self) -> None:
         files = self.program("        MOV BYTE [8],90h\n        JMP FAR 0:8\nENDS\nSEGMENT LOW AT 0\n        ORG 8\n        HLT\n        HLT", 200)
         out, _ = self.tool('trace', *files)

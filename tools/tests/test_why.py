@@ -83,6 +83,23 @@ class Runs(ToolCase):
         self.assertIn('"sw1" is missing', self.tool('why', 'run', source, self.file('bad.json', json.dumps(good)), status=1)[1])
         self.assertIn('line 1, column', self.tool('why', 'run', source, self.file('bad.json', '{"ram":64,}'), status=1)[1])
 
+    def test_tells_a_field_by_its_version(self) -> None:
+        source, run = example('hello')
+        with open(run, encoding='utf-8') as file:
+            good = json.load(file)
+        for change, wanted in (({'timer': '8254'}, 'version 1 has no field "timer": write "version":2'),
+                               ({'version': 2, 'timer': '8254'}, '"clocks" is missing; "clocks":"C1" would do'),
+                               ({'version': 2, 'timer': 8254, 'clocks': 'C1'}, '"timer" is 8254, and has to be "8253" or "8254"'),
+                               ({'version': 2, 'timer': '8253', 'clocks': 'c2'}, '"clocks" is "c2", and has to be "C1" or "C2"'),
+                               ({'version': 3}, '"version" is 3, and has to be 1 or 2')):
+            bad = self.file('bad.json', json.dumps(good | change))
+            self.assertIn(wanted, self.tool('why', 'run', source, bad, status=1)[1])
+        del good['version']
+        bad = self.file('bad.json', json.dumps(good | {'timer': '8254', 'clocks': 'C2'}))
+        told = self.tool('why', 'run', source, bad, status=1)[1]
+        self.assertIn('"version" is missing; "version":2 would do', told)
+        self.assertNotIn('unknown', told.partition('\n')[2])
+
     def test_tells_the_file(self) -> None:
         source, run = example('hello')
         self.assertIn("nothing.json can't be opened: No such file", self.tool('why', 'run', source, 'nothing.json', status=3)[1])
