@@ -108,7 +108,7 @@ class Pages(ToolCase):
         for block in plain:
             if block.startswith(('mkdir', 'ls')) and 'parallel' not in block:
                 self.assertEqual(self.shell(block), '', block)
-        self.assertEqual(self.check('docs/sweeps.md'), 2)
+        self.assertEqual(self.check('docs/sweeps.md'), 3)
 
 
 if __name__ == '__main__':
