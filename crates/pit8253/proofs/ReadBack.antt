@@ -1,5 +1,5 @@
 -- What an 8254 shows when it is read back.
-use Rattle.std.proofs.Common.{◌≡◌, ℕ, ◌/◌, ◌%◌, Bool, true, false, not, if◌then◌else◌, ◌&&◌, ◌||◌, refl, sym, ap, ◌∙◌, subst, arith, Option, None, Some, unwrap_or}
+use Rattle.std.proofs.Common.{◌≡◌, ◌≢◌, ℕ, ◌/◌, ◌%◌, Bool, true, false, not, if◌then◌else◌, ◌&&◌, ◌||◌, refl, sym, ap, ◌∙◌, subst, arith, Option, None, Some, unwrap_or}
 use Rattle.std.specs.Prelude.{◌==◌, is_none, is_some}
 use Rattle.board_types.specs.Lines.{is_high, opposite}
 use Rattle.board_types.specs.declared.choice.TimerKind.{TimerKind}
@@ -8,14 +8,14 @@ use Rattle.board_types.specs.declared.line.Line.TheVariants.{Low, High}
 use Rattle.pit8253.specs.declared.program.Mode.{Mode}
 use Rattle.pit8253.specs.declared.program.Mode.TheVariants.{TerminalCount, OneShot, RateGenerator, SquareWave, SoftwareStrobe, HardwareStrobe}
 use Rattle.pit8253.specs.declared.program.Access.TheVariants.{LowThenHigh}
-use Rattle.pit8253.specs.Program.{digits_of, count_minus}
-use Rattle.pit8253.specs.Counter.{CounterState, is_8254, is_loaded, after_load, after_square_load, after_due_load, after_count, after_countdown, after_rate_count, half_step, after_square_count, after_strobe_count, after_rest, after_tick, after_ticks, reading, after_latch, next_byte, after_read_by, after_read, status_of, after_status_latch, after_read_back}
+use Rattle.pit8253.specs.Program.{mode_of, access_of, radix_of, digits_of, count_minus}
+use Rattle.pit8253.specs.Counter.{CounterState, is_8254, is_loaded, after_load, after_square_load, after_due_load, after_count, after_countdown, after_rate_count, half_step, after_square_count, after_strobe_count, after_rest, after_tick, after_ticks, reading, after_latch, after_program, after_control_word, next_byte, after_read_by, after_read, status_of, after_status_latch, after_read_back}
 use Rattle.pit8253.specs.Laws.{ends_half}
-use Rattle.pit8253.specs.Laws8254.{ReadsBack, ReadBackIsHeld, ends_in, loads_next, NullTillLoaded, KnowsNoReadBack}
+use Rattle.pit8253.specs.Laws8254.{ReadsBack, StatusComesFirst, ProgramEndsLatches, ReadBackIsHeld, ends_in, loads_next, NullTillLoaded, KnowsNoReadBack}
 use Rattle.pit8253.specs.Pit as pit
 use Rattle.pit8253.specs.Pit.{PitState}
-use Rattle.pit8253.proofs.Counts.{same}
-use Rattle.pit8253.proofs.Falls.{if_yes}
+use Rattle.pit8253.proofs.Counts.{differs, same}
+use Rattle.pit8253.proofs.Falls.{if_no, if_yes}
 use Rattle.pit8253.proofs.Latches.{Kept, ticks_keep, byte_of, read_is, read_counts, first_read, second_read}
 
 -- what a read-back makes, by its two bits
@@ -35,16 +35,19 @@ both c word kind counts tells =
     ∙ ap (λ b. back_form c I8254 b (word / 16 % 2 == 0)) (same (word / 32 % 2) 0 counts)
     ∙ ap (λ b. back_form c I8254 true b) (same (word / 16 % 2) 0 tells)
 
--- a read of a status leaves the rest
+-- a read of a status that is there leaves the rest
+rest_of : (c : CounterState) (status : ℕ) → c.status ≡ Some status → after_read c ≡ record c { status = None }
+unfolding after_read
+rest_of c status held = ap (λ o. if is_some o then record c { status = None } else after_read_by c c.access) held
+
 record StatusRead (c d : CounterState) : Type 0 where
   shows : next_byte c ≡ status_of d
   rest : after_read c ≡ record c { status = None }
 
 status_read : (c d : CounterState) → c.status ≡ Some (status_of d) → StatusRead c d
-unfolding after_read
 status_read c d held = record {
   shows = read_is c ∙ ap (λ o. unwrap_or o (byte_of c.access c.high_next (reading c))) held;
-  rest = ap (λ o. if is_some o then record c { status = None } else after_read_by c c.access) held;
+  rest = rest_of c (status_of d) held;
 }
 
 pub reads_back : ReadsBack
@@ -81,6 +84,34 @@ reads_back c kind access low free none word counts tells k l m =
       ap (λ s. s.status) end ∙ third_status,
       ap (λ s. s.latch) end,
     )
+
+told_status : (c : CounterState) (counts : Bool) → (back_form c I8254 counts true).status ≡ Some (unwrap_or c.status (status_of c))
+unfolding back_form after_latch after_status_latch
+told_status c true = refl
+told_status c false = refl
+
+without_status : (c : CounterState) (counts : Bool) → record (back_form c I8254 counts true) { status = None } ≡ record (if counts then after_latch c else c) { status = None }
+unfolding back_form after_status_latch
+without_status c true = refl
+without_status c false = refl
+
+pub status_comes_first : StatusComesFirst
+status_comes_first c kind word tells =
+    let counts : Bool = word / 32 % 2 == 0 in
+    let back : CounterState = back_form c I8254 counts true in
+    let is : after_read_back c word ≡ back =
+    back_is c word ∙ ap (λ k. back_form c k counts (word / 16 % 2 == 0)) kind ∙ ap (λ b. back_form c I8254 counts b) (same (word / 16 % 2) 0 tells) in (
+      ap next_byte is ∙ read_is back ∙ ap (λ o. unwrap_or o (byte_of back.access back.high_next (reading back))) (told_status c counts),
+      ap after_read is ∙ rest_of back (unwrap_or c.status (status_of c)) (told_status c counts) ∙ without_status c counts,
+    )
+
+programs : (c : CounterState) (word : ℕ) → word / 16 % 4 ≢ 0 → after_control_word c word ≡ after_program c (mode_of (word / 2 % 8)) (access_of (word / 16 % 4)) (radix_of (word % 2))
+unfolding after_control_word
+programs c word other = if_no (word / 16 % 4 == 0) _ _ (differs (word / 16 % 4) 0 other)
+
+pub program_ends_latches : ProgramEndsLatches
+program_ends_latches c word other =
+    let is = programs c word other in (ap (λ s. s.latch) is, ap (λ s. s.status) is, ap (λ s. s.is_null) is)
 
 -- a read-back of what is latched already, by its bits
 record Latched (c : CounterState) (kind : TimerKind) (counts tells : Bool) : Type 0 where

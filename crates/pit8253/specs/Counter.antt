@@ -1,6 +1,6 @@
 -- One counter of the timer: its state, what a tick makes of it, and what the processor and the gate do to it
--- (Intel 8253 data sheet, "Mode Definition" and "Programming the 8253"; Intel 8254 data sheet, "Read-Back Command" and
--- "Mode 3").
+-- (Intel 8253 data sheet, "Mode Definition" and "Programming the 8253"; Intel 8254 data sheet, "Read-Back Command" with
+-- "Status Byte" and "Null Count Operation", and "Mode 3: Square Wave Mode").
 -- To be believed: public contracts say what they say by these definitions.
 use Rattle.std.specs.Prelude.{ℕ, ◌+◌, ◌-◌, ◌*◌, ◌/◌, ◌%◌, ◌==◌, Bool, true, false, not, ◌&&◌, ◌||◌, if◌then◌else◌, Option, None, Some, unwrap_or, is_none, is_some}
 use Rattle.board_types.specs.Iterate.{iterate}
@@ -38,9 +38,10 @@ pub record CounterState : Type 0 where
   pub count_radix : Radix
   -- whether the loaded count's strobe is still to come
   pub strobe_due : Bool
-  -- whether a count is still to be loaded: the null count that the 8254 shows
+  -- the null count, which the 8254 shows: whether nothing was loaded since power-on, the last control word or the last
+  -- full count
   pub is_null : Bool
-  -- whether the 8254's half in mode 3 keeps its fall to 0 for a tick
+  -- mode 3 of the 8254: whether the running half is the high one of an odd count, which keeps its fall to 0 for a tick
   pub keeps_zero : Bool
   -- what a latch holds, as it is read
   pub latch : Option ℕ

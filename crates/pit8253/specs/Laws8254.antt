@@ -1,6 +1,7 @@
--- What the 8254 does otherwise than the 8253, over time (Intel 8254 data sheet, "Read-Back Command" and "Mode 3").
+-- What the 8254 does otherwise than the 8253, over time (Intel 8254 data sheet, "Read-Back Command" with "Null Count
+-- Operation", and "Mode 3: Square Wave Mode").
 -- Laws: claims above the definitions, each proved as the contract of a function.
-use Rattle.std.specs.Prelude.{◌≡◌, ◌≢◌, ℕ, ◌-◌, ◌*◌, ◌+◌, ◌/◌, ◌%◌, ◌<◌, ◌≤◌, ◌==◌, true, false, not, if◌then◌else◌, ◌||◌, ◌&&◌, Bool, None}
+use Rattle.std.specs.Prelude.{◌≡◌, ◌≢◌, ℕ, ◌-◌, ◌*◌, ◌+◌, ◌/◌, ◌%◌, ◌<◌, ◌≤◌, ◌==◌, true, false, not, if◌then◌else◌, ◌||◌, ◌&&◌, Bool, None, unwrap_or}
 use Rattle.board_types.specs.declared.choice.TimerKind.TheVariants.{I8253, I8254}
 use Rattle.board_types.specs.Lines.{is_high}
 use Rattle.board_types.specs.declared.line.Line.{Line}
@@ -9,7 +10,7 @@ use Rattle.pit8253.specs.declared.program.Mode.{Mode}
 use Rattle.pit8253.specs.declared.program.Mode.TheVariants.{TerminalCount, OneShot, RateGenerator, SquareWave, SoftwareStrobe, HardwareStrobe}
 use Rattle.pit8253.specs.declared.program.Access.TheVariants.{LowThenHigh}
 use Rattle.pit8253.specs.Program.{modulus, digits_of}
-use Rattle.pit8253.specs.Counter.{CounterState, is_loaded, after_square_load, after_tick, after_ticks, after_full_count, next_byte, after_read, status_of, after_read_back}
+use Rattle.pit8253.specs.Counter.{CounterState, is_loaded, after_square_load, after_tick, after_ticks, after_latch, after_control_word, after_full_count, next_byte, after_read, status_of, after_read_back}
 use Rattle.pit8253.specs.Laws.{ends_half}
 use Rattle.pit8253.specs.Pit as pit
 use Rattle.pit8253.specs.Pit.{PitState}
@@ -28,6 +29,22 @@ ReadsBack =
     × (next_byte third ≡ digits_of c.count_radix c.count / 256)
     × ((after_read third).status ≡ None)
     × ((after_read third).latch ≡ None)
+
+-- a status that is latched, after a count or before it, is read before all else; its read leaves the latched count and
+-- the order of two bytes as they were
+abbrev pub StatusComesFirst : Type 0
+StatusComesFirst =
+    (c : CounterState) → c.kind ≡ I8254 → (word : ℕ) → word / 16 % 2 ≡ 0
+    → (next_byte (after_read_back c word) ≡ unwrap_or c.status (status_of c))
+    × (after_read (after_read_back c word) ≡ record (if word / 32 % 2 == 0 then after_latch c else c) { status = None })
+
+-- a control word that programs ends both latches, and sets the null count
+abbrev pub ProgramEndsLatches : Type 0
+ProgramEndsLatches =
+    (c : CounterState) (word : ℕ) → word / 16 % 4 ≢ 0
+    → ((after_control_word c word).latch ≡ None)
+    × ((after_control_word c word).status ≡ None)
+    × ((after_control_word c word).is_null ≡ true)
 
 -- a second read-back before any read changes nothing
 abbrev pub ReadBackIsHeld : Type 0

@@ -1,5 +1,5 @@
 -- What the control word and the bytes of a count mean (Intel 8253 data sheet, "Control Word Format" and
--- "Programming the 8253").
+-- "Programming the 8253"), and how the control word's fields are spelled in a status (Intel 8254 data sheet, "Status Byte").
 -- To be believed: public contracts say what they say by these definitions.
 use Rattle.std.specs.Prelude.{ℕ, ◌+◌, ◌*◌, ◌/◌, ◌%◌, ◌-◌, ◌==◌, if◌then◌else◌, nat_lt}
 use Rattle.pit8253.specs.declared.program.Mode.{Mode}
@@ -26,7 +26,7 @@ access_of bits = if bits == 1 then LowByte else (if bits == 2 then HighByte else
 abbrev pub radix_of : ℕ → Radix
 radix_of bit = if bit == 0 then Binary else Decimal
 
--- and back: the bits that spell each of them
+-- and back, as a status spells them: bits 3 to 1, the mode's own number
 abbrev pub mode_number : Mode → ℕ
 mode_number TerminalCount = 0
 mode_number OneShot = 1
@@ -35,11 +35,13 @@ mode_number SquareWave = 3
 mode_number SoftwareStrobe = 4
 mode_number HardwareStrobe = 5
 
+-- bits 5 and 4
 abbrev pub access_number : Access → ℕ
 access_number LowByte = 1
 access_number HighByte = 2
 access_number LowThenHigh = 3
 
+-- bit 0
 abbrev pub radix_number : Radix → ℕ
 radix_number Binary = 0
 radix_number Decimal = 1

@@ -2,7 +2,7 @@
 //! does nothing: its contract speaks of the definition alone.
 ghost use Rattle.pit8253.specs.Image.{AnyNumbersAreATimer};
 ghost use Rattle.pit8253.specs.Laws.{TicksAdd, CountsDown, CountsToStrobe, CountsPeriod, CountsHalf, ReloadsAtOne, CountsPeriods, CountsHalves, CountsOut, ShootsOnce, Divides, MakesSquares, StaysHigh, StrobesOnce, StrobesOnTrigger, LatchHolds, LatchHoldsBoth, LatchIsHeld, ReadsBoth, CountsInDecimal, GateSetsHigh, RiseReloads, GateStops, GateStopsStrobe, FirstByteStops, NewCountWaits, WaitsForLoad, CountsOutAsTold, ShootsAsTriggered, DividesAsTold, MakesSquaresAsTold, StrobesAsTold, StrobesAsTriggered, CountersTickAlike};
-ghost use Rattle.pit8253.specs.Laws8254.{ReadsBack, ReadBackIsHeld, NullTillLoaded, CountsEven, KnowsNoReadBack, MakesTheSameWave};
+ghost use Rattle.pit8253.specs.Laws8254.{ReadsBack, StatusComesFirst, ProgramEndsLatches, ReadBackIsHeld, NullTillLoaded, CountsEven, KnowsNoReadBack, MakesTheSameWave};
 
 /// Ticks, and then more ticks, are as many ticks together.
 #[tactic(auto, using(crate::proofs::Waves::ticks_add))]
@@ -150,6 +150,18 @@ pub fn any_numbers_are_a_timer()
 pub fn reads_back()
     ensures reads { ReadsBack }
     ensures held { ReadBackIsHeld }
+{}
+
+/// A latched status is read first, and its read leaves the rest as it was.
+#[tactic(auto, using(crate::proofs::ReadBack::status_comes_first))]
+pub fn status_comes_first()
+    ensures { StatusComesFirst }
+{}
+
+/// A control word that programs ends what an 8254 has latched, and sets its null count.
+#[tactic(auto, using(crate::proofs::ReadBack::program_ends_latches))]
+pub fn program_ends_latches()
+    ensures { ProgramEndsLatches }
 {}
 
 /// The null count is set by a full count, and cleared by the tick that loads one and by no other.
