@@ -1,6 +1,7 @@
 //! Steps on a whole board.
 use crate::bench::Bench;
 use crate::cuts::{come_out_joined, comes_out_cut, comes_out_single};
+use crate::lasts::lasts_so;
 use crate::parts::Parts;
 use crate::stops::stops_so;
 use crate::trail::{has_entries, is_begun, is_entered};
@@ -110,6 +111,7 @@ fn act(board: &mut Board, verb: &str, mut words: Words) -> Option<bool> {
         "run" => Some(board.run(words.count()?).is_ok()),
         "refused" => is_fault(board.run(words.count()?).err()?, words),
         "until" => stops_so(board, words),
+        "last" => lasts_so(board, words),
         "clock" => Some(board.clock() == words.clock()?),
         "state" => Some(state_name(board.state()) == words.word()?),
         "regs" => hold(board.regs(), words),

@@ -20,7 +20,9 @@
 //! screen is blank), `blank` (the whole screen), `copy` (goes on with a copy), `keep` (a copy of the board as it stands),
 //! `again CLOCKS` (goes on with a copy of the one that was kept, and runs it), `until CLOCKS CLOCK NUMBER
 //! CONDITION ..` (a run that stops at this clock, by the condition of this number, or that has no stop where it is 0; a
-//! condition is `free`, `at CS IP`, `byte ADDRESS BYTE`, `sound` or `halted`), `trail COUNT` (of entries), `begun INDEX
+//! condition is `free`, `at CS IP`, `byte ADDRESS BYTE`, `sound` or `halted`), `last CLOCKS CLOCK NUMBER CONDITION ..` (a run
+//! to its end, at the last of whose clocks at which a condition held, both ends counted, it was the one of this number, or
+//! none held where it is 0), `trail COUNT` (of entries), `begun INDEX
 //! CLOCK CS IP BYTE ..` (the trail's entry at this index, from 0: an instruction), `entered INDEX CLOCK CS IP TYPE`,
 //! `work STEPS WORK` (of the run before it, one run alone: the turns that it took are at least its steps and at most
 //! three times its work and three more), `cut CLOCKS` (a run of so many clocks comes to the same report and trail where
@@ -38,6 +40,7 @@ mod bench;
 mod boards;
 mod chips;
 mod cuts;
+mod lasts;
 mod parts;
 mod stops;
 mod timer;
