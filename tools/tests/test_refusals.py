@@ -4,6 +4,7 @@ import importlib.util
 import re
 import sys
 import unittest
+import unittest.mock
 
 from tests.support import TOOLS, ToolCase
 
@@ -18,7 +19,19 @@ LOADER.exec_module(REFUSALS)
 RUN = REFUSALS.Task('run', ['run', 'a', 'b'])
 SESSION = REFUSALS.Task('session', ['debug', 'a', 'b'])
 REGS = 'AX=0000\nCS=F000\n'
-WHOLE = Ran(0, REGS + 'clock 100\n', '')
+STOPS = 'clock 70\nstop 1\n'
+BACK = 'stop 1 clock 67\nclock 62\nclock 61\n'
+WHOLE = Ran(0, REGS + STOPS + BACK + 'stop 1 clock 62\n', '')
+# The same commands with a run that ends at clock 68 in place of the first, and without the ways back.
+CUT = 'regs\ngo 68\nsound\nback stop\nback 5\nback step\ngo 70\n'
+CUT_REPLIES = REGS + 'clock 68\nstop 1\n' + BACK + 'stop 1 clock 62\n'
+FORTH = 'regs\ngo 70\nsound\ngo 70\n'
+FORTH_REPLIES = REGS + STOPS + 'stop 1 clock 72\n'
+
+
+def replies_to(_: object, commands: str) -> str:
+    """What an undisturbed session replies."""
+    return {CUT: CUT_REPLIES, FORTH: FORTH_REPLIES, 'regs\n': REGS, '': ''}.get(commands, WHOLE.out)
 
 
 class Judging(unittest.TestCase):
@@ -33,12 +46,20 @@ class Judging(unittest.TestCase):
             self.assertEqual(REFUSALS.is_true(RUN, WHOLE, ran), is_true, ran)
 
     def test_replies_of_a_session(self) -> None:
-        for ran, is_true in (
-                (Ran(0, 'fault 53 Memory\nclock 100\n', ''), True), (Ran(0, REGS + 'fault 53 Memory clock 7\n', ''), True),
-                (Ran(1, REGS, 'fault 41 Memory\n'), True), (Ran(1, '', 'fault 53 Memory\n'), True),
-                (Ran(0, REGS, ''), False), (Ran(0, REGS + 'clock 99\n', ''), False),
-                (Ran(1, 'AX=0000\n', 'fault 41 Memory\n'), False), (Ran(0, WHOLE.out + 'fault 53 Memory\n', ''), False)):
-            self.assertEqual(REFUSALS.is_true(SESSION, WHOLE, ran), is_true, ran)
+        want = 'fault 53 Memory\n'
+        with unittest.mock.patch.object(REFUSALS, 'replies_to', replies_to):
+            for out, is_true in (
+                    (CUT_REPLIES.replace('clock 68', 'fault 53 Memory clock 68'), True),
+                    (CUT_REPLIES.replace('clock 68', 'fault 53 Memory clock 69'), False),
+                    (CUT_REPLIES.replace('clock 68', 'fault 53 Memory'), False),
+                    (REGS + STOPS + 3 * want + 'stop 1 clock 72\n', True),
+                    (REGS + STOPS + 3 * want + 'stop 1 clock 62\n', False),
+                    (REGS + STOPS + 'fault 53 Memory clock 70\n' + 2 * want + 'stop 1 clock 72\n', False),
+                    (REGS, False), (REGS + STOPS + BACK + 'clock 99\n', False), (WHOLE.out + want, False)):
+                self.assertEqual(REFUSALS.is_true(SESSION, WHOLE, Ran(0, out, '')), is_true, out)
+            for out, fault, is_true in ((REGS, 'fault 41 Memory\n', True), ('', want, True), ('AX=0000\n', 'fault 41 Memory\n', False),
+                                        (REGS, 'fault 3 BadLine line 1\n', False)):
+                self.assertEqual(REFUSALS.is_true(SESSION, WHOLE, Ran(1, out, fault)), is_true, out)
 
 
 class Refusing(ToolCase):
