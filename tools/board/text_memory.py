@@ -52,18 +52,25 @@ def cells_at(screen: list[str], memory: bytes, start: int) -> list[list[Cell]]:
             for row, line in enumerate(screen)]
 
 
+def look_alike(memory: bytes, found: list[int]) -> bool:
+    """Whether the screen's cells have the same attributes from each of these start addresses on, as far as they are seen."""
+    cells = [cell_of(' ', memory[2 * it + 1]) for it in range(WORDS)]
+    looks = bytes(it.is_bright + 2 * it.is_underlined + 4 * it.is_reverse for it in cells) * 2
+    first = looks[found[0]:found[0] + ROWS * COLUMNS]
+    return all(looks.startswith(first, it) for it in found)
+
+
 def cells_of(files: Files, report: Report, start: int | None) -> list[list[Cell]]:
     """The cells at the report's clock, from a session's memory. The start address is the one with which memory shows the
     report's screen; where several do and differ in what is seen, it has to be said."""
     with Session(files) as session:
         session.go_to(report.clock)
         memory = session.dump(TEXT_MEMORY, 2 * WORDS)
-    if not ''.join(report.screen).strip() and start is None and 0 not in starts(report.screen, memory):
-        return plain_cells(report.screen)
     found = starts(report.screen, memory) if start is None else [start % WORDS]
-    pictures = [cells_at(report.screen, memory, it) for it in found]
-    if not pictures:
+    if start is None and 0 not in found and not ''.join(report.screen).strip():
+        return plain_cells(report.screen)
+    if not found:
         raise Sorry("no start address gives the report's screen from text memory; most likely it is off: use the report alone")
-    if any(it != pictures[0] for it in pictures) and 0 not in found:
+    if 0 not in found and not look_alike(memory, found):
         raise Sorry(f'the screen fits the start addresses {", ".join(map(str, found[:8]))} ..: name one by --start')
-    return pictures[0 if 0 not in found else found.index(0)]
+    return cells_at(report.screen, memory, 0 if 0 in found else found[0])

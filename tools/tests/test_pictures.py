@@ -1,12 +1,15 @@
 """tools/picture and tools/sound, over stored reports and the built program."""
 import os
+import resource
+import subprocess
+import sys
 import unittest
 import wave
 from xml.etree import ElementTree
 
 from tests.support import STORED, TOOLS, TOP, ToolCase, example
 
-from board.text_memory import Cell, cell_of, shown, starts
+from board.text_memory import Cell, cell_of, look_alike, shown, starts
 
 ATTRIBUTES = f'{TOOLS}/tests/attributes.asm'
 
@@ -35,6 +38,13 @@ class Cells(unittest.TestCase):
         screen = ['X' + ' ' * 79] + [' ' * 80] * 24
         self.assertEqual(starts(screen, bytes(memory)), [90])
         self.assertEqual(starts([' ' * 80] * 25, bytes(memory)), list(range(91, 139)))
+
+    def test_looks(self) -> None:
+        memory = bytearray(b' \7' * 2048)
+        self.assertTrue(look_alike(bytes(memory), list(range(2048))))
+        memory[2 * 90 + 1] = 0x70
+        self.assertFalse(look_alike(bytes(memory), [0, 1]))
+        self.assertTrue(look_alike(bytes(memory), [91, 138]))
 
 
 class Pictures(ToolCase):
@@ -70,6 +80,22 @@ class Pictures(ToolCase):
 
     def test_scrolled(self) -> None:
         self.assertIn('>' + '*' * 80 + '</text>', self.svg('--of', *example('scroll')))
+
+    def test_every_screen_is_drawn_in_a_second(self) -> None:
+        fill = ' MOV AX,0B000h\n MOV ES,AX\n MOV DI,0\n MOV AX,{}\n MOV CX,2048\n REP STOSW\n MOV DX,3B8h\n MOV AL,8\n OUT DX,AL\n HLT'
+        for word in ('0', '0720h', '0758h'):
+            files = self.program(fill.format(word), 30000)
+            before = resource.getrusage(resource.RUSAGE_CHILDREN)
+            subprocess.run([sys.executable, '-S', f'{TOOLS}/picture', '--of', *files, 'it.svg'], cwd=self.room, check=True, preexec_fn=lambda:
+                           resource.setrlimit(resource.RLIMIT_DATA, (50 << 20, 50 << 20)))
+            after = resource.getrusage(resource.RUSAGE_CHILDREN)
+            self.assertLess(after.ru_utime - before.ru_utime, 1)
+
+    def test_names(self) -> None:
+        self.assertTrue(self.tool('picture', '-', given=stored('hello'))[0].startswith('<svg '))
+        self.assertIn("it.png: the picture's name ends in .svg", self.tool('picture', 'it.png', given=stored('hello'), status=2)[1])
+        self.assertIn("it.svg: the waveform's name", self.tool('picture', 'a.svg', 'it.svg', given=stored('tone'), status=2)[1])
+        self.assertFalse(os.path.exists(f'{self.room}/a.svg'))
 
     def test_refusals(self) -> None:
         self.assertIn('is no report', self.tool('picture', 'a.svg', given='x', status=2)[1])
