@@ -1,9 +1,12 @@
 """How every tool begins and ends, so that all of them refuse in the same way: a sentence on standard error that names the
 tool, and status 2."""
 import argparse
+import contextlib
 import os
 import sys
-from typing import Callable
+import threading
+import time
+from typing import Callable, Iterator
 
 HINT_STATUS = 2
 
@@ -17,6 +20,34 @@ def parser(doc: str) -> argparse.ArgumentParser:
     tool = os.path.basename(sys.argv[0])
     return argparse.ArgumentParser(prog=f'tools/{tool}', description=doc, allow_abbrev=False,
                                    formatter_class=argparse.RawDescriptionHelpFormatter)
+
+
+@contextlib.contextmanager
+def waiting(what: str, seconds: float = 2) -> Iterator[Callable[[str], None]]:
+    """What goes on, told on standard error once it has lasted so many seconds: on a terminal in one line that is renewed,
+    elsewhere each ten seconds. It gives what says how far it is."""
+    is_terminal, begun, ended = sys.stderr.isatty(), time.monotonic(), threading.Event()
+    far = ['']
+
+    def tell() -> None:
+        pause = seconds
+        while not ended.wait(pause):
+            text = f'{what}{far[0]}, {time.monotonic() - begun:.0f} s'
+            print(f'\r{text}\033[K' if is_terminal else text, end='' if is_terminal else '\n', file=sys.stderr, flush=True)
+            pause = 1 if is_terminal else 10
+        if is_terminal and pause != seconds:
+            print('\r\033[K', end='', file=sys.stderr, flush=True)
+
+    def say(how_far: str) -> None:
+        far[0] = f': {how_far}'
+
+    teller = threading.Thread(target=tell, daemon=True)
+    teller.start()
+    try:
+        yield say
+    finally:
+        ended.set()
+        teller.join()
 
 
 def start(main: Callable[[list[str]], int]) -> None:

@@ -14,10 +14,13 @@ NOP NOT OR OUT POP POPF PUSH PUSHF RCL RCR RET RETF ROL ROR SAHF SAL SAR SBB SCA
 SUB TEST WAIT XCHG XLAT XOR'''.split())
 WORDS = frozenset('SEGMENT ENDS EQU ORG DUP SEG BYTE WORD FAR SHORT LOCK REP REPE REPZ REPNE REPNZ'.split())
 RANGES = 'a byte holds -128 to 255, a word -32,768 to 65,535'
+REGISTER = '[ABCD][XLH]|[SD]I|[SB]P'
+SEGMENTS = '[ECSD]S'
 LATER = 'PUSHA|POPA|BOUND|ENTER|LEAVE|INSB|INSW|OUTSB|OUTSW|MOVZX|MOVSX|SET[A-Z]{1,3}|BSF|BSR|BT[CRS]?|SHLD|SHRD|CDQ|CWDE'
 
 # A look (in a line without comment and texts in quotes, in upper case) and what to write.
 LOOKS: tuple[tuple[str, str], ...] = (
+    (r'^\s*[%#]', 'there is no preprocessor: no %define, no includes, no macros; a constant is name EQU 5'),
     (r'"', "texts stand in single quotes, and hold none themselves: 'Hello'"),
     (r'\b0X[0-9A-F]+', 'hexadecimal numbers end with h and begin with a digit: 10h for 0x10, 0B800h for 0xB800'),
     (r'(?<![\w\'])\$[0-9A-F]+\b', 'hexadecimal numbers end with h and begin with a digit: 0B8h for $B8'),
@@ -28,7 +31,15 @@ LOOKS: tuple[tuple[str, str], ...] = (
     (r'\bOFFSET\b', "there is no OFFSET: a name alone is its offset, and [name] is memory"),
     (r'^\s*@@|@[BF]\b|@DATA|@CODE',
      'a name has letters, digits and _ alone; for the paragraph of a label write SEG label'),
-    (r'%|^\s*#', 'there is no preprocessor: no %define, no includes, no macros; a constant is name EQU 5'),
+    (r'%', 'there is no preprocessor: no %define, no includes, no macros; a constant is name EQU 5'),
+    (r'^\s*\d\w*\s*:', 'a label begins with a letter or _: l1: for 1:'),
+    (r'(?<![\w.])(?![01]+B\b)\d[0-9A-F]*[A-F][0-9A-F]*\b', 'hexadecimal numbers end with h: 0FFFFh for 0FFFF'),
+    (r'\]\s*\[', 'one pair of brackets holds all: [BX+SI] for [BX][SI]'),
+    (rf'\[[^\]]*\b({SEGMENTS}|AX|CX|DX|SP|[ABCD][LH])\b(?!\s*:)',
+     'in brackets no register stands but BX or BP, and SI or DI: MOV BX,AX and [BX] for [AX]'),
+    (r'\[[^\]]*-\s*(B[XP]|[SD]I)\b', 'in brackets a register is added, never taken away: NEG SI and [BX+SI] for [BX-SI]'),
+    (r'\[[^\]]*\bB[XP]\b[^\]]*\bB[XP]\b|\[[^\]]*\b[SD]I\b[^\]]*\b[SD]I\b',
+     'in brackets stand at most one of BX and BP, and one of SI and DI: ADD BX,BP and [BX] for [BX+BP]'),
     (r'^\s*(SECTION|BITS|CPU|GLOBAL|EXTERN|EXTRN|PUBLIC|ASSUME|END|ENDP|PROC|MODEL|USE16|ALIGN|EVEN|INCLUDE|NAME|TITLE|PAGE)\b',
      'there is no such directive; segments are SEGMENT name AT paragraph .. ENDS, and procedures are plain labels'),
     (r'(^|[\s,\[+])\.\w', 'there are no local labels or directives with a point: write loop_1: for .loop:'),
@@ -44,8 +55,17 @@ LOOKS: tuple[tuple[str, str], ...] = (
      'string instructions have their size in their name: STOSB, STOSW'),
     (r'^\s*(\w+:)?\s*(SHL|SHR|SAL|SAR|ROL|ROR|RCL|RCR)\b.*,\s*(?!1\s*$|CL\s*$)\S+\s*$',
      'the 8086 shifts by 1 or by CL: MOV CL,4 and SHL AX,CL'),
+    (r'^\s*(\w+:)?\s*(REPN?[EZ]?\s+)?(MOVS|STOS|LODS|CMPS|SCAS)[BW]\s+\S',
+     'string instructions stand without operands: MOVSB; another segment is a prefix word, as ES: MOVSB'),
+    (r'^\s*(\w+:)?\s*LEA\s+\w+\s*,\s*[^\[\s]+\s*$', 'LEA takes memory, in brackets: LEA AX,[go], or MOV AX,go for the same'),
+    (r'^\s*(\w+:)?\s*XCHG\b.*(\s|,)[-\d\'$]', 'XCHG exchanges registers or memory, and no numbers: MOV AX,5'),
+    (r'^\s*(\w+:)?\s*(INC|DEC|NEG|NOT|I?MUL|I?DIV|POP)\s+[-\d\'$]',
+     'its operand is a register or memory, and no number: MOV BX,5 and then BX in its place'),
     (r'^\s*(\w+:)?\s*PUSH\s+-?\d', 'the 8086 pushes no number: load it into a register first'),
     (r'^\s*(\w+:)?\s*IMUL\b.*,', 'the 8086 multiplies AL or AX by one operand: IMUL BX'),
+    (r'^\s*(\w+:)?\s*(MOV|POP)\s+CS\b', 'CS changes with IP alone, by a far jump, call or return: JMP FAR label'),
+    (rf'^\s*(\w+:)?\s*MOV\s+{SEGMENTS}\s*,\s*{SEGMENTS}\s*$',
+     'a segment register goes to another through a general one: MOV AX,ES and MOV DS,AX'),
     (r'^\s*(\w+:)?\s*MOV\s+[ECSD]S\s*,\s*(?![A-Z][XLHIP]\s*$|[^,]*\[)\S',
      'a segment register takes a register or memory, no number: MOV AX,0B000h and MOV ES,AX'),
     (r'\][^\[]*,[^\[]*\[', 'an instruction reaches memory once: go through a register'),
@@ -56,6 +76,10 @@ LOOKS: tuple[tuple[str, str], ...] = (
     (r'^\s*(\w+:)?\s*(IN|OUT)\b',
      'a port above 0FFh goes through DX: MOV DX,3B8h and OUT DX,AL; data go through AL or AX'),
     (r'^\s*(\w+:)?\s*J[A-LN-Z]\w*\s+SHORT\b', 'conditional jumps are always short: JZ label'),
+    (r'^\s*(\w+:)?\s*(J(?!MP)\w+|LOOP\w*)\s+(FAR|NEAR)\b',
+     'conditional jumps and LOOP are short alone: jump the other way round a JMP, or a JMP FAR'),
+    (rf'^\s*(\w+:)?\s*(J(?!MP)\w+|LOOP\w*|JMP\s+SHORT)\s+({REGISTER}|(WORD\s*)?({SEGMENTS}:\s*)?\[.*)\s*$',
+     'a short jump goes to a label alone; through a register or memory goes JMP AX or JMP [BX], without SHORT'),
     (r'^\s*(\w+:)?\s*(J(?!MP)\w+|LOOP\w*|JMP\s+SHORT)\s',
      'the target may lie 128 bytes before to 127 behind the next instruction: jump the other way round a JMP'),
     (r'\b[ABCD][HL]\s*,\s*([ABCD]X|[SD]I|[SB]P|[ECSD]S)\b|\b([ABCD]X|[SD]I|[SB]P|[ECSD]S)\s*,\s*[ABCD][HL]\b',
@@ -79,6 +103,34 @@ def of_a_word_as_label(code: str) -> str | None:
     return None
 
 
+def of_a_word_as_operand(code: str) -> str | None:
+    """A hint where an operand, or what stands in its brackets, is a mnemonic."""
+    found = re.search(r'\w\s+(?:(?:SHORT|FAR)\s+)?\[?(\w+)\]?\s*$|,\s*\[?(\w+)\]?\s*(?:,|$)', code)
+    word = found and (found[1] or found[2])
+    first = re.match(r'\s*(?:\w+\s*:)?\s*(\w+)', code)
+    if word in STATEMENTS and first and first[1] in STATEMENTS:
+        return f'{word} is an instruction, and no instruction is a name: write {word.lower()}_1 for {word.lower()}'
+    return None
+
+
+def of_a_name_before_brackets(code: str) -> str | None:
+    """A hint where a name or number stands before the brackets with its registers."""
+    found = re.search(r'(\w+)\s*\[([^\]]*)\]', code)
+    if found and found[1] not in STATEMENTS | WORDS and not re.fullmatch(r'(?:[A-Z]+P?TR)|DS|ES|CS|SS', found[1]):
+        return f'a name stands in the brackets: [{found[1].lower()}+{found[2]}] for {found[1].lower()}[{found[2]}]'
+    return None
+
+
+def of_a_long_text(line: str) -> str | None:
+    """A hint where a text of several characters stands for a number."""
+    code = code_of(line)
+    found = re.search(r"'([^']{2,})'", code)
+    if not found or re.search(r'(^|[\s:])DB\s', code, re.I):
+        return None
+    word = f"; the word that has {found[1][0]} first is 0{ord(found[1][1]):X}{ord(found[1][0]):02X}h" if len(found[1]) == 2 else ''
+    return f"a text of several characters stands in DB alone{word}"
+
+
 def of_a_missing_colon(code: str) -> str | None:
     """A hint where a name stands before a statement without a colon."""
     found = re.match(r'\s*(\w+)\s+(D[BWD]|\w+)\b', code)
@@ -99,6 +151,8 @@ def of_a_bare_hexadecimal(code: str) -> str | None:
 
 def of_characters(line: str) -> str | None:
     """A hint where a character isn't the dialect's."""
+    if line.startswith('\ufeff'):
+        return 'the file begins with a byte order mark, three bytes that an editor put there: save it as UTF-8 without it'
     for column, sign in enumerate(line, 1):
         if not (' ' <= sign <= '~' or sign in '\t\r'):
             return (f'column {column} has {sign!r}; only printable ASCII, tabulators and line ends may stand in a source,'
@@ -121,13 +175,19 @@ def of_a_statement(code: str) -> str | None:
 
 
 def of_a_name(code: str, source: list[str]) -> str | None:
-    """A hint where a name that no line defines is near to one that some line does."""
-    names = [it for it in map(label_in, source) if it] + re.findall(r'(?im)^\s*([a-z_]\w*)\s+equ\b', '\n'.join(source))
-    known = {it.upper() for it in names} | STATEMENTS
-    for word in re.findall(r'(?<![\w.])[A-Z_]\w{2,}', code):
-        meant = near(word, names) if word not in known and word not in WORDS else ''
+    """A hint where no line defines a name: those that resemble it."""
+    names = [it for it in map(label_in, source) if it]
+    names += re.findall(r'(?im)^\s*(?:segment\s+)?([a-z_]\w*)\s+(?:equ|at)\b', '\n'.join(map(code_of, source)))
+    known = {it.upper() for it in names} | STATEMENTS | WORDS
+    unknown = [it for it in re.findall(r"(?<![\w.'])[A-Z_]\w*", re.sub(r'^\s*\w+\s*:', '', code))
+               if it not in known and not re.fullmatch(f'{REGISTER}|{SEGMENTS}|D[BWD]', it)]
+    lower = {it.lower(): it for it in names}
+    for word in unknown:
+        meant = [lower[it] for it in difflib.get_close_matches(word.lower(), lower, 3, 0.6)]
         if meant:
-            return f'no line defines {word.lower()}; is {meant} meant?'
+            return f'no line defines {word.lower()}; is {" or ".join(meant)} meant?'
+    if unknown and source:
+        return f'no line defines {unknown[0].lower()}: a label begins its line and takes a colon, {unknown[0].lower()}:'
     return None
 
 
@@ -137,6 +197,8 @@ def hint_of(line: str, number: int, source: list[str] | None = None) -> str | No
     if number == 2:
         return of_characters(line)
     special = of_a_word_as_label(code) if number == 3 else of_a_missing_colon(code) if number in (3, 4, 11) else None
+    if number == 3:
+        special = special or of_a_word_as_operand(code) or of_a_name_before_brackets(code) or of_a_long_text(line)
     special = special or (of_a_bare_hexadecimal(code) if number in (4, 7) else None)
     special = special or (of_a_name(code, source or []) if number == 7 else None)
     if special:

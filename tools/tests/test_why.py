@@ -18,6 +18,16 @@ HINTS = (
     (5, ' MOV EAX,1', '8 and 16 bits'), (5, ' ADD [BX],[SI]', 'once'), (3, ' section .text', 'SEGMENT name AT'),
     (4, 'start proc', 'plain label'), (4, ' times 3 db 0', 'DUP'), (11, ' NOP', 'in a segment'),
     (3, ' MOV AX,(1+2)', 'no parentheses'), (5, ' MOV AL,BX', 'one size'), (5, ' CMP 5,AX', 'takes the result'),
+    (3, ' CALL sub', 'write sub_1'), (3, ' JMP mul', 'MUL is an instruction'), (3, ' MOV AX,[add]', 'write add_1'),
+    (3, ' MOV AX,0FFFF', '0FFFFh'), (3, ' MOV AX,12AB', 'end with h'), (3, ' MOV AL,[AX]', 'but BX or BP'),
+    (3, ' MOV AL,[SP]', 'but BX or BP'), (3, ' MOV AL,[BX+BP]', 'at most one'), (3, ' MOV AL,[SI+DI]', 'at most one'),
+    (3, ' MOV AL,table[BX]', '[table+BX]'), (3, ' MOV AL,[BX][SI]', '[BX+SI]'), (3, ' MOV AL,[BX-SI]', 'never taken away'),
+    (5, ' LEA AX,go', 'LEA AX,[go]'), (5, ' INC 5', 'no number'), (5, ' XCHG AX,5', 'no numbers'), (5, ' XCHG 5,AX', 'no numbers'),
+    (3, " MOV AX,'AB'", '04241h'), (3, " DW 'ABC'", 'DB alone'), (5, ' NOT 1', 'no number'), (5, ' DIV 5', 'no number'),
+    (3, '1: NOP', 'l1:'), (5, ' MOV DS,ES', 'through a general one'), (5, ' MOV CS,AX', 'far jump'),
+    (5, ' JE FAR go', 'short alone'), (3, ' JMP SHORT AX', 'without SHORT'), (5, ' JE AX', 'without SHORT'),
+    (3, '%include "a.inc"', 'no preprocessor'), (5, ' MOVSB ES:[DI],DS:[SI]', 'without operands'),
+    (2, '\ufeffSEGMENT A AT 0', 'save it as UTF-8 without'),
     (4, ' MVO AX,1', 'is MOV meant?'), (8, ' MOV AL,300', '-128 to 255'), (5, ' TEST 5,AX', 'takes the result'), (2, ' NOP ; \u00e9', 'column 8'),
 )
 
@@ -49,7 +59,14 @@ class Words(unittest.TestCase):
             self.assertIn(wanted, hint_of(line, number) or '', line)
         self.assertIsNone(hint_of(" DB 'a \"quoted\" 0x10'", 6))
         self.assertEqual(hint_of(' JMP strat', 7, ['start: NOP']), 'no line defines strat; is start meant?')
-        self.assertIsNone(hint_of(' JMP start', 7, ['other: NOP']))
+        self.assertEqual(hint_of(' JMP nowhere', 7, ['now_here: NOP', 'nowhere2: NOP', 'x: NOP']), 'no line defines nowhere; is nowhere2 or now_here meant?')
+        self.assertIn('no line defines start: ', hint_of(' JMP start', 7, ['other: NOP']) or '')
+        self.assertIn('no line defines b; is B1 meant?', hint_of('a: MOV AX,b', 7, ['a: NOP', 'B1: NOP']) or '')
+
+    def test_hints_that_misled(self) -> None:
+        for number, line, never in ((5, ' MOV DS,ES', 'number'), (5, ' JE FAR go', '128'), (3, ' JMP SHORT AX', '128'), (3, '%include "a.inc"', 'quotes'),
+                                    (5, ' MOVSB ES:[DI],DS:[SI]', 'go through'), (3, ' DB "100 % 3"', 'preprocessor'), (3, ' MOV AX,101b+(1)', 'end with h')):
+            self.assertNotIn(never, hint_of(line, number) or '', line)
 
 
 class Runs(ToolCase):
@@ -128,6 +145,32 @@ class Runs(ToolCase):
         self.assertIn('F000:0001 has 0F', self.tool('why', 'run', *files)[1])
         files = self.program(' MOV AX,0B000h\n MOV ES,AX\n MOV WORD ES:[0],0741h\n HLT', 200)
         self.assertIn('written to port 3B8h', self.tool('why', 'run', *files)[1])
+
+    def every(self, lines: str, status: int = 1) -> list[int]:
+        """The line numbers that --all tells."""
+        text = f'SEGMENT MAIN AT 0F000h\nstart: NOP\n{lines}\nENDS\n'
+        out, _ = self.tool('why', '--all', self.file('it.asm', text), status=status)
+        return [int(it) for it in re.findall(r'it\.asm, line (\d+):', out)]
+
+    def test_tells_every_refused_line(self) -> None:
+        self.assertEqual(self.every(' NOP', 0), [])
+        self.assertEqual(self.every(' FROB\n NOP\n MOV AX,0x10\n MOV [BX],1\n MOV AL,300\n JMP nowhere'), [3, 5, 6, 7, 8])
+        self.assertEqual(self.every(' DB 0FFh,"x"\n MOV AX,5*2\nx: FROB\n JMP x\nx: NOP'), [3, 4, 5, 7])
+
+    def test_what_follows_is_not_told(self) -> None:
+        self.assertEqual(self.every("msg db 'hi'\n MOV AX,msg\n MOV AL,[msg]"), [3])
+        self.assertEqual(self.every('size EQU 5*2\n DB size DUP(0)\n MOV CX,size\n ORG size-20'), [3])
+        self.assertEqual(self.every('go: FROB\n JMP go\n JZ go'), [3])
+        self.assertEqual(self.every('print proc\n RET\nprint endp\n CALL print'), [3, 5])
+        self.assertEqual(self.every('ENDS\nSEGMENT B\nlater: NOP\n NOP\nENDS\nSEGMENT C AT 10h\n JMP FAR later\n FROB'), [4, 10])
+        self.assertEqual(self.every('ENDS\n NOP\nx: NOP\nENDS\nSEGMENT C AT 10h\n FROB\n JMP x'), [4, 8])
+
+    def test_all_ends_soon_and_refuses_else(self) -> None:
+        told = self.every('\n'.join(f'n{it}: FROB {it}' for it in range(60)))
+        self.assertEqual(told, list(range(3, 63)))
+        self.assertIn("nothing.asm can't be opened", self.tool('why', '--all', 'nothing.asm', status=3)[1])
+        self.assertIn('--all FILE', self.tool('why', '--all', status=2)[1])
+        self.assertIn('1,048,576', self.tool('why', '--all', self.file('long.asm', ';' * 1048577), status=1)[0])
 
     def test_reads_a_fault_and_refuses_else(self) -> None:
         source, _ = self.program(' MOV AX,0x10')
