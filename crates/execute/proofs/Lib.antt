@@ -5,3 +5,4 @@ pub mod InRegisters
 pub mod GoesPlainly
 pub mod StoreAt
 mod Again
+mod Counted

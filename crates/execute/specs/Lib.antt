@@ -7,3 +7,4 @@ pub mod InRegisters
 pub mod Store
 pub mod StoreAt
 pub mod Iterations
+pub mod Accesses
