@@ -1,9 +1,9 @@
 -- A search that goes back, stretch by stretch.
-use Rattle.std.proofs.Common.{◌≡◌, ℕ, ◌+◌, ◌-◌, ◌<◌, ◌≤◌, inl, inr, List, Option, None, Some, refl, sym, ap, ◌∙◌, subst, arith}
+use Rattle.std.proofs.Common.{◌≡◌, ℕ, ◌+◌, ◌-◌, ◌<◌, ◌≤◌, inl, inr, List, Option, None, Some, sym, ap, ◌∙◌, arith}
 use Rattle.std.proofs.lemmas.Bool.{cases_lt}
 use Rattle.board_types.proofs.Iterate.{iterate_add}
 use Rattle.board.specs.declared.stop.Condition.{Condition}
-use Rattle.board.specs.Lasts.{HeldLast, IsLastOf, NoneHeld}
+use Rattle.board.specs.Lasts.{HeldLast, NoneHeld}
 use Rattle.board.specs.Plain.{Plain, after_clock, after_clocks, clock_of}
 use Rattle.board.specs.Stops.{holding}
 

@@ -11,7 +11,7 @@ use Rattle.board_types.specs.Digits.{hex_byte_text, hex_word, spelled}
 use Rattle.board_types.specs.TextLines.{onto_first}
 use Rattle.debugger.specs.Words.{words_from, words_of, is_space, hex_number, count_of}
 use Rattle.debugger.specs.Dump.{address_text}
-use Rattle.debugger.specs.Commands.{back_by, back_command, is_colon, break_command, break_round, break_of, byte_command, command_in, command_of, command_with, command_with_two, dump_command, plain_command}
+use Rattle.debugger.specs.Commands.{back_command, is_colon, break_command, break_round, break_of, byte_command, command_in, command_of, command_with, command_with_two, dump_command, plain_command}
 use Rattle.debugger.specs.declared.command.Command.{Command}
 use Rattle.debugger.specs.declared.command.Command.TheVariants.{Break, Byte, Sound, Halted, Go, Step, Regs, Screen, Dump, Trail, Back, BackStep, BackStop}
 use Rattle.debugger.specs.Laws.{CommandsReadBack}

@@ -1,9 +1,8 @@
 -- Where a session stands after it has gone back, and why it hasn't.
-use Rattle.std.proofs.Common.{◌≡◌, ℕ, ◌+◌, ◌-◌, ◌<◌, ◌≤◌, List, [], ◌∷◌, length, Option, None, Some, refl, sym, ap, ◌∙◌, subst, arith}
+use Rattle.std.proofs.Common.{◌≡◌, ℕ, ◌+◌, ◌-◌, ◌≤◌, List, [], ◌∷◌, length, None, Some, refl, sym, ap, ◌∙◌, subst, arith}
 use Rattle.std.specs.Prelude.{true, ◌==◌}
 use Rattle.std.proofs.lemmas.Bool.Decides.{Decides-eqb}
 use Rattle.board.specs.declared.stop.Condition.{Condition}
-use Rattle.board.specs.Board.{BoardState}
 use Rattle.board.specs.Lasts.{HeldLast, NoneHeld}
 use Rattle.board.specs.Plain.{Plain, after_clocks, clock_of}
 use Rattle.board.specs.Stops.{holding}

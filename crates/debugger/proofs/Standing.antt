@@ -1,14 +1,14 @@
 -- Boards that stand some clocks after a first one.
-use Rattle.std.proofs.Common.{◌≡◌, ℕ, ◌+◌, ◌-◌, ◌≤◌, inl, inr, List, [], ◌++◌, length, Option, None, Some, Ok, Err, refl, sym, ap, ◌∙◌, subst, arith}
+use Rattle.std.proofs.Common.{◌≡◌, ℕ, ◌+◌, ◌≤◌, inl, inr, List, [], ◌++◌, length, Option, None, Some, Ok, Err, sym, ap, ◌∙◌, subst, arith}
 use Rattle.std.specs.Prelude.{◌⊎◌, All, Contains, IfOk, Result}
 use Rattle.std.proofs.lemmas.List.{length-append}
 use Rattle.std.proofs.lemmas.List.Elements.{All-contains, All-nil, All-same, All-weaker}
 use Rattle.board.specs.declared.stop.Condition.{Condition}
 use Rattle.board.specs.declared.stop.Stop.{Stop}
 use Rattle.board.specs.Board.{BoardState, Ran, StoppedEarly}
-use Rattle.board.specs.Plain.{after_clocks, changes_in, clock_of}
+use Rattle.board.specs.Plain.{changes_in, clock_of}
 use Rattle.board.specs.Stops.{HasAddress, run_length}
-use Rattle.board.specs.Trail.{last, trail_in}
+use Rattle.board.specs.Trail.{trail_in}
 use Rattle.board.proofs.Lasts.{last_within}
 use Rattle.board.proofs.Runs.{ran_none, runs_join}
 use Rattle.debugger.specs.declared.fault.DebugFault.{DebugFault}

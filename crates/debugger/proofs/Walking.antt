@@ -1,12 +1,11 @@
--- A session stands some clocks after its first board, whatever it is told.
-use Rattle.std.proofs.Common.{◌≡◌, ℕ, ◌-◌, List, [], ◌∷◌, Option, None, Some, Ok, Err, refl, sym, subst}
+-- A session stands some clocks after the board with which it began, whatever it is told.
+use Rattle.std.proofs.Common.{◌≡◌, ℕ, List, [], ◌∷◌, Option, None, Some, Ok, Err, refl, sym, subst, ◌∙◌}
 use Rattle.std.specs.Prelude.{Result}
 use Rattle.board.specs.declared.stop.Condition.{Condition}
 use Rattle.board.specs.declared.stop.Condition.TheVariants as conditions
 use Rattle.board.specs.declared.stop.Stop.{Stop as StopType}
-use Rattle.board.specs.Board.{BoardState}
 use Rattle.board.specs.Stops.{run_length}
-use Rattle.debugger.specs.Back.{GoesBack, GoesBackTo, RefusesBack, RefusesBackTo, tell_clock}
+use Rattle.debugger.specs.Back.{GoesBackTo, RefusesBack, RefusesBackTo, tell_clock}
 use Rattle.debugger.specs.declared.answer.Answer.{Answer}
 use Rattle.debugger.specs.declared.answer.Answer.TheVariants.{StopAt}
 use Rattle.debugger.specs.declared.command.Command.{Command}
@@ -14,88 +13,95 @@ use Rattle.debugger.specs.declared.command.Command.TheVariants as commands
 use Rattle.debugger.specs.declared.fault.DebugFault.{DebugFault}
 use Rattle.debugger.specs.declared.fault.DebugFault.TheVariants.{ClockLimit, BadCommand, TooManyStops, Memory, BeforeStart}
 use Rattle.debugger.specs.Laws.{SessionsStand, Walk}
-use Rattle.debugger.specs.Session.{Answers, AnswersStop, Goes, RefusesGo, RefusesStep, Runs, Steps}
-use Rattle.debugger.specs.Stands.{SessionState, Shown, Stands, StandsAfter, StandsAt, session_about, shown_of}
+use Rattle.debugger.specs.Session.{Answers, AnswersStop, RefusesStep, Runs}
+use Rattle.debugger.specs.Stands.{SessionState, Shown, StandsAfter, session_about, shown_of}
 use Rattle.debugger.proofs.Standing.{stands_early, stands_later, stands_none, stands_refused}
 
-same_state : (old new : SessionState) → new ≡ old → Stands old → Stands new
-same_state old new is at = subst Stands (sym is) at
+abbrev StandsFrom : Shown → SessionState → Type 0
+StandsFrom first s = (s.first ≡ first) × StandsAfter first s.board
 
-same_first : (old new : SessionState) → new.first ≡ old.first → StandsAfter old.first new.board → Stands new
-same_first old new is at = subst (λ (first : Shown). StandsAfter first new.board) (sym is) at
+-- the same of its own first board
+own : (first : Shown) (s : SessionState) → StandsFrom first s → StandsAfter s.first s.board
+own first s at = subst (λ (f : Shown). StandsAfter f s.board) (sym at.0) at.1
 
-of_stop : (condition : Condition) (old new : SessionState) (result : Result Answer DebugFault) → Stands old → AnswersStop condition old result new → Stands new
-of_stop condition old new (Ok answer) at is = same_first old new is.first (subst (StandsAfter old.first) (sym is.board) at)
-of_stop condition old new (Err fault) at is = same_state old new is.kept at
+same_state : (first : Shown) (old new : SessionState) → StandsFrom first old → new ≡ old → StandsFrom first new
+same_state first old new at is = subst (StandsFrom first) (sym is) at
 
-of_run : (sought : List Condition) (n : ℕ) (old new : SessionState) (stopped : Option StopType) → Stands old → Runs sought n old.board new.board stopped → new.first ≡ old.first → Stands new
-of_run sought n old new stopped at runs first = same_first old new first (stands_later old.first (run_length n old.board.plain stopped) old.board new.board at runs.ran)
+same_first : (first : Shown) (old new : SessionState) → StandsFrom first old → new.first ≡ old.first → StandsAfter old.first new.board → StandsFrom first new
+same_first first old new at is stands = (is ∙ at.0, subst (λ (f : Shown). StandsAfter f new.board) at.0 stands)
 
-of_go : (n : ℕ) (old new : SessionState) (result : Result Answer DebugFault) → Stands old → Answers (commands.Go n) old result new → Stands new
-of_go n old new (Ok answer) at is = of_run old.stops n old new is.stopped at is.runs is.first
-of_go n old new (Err fault) at is = same_first old new is.2 (stands_refused old.first old.stops n old.board new.board fault at is.0)
+of_stop : (first : Shown) (condition : Condition) (old new : SessionState) (result : Result Answer DebugFault) → StandsFrom first old → AnswersStop condition old result new → StandsFrom first new
+of_stop first condition old new (Ok answer) at is = same_first first old new at is.first (subst (StandsAfter old.first) (sym is.board) (own first old at))
+of_stop first condition old new (Err fault) at is = same_state first old new at is.kept
 
-of_no_step : (old new : SessionState) (fault : DebugFault) → Stands old → RefusesStep old new fault → Stands new
-of_no_step old new ClockLimit at is = same_state old new is.1 at
-of_no_step old new BadCommand at is = absurd is
-of_no_step old new TooManyStops at is = absurd is
-of_no_step old new (Memory None) at is = absurd is
-of_no_step old new (Memory (Some clock)) at is = same_first old new is.2 (stands_early old.first _ old.board new.board at is.0.early)
-of_no_step old new BeforeStart at is = absurd is
+of_run : (first : Shown) (sought : List Condition) (n : ℕ) (old new : SessionState) (stopped : Option StopType) → StandsFrom first old → Runs sought n old.board new.board stopped → new.first ≡ old.first → StandsFrom first new
+of_run first sought n old new stopped at runs is = same_first first old new at is (stands_later old.first (run_length n old.board.plain stopped) old.board new.board (own first old at) runs.ran)
 
-of_step : (old new : SessionState) (result : Result Answer DebugFault) → Stands old → Answers commands.Step old result new → Stands new
-of_step old new (Ok answer) at is = of_run (conditions.Free ∷ []) _ old new is.stopped at is.runs is.first
-of_step old new (Err fault) at is = of_no_step old new fault at is
+of_go : (first : Shown) (n : ℕ) (old new : SessionState) (result : Result Answer DebugFault) → StandsFrom first old → Answers (commands.Go n) old result new → StandsFrom first new
+of_go first n old new (Ok answer) at is = of_run first old.stops n old new is.stopped at is.runs is.first
+of_go first n old new (Err fault) at is = same_first first old new at is.2 (stands_refused old.first old.stops n old.board new.board fault (own first old at) is.0)
 
-of_no_back : (n : ℕ) (old new : SessionState) (fault : DebugFault) → Stands old → RefusesBack n old new fault → Stands new
-of_no_back n old new ClockLimit at is = absurd is
-of_no_back n old new BadCommand at is = absurd is
-of_no_back n old new TooManyStops at is = absurd is
-of_no_back n old new (Memory None) at is = same_state old new is.1 at
-of_no_back n old new (Memory (Some clock)) at is = absurd is
-of_no_back n old new BeforeStart at is = same_state old new is.1 at
+of_no_step : (first : Shown) (old new : SessionState) (fault : DebugFault) → StandsFrom first old → RefusesStep old new fault → StandsFrom first new
+of_no_step first old new ClockLimit at is = same_state first old new at is.1
+of_no_step first old new BadCommand at is = absurd is
+of_no_step first old new TooManyStops at is = absurd is
+of_no_step first old new (Memory None) at is = absurd is
+of_no_step first old new (Memory (Some clock)) at is = same_first first old new at is.2 (stands_early old.first _ old.board new.board (own first old at) is.0.early)
+of_no_step first old new BeforeStart at is = absurd is
 
-of_back : (n : ℕ) (old new : SessionState) (result : Result Answer DebugFault) → Stands old → Answers (commands.Back n) old result new → Stands new
-of_back n old new (Ok answer) at is = same_first old new is.first (_, is.stands)
-of_back n old new (Err fault) at is = of_no_back n old new fault at is
+of_step : (first : Shown) (old new : SessionState) (result : Result Answer DebugFault) → StandsFrom first old → Answers commands.Step old result new → StandsFrom first new
+of_step first old new (Ok answer) at is = of_run first (conditions.Free ∷ []) _ old new is.stopped at is.runs is.first
+of_step first old new (Err fault) at is = of_no_step first old new fault at is
 
-of_no_back_to : (sought : List Condition) (old new : SessionState) (fault : DebugFault) → Stands old → RefusesBackTo sought old new fault → Stands new
-of_no_back_to sought old new ClockLimit at is = absurd is
-of_no_back_to sought old new BadCommand at is = absurd is
-of_no_back_to sought old new TooManyStops at is = absurd is
-of_no_back_to sought old new (Memory None) at is = same_state old new is.1 at
-of_no_back_to sought old new (Memory (Some clock)) at is = absurd is
-of_no_back_to sought old new BeforeStart at is = same_state old new is.1 at
+of_no_back : (first : Shown) (n : ℕ) (old new : SessionState) (fault : DebugFault) → StandsFrom first old → RefusesBack n old new fault → StandsFrom first new
+of_no_back first n old new ClockLimit at is = absurd is
+of_no_back first n old new BadCommand at is = absurd is
+of_no_back first n old new TooManyStops at is = absurd is
+of_no_back first n old new (Memory None) at is = same_state first old new at is.1
+of_no_back first n old new (Memory (Some clock)) at is = absurd is
+of_no_back first n old new BeforeStart at is = same_state first old new at is.1
 
-of_back_to : (sought : List Condition) (tell : ℕ → ℕ → Answer) (old new : SessionState) (answer : Answer) → GoesBackTo sought tell old new answer → Stands new
-of_back_to sought tell old new answer is = same_first old new is.first (is.last.passed, is.stands)
+of_back : (first : Shown) (n : ℕ) (old new : SessionState) (result : Result Answer DebugFault) → StandsFrom first old → Answers (commands.Back n) old result new → StandsFrom first new
+of_back first n old new (Ok answer) at is = same_first first old new at is.first (_, is.stands)
+of_back first n old new (Err fault) at is = of_no_back first n old new fault at is
 
-of_back_step : (old new : SessionState) (result : Result Answer DebugFault) → Stands old → Answers commands.BackStep old result new → Stands new
-of_back_step old new (Ok answer) at is = of_back_to (conditions.Free ∷ []) tell_clock old new answer is
-of_back_step old new (Err fault) at is = of_no_back_to (conditions.Free ∷ []) old new fault at is
+of_no_back_to : (first : Shown) (sought : List Condition) (old new : SessionState) (fault : DebugFault) → StandsFrom first old → RefusesBackTo sought old new fault → StandsFrom first new
+of_no_back_to first sought old new ClockLimit at is = absurd is
+of_no_back_to first sought old new BadCommand at is = absurd is
+of_no_back_to first sought old new TooManyStops at is = absurd is
+of_no_back_to first sought old new (Memory None) at is = same_state first old new at is.1
+of_no_back_to first sought old new (Memory (Some clock)) at is = absurd is
+of_no_back_to first sought old new BeforeStart at is = same_state first old new at is.1
 
-of_back_stop : (old new : SessionState) (result : Result Answer DebugFault) → Stands old → Answers commands.BackStop old result new → Stands new
-of_back_stop old new (Ok answer) at is = of_back_to old.stops StopAt old new answer is
-of_back_stop old new (Err fault) at is = of_no_back_to old.stops old new fault at is
+of_back_to : (first : Shown) (sought : List Condition) (tell : ℕ → ℕ → Answer) (old new : SessionState) (answer : Answer) → StandsFrom first old → GoesBackTo sought tell old new answer → StandsFrom first new
+of_back_to first sought tell old new answer at is = same_first first old new at is.first (is.last.passed, is.stands)
 
-still_stands : (command : Command) (old new : SessionState) (result : Result Answer DebugFault) → Stands old → Answers command old result new → Stands new
-still_stands (commands.Break cs ip) old new result at is = of_stop (conditions.At cs ip) old new result at is
-still_stands (commands.Byte address byte) old new result at is = of_stop (conditions.Byte address byte) old new result at is
-still_stands commands.Sound old new result at is = of_stop conditions.Sound old new result at is
-still_stands commands.Halted old new result at is = of_stop conditions.Halted old new result at is
-still_stands (commands.Go n) old new result at is = of_go n old new result at is
-still_stands commands.Step old new result at is = of_step old new result at is
-still_stands commands.Regs old new result at is = same_state old new is.1 at
-still_stands commands.Screen old new result at is = same_state old new is.1 at
-still_stands (commands.Dump first count) old new result at is = same_state old new is.1 at
-still_stands commands.Trail old new result at is = same_state old new is.1 at
-still_stands (commands.Back n) old new result at is = of_back n old new result at is
-still_stands commands.BackStep old new result at is = of_back_step old new result at is
-still_stands commands.BackStop old new result at is = of_back_stop old new result at is
+of_back_step : (first : Shown) (old new : SessionState) (result : Result Answer DebugFault) → StandsFrom first old → Answers commands.BackStep old result new → StandsFrom first new
+of_back_step first old new (Ok answer) at is = of_back_to first (conditions.Free ∷ []) tell_clock old new answer at is
+of_back_step first old new (Err fault) at is = of_no_back_to first (conditions.Free ∷ []) old new fault at is
 
-stands_through : (commands : List Command) (old new : SessionState) → Stands old → Walk commands old new → Stands new
-stands_through [] old new at walk = same_state old new walk at
-stands_through (command ∷ rest) old new at walk = stands_through rest walk.next new (still_stands command old walk.next walk.result at walk.answers) walk.behind
+of_back_stop : (first : Shown) (old new : SessionState) (result : Result Answer DebugFault) → StandsFrom first old → Answers commands.BackStop old result new → StandsFrom first new
+of_back_stop first old new (Ok answer) at is = of_back_to first old.stops StopAt old new answer at is
+of_back_stop first old new (Err fault) at is = of_no_back_to first old.stops old new fault at is
+
+still_stands : (first : Shown) (command : Command) (old new : SessionState) (result : Result Answer DebugFault) → StandsFrom first old → Answers command old result new → StandsFrom first new
+still_stands first (commands.Break cs ip) old new result at is = of_stop first (conditions.At cs ip) old new result at is
+still_stands first (commands.Byte address byte) old new result at is = of_stop first (conditions.Byte address byte) old new result at is
+still_stands first commands.Sound old new result at is = of_stop first conditions.Sound old new result at is
+still_stands first commands.Halted old new result at is = of_stop first conditions.Halted old new result at is
+still_stands first (commands.Go n) old new result at is = of_go first n old new result at is
+still_stands first commands.Step old new result at is = of_step first old new result at is
+still_stands first commands.Regs old new result at is = same_state first old new at is.1
+still_stands first commands.Screen old new result at is = same_state first old new at is.1
+still_stands first (commands.Dump place count) old new result at is = same_state first old new at is.1
+still_stands first commands.Trail old new result at is = same_state first old new at is.1
+still_stands first (commands.Back n) old new result at is = of_back first n old new result at is
+still_stands first commands.BackStep old new result at is = of_back_step first old new result at is
+still_stands first commands.BackStop old new result at is = of_back_stop first old new result at is
+
+stands_through : (first : Shown) (commands : List Command) (old new : SessionState) → StandsFrom first old → Walk commands old new → StandsFrom first new
+stands_through first [] old new at walk = same_state first old new at walk
+stands_through first (command ∷ rest) old new at walk = stands_through first rest walk.next new (still_stands first command old walk.next walk.result at walk.answers) walk.behind
 
 pub sessions_stand : SessionsStand
-sessions_stand commands board new few walk = stands_through commands (session_about board) new (stands_none (shown_of board) board refl few) walk
+sessions_stand commands board new few walk = (stands_through (shown_of board) commands (session_about board) new (refl, stands_none (shown_of board) board refl few) walk).1

@@ -8,7 +8,7 @@ use Rattle.board.specs.Stops.{HasAddress}
 use Rattle.board.specs.Plain.{clock_of}
 use Rattle.debugger.specs.declared.fault.DebugFault.{DebugFault}
 use Rattle.debugger.specs.declared.fault.DebugFault.TheVariants.{ClockLimit, BadCommand, TooManyStops, Memory, BeforeStart}
-use Rattle.debugger.specs.Stands.{SessionState, Shown, shown_of, StandsAfter, StandsAt, gone}
+use Rattle.debugger.specs.Stands.{SessionState, shown_of, StandsAfter, StandsAt, gone}
 
 -- the boards that are kept afterwards were kept before, or are copies of this one
 abbrev pub AreKept : List BoardState → BoardState → List BoardState → Type 0

@@ -12,7 +12,7 @@ use Rattle.debugger.specs.Commands.{command_of}
 use Rattle.debugger.specs.Dump.{address_text}
 use Rattle.debugger.specs.Session.{Answers}
 use Rattle.debugger.specs.Spellings.{HasWords, Says}
-use Rattle.debugger.specs.Stands.{SessionState, Stands, session_about}
+use Rattle.debugger.specs.Stands.{SessionState, StandsAfter, session_about, shown_of}
 use Rattle.debugger.specs.Words.{words_of}
 
 -- a line for each command: `break F000:0013`, `byte B0000 41`, `go 100`, `dump B0000 4`, and so on
@@ -68,8 +68,8 @@ abbrev pub Walk : List Command → SessionState → SessionState → Type 0
 Walk [] old new = new ≡ old
 Walk (command ∷ commands) old new = AnsweredThen command (λ next. Walk commands next new) old
 
--- after any commands, forth and back, a session stands some clocks after the board with which it began
+-- after any commands, forth and back, answered or refused, a session stands some clocks after the board with which it began
 abbrev pub SessionsStand : Type 0
 SessionsStand =
     (commands : List Command) (board : BoardState) (new : SessionState) → length board.trail ≤ 32
-    → Walk commands (session_about board) new → Stands new
+    → Walk commands (session_about board) new → StandsAfter (shown_of board) new.board

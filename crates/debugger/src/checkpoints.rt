@@ -17,6 +17,9 @@ const MOST: usize = 8;
 /// The turns of the board after which a further copy is kept.
 const FAR: u64 = 1 << 22;
 
+/// The most changes of the speaker's level in a board that is kept: each copy lists them all anew.
+const MOST_CHANGES: usize = 1 << 20;
+
 /// Copies of a board, by their clocks, listed in memory of the allocator `A`.
 #[derive(Drop)]
 pub(crate) struct Checkpoints<A: Allocator> {
@@ -62,14 +65,14 @@ impl<A: Allocator> Checkpoints<A> {
         Some(&self.kept[place - 1])
     }
 
-    /// Keeps a copy of the board where the latest one is far away in turns, and there is memory for it; `first` is the clock
-    /// of the board with which the session began.
+    /// Keeps a copy of the board where the latest one is far away in turns, the speaker's changes aren't too many, and there is
+    /// memory for it; `first` is the clock of the board with which the session began.
     pub(crate) fn keep(&mut self, first: Clock, board: &Board)
         ensures { AreKept self.old board.now self.new }
     {
         let now = board.clock().get();
         let place = place_after(&self.kept, now);
-        if !is_far(&self.kept, place, board) {
+        if !is_worth_keeping(&self.kept, place, board) {
             return;
         }
         if self.kept.try_reserve(1).is_err() {
@@ -111,10 +114,14 @@ fn place_after(kept: &[Board], clock: u64) -> usize
     kept.len()
 }
 
-/// Whether the last of the boards before this place is far from this one in turns, or there is none.
-fn is_far(kept: &[Board], place: usize, board: &Board) -> bool
+/// Whether a copy of a board is worth its memory: it has no long list to copy, and the last of the boards before its place
+/// is far from it in turns, or there is none.
+fn is_worth_keeping(kept: &[Board], place: usize, board: &Board) -> bool
     requires { place ≤ length kept.now }
 {
+    if board.speaker_changes().len() > MOST_CHANGES {
+        return false;
+    }
     if place == 0 {
         return true;
     }

@@ -87,6 +87,12 @@ impl<A: Allocator> Session<A> {
         self.checkpoints.len()
     }
 
+    /// The board as it stands.
+    #[cfg(test)]
+    pub(crate) fn board(&self) -> &Board {
+        &self.board
+    }
+
     /// Does what the line commands, and answers. A line that is no command is refused as `BadCommand`, a seventeenth
     /// stop as `TooManyStops`, a run past clock 2^40, or a step at it, as `ClockLimit`, a way back to a clock that there
     /// isn't since the session's first one as `BeforeStart`, and what finds no memory as `Memory`. A refusal changes nothing,
@@ -100,6 +106,7 @@ impl<A: Allocator> Session<A> {
             None => Err(DebugFault::BadCommand),
             Some(command) => self.answer(alloc, command),
         };
+        // whatever the answer is, the board stands some clocks after the first one
         let _clock = self.clock();
         answer
     }

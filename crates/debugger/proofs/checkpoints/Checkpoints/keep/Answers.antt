@@ -1,5 +1,4 @@
-use Rattle.std.proofs.Common.{◌≡◌, ◌∙◌}
-use Rattle.debugger.specs.Kept.{AreKept}
+use Rattle.std.proofs.Common.{◌∙◌}
 use Rattle.debugger.proofs.Keeping.{kept_less, kept_more}
 use Rattle.debugger.proofs.checkpoints.Checkpoints.keep.Goals as goal
 

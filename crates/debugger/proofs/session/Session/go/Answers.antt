@@ -1,6 +1,5 @@
-use Rattle.std.proofs.Common.{◌≡◌, ℕ, ◌-◌, ◌≤◌, Option, None, Some, refl, ap, subst, arith}
+use Rattle.std.proofs.Common.{ℕ, ◌≤◌, None, Some, refl, ap, subst, arith}
 use Rattle.std.proofs.lemmas.Result.{err_from_is_err_and}
-use Rattle.board.specs.declared.stop.Stop.{Stop}
 use Rattle.debugger.specs.declared.answer.Answer.TheVariants.{Clock}
 use Rattle.debugger.specs.Session.{Runs}
 use Rattle.debugger.proofs.Pieces.{OnePiece, Went, goes_to_end, goes_to_stop, refuses_go, went_none, went_on}

@@ -1,4 +1,4 @@
-use Rattle.std.proofs.Common.{◌≡◌, ℕ, ◌+◌, ◌-◌, Option, None, Some, sym, ◌∙◌, subst, arith}
+use Rattle.std.proofs.Common.{◌≡◌, ℕ, ◌+◌, ◌-◌, subst, arith}
 use Rattle.board.specs.Lasts.{HeldLast, IsLastOf, NoneHeld}
 use Rattle.board.specs.Plain.{clock_of}
 use Rattle.debugger.specs.Stands.{gone}
