@@ -1,6 +1,8 @@
-//! A session that goes back, with memory for the copies of its board and without.
+//! Sessions that go back, with memory for copies of their board and without.
 use crate::session::Session;
 use board::board::{Board, Config};
+use board_types::choice::{ClockTable, TimerKind};
+use board_types::clock::Clock;
 use board_types::image::{Image, is_loadable};
 use board_types::keys::Keys;
 use linked_list_allocator::LocalHeap;
@@ -16,6 +18,9 @@ const TONE: [u8; 19] = [
     0xB0, 0x94, 0xE6, 0x43, 0xB0, 0x02, 0xE6, 0x42, 0xB0, 0x99, 0xE6, 0x63, 0xB0, 0x03, 0xE6, 0x61,
     0xF6, 0xE3, 0xF4,
 ];
+
+/// The clocks at which twenty keys each are struck. No program takes them, so the keyboard loses those that are too many.
+const STRUCK: [u64; 2] = [80, 200];
 
 const FORTH: [(&str, &str); 3] = [
     ("go 70", "clock 70\n"),
@@ -36,8 +41,9 @@ const BACK: [(&str, &str); 7] = [
 #[test]
 fn goes_back_by_copies_of_its_board(rt: HostRuntime) -> Result<(), Fail> {
     let mut session = Session::new(rt.alloc(), tone(&rt, rt.alloc())?)?;
-    assert_replies(&rt, rt.alloc(), &mut session, &FORTH)?;
+    assert_replies(&rt, rt.alloc(), &mut session, &FORTH[..1])?;
     assert!(rt; session.checkpoints() >= 1);
+    assert_replies(&rt, rt.alloc(), &mut session, &FORTH[1..])?;
     assert_replies(&rt, rt.alloc(), &mut session, &BACK)
 }
 
@@ -48,6 +54,37 @@ fn goes_back_without_memory_for_a_copy(rt: HostRuntime) -> Result<(), Fail> {
     assert_replies(&rt, rt.alloc(), &mut session, &FORTH)?;
     assert_eq!(rt; session.checkpoints(), 0);
     assert_replies(&rt, rt.alloc(), &mut session, &BACK)
+}
+
+/// No command tells the keys that were lost and the speaker's changes.
+#[test]
+fn shows_the_board_of_the_earlier_clock(rt: HostRuntime) -> Result<(), Fail> {
+    let mut session = Session::new(rt.alloc(), tone(&rt, rt.alloc())?)?;
+    let mut board = tone(&rt, rt.alloc())?;
+    assert_replies(&rt, rt.alloc(), &mut session, &[("go 100", "clock 100\n")])?;
+    assert_replies(&rt, rt.alloc(), &mut session, &[("go 200", "clock 300\n")])?;
+    let later = session.board().lost();
+    // from the first board, and from the copy at clock 100
+    assert_replies(&rt, rt.alloc(), &mut session, &[("back 210", "clock 90\n")])?;
+    board.run(90)?;
+    assert_shows(&rt, session.board(), &board);
+    assert_replies(&rt, rt.alloc(), &mut session, &[("go 210", "clock 300\n")])?;
+    assert_replies(
+        &rt,
+        rt.alloc(),
+        &mut session,
+        &[("back 150", "clock 150\n")],
+    )?;
+    board.run(60)?;
+    assert_shows(&rt, session.board(), &board);
+    assert!(rt; 0 < board.lost() && board.lost() < later);
+    Ok(())
+}
+
+fn assert_shows(rt: &impl Abort, board: &Board, wanted: &Board) {
+    assert_eq!(rt; board.clock(), wanted.clock());
+    assert_eq!(rt; board.lost(), wanted.lost());
+    assert!(rt; board.speaker_changes() == wanted.speaker_changes());
 }
 
 /// Whether a session answers these commands so; a refusal is told by its name.
@@ -73,12 +110,15 @@ fn tone(rt: &impl Abort, alloc: Global) -> Result<Board, Fail> {
     let mut image = Image::new(alloc);
     put_all(rt, &mut image, 0xF_FFF0, &JUMP)?;
     put_all(rt, &mut image, 0xF_0000, &TONE)?;
+    let keys = struck(rt, alloc)?;
     let config = Config {
         ram_kb: 64,
         sw1: 0,
         sw2: 0,
+        timer: TimerKind::I8253,
+        clocks: ClockTable::C1,
     };
-    let board = Board::new(alloc, &image, config, Keys::new(alloc))?;
+    let board = Board::new(alloc, &image, config, keys)?;
     Ok(board)
 }
 
@@ -90,4 +130,17 @@ fn put_all(rt: &impl Abort, image: &mut Image, start: u32, bytes: &[u8]) -> Resu
         addr += 1;
     }
     Ok(())
+}
+
+fn struck(rt: &impl Abort, alloc: Global) -> Result<Keys, Fail> {
+    let mut keys = Keys::new(alloc);
+    for clock in STRUCK {
+        let Some(stamp) = Clock::new(clock) else {
+            continue;
+        };
+        for _ in 0..20 {
+            keys.push(stamp, 0x1E)?;
+        }
+    }
+    Ok(keys)
 }
