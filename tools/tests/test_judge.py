@@ -1,8 +1,26 @@
 """tools/judge, over stored reports and the built program."""
 import re
+import signal
+import subprocess
+import sys
+import time
 import unittest
 
-from tests.support import STORED, ToolCase, example
+from tests.support import STORED, TOOLS, ToolCase, example
+
+TYPED = """# A program that prints HELLO isn't enough.
+run = small letters
+plain keys = hello
+budget = 50,000
+shows = HELLO
+not shown = WORLD
+lost = 0
+
+run = others
+plain keys = zebra
+shows = ZEBRA
+never runs = nothing
+"""
 
 
 class Reports(ToolCase):
@@ -27,7 +45,9 @@ class Reports(ToolCase):
         self.assertEqual(self.judge(page, 'tone', 0)[-1], '5 met, 0 not')
 
     def test_pages_that_are_none(self) -> None:
-        for page, wanted in (('AX 5\n', 'no expectation'), ('', 'no expectations'), ('line 26 = x\n', '1 to 25'), ('AX = zz\n', 'hexadecimal'),
+        for page, wanted in (('AX 5\n', 'no expectation'), ('', 'no expectations'), ('line 26 = x\n', '1 to 25'), ('AX = zz\n', 'hexadecimal'), ('state = haltd\n', 'none of running'), ('runs = 5 6\n', 'is no label'), ('halted before = soon\n', 'decimal'),
+                             ('memory x = 5,6\n', 'hexadecimal byte'), ('run = a\nlost = 0\nrun = b\n', 'of the run b'), ('lost = 0\nram = 64\n', 'run = ITS NAME'),
+                             ('keys = {nokey}\nlost = 0\n', 'page, line 1'), ('ram = x\nlost = 0\n', 'x is no number'), ('not shown =\n', 'no expectation'),
                              ('lost = x\n', 'decimal'), ('speaker at 5 = 2\n', '0 and 1'), ('memory 0 = 1\n', 'has no memory')):
             told = self.tool('judge', self.file('page', page), f'{STORED}/hello.report', status=2)[1]
             self.assertIn(wanted, told)
@@ -72,8 +92,71 @@ class Runs(ToolCase):
         source, run = example('monitor')
         page = self.file('page', 'lost = 0\n')
         self.tool('judge', '--hex', page, source.replace('.asm', '.hex'), run)
-        self.assertIn('fault 21', self.tool('judge', '--hex', page, source, run, status=2)[1])
+        self.assertIn('no  lost = 0: refused: fault 21', self.tool('judge', '--hex', page, source, run, status=1)[0])
         self.assertIn('--same', self.tool('judge', '--help')[0])
+
+    def lines(self, page: str, *words: str, status: int = 0) -> list[str]:
+        """The lines of a page's judgement."""
+        return self.tool('judge', self.file('page', page), *words, status=status)[0].splitlines()
+
+    def test_what_ran_and_when(self) -> None:
+        page = 'runs = start\nruns = digit+3\nnever runs = nowhere\nruns = nowhere\nhalted before = 20000\nclocks used = 1 to 99,999\nclocks used = 5\nhalted before = 5\nruns = :2\nnever runs = start\n'
+        told = self.lines(page, *example('fibonacci'), status=1)
+        self.assertEqual([it[:2] for it in told[:-1]], ['ok', 'ok', 'no', 'no', 'ok', 'ok', 'no', 'no', 'ok', 'no'], told)
+        self.assertIn('came no nowhere in', told[2])
+        self.assertRegex(told[6], r'clocks used = 5: came \d+$')
+
+    def test_behind_a_halt_nothing_runs_by_itself(self) -> None:
+        files = self.program(' STI\n HLT\nbehind: NOP\n HLT', 5000)
+        self.assertEqual(self.lines('never runs = behind\nruns = start\n', *files)[-1], '2 met, 0 not')
+        self.assertEqual(self.lines('runs = idle+1\nruns = tick\n', *example('ticks'))[-1], '2 met, 0 not')
+        self.assertEqual(self.lines('halted before = 1000\n', *self.program('over: JMP over'), status=1)[0], 'no  halted before = 1000: came no halt up to clock 1000')
+
+    def test_several_runs(self) -> None:
+        source, _ = example('keys')
+        told = self.lines(TYPED.replace('never runs = nothing\n', ''), source)
+        self.assertEqual(told[0], 'ok  small letters: shows = HELLO')
+        self.assertEqual(told[-1], '4 met, 0 not')
+        constant = self.program(" MOV AX,0B000h\n MOV DS,AX\n MOV WORD [0],0748h\n MOV WORD [2],0745h\n MOV DX,3B8h\n MOV AL,8\n OUT DX,AL\n HLT")[0]
+        told = self.lines('run = a\nkeys = h\nshows = HE\nrun = b\nkeys = z\nshows = ZE\n', constant, status=1)
+        self.assertEqual([it[:2] for it in told], ['ok', 'no', '1 '])
+
+    def test_fields(self) -> None:
+        source, run = self.program(' PUSH AX\n HLT')
+        self.assertEqual(self.lines('ram = 16\nbudget = 90\nmemory fffe = ff ff\nclock = 90\n', source, run)[-1], '2 met, 0 not')
+        self.assertEqual(self.lines('clock = 100000\n', '--run', run, source, status=1)[-1], '0 met, 1 not')
+        self.assertIn('refused: fault 36', self.lines('ram = 40\nclock = 90\n', source, status=1)[0])
+
+    def test_a_class(self) -> None:
+        good, _ = example('keys')
+        bad = self.file('bad.asm', 'SEGMENT A AT 0\n FROB\tX\n')
+        endless = self.file('endless.asm', 'SEGMENT A AT 0FFFFh\nnothing: JMP nothing\n')
+        page = self.file('page', TYPED.replace('50,000', '1,099,511,627,776'))
+        begun = time.monotonic()
+        out, _ = self.tool('judge', '--class', page, bad, good, 'nothing.asm', endless, '--seconds', '2', status=1)
+        self.assertLess(time.monotonic() - begun, 12)
+        rows = [it.split('\t') for it in out.splitlines()]
+        self.assertEqual({len(it) for it in rows}, {8})
+        self.assertEqual([it[0] for it in rows], ['file', bad, good, 'nothing.asm', endless])
+        self.assertEqual(rows[0][2:5], ['small letters: shows = HELLO', 'small letters: not shown = WORLD', 'small letters: lost = 0'])
+        self.assertEqual(rows[1][1:3], ['0', 'no: refused: fault 4 UnknownName line 2'])
+        self.assertEqual((rows[2][1], rows[2][2:7]), ('4', ['ok', 'ok', 'ok', 'ok', f'no: came no nothing in {good}']))
+        self.assertIn("can't be read", rows[3][7])
+        self.assertEqual(rows[4][7], 'took more than 2 s, and was ended')
+        self.assertIn('no expectation', self.tool('judge', '--class', self.file('page', 'AX 5\n'), good, status=2)[1])
+        page = self.file('page', 'plain keys = hello\nshows = HELLO\n')
+        self.assertEqual(self.tool('judge', '--class', page, good, good)[0].splitlines()[2], f'{good}\t1\tok\t')
+
+    def test_an_interrupt_leaves_no_traceback(self) -> None:
+        endless = self.file('endless.asm', 'SEGMENT A AT 0FFFFh\nnothing: JMP nothing\n')
+        page = self.file('page', 'budget = 1,099,511,627,776\nlost = 0\n')
+        for words in (['--class'], []):
+            with subprocess.Popen([sys.executable, '-S', f'{TOOLS}/judge', *words, page, endless], stdout=subprocess.PIPE, stderr=subprocess.PIPE,
+                                  text=True, start_new_session=True) as process:
+                time.sleep(0.7)
+                process.send_signal(signal.SIGINT)
+                _, err = process.communicate(timeout=10)
+                self.assertEqual((process.returncode, err), (130, ''))
 
 
 if __name__ == '__main__':

@@ -75,6 +75,7 @@ class Pages(ToolCase):
         self.file('solution.asm', model.replace('MOV DI,0 ', 'XOR DI,DI'))
         self.file('rom0.hex', ':01000000906F\n:00000001FF\n')
         self.file('fibonacci.page', 'shows = 1 1 2 3 5 8 13 21\nstate = halted\nSP = 0\n')
+        self.file('echo.page', 'run = small letters\nplain keys = hello\nshows = HELLO\nrun = others\nplain keys = zebra\nshows = ZEBRA\n')
         for name in ('model', 'solution'):
             self.file(f'{name}.txt', self.pcboard('run', f'{self.room}/{name}.asm', f'{self.room}/run.json').stdout)
 

@@ -1,0 +1,293 @@
+"""Pages of expectations: what a page may say, and how a run is held against it."""
+from __future__ import annotations
+
+import re
+from dataclasses import dataclass, field
+from typing import Any, Callable
+
+from board.command import Sorry, read_text
+from board.events import events
+from board.listing import Listing, listing_of
+from board.places import address_of, far_of, number_of
+from board.program import LAST_CLOCK, Files, Session
+from board.report import REGISTERS, ROWS, Report
+from board.scancodes import stamped, strokes_of
+
+FLAGS = {'CF': 0, 'PF': 2, 'AF': 4, 'ZF': 6, 'SF': 7, 'TF': 8, 'IF': 9, 'DF': 10, 'OF': 11}
+HALVES = [it + half for it in 'ABCD' for half in 'LH']
+
+
+class NotThere(Exception):
+    """The source hasn't what an expectation speaks of, so it isn't met; its text says what."""
+
+
+@dataclass
+class Subject:
+    """What is judged: a report, and where it was run here, its files, whose memory a session can tell."""
+    report: Report
+    files: Files | None = None
+    session: Session | None = None
+    listing: Listing | None = None
+
+    def memory(self, place: str, count: int) -> bytes:
+        """Bytes of memory at the report's clock."""
+        address, files = self.place(address_of, place), self.ran()
+        if self.session is None:
+            self.session = Session(files)
+            self.session.go_to(self.report.clock)
+        return self.session.dump(address, count)
+
+    def ran(self) -> Files:
+        """The files that were run here."""
+        if self.files is None:
+            raise Sorry('a report has no memory, and its run is over: give FILE and RUN in its place')
+        return self.files
+
+    def place(self, of: Callable[[Listing, str], Any], text: str) -> Any:
+        """What a place of the source is."""
+        if self.listing is None:
+            self.listing = listing_of(self.ran())
+        try:
+            return of(self.listing, text)
+        except Sorry:
+            raise NotThere(f'no {text} in {self.ran().file}') from None
+
+    def first_halt(self) -> int | None:
+        """The first clock at which the processor is halted, or None."""
+        with Session(self.ran()) as session:
+            session.stop('halted')
+            return session.clock if session.go(self.report.clock).startswith('stop') else None
+
+
+@dataclass(frozen=True)
+class Outcome:
+    """An expectation, and what came in its place, if it wasn't met."""
+    said: str
+    but: str | None
+
+
+def plain(text: str) -> str:
+    """A text as it was meant: without the quotes around it, else without the blanks at its ends."""
+    text = text.strip()
+    return text[1:-1].rstrip() if len(text) > 1 and text[0] == text[-1] == "'" else text
+
+
+def number(report: Report, name: str) -> int:
+    """A register, a half of one, or a flag."""
+    if name in FLAGS:
+        return report.registers['FL'] >> FLAGS[name] & 1
+    if name in HALVES:
+        return report.registers[name[0] + 'X'] >> (8 if name[1] == 'H' else 0) & 0xFF
+    return report.registers[name]
+
+
+def shown_number(report: Report, name: str) -> str:
+    """It as text, in as many digits as it has."""
+    return f'{number(report, name):0{1 if name in FLAGS else 2 if name in HALVES else 4}X}'
+
+
+def judge_number(subject: Subject, name: str, wanted: str) -> str | None:
+    """A register or flag."""
+    return None if number(subject.report, name) == number_of(wanted, 0xFFFF) else shown_number(subject.report, name)
+
+
+def judge_line(subject: Subject, name: str, wanted: str) -> str | None:
+    """A line of the screen."""
+    at = int(name.split()[1])
+    if not 1 <= at <= ROWS:
+        raise Sorry(f'the screen has the lines 1 to {ROWS}')
+    came = subject.report.screen[at - 1].rstrip()
+    return None if came == plain(wanted) or came.strip() == wanted.strip() else repr(came)
+
+
+def judge_shows(subject: Subject, _: str, wanted: str) -> str | None:
+    """A text anywhere on the screen."""
+    if any(plain(wanted) in it for it in subject.report.screen):
+        return None
+    filled = [it.rstrip() for it in subject.report.screen if it.strip()]
+    return f'a screen with {len(filled)} lines, the first {filled[0]!r}' if filled else 'a blank screen'
+
+
+def judge_word(subject: Subject, name: str, wanted: str) -> str | None:
+    """The state, or a decimal count."""
+    report = subject.report
+    came = {'state': report.state, 'lost': report.lost, 'clock': report.clock, 'sound': len(report.changes)}[name]
+    if name == 'state' and wanted not in ('running', 'halted', 'jammed'):
+        raise Sorry(f'{wanted} is none of running, halted and jammed')
+    if name != 'state' and not wanted.replace(',', '').isdecimal():
+        raise Sorry(f'{wanted} is no decimal number')
+    return None if str(came) == wanted.replace(',', '') else str(came)
+
+
+def judge_speaker(subject: Subject, name: str, wanted: str) -> str | None:
+    """The speaker's level at a clock: that of the last change up to there."""
+    clock = int(name.split()[-1])
+    if wanted not in ('0', '1') or clock > subject.report.clock:
+        raise Sorry(f'{name} = {wanted}: levels are 0 and 1, and clocks go to {subject.report.clock} here')
+    level = next((level for at, level in reversed(subject.report.changes) if at <= clock), 0)
+    return None if str(level) == wanted else str(level)
+
+
+def judge_memory(subject: Subject, name: str, wanted: str) -> str | None:
+    """Bytes of memory, as numbers or as a text."""
+    if wanted.startswith("'") and wanted.endswith("'") and len(wanted) > 2:
+        octets = wanted[1:-1].encode()
+        came = subject.memory(name.split()[1], len(octets))
+        return None if came == octets else repr(came.decode('ascii', 'backslashreplace'))
+    octets = bytes(number_of(it, 0xFF) for it in wanted.split())
+    came = subject.memory(name.split()[1], len(octets))
+    return None if came == octets else came.hex(' ').upper()
+
+
+def judge_not_shown(subject: Subject, _: str, wanted: str) -> str | None:
+    """A text nowhere on the screen."""
+    found = next((n for n, it in enumerate(subject.report.screen, 1) if plain(wanted) in it), None)
+    return f'line {found}, {subject.report.screen[found - 1].rstrip()!r}' if found else None
+
+
+def judge_halt(subject: Subject, name: str, wanted: str) -> str | None:
+    """The clock of the first halt: before one, or from one to another."""
+    least, most = span(wanted) if name == 'clocks used' else (0, span(wanted)[0] - 1)
+    came = subject.first_halt()
+    if came is None:
+        return f'no halt up to clock {subject.report.clock}'
+    return None if least <= came <= most else str(came)
+
+
+def judge_runs(subject: Subject, name: str, wanted: str) -> str | None:
+    """Whether the instruction at a place ever began."""
+    segment, offset = subject.place(far_of, wanted)
+    clock = first_start(subject, segment, offset)
+    if name == 'runs':
+        return None if clock is not None else 'never'
+    return None if clock is None else f'clock {clock}'
+
+
+def first_start(subject: Subject, segment: int, offset: int) -> int | None:
+    """The clock at which the instruction at a place first begins, or None."""
+    end, files = subject.report.clock, subject.ran()
+    with Session(files) as session:
+        session.stop(f'break {segment:X}:{offset:X}')
+        if not session.go(end).startswith('stop') or session.clock >= end:
+            return None
+        clock = session.clock
+        session.one('step')
+        trail = session.many('trail')
+    if trail and trail[-1].startswith(f'{clock} {segment:04X}:{offset:04X} ') and ' entry ' not in trail[-1]:
+        return clock
+    # Free there, but halted, or an interrupt came first: so each instruction behind is looked at.
+    return next((it.clock for it in events(files, clock, end) if (it.segment, it.offset, it.entry) == (segment, offset, None)), None)
+
+
+def span(text: str) -> tuple[int, int]:
+    """A count of clocks, or one from a least to a most."""
+    found = re.fullmatch(r'([\d,]+)(?:\s+to\s+([\d,]+))?', text)
+    if not found:
+        raise Sorry(f'{text} is no decimal number, and no two as in 1000 to 2000')
+    least = int(found[1].replace(',', ''))
+    return least, int((found[2] or found[1]).replace(',', ''))
+
+
+JUDGES: tuple[tuple[str, Callable[[Subject, str, str], 'str | None']], ...] = (
+    (r'line \d+', judge_line), (r'shows|shown', judge_shows), (r'not shown', judge_not_shown), (r'halted before|clocks used', judge_halt),
+    (r'runs|never runs', judge_runs), (r'state|lost|clock|sound', judge_word),
+    (r'speaker at \d+', judge_speaker), (r'memory \S+', judge_memory),
+    ('|'.join((*REGISTERS, *HALVES, *FLAGS)), judge_number))
+FIELDS = {'keys': 'keys', 'plain keys': 'keys', 'ram': 'ram', 'sw1': 'sw1', 'sw2': 'sw2', 'budget': 'budget'}
+# A place that may be a label, or is a number: what else is told of a place is the page's mistake.
+PLACE = r'[A-Za-z_]\w*(\+[0-9A-Fa-f]+)?|:\d+|[0-9A-Fa-f]{1,4}:[0-9A-Fa-f]{1,4}|[0-9A-Fa-f]{1,5}h?'
+ANY = Report(LAST_CLOCK, dict.fromkeys(REGISTERS, 0), '', 0, [], [' ' * 80] * ROWS)
+
+
+@dataclass(frozen=True)
+class Expectation:
+    """A line of a page."""
+    name: str
+    wanted: str
+    judge: Callable[[Subject, str, str], 'str | None']
+    where: str
+
+    def outcome(self, subject: Subject | str, title: str = '') -> Outcome:
+        """What a run came to, or a refusal in its place."""
+        said = f'{title}{title and ": "}{self.name} = {self.wanted}'
+        if isinstance(subject, str):
+            return Outcome(said, subject)
+        as_said = self.name.upper() if self.judge is judge_number else self.name.lower() if self.judge is not judge_memory else self.name
+        try:
+            came = self.judge(subject, as_said, self.wanted)
+        except NotThere as sorry:
+            came = str(sorry)
+        except Sorry as sorry:
+            raise Sorry(f'{self.where}: {sorry}') from None
+        return Outcome(said, None if came is None else f'came {came}')
+
+
+@dataclass
+class Planned:
+    """A run that a page asks for: its name, its run file's fields, and what is expected of it."""
+    title: str = ''
+    fields: dict[str, Any] = field(default_factory=dict)
+    expectations: list[Expectation] = field(default_factory=list)
+
+
+def expectation_of(name: str, wanted: str, where: str, line: str) -> Expectation:
+    """A line of a page that is an expectation, whose words any run could be held against."""
+    judge = next((it for form, it in JUDGES if re.fullmatch(form, name, re.I)), None)
+    if not wanted or judge is None:
+        raise Sorry(f'{where} is no expectation: {line.strip()} (tools/judge --help)')
+    found = Expectation(name, wanted, judge, where)
+    place = name.split()[1] if judge is judge_memory else wanted if judge is judge_runs else None
+    if place and not re.fullmatch(PLACE, place):
+        raise Sorry(f'{where}: {place} is no label, no hexadecimal address, no SEGMENT:OFFSET and no :LINE')
+    if judge is judge_memory and not wanted.startswith("'"):
+        _ = [checked(where, it) for it in wanted.split()]
+    elif judge is judge_halt:
+        try:
+            span(wanted)
+        except Sorry as sorry:
+            raise Sorry(f'{where}: {sorry}') from None
+    elif judge not in (judge_memory, judge_runs):
+        found.outcome(Subject(ANY))
+    return found
+
+
+def checked(where: str, text: str) -> int:
+    """A byte."""
+    try:
+        return number_of(text, 0xFF)
+    except Sorry:
+        raise Sorry(f'{where}: {text} is no hexadecimal byte') from None
+
+
+def field_of(name: str, text: str, where: str) -> Any:
+    """A run file's field as a page says it."""
+    try:
+        if FIELDS[name] == 'keys':
+            return stamped(strokes_of(text, name == 'plain keys'), 2000, 500, 1500)
+        return int(text.replace(',', ''), 0)
+    except (ValueError, Sorry) as error:
+        raise Sorry(f'{where}: {error if isinstance(error, Sorry) else f"{text} is no number"}') from None
+
+
+def page_of(path: str) -> list[Planned]:
+    """A page's runs; one without a line `run` has one."""
+    runs = [Planned()]
+    for number, line in enumerate(read_text(path).splitlines(), 1):
+        where = f'{path}, line {number}'
+        name, _, wanted = (it.strip() for it in line.partition('='))
+        name = ' '.join(name.split())
+        if not line.strip() or line.lstrip().startswith('#'):
+            continue
+        if name.lower() == 'run' and wanted:
+            runs.append(Planned(wanted))
+        elif name.lower() in FIELDS and wanted:
+            if runs[-1].expectations:
+                raise Sorry(f'{where}: {name} stands before what is expected; another run begins with run = ITS NAME')
+            runs[-1].fields[FIELDS[name.lower()]] = field_of(name.lower(), wanted, where)
+        else:
+            runs[-1].expectations.append(expectation_of(name, wanted, where, line))
+    runs = runs if runs[0].fields or runs[0].expectations or len(runs) == 1 else runs[1:]
+    empty = next((it for it in runs if not it.expectations), None)
+    if empty:
+        raise Sorry(f'{path} has no expectations' + (f' of the run {empty.title}' if empty.title else ''))
+    return runs
