@@ -115,7 +115,7 @@ class Runs(ToolCase):
         bad = self.file('bad.json', json.dumps(good | {'timer': '8254', 'clocks': 'C2'}))
         told = self.tool('why', 'run', source, bad, status=1)[1]
         self.assertIn('"version" is missing; "version":2 would do', told)
-        self.assertNotIn('unknown', told.partition('\n')[2])
+        self.assertNotIn('is unknown', told)
 
     def test_tells_the_file(self) -> None:
         source, run = example('hello')
