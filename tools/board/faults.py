@@ -48,6 +48,7 @@ KINDS: dict[int, Kind] = {
     51: Kind('BadCommand', 'debugger', 'no such command, or not with these words'),
     52: Kind('TooManyStops', 'debugger', 'there are sixteen stops already'),
     53: Kind('Memory', 'debugger', MEMORY),
+    54: Kind('BeforeStart', 'debugger', "no such clock since the session's first"),
 }
 
 

@@ -51,6 +51,7 @@ class Words(unittest.TestCase):
     def test_reads_a_fault(self) -> None:
         self.assertEqual(fault_in('x\nfault 3 BadLine line 12\n'), Fault(3, 12))
         self.assertEqual(fault_in('fault 36 RamSize'), Fault(36, None))
+        self.assertEqual(fault_in('stop 1\nfault 54 BeforeStart\n'), Fault(54, None))
         self.assertIsNone(fault_in('fault 3 BadLook line 1'))
         self.assertEqual(KINDS[53].meaning, MEMORY)
 
