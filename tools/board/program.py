@@ -65,8 +65,8 @@ def refusal(status: int, err: str) -> str:
 
 
 class Session:
-    """A session of `pcboard debug`. It answers one command at a time, and never goes back by itself. The terminal's
-    interrupt doesn't reach it, so that a debugger can end a long run and go on."""
+    """A session of `pcboard debug`. It answers one command at a time. The terminal's interrupt doesn't reach it, so that a
+    debugger can end a long run and go on."""
 
     def __init__(self, files: Files) -> None:
         self._process = subprocess.Popen([path(), *files.words('debug')], stdin=subprocess.PIPE, stdout=subprocess.PIPE,
@@ -144,9 +144,9 @@ class Session:
         return self.one(f'go {clocks}')
 
     def go_to(self, clock: int) -> None:
-        """Goes on to this clock, past every stop."""
-        while self.clock < clock:
-            told = self.one(f'go {clock - self.clock}')
+        """Goes to this clock, back or on, past every stop."""
+        while self.clock != clock:
+            told = self.one(f'back {self.clock - clock}' if clock < self.clock else f'go {clock - self.clock}')
             if told.startswith('fault'):
                 raise Sorry(f'the debugger refuses: {told}')
 

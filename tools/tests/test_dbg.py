@@ -1,11 +1,19 @@
 """tools/dbg, over the built program; and what it knows of places."""
+import os
+import pty
+import select
+import subprocess
+import sys
+import time
 import unittest
+from unittest import mock
 
-from tests.support import ToolCase, example
+from tests.support import TOOLS, ToolCase, example
 
 from board.command import Sorry
 from board.listing import Line, Listing, code_of, label_in, line_of
 from board.places import address_of, event_of, far_of, line_at, number_of
+from board.program import path
 
 
 class Places(unittest.TestCase):
@@ -55,6 +63,39 @@ class Sessions(ToolCase):
         told = self.dbg('ticks', 'to 993', 'back', 'to 29', 'step', 'back 2')
         self.assertEqual([it.split(': ')[0] for it in told], ['clock 993', 'clock 932', 'clock 29', 'clock 33', 'clock 19'])
 
+    def test_goes_back_beyond_the_trail(self) -> None:
+        told = self.dbg('fibonacci', 'step 100', 'back 90', 'back 11', 'where', 'back 10', 'back')
+        tenth, = self.dbg('fibonacci', 'step 10')
+        none = 'only {} instructions and interrupts began before this clock'
+        self.assertEqual(told[1:4], [tenth, none.format(10), tenth])
+        self.assertEqual([it.split(': ')[0] for it in told[4:]], ['clock 0', none.format(0)])
+
+    def test_goes_back_to_the_last_stop(self) -> None:
+        told = self.dbg('ticks', 'last', 'break tick', 'last', 'go', 'go', 'go', 'last', 'last', 'last', 'to 600', 'last', 'go')
+        stop, none = 'stop 1 (break F000:002E tick), clock {}', 'no stop held at any earlier clock'
+        wanted = ['there is no stop; break, byte, sound and halted add one', 'stop 1', none]
+        wanted += [*(stop.format(it) for it in (204, 593, 993, 593, 204)), none, 'clock 600', stop.format(593), stop.format(993)]
+        self.assertEqual([it.split(': ')[0] for it in told], wanted)
+
+    def test_the_last_stop_has_its_number_here(self) -> None:
+        """At 593 two hold, of which the least is told."""
+        told = self.dbg('ticks', 'halted', 'byte b0000 31', 'break tick', 'clear 1', 'to 594', 'last', 'clear 2', 'to 594', 'last')
+        self.assertEqual([it.split(': ')[0] for it in told[5:]],
+                         ['clock 594', 'stop 2 (byte B0000 31), clock 593', 'stop 3', 'clock 594', 'stop 3 (break F000:002E tick), clock 593'])
+
+    def test_a_session_goes_back_by_itself(self) -> None:
+        """It is begun anew where a stop is cleared, and for a later clock past stops."""
+        count = self.file('count', '')
+        counted = self.file('pcboard', f'#!/bin/sh\ncase $1 in debug) echo >> {count};; esac\nexec {path()} "$@"\n')
+        os.chmod(counted, 0o755)
+        with mock.patch.dict(os.environ, {'PCBOARD': counted}):
+            for commands, wanted in ((('to 993', 'back', 'to 3', 'back 9'), 1), (('break tick', 'go', 'go', 'last', 'back', 'to 3'), 1),
+                                     (('halted', 'to 993'), 2), (('halted', 'go', 'clear 1', 'clear all'), 2)):
+                self.file('count', '')
+                self.dbg('ticks', *commands)
+                with open(count, encoding='ascii') as file:
+                    self.assertEqual(len(file.readlines()), wanted, commands)
+
     def test_goes_to_the_end(self) -> None:
         told = self.dbg('hello', 'go', 'screen', 'state', 'go')
         self.assertIn('clock 100: F000:0017', told[0])
@@ -103,10 +144,74 @@ class Sessions(ToolCase):
         self.assertIn('fault 3', self.tool('dbg', example('hello')[1], example('hello')[1], status=2)[1])
         self.assertIn('--hex', self.tool('dbg', '--help')[0])
 
+    def test_the_program_stays_what_it_was(self) -> None:
+        files = self.program('        NOP\n        HLT')
+        with subprocess.Popen([sys.executable, '-S', f'{TOOLS}/dbg', *files], stdin=subprocess.PIPE, stdout=subprocess.PIPE, text=True) as dbg:
+            assert dbg.stdin and dbg.stdout
+            print('halted\nto 21', file=dbg.stdin, flush=True)
+            told = [dbg.stdout.readline(), dbg.stdout.readline()]
+            self.file('it.asm', 'not a program')
+            print('to 19\nclear all\nstep', file=dbg.stdin, flush=True)
+            told += dbg.communicate()[0].splitlines()
+        self.assertEqual([it.split(': ')[0].strip() for it in told[1:]], ['clock 21', 'clock 19', 'no stops', 'clock 20'])
+
     def test_seventeen_stops(self) -> None:
         told = self.dbg('hello', *['halted'] * 17, 'clear all', 'halted')
         self.assertIn('fault 52 TooManyStops', told[16])
         self.assertEqual(told[17:], ['no stops', 'stop 17: halted'])
+
+
+class Terminal(ToolCase):
+    """Control-C on a terminal, by which nothing is lost."""
+
+    def setUp(self) -> None:
+        super().setUp()
+        self.pid, self.terminal = pty.fork()
+        if not self.pid:
+            os.execve(sys.executable, [sys.executable, '-S', f'{TOOLS}/dbg', *self.program('again: JMP SHORT again')],
+                      os.environ | {'TERM': 'dumb'})
+        self.shown = ''
+        self.addCleanup(self.leave)
+        self.wait_for('dbg> ')
+
+    def leave(self) -> None:
+        """Ends the debugger."""
+        os.close(self.terminal)
+        os.waitpid(self.pid, 0)
+
+    def wait_for(self, text: str, meanwhile: bytes = b'') -> str:
+        """What is shown before a text; while nothing is, something is typed again and again."""
+        until = time.monotonic() + 60
+        while text not in self.shown and time.monotonic() < until:
+            if select.select([self.terminal], [], [], 0.5)[0]:
+                self.shown += os.read(self.terminal, 4096).decode()
+            elif meanwhile:
+                os.write(self.terminal, meanwhile)
+        self.assertIn(text, self.shown)
+        before, _, self.shown = self.shown.partition(text)
+        return before
+
+    def say(self, command: str) -> str:
+        """What a command shows."""
+        os.write(self.terminal, f'{command}\n'.encode())
+        return self.wait_for('dbg> ').partition('\n')[2].replace('\r', '')
+
+    def test_ends_a_run(self) -> None:
+        self.say('byte b0000 77')
+        before = self.say('to 1000')
+        for command in ('go 1000000000000', 'to 1000000000000', 'step 1000000000'):
+            os.write(self.terminal, f'{command}\n'.encode())
+            self.wait_for('interrupted: the board is at clock 1000, where it was', b'\x03\x03\x03')
+            self.wait_for('dbg> ')
+            self.assertEqual((self.say('where'), self.say('stops')), (before, 'stop 1: byte B0000 77\n'))
+
+    def test_drops_a_line(self) -> None:
+        before = self.say('to 1000')
+        os.write(self.terminal, b'go 100000')
+        self.wait_for('go 100000')
+        os.write(self.terminal, b'\x03')
+        self.wait_for('dbg> ')
+        self.assertEqual(self.say('where'), before)
 
 
 if __name__ == '__main__':
