@@ -10,7 +10,7 @@ from tests.support import EXAMPLES, TOOLS, TOP, ToolCase
 
 PAGES = ('README.md', 'docs/for-archivists.md', 'docs/for-teachers.md', 'docs/for-firmware.md', 'docs/EXAMPLES.md',
          'docs/DEBUGGER.md', 'docs/sweeps.md')
-SESSION = r'((?:break|byte|sound|halted|go|step|regs|screen|dump|trail|quit)\b.*)'  # what is typed in a session of debug
+SESSION = r'((?:break|byte|sound|halted|go|step|back|regs|screen|dump|trail|quit)\b.*)'  # what is typed in a session of debug
 MINE = 'SEGMENT MAIN AT 0F000h\nstart:  MOV AX,0xB000\n        MOV ES,AX\n        HLT\nENDS\nSEGMENT RESET AT 0FFFFh\n        JMP FAR start\nENDS\n'
 RUN = '{"version":1,"ram":64,"sw1":0,"sw2":0,"budget":100000,"keys":[]}'
 
