@@ -6,9 +6,9 @@ use Rattle.std.proofs.lemmas.Bool.{cases_lt}
 use Rattle.board_types.proofs.Iterate.{iterate_add, iterate_zero}
 use Rattle.board.specs.declared.stop.Condition.{Condition}
 use Rattle.board.specs.AwaitFree.{AllAwaitFree, IsTurnBetween}
-use Rattle.board.specs.Board.{BoardState, Ran}
+use Rattle.board.specs.Board.{BoardState}
 use Rattle.board.specs.Found.{found_at, found_before}
-use Rattle.board.specs.Lasts.{HeldLast, IsLastOf, NoneHeld}
+use Rattle.board.specs.Lasts.{IsLastOf}
 use Rattle.board.specs.Plain.{Plain, after_clock, after_clocks, clock_of}
 use Rattle.board.specs.Stops.{holding}
 use Rattle.board.specs.Turns.{IsLeapOn, IsStrideOn, IsTickOn, IsTurnOn}

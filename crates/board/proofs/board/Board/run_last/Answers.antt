@@ -1,12 +1,12 @@
-use Rattle.std.proofs.Common.{◌≡◌, ◌<◌, ◌+◌, ◌∙◌, refl, sym, ap, subst, arith, Option, None, Some}
+use Rattle.std.proofs.Common.{◌≡◌, ◌<◌, ◌+◌, ◌∙◌, refl, sym, ap, subst, arith, None}
 use Rattle.std.specs.Bool.{IsTrue}
 use Rattle.board.specs.AwaitFree.{AllAwaitFree}
 use Rattle.board.specs.Found.{found_before}
 use Rattle.board.proofs.Latest.{Looked}
 use Rattle.board.specs.Plain.{clock_of}
-use Rattle.board.proofs.Latest.{found_last, looked_between, looked_none}
+use Rattle.board.proofs.Latest.{looked_between, looked_none}
 use Rattle.board.proofs.Search.{between_moves}
-use Rattle.board.proofs.Turns.{held_run, not_counted, ran_whole}
+use Rattle.board.proofs.Turns.{held_run, not_counted}
 use Rattle.board.proofs.board.Board.run_last.Goals as goal
 
 pub returns-then-is_past_limit-clause-turns_least : goal.returns-then-is_past_limit-clause-turns_least
