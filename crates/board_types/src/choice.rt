@@ -3,17 +3,18 @@
 /// Which chip the timer is.
 #[derive(Clone, Copy, Debug, PartialEq, Eq)]
 pub enum TimerKind {
-    /// The 8253.
+    /// The Intel 8253.
     I8253,
-    /// The 8254: the 8253 with a read-back of status and another count in mode 3.
+    /// The Intel 8254: an 8253 with the read-back command, whose mode 3 counts odd numbers otherwise.
     I8254,
 }
 
-/// By which table the processor's clocks count.
+/// By which table the clocks of a step, and of an interrupt's entry, count.
 #[derive(Clone, Copy, Debug, PartialEq, Eq)]
 pub enum ClockTable {
-    /// The clocks of the table alone.
+    /// The clocks of the encoding table, those of an interrupt's entry among them.
     C1,
-    /// Those and 4 for each word of data that is read or written in memory.
+    /// Those, and 4 more for each word of data that a step or an entry reads or writes in memory, as on an 8088 (8086
+    /// Family User's Manual, "Instruction Set Reference Data").
     C2,
 }
