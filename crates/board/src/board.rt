@@ -280,7 +280,8 @@ impl<A: Allocator> Board<A> {
     }
 
     /// Runs the board for `count` processor clocks, and answers the last clock, from the start to the end, both among them, at
-    /// which one of `stops` holds, with the least number of one that does. Refused as `run` is.
+    /// which one of `stops` holds, with the least number of one that does, or `None` where none holds at any. Refused as `run`
+    /// is, without an answer.
     pub fn run_last(
         &mut self,
         count: u64,
@@ -312,7 +313,7 @@ impl<A: Allocator> Board<A> {
             let here = self.holding(stops, reach);
             // where none holds, a step with the leap behind it passes none
             self.turn(end, passes_none(whole, here))?;
-            // else what holds does so up to the clock before the turn's last one
+            // what holds before a turn does so up to the clock before the one that the turn comes to
             last = later(last, here, self.clock());
         }
         Ok(latest(last, self.holding(stops, reach), self.clock()))

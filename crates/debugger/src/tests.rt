@@ -38,53 +38,78 @@ const BACK: [(&str, &str); 7] = [
     ("go 70", "stop 1 clock 62\n"),
 ];
 
+/// The way to clock 300, from where a session goes back to clocks before and after the first copy of its board.
+const FAR: [(&str, &str); 2] = [("go 100", "clock 100\n"), ("go 200", "clock 300\n")];
+
 #[test]
 fn goes_back_by_copies_of_its_board(rt: HostRuntime) -> Result<(), Fail> {
     let mut session = Session::new(rt.alloc(), tone(&rt, rt.alloc())?)?;
-    assert_replies(&rt, rt.alloc(), &mut session, &FORTH[..1])?;
-    assert!(rt; session.checkpoints() >= 1);
-    assert_replies(&rt, rt.alloc(), &mut session, &FORTH[1..])?;
-    assert_replies(&rt, rt.alloc(), &mut session, &BACK)
+    assert_goes_back(&rt, rt.alloc(), &mut session, true)
 }
 
 #[test]
 fn goes_back_without_memory_for_a_copy(rt: HostRuntime) -> Result<(), Fail> {
     let heap = LocalHeap::new(rt.alloc(), 64)?;
     let mut session = Session::with_checkpoints_in(&heap, tone(&rt, rt.alloc())?)?;
-    assert_replies(&rt, rt.alloc(), &mut session, &FORTH)?;
-    assert_eq!(rt; session.checkpoints(), 0);
-    assert_replies(&rt, rt.alloc(), &mut session, &BACK)
+    assert_goes_back(&rt, rt.alloc(), &mut session, false)
 }
 
-/// No command tells the keys that were lost and the speaker's changes.
 #[test]
 fn shows_the_board_of_the_earlier_clock(rt: HostRuntime) -> Result<(), Fail> {
     let mut session = Session::new(rt.alloc(), tone(&rt, rt.alloc())?)?;
-    let mut board = tone(&rt, rt.alloc())?;
-    assert_replies(&rt, rt.alloc(), &mut session, &[("go 100", "clock 100\n")])?;
-    assert_replies(&rt, rt.alloc(), &mut session, &[("go 200", "clock 300\n")])?;
-    let later = session.board().lost();
-    // from the first board, and from the copy at clock 100
-    assert_replies(&rt, rt.alloc(), &mut session, &[("back 210", "clock 90\n")])?;
-    board.run(90)?;
-    assert_shows(&rt, session.board(), &board);
-    assert_replies(&rt, rt.alloc(), &mut session, &[("go 210", "clock 300\n")])?;
-    assert_replies(
-        &rt,
-        rt.alloc(),
-        &mut session,
-        &[("back 150", "clock 150\n")],
-    )?;
-    board.run(60)?;
-    assert_shows(&rt, session.board(), &board);
-    assert!(rt; 0 < board.lost() && board.lost() < later);
-    Ok(())
+    assert_shows_earlier(&rt, rt.alloc(), &mut session)
 }
 
-fn assert_shows(rt: &impl Abort, board: &Board, wanted: &Board) {
+/// Whether a session keeps a copy of its board after its first run as `keeps` says, and answers as it should in either case.
+fn assert_goes_back<A: Allocator>(
+    rt: &impl Abort,
+    alloc: Global,
+    session: &mut Session<A>,
+    keeps: bool,
+) -> Result<(), Fail> {
+    assert_replies(rt, alloc, session, &FORTH[..1])?;
+    assert_eq!(rt; session.checkpoints() > 0, keeps);
+    assert_replies(rt, alloc, session, &FORTH[1..])?;
+    assert_replies(rt, alloc, session, &BACK)
+}
+
+/// Whether a session that has gone back stands where a board stands that is run there from power-on.
+fn assert_shows_earlier<A: Allocator>(
+    rt: &impl Abort,
+    alloc: Global,
+    session: &mut Session<A>,
+) -> Result<(), Fail> {
+    assert_replies(rt, alloc, session, &FAR)?;
+    let lost = session.board().lost();
+    assert_replies(rt, alloc, session, &[("back 150", "clock 150\n")])?;
+    assert_stands_as_run(rt, alloc, session.board(), 150)?;
+    assert!(rt; 0 < session.board().lost() && session.board().lost() < lost);
+    assert_replies(rt, alloc, session, &[("back 60", "clock 90\n")])?;
+    assert_stands_as_run(rt, alloc, session.board(), 90)
+}
+
+fn assert_stands_as_run(
+    rt: &impl Abort,
+    alloc: Global,
+    board: &Board,
+    clock: u64,
+) -> Result<(), Fail> {
+    let mut run = tone(rt, alloc)?;
+    assert_runs_to(rt, &mut run, clock, board)
+}
+
+/// Whether a board that is run for so many clocks shows what `wanted` shows of what no command tells.
+fn assert_runs_to(
+    rt: &impl Abort,
+    board: &mut Board,
+    count: u64,
+    wanted: &Board,
+) -> Result<(), Fail> {
+    board.run(count)?;
     assert_eq!(rt; board.clock(), wanted.clock());
     assert_eq!(rt; board.lost(), wanted.lost());
     assert!(rt; board.speaker_changes() == wanted.speaker_changes());
+    Ok(())
 }
 
 /// Whether a session answers these commands so; a refusal is told by its name.
@@ -110,7 +135,7 @@ fn tone(rt: &impl Abort, alloc: Global) -> Result<Board, Fail> {
     let mut image = Image::new(alloc);
     put_all(rt, &mut image, 0xF_FFF0, &JUMP)?;
     put_all(rt, &mut image, 0xF_0000, &TONE)?;
-    let keys = struck(rt, alloc)?;
+    let keys = struck(alloc)?;
     let config = Config {
         ram_kb: 64,
         sw1: 0,
@@ -132,7 +157,7 @@ fn put_all(rt: &impl Abort, image: &mut Image, start: u32, bytes: &[u8]) -> Resu
     Ok(())
 }
 
-fn struck(rt: &impl Abort, alloc: Global) -> Result<Keys, Fail> {
+fn struck(alloc: Global) -> Result<Keys, Fail> {
     let mut keys = Keys::new(alloc);
     for clock in STRUCK {
         let Some(stamp) = Clock::new(clock) else {
