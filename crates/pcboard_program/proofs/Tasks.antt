@@ -1,12 +1,12 @@
 -- What a task prints, from what its parts tell.
-use Rattle.std.proofs.Common.{◌≡◌, ℕ, Bool, List, refl, Option, None, Some, IfSome, Result, Ok, Err, IfErr, inl, inr}
+use Rattle.std.proofs.Common.{◌≡◌, ℕ, Bool, false, List, refl, Option, None, Some, IfSome, Result, Ok, Err, IfErr, inl, inr}
 use Rattle.std.specs.Prelude.{◌⊎◌}
 use Rattle.std.specs.Io.KnownBytes.{Appends}
 use Rattle.board.specs.Board.{BoardState}
 use Rattle.loader.specs.declared.run_file.RunFile.{RunFile}
 use Rattle.pcboard_program.specs.declared.unanswered.Unanswered.{Unanswered}
 use Rattle.pcboard_program.specs.declared.unanswered.Unanswered.TheVariants.{Failed, Refused}
-use Rattle.pcboard_program.specs.Answer.{AppendsA, IsBoardOf, IsReport, IsSession}
+use Rattle.pcboard_program.specs.Answer.{AppendsA, IsBoardOf, IsReport, IsSession, run_text_of, source_of}
 use Rattle.debugger.specs.Stands.{session_about}
 use Rattle.pcboard_program.specs.Ready.{IsAtPowerOn, IsReady}
 use Rattle.pcboard_program.specs.Refusal.{BeginsSession, BeginsTranscript}
@@ -14,18 +14,33 @@ use Rattle.pcboard_program.specs.Report.{report_of}
 use Rattle.pcboard_program.specs.Transcript.{input_lines, Transcript}
 use Rattle.pcboard_program.specs.Unanswered.{WhereRefused}
 
--- the report of the board that two files give is the answer to `run`
+-- the report of a board is the answer about it
+printed_report : (hex : Bool) (bytes run : List ℕ) (old new : Option (List ℕ)) (board : BoardState) (run_file : RunFile) → IsReady hex bytes run board run_file
+    → ((image : List (ℕ × ℕ)) → IsAtPowerOn image run_file board → Appends old new (report_of image run_file)) → AppendsA (IsReport hex bytes run) old new
+printed_report hex bytes run old new board run_file ready prints = (
+  report_of ready.image run_file,
+  record { image = ready.image; gives = ready.gives; run_file = run_file; says = ready.says; is_text = refl },
+  prints ready.image ready.start,
+)
+
+-- of the board that two files give, to `run`
 pub printed_run : (file said old new : Option (List ℕ)) (hex : Bool) (board : BoardState) (run_file : RunFile)
     → IfSome file (λ bytes. IfSome said (λ run. IsReady hex bytes run board run_file))
     → ((image : List (ℕ × ℕ)) → IsAtPowerOn image run_file board → Appends old new (report_of image run_file))
     → IfSome file (λ bytes. IfSome said (λ run. AppendsA (IsReport hex bytes run) old new))
 printed_run None said old new hex board run_file ready prints = tt
 printed_run (Some bytes) None old new hex board run_file ready prints = tt
-printed_run (Some bytes) (Some run) old new hex board run_file ready prints = (
-  report_of ready.image run_file,
-  record { image = ready.image; gives = ready.gives; run_file = run_file; says = ready.says; is_text = refl },
-  prints ready.image ready.start,
-)
+printed_run (Some bytes) (Some run) old new hex board run_file ready prints =
+    printed_report hex bytes run old new board run_file ready prints
+
+-- and of the board that the input gives, to a stored run
+pub printed_stored : (input old new : Option (List ℕ)) (board : BoardState) (run_file : RunFile)
+    → IfSome input (λ text. IsReady false (source_of text) (run_text_of text) board run_file)
+    → ((image : List (ℕ × ℕ)) → IsAtPowerOn image run_file board → Appends old new (report_of image run_file))
+    → IfSome input (λ text. AppendsA (IsReport false (source_of text) (run_text_of text)) old new)
+printed_stored None old new board run_file ready prints = tt
+printed_stored (Some text) old new board run_file ready prints =
+    printed_report false (source_of text) (run_text_of text) old new board run_file ready prints
 
 -- two files give that board
 given : (hex : Bool) (bytes run : List ℕ) (board : BoardState) (run_file : RunFile) → IsReady hex bytes run board run_file → IsBoardOf hex bytes run board

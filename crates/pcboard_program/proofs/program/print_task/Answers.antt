@@ -4,8 +4,16 @@ use Rattle.std.proofs.lemmas.Result.{on_ok_weaker}
 use Rattle.pcboard_program.specs.Answer.{PrintsTask}
 use Rattle.pcboard_program.specs.Refusal.{PrintsReplies}
 use Rattle.pcboard_program.specs.Unanswered.{WhereRefused}
-use Rattle.pcboard_program.proofs.Tasks.{printed_run, printed_session, replies_withheld}
+use Rattle.pcboard_program.proofs.Tasks.{printed_run, printed_session, printed_stored, replies_withheld}
 use Rattle.pcboard_program.proofs.program.print_task.Goals as goal
+
+pub returns-in_ok-board-in-Stored-clause-printed : goal.returns-in_ok-board-in-Stored-clause-printed
+returns-in_ok-board-in-Stored-clause-printed g c =
+    let input = g.I.ByteInput.remaining c.args.input.now in
+    let old = g.O.Write.contents c.args.out.now in
+    let new = g.O.Write.contents c.print_report.new.out in
+    subst (λ task. OnOk c.print_report.result (PrintsTask task (g.F.Opener.file_bytes c.args.files.now) input old new)) (sym c.in-Stored.is)
+    (on_ok_weaker c.print_report.result (printed_stored input old new c.in_ok-board-in-Stored.board c.in_ok-board-in-Stored.run' c.in_ok-board-in-Stored.ensures.ready) c.print_report.ensures.printed)
 
 pub returns-in_ok-board-in-Run-clause-printed : goal.returns-in_ok-board-in-Run-clause-printed
 returns-in_ok-board-in-Run-clause-printed g c =
