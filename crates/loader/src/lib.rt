@@ -1,5 +1,5 @@
 //! What is loaded into the board: run files, JSON texts that say how long a board runs, with how much memory, which
-//! switches and which keys; and images as Intel HEX texts.
+//! switches, timer and table of clocks, and which keys; and images as Intel HEX texts.
 #![tactic(auto)]
 
 pub mod byte_input;
