@@ -73,7 +73,7 @@ class Session:
                                          stderr=subprocess.PIPE, bufsize=0, start_new_session=True)
         assert self._process.stdout
         self._out = os.fdopen(os.dup(self._process.stdout.fileno()), 'rb')
-        self.clock = 0
+        self.clock, self.is_idle = 0, True
 
     def close(self) -> None:
         """Ends the session's process, also in the midst of a run: it has nothing to keep."""
@@ -95,8 +95,9 @@ class Session:
         self.close()
 
     def _send(self, text: str) -> None:
-        """Hands the program commands; where it has ended, it has told why."""
+        """Hands the program commands; where it has ended, it has told why. Until all is answered, it isn't idle."""
         assert self._process.stdin
+        self.is_idle = False
         try:
             self._process.stdin.write(text.encode())
         except BrokenPipeError:
@@ -122,6 +123,7 @@ class Session:
         told = re.search(r'\bclock (\d+)$', line)
         if told:
             self.clock = int(told[1])
+        self.is_idle = True
         return line
 
     def many(self, command: str) -> list[str]:
@@ -131,7 +133,7 @@ class Session:
         while True:
             line = self._line()
             if re.fullmatch(r'clock \d+', line):
-                self.clock = int(line.split()[1])
+                self.clock, self.is_idle = int(line.split()[1]), True
                 return lines
             lines.append(line)
 
