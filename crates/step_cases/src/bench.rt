@@ -72,6 +72,12 @@ impl Bench {
         match name {
             "at" => self.pass_boundary(alloc, &fields)?,
             "kept" => self.keep(alloc, &fields)?,
+            "calls" => {
+                let table = self.table;
+                let judged = self.count_calls(alloc, &fields);
+                self.table = table;
+                judged?
+            }
             _ => self.make_step(alloc, name, &fields)?,
         }
         Ok(Judged::Case)
@@ -137,10 +143,7 @@ impl Bench {
         if boundary == Boundary::Instruction {
             self.put_code(regs.cs, regs.ip, &code)?;
         }
-        for word in &words_in(alloc, read)? {
-            let (addr, byte) = read_cell(word)?;
-            self.ram.put(addr, byte)?;
-        }
+        self.put_cells(alloc, read)?;
         let kind = code.first().copied().unwrap_or(SINGLE_STEP);
         let wanted = Wanted {
             after,
@@ -151,6 +154,33 @@ impl Bench {
         };
         let done = self.make(boundary, kind);
         judge(alloc, self, &done, &wanted)
+    }
+
+    /// `calls REGS | CODE | READ | WORDS BYTES`
+    fn count_calls(&mut self, alloc: Global, fields: &[&str]) -> Result<()> {
+        let [regs, code, read, wanted, ..] = *fields else {
+            bail!("no such line");
+        };
+        let regs = read_regs(regs)?;
+        let code = read_bytes(alloc, code)?;
+        let (words, bytes) = wanted.trim().split_once(' ').context("no bytes")?;
+        let (words, bytes): (usize, usize) = (words.parse()?, bytes.parse()?);
+        let mut clocks = [0u16; 2];
+        for (i, &table) in [ClockTable::C1, ClockTable::C2].iter().enumerate() {
+            self.table = table;
+            self.begin(regs);
+            self.put_code(regs.cs, regs.ip, &code)?;
+            self.put_cells(alloc, read)?;
+            clocks[i] = self.make(Boundary::Instruction, SINGLE_STEP).clocks;
+            if self.ram.calls() != words.saturating_mul(2).saturating_add(bytes) {
+                bail!("{} calls", self.ram.calls());
+            }
+        }
+        let more = usize::from(clocks[1].saturating_sub(clocks[0]));
+        if more != words.saturating_mul(4) {
+            bail!("{more} clocks more");
+        }
+        Ok(())
     }
 
     /// `kept OP CODE | KEPT | ..`
@@ -174,6 +204,15 @@ impl Bench {
     /// CS and IP.
     fn next_place(&self) -> (u16, u16) {
         (self.cpu.cs(), self.cpu.ip())
+    }
+
+    /// Puts the bytes of a list `AAAAA=VV ..` there.
+    fn put_cells(&mut self, alloc: Global, list: &str) -> Result<()> {
+        for word in &words_in(alloc, list)? {
+            let (addr, byte) = read_cell(word)?;
+            self.ram.put(addr, byte)?;
+        }
+        Ok(())
     }
 
     /// Puts an instruction's bytes at CS:IP.

@@ -29,6 +29,13 @@
 //!
 //! where OP is as above, of the processor that stands there, and KEPT are the operands and the result that it keeps
 //! then, or `none`. A new processor keeps none.
+//!
+//! What the second table counts: a step of a new processor, by the first table and then by the second,
+//!
+//! `calls REGS | CODE | READ | WORDS BYTES`
+//!
+//! reads and writes so many words and bytes (decimal) in memory, a word by two calls of the bus, and the second table has 4
+//! clocks more for each of the words.
 #![tactic(auto)]
 
 mod bench;

@@ -5,6 +5,7 @@ use board_types::address::ADDRESS_COUNT;
 use board_types::bytes::Bytes;
 use bus::Bus;
 use std::alloc::{AllocError, Global};
+use std::cell::Cell;
 
 /// What a step does to a port: it reads or writes a byte.
 #[derive(Clone, Copy, PartialEq, Eq)]
@@ -22,6 +23,8 @@ pub struct Ram {
     touched: Vec<u32>,
     /// How many of them the step found.
     found: usize,
+    /// How often the step has read a byte of memory.
+    reads: Cell<usize>,
     accesses: Vec<Access>,
 }
 
@@ -32,6 +35,7 @@ impl Ram {
             cells: vec![in alloc; 0; ADDRESS_COUNT as usize]?,
             touched: Vec::new(alloc),
             found: 0,
+            reads: Cell::new(0),
             accesses: Vec::new(alloc),
         })
     }
@@ -59,12 +63,18 @@ impl Ram {
     /// From here on it notes what the step does.
     pub fn begin_step(&mut self) {
         self.found = self.touched.len();
+        self.reads.set(0);
         self.accesses.clear();
     }
 
     /// The addresses that the step has written, in order.
     pub fn written(&self) -> &[u32] {
         self.touched.get(self.found..).unwrap_or(&[])
+    }
+
+    /// How often the step has read or written a byte of memory.
+    pub fn calls(&self) -> usize {
+        self.reads.get().saturating_add(self.written().len())
     }
 
     /// Whether the byte at `addr` is `byte`.
@@ -90,6 +100,7 @@ impl Bus for Ram {
     ghost meaning = { ram_bus };
 
     fn read8(&self, addr: u32) -> u8 {
+        self.reads.set(self.reads.get().saturating_add(1));
         self.cells.get(addr as usize).copied().unwrap_or(0)
     }
 
@@ -119,6 +130,6 @@ impl Bytes for Ram {
     ghost byte_at = { λ ram address. slice_index ram.cells.items address };
 
     fn byte(&self, addr: u32) -> u8 {
-        self.read8(addr)
+        self.cells.get(addr as usize).copied().unwrap_or(0)
     }
 }
