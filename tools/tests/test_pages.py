@@ -8,11 +8,21 @@ import unittest
 
 from tests.support import EXAMPLES, TOOLS, TOP, ToolCase
 
-PAGES = ('README.md', 'docs/for-archivists.md', 'docs/for-teachers.md', 'docs/for-firmware.md', 'docs/EXAMPLES.md',
+PAGES = ('README.md', 'docs/first-program.md', 'docs/for-archivists.md', 'docs/for-teachers.md', 'docs/for-firmware.md', 'docs/EXAMPLES.md',
          'docs/DEBUGGER.md', 'docs/sweeps.md')
 SESSION = r'((?:break|byte|sound|halted|go|step|back|regs|screen|dump|trail|quit)\b.*)'  # what is typed in a session of debug
 MINE = 'SEGMENT MAIN AT 0F000h\nstart:  MOV AX,0xB000\n        MOV ES,AX\n        HLT\nENDS\nSEGMENT RESET AT 0FFFFh\n        JMP FAR start\nENDS\n'
 RUN = '{"version":1,"ram":64,"sw1":0,"sw2":0,"budget":100000,"keys":[]}'
+
+# An example, a part of it, what stands in its place, and what is seen then.
+MISTAKES = (('first', 'JMP FAR start', 'DW 0FFFFh', 'FFFF:0000 has FF FF'), ('hello', ' HLT', '', 'has FF FF'),
+            ('first', 'done:   RET', 'done:   JMP top', 'were 00 00'),
+            ('first', 'OUT DX,AL', 'NOP', 'text memory has characters'), ('first', '0B000h', '0B800h', 'no colour adapter is here'),
+            ('first', '        HLT', '        INT 21h', 'its vector, at 00084h, is 0000:0000'),
+            ('first', 'MOV DS,AX', 'NOP', '(halted after 10,000 clocks, the screen is blank)'), ('first', 'AT 50h', 'AT 0F000h', 'which is ROM'),
+            ('first', 'SP,top', 'SP,count', 'Hello from RA.'), ('clock', ' STI', ' NOP', 'with interrupts off'),
+            ('clock', 'DW tick,SEG tick', 'DW 0', 'interrupt 08 came; its vector'), ('clock', 'MOV AL,20h', 'MOV AL,0', '1\n(halted'),
+            ('poll', 'MOV AL,0C0h', 'MOV AL,40h', 'HHH'))
 
 
 def blocks(page: str) -> list[str]:
@@ -102,6 +112,22 @@ class Pages(ToolCase):
         for page in PAGES[:-1]:
             count += self.check(page)
         self.assertGreater(count, 14)
+
+    def test_the_ten_mistakes(self) -> None:
+        """What the page says one sees, in examples with a line changed."""
+        with open(f'{TOP}/docs/first-program.md', encoding='utf-8') as file:
+            page = file.read()
+        for name, was, becomes, seen in MISTAKES:
+            with open(f'{EXAMPLES}/{name}.asm', encoding='utf-8') as file:
+                source = file.read()
+            self.assertEqual(len(re.findall(was, source)), 1, was)
+            out, err = self.tool('try', self.file('it.asm', re.sub(was, becomes, source)), '--run', f'{EXAMPLES}/{name}.json')
+            self.assertIn(seen, out + err, f'{name}: {was}')
+            self.assertTrue(seen in page or seen.startswith(('(', '1\n', 'HHH')), seen)
+
+    def test_the_page_shows_the_example(self) -> None:
+        with open(f'{TOP}/docs/first-program.md', encoding='utf-8') as page, open(f'{EXAMPLES}/first.asm', encoding='utf-8') as source:
+            self.assertIn(f'\n```\n{source.read()}```\n', page.read())
 
     def test_the_sweeps(self) -> None:
         with open(f'{TOP}/docs/sweeps.md', encoding='utf-8') as file:
