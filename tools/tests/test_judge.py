@@ -125,6 +125,7 @@ class Runs(ToolCase):
         source, run = self.program(' PUSH AX\n HLT')
         self.assertEqual(self.lines('ram = 16\nbudget = 90\nmemory fffe = ff ff\nclock = 90\n', source, run)[-1], '2 met, 0 not')
         self.assertEqual(self.lines('clock = 100000\n', '--run', run, source, status=1)[-1], '0 met, 1 not')
+        self.assertEqual(self.lines('clock = 100000\n', source)[-1], '1 met, 0 not')
         self.assertIn('refused: fault 36', self.lines('ram = 40\nclock = 90\n', source, status=1)[0])
 
     def test_a_class(self) -> None:

@@ -19,6 +19,7 @@ MISTAKES = (('first', 'JMP FAR start', 'DW 0FFFFh', 'FFFF:0000 has FF FF'), ('he
             ('first', 'done:   RET', 'done:   JMP top', 'were 00 00'),
             ('first', 'OUT DX,AL', 'NOP', 'text memory has characters'), ('first', '0B000h', '0B800h', 'no colour adapter is here'),
             ('first', '        HLT', '        INT 21h', 'its vector, at 00084h, is 0000:0000'),
+            ('first', 'MOV AH,7', 'MOV AH,0', 'with the attribute 00h'),
             ('first', 'MOV DS,AX', 'NOP', '(halted after 10,000 clocks, the screen is blank)'), ('first', 'AT 50h', 'AT 0F000h', 'which is ROM'),
             ('first', 'SP,top', 'SP,count', 'Hello from RA.'), ('clock', ' STI', ' NOP', 'with interrupts off'),
             ('clock', 'DW tick,SEG tick', 'DW 0', 'interrupt 08 came; its vector'), ('clock', 'MOV AL,20h', 'MOV AL,0', '1\n(halted'),

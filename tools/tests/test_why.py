@@ -146,6 +146,14 @@ class Runs(ToolCase):
         self.assertIn('F000:0001 has 0F', self.tool('why', 'run', *files)[1])
         files = self.program(' MOV AX,0B000h\n MOV ES,AX\n MOV WORD ES:[0],0741h\n HLT', 200)
         self.assertIn('written to port 3B8h', self.tool('why', 'run', *files)[1])
+        files = self.program(" MOV AX,0B000h\n MOV ES,AX\n MOV BYTE ES:[4],'A'\n HLT", 200)
+        self.assertIn("text memory has 'A' at B0004h with the attribute 00h, which shows nothing", self.tool('why', 'run', *files)[1])
+        files = self.program(" MOV AX,0B000h\n MOV ES,AX\n MOV BYTE ES:[4],' '\n HLT", 200)
+        self.assertEqual(self.tool('why', 'run', *files)[1], '')
+        binary = self.file('binary.asm', '\x1b[2J\x00' + 'x' * 400 + '\n')
+        told = self.tool('why', 'asm', binary, status=1)[1]
+        self.assertIn('    1 | \\x1b[2J\\x00xxx', told)
+        self.assertIn('x ..\n', told)
 
     def every(self, lines: str, status: int = 1) -> list[int]:
         """The line numbers that --all tells."""
