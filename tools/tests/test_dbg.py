@@ -64,11 +64,11 @@ class Sessions(ToolCase):
         self.assertEqual([it.split(': ')[0] for it in told], ['clock 993', 'clock 932', 'clock 29', 'clock 33', 'clock 19'])
 
     def test_goes_back_beyond_the_trail(self) -> None:
-        told = self.dbg('fibonacci', 'step 100', 'back 90', 'back 11', 'where', 'back 10', 'back')
+        told = self.dbg('fibonacci', 'step 100', 'back 90', 'back 11', 'where', 'sound', 'back 11', 'where', 'back 10', 'back')
         tenth, = self.dbg('fibonacci', 'step 10')
         none = 'only {} instructions and interrupts began before this clock'
-        self.assertEqual(told[1:4], [tenth, none.format(10), tenth])
-        self.assertEqual([it.split(': ')[0] for it in told[4:]], ['clock 0', 'no instruction began before this clock'])
+        self.assertEqual(told[1:7], [tenth, none.format(10), tenth, 'stop 1: sound', none.format(10), tenth])
+        self.assertEqual([it.split(': ')[0] for it in told[7:]], ['clock 0', 'no instruction began before this clock'])
 
     def test_goes_back_to_the_last_stop(self) -> None:
         told = self.dbg('ticks', 'last', 'break tick', 'last', 'go', 'go', 'go', 'last', 'last', 'last', 'to 600', 'last', 'go')
@@ -159,6 +159,7 @@ class Sessions(ToolCase):
         told = self.dbg('hello', *['halted'] * 17, 'clear all', 'halted')
         self.assertIn('fault 52 TooManyStops', told[16])
         self.assertEqual(told[17:], ['no stops', 'stop 17: halted'])
+        self.assertEqual(self.dbg('hello', *['halted'] * 17, 'stops')[-1], 'stop 16: halted')
 
 
 class Terminal(ToolCase):
