@@ -128,16 +128,21 @@ fn is_worth_keeping(kept: &[Board], place: usize, board: &Board) -> bool
     FAR <= board.turns().saturating_sub(kept[place - 1].turns())
 }
 
-/// Of these boards, the last one aside, the one that is missed least: without it the gap between those beside it is least
-/// against how far the earlier one of them, or the first clock, lies behind.
+/// Of these boards the one that is missed least. Where the last one lies ahead of the present clock, from which no way back
+/// leads to it, that one; else, the last one aside, the one without which the gap between those beside it is least against
+/// how far the earlier one of them, or the first clock, lies behind.
 fn thinnest(kept: &[Board], first: u64, now: u64) -> usize
     requires { 1 ≤ length kept.now }
     ensures { result < length kept.now }
 {
+    let last = kept.len() - 1;
+    if now < kept[last].clock().get() {
+        return last;
+    }
     let mut best = 0;
     let mut best_gap = 0u64;
     let mut best_age = 0u64;
-    for index in 0..kept.len() - 1 {
+    for index in 0..last {
         let before = if index == 0 {
             first
         } else {
