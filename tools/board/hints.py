@@ -116,7 +116,7 @@ def of_a_word_as_operand(code: str) -> str | None:
 def of_a_name_before_brackets(code: str) -> str | None:
     """A hint where a name or number stands before the brackets with its registers."""
     found = re.search(r'(\w+)\s*\[([^\]]*)\]', code)
-    if found and found[1] not in STATEMENTS | WORDS and not re.fullmatch(r'(?:[A-Z]+P?TR)|DS|ES|CS|SS', found[1]):
+    if found and found[1] not in STATEMENTS | WORDS and found[1] not in ('PTR', 'OFFSET', 'DWORD'):
         return f'a name stands in the brackets: [{found[1].lower()}+{found[2]}] for {found[1].lower()}[{found[2]}]'
     return None
 

@@ -15,7 +15,7 @@ TRAIL, LONGEST_LOOP, ZEROS, NEAR = 32, 8, 4, 32
 IF, TF = 0x200, 0x100
 ROM, TEXT, TEXT_END = 0xF0000, 0xB0000, 0xB0FFF
 PORTS = {0x20, 0x21, 0x40, 0x41, 0x42, 0x43, 0x60, 0x61, 0x62, 0x63, 0x3B4, 0x3B5, 0x3B8, 0x3BA}
-PREFIX = re.compile(r'(?:(?:LOCK|REPN?[EZ]?|[ECSD]S:) )*')
+PREFIX = re.compile(r'^(?:(?:LOCK|REPN?[EZ]?|[ECSD]S:) )*')
 SERVICES = {0x21: 'no DOS is here: text goes to text memory at B000:0000, keys come from port 60h, HLT ends a program',
             0x20: 'no DOS is here: HLT ends a program',
             0x10: 'no BIOS is here: text goes to text memory at B000:0000, a character and its attribute in each word',
@@ -60,7 +60,7 @@ class Run:
 
 def mnemonic(event: Event) -> tuple[str, str]:
     """An instruction's mnemonic and operands, without prefixes."""
-    name, _, operands = event.text[PREFIX.match(event.text).end():].partition(' ')  # type: ignore[union-attr]
+    name, _, operands = PREFIX.sub('', event.text, count=1).partition(' ')
     return name, operands
 
 
@@ -118,6 +118,8 @@ def of_zeros(it: Run) -> list[str]:
     before = it.trail[-count - 1] if count < len(it.trail) else before_the_zeros(it)
     if before:
         told.append(f'{"before them came" if count < len(it.trail) else f"at clock {before.clock} 00 00 came behind"} {it.place(before)}')
+    if before and mnemonic(before)[0] in ('RET', 'RETF', 'IRET'):
+        return told + ['hint: a return takes what the stack holds, and zeros where nothing was pushed; HLT ends a program']
     return told + ['hint: the program ran past its end, or jumped astray; HLT ends it, JMP goes back']
 
 
@@ -310,7 +312,8 @@ def of_code_in_the_stack(it: Run) -> list[str]:
             continue
         memory = it.session.dump(address, len(line.shown))
         if memory != line.shown:
-            return [f'line {line.number} ({code_of(line.text).strip()}): the source placed {line.shown.hex(" ").upper()} at {address:05X}h, and memory holds'
-                    f' {memory.hex(" ").upper()}; SS:SP is {it.report.registers["SS"]:04X}:{it.report.registers["SP"]:04X}',
+            registers, was, now = it.report.registers, line.shown.hex(' ').upper(), memory.hex(' ').upper()
+            return [f'line {line.number} ({code_of(line.text).strip()}): the source placed {was} at {address:05X}h, and memory holds {now};'
+                    f' SS:SP is {registers["SS"]:04X}:{registers["SP"]:04X}',
                     'hint: the stack runs into code: it grows down, so SP begins at the end of its room']
     return []

@@ -92,6 +92,11 @@ class Nowhere(ToolCase):
         told = self.told(Files(*self.program(CODE_IN_RAM + 'MOV CX,100\nover: LOOP over\n MOV BX,CX', 1850)))
         self.assertIn('before them came line 8 (MOV BX,CX)', ' '.join(told))
 
+    def test_a_return_that_led_astray(self) -> None:
+        told = self.told(Files(*self.program(CODE_IN_RAM + 'MOV AX,200h\n PUSH AX\n RET 2', 900)))
+        self.assertIn('hint: a return takes', ' '.join(told))
+        self.assertIn('(RET 2)', ' '.join(told))
+
     def test_ends_that_are_none(self) -> None:
         """A loop that leaves after a while, and one that writes as it goes, aren't said never to end."""
         for lines in (' MOV CX,900\nover: NOP\n NOP\n LOOP over\n HLT', 'over: MOV BYTE [500h],1\n JMP over', 'over: OUT 61h,AL\n JMP over',

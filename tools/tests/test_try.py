@@ -1,4 +1,6 @@
 """tools/try, over the built program."""
+import contextlib
+import io
 import json
 import os
 import signal
@@ -8,6 +10,8 @@ import time
 import unittest
 
 from tests.support import TOOLS, ToolCase, example
+
+from board.command import waiting
 
 
 class Tries(ToolCase):
@@ -55,6 +59,20 @@ class Tries(ToolCase):
         self.assertIn('{nokey}', self.tool('try', source, '--keys', '{nokey}', status=2)[1])
         self.assertIn("can't be written", self.tool('try', source, '--write', 'no/it.json', status=2)[1])
         self.assertIn('--write', self.tool('try', '--help')[0])
+
+    def test_tells_how_far_it_is(self) -> None:
+        with contextlib.redirect_stderr(io.StringIO()) as err, waiting('at work', 0.01) as say:
+            say('half done')
+            time.sleep(0.1)
+        self.assertEqual(err.getvalue(), 'at work: half done, 0 s\n')
+        with contextlib.redirect_stderr(io.StringIO()) as err, waiting('at work'):
+            pass
+        self.assertEqual(err.getvalue(), '')
+
+    def test_help_wants_no_program(self) -> None:
+        for name in ('try', 'why', 'judge', 'picture', 'trace'):
+            ran = subprocess.run([sys.executable, '-S', f'{TOOLS}/{name}', '--help'], env={'PCBOARD': '/nowhere'}, capture_output=True, text=True, check=True)
+            self.assertIn(f'tools/{name}', ran.stdout)
 
     def test_an_interrupt_leaves_no_traceback(self) -> None:
         source, _ = self.program('over: JMP over')

@@ -21,7 +21,7 @@ HINTS = (
     (3, ' CALL sub', 'write sub_1'), (3, ' JMP mul', 'MUL is an instruction'), (3, ' MOV AX,[add]', 'write add_1'),
     (3, ' MOV AX,0FFFF', '0FFFFh'), (3, ' MOV AX,12AB', 'end with h'), (3, ' MOV AL,[AX]', 'but BX or BP'),
     (3, ' MOV AL,[SP]', 'but BX or BP'), (3, ' MOV AL,[BX+BP]', 'at most one'), (3, ' MOV AL,[SI+DI]', 'at most one'),
-    (3, ' MOV AL,table[BX]', '[table+BX]'), (3, ' MOV AL,[BX][SI]', '[BX+SI]'), (3, ' MOV AL,[BX-SI]', 'never taken away'),
+    (3, ' MOV AL,table[BX]', '[table+BX]'), (3, ' MOV AL,str[SI]', '[str+SI]'), (3, ' MOV AL,[BX][SI]', '[BX+SI]'), (3, ' MOV AL,[BX-SI]', 'never taken away'),
     (5, ' LEA AX,go', 'LEA AX,[go]'), (5, ' INC 5', 'no number'), (5, ' XCHG AX,5', 'no numbers'), (5, ' XCHG 5,AX', 'no numbers'),
     (3, " MOV AX,'AB'", '04241h'), (3, " DW 'ABC'", 'DB alone'), (5, ' NOT 1', 'no number'), (5, ' DIV 5', 'no number'),
     (3, '1: NOP', 'l1:'), (5, ' MOV DS,ES', 'through a general one'), (5, ' MOV CS,AX', 'far jump'),
