@@ -8,7 +8,5 @@ mod dump;
 pub mod fault;
 pub mod laws;
 pub mod session;
-#[cfg(test)]
-mod tests;
 mod trail_text;
 mod word;

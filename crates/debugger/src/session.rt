@@ -65,8 +65,9 @@ impl Session {
 }
 
 impl<A: Allocator> Session<A> {
-    /// The same, with the copies of the board listed in memory of this allocator.
-    pub(crate) fn with_checkpoints_in(alloc: A, board: Board) -> Result<Session<A>, DebugFault>
+    /// A session as `new` makes it, whose copies of the board are listed in memory of this allocator. Where that has none, the
+    /// session answers the same, and goes back more slowly.
+    pub fn with_checkpoints_in(alloc: A, board: Board) -> Result<Session<A>, DebugFault>
         ensures session { IfOk result (λ session. session ≡ session_about board) }
         ensures stands { IfOk result Stands }
         ensures fault { IfErr result (λ fault. fault ≡ DebugFault.Memory None) }
@@ -88,8 +89,9 @@ impl<A: Allocator> Session<A> {
     }
 
     /// The board as it stands.
-    #[cfg(test)]
-    pub(crate) fn board(&self) -> &Board {
+    pub fn board(&self) -> &Board
+        ensures { result.now ≡ self.now.board }
+    {
         &self.board
     }
 
