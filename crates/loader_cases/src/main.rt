@@ -6,8 +6,8 @@
 //! `hex`: a HEX text. The answer is the HEX text that is written of the image that it gives, or its fault's number,
 //! behind it a blank and the fault's line where it has one.
 //!
-//! `run`: a run file. The answer is `ram`, `sw1`, `sw2`, the budget and, for each key, its stamp and code, all decimal
-//! and parted by blanks; or its fault's number.
+//! `run`: a run file. The answer is `ram`, `sw1`, `sw2`, the timer, the table of clocks, the budget and, for each key, its
+//! stamp and code, parted by blanks; or its fault's number. Numbers are decimal.
 //!
 //! `read`: three numbers, of bytes over memory, of those that a read gives at most, and of those that are wanted. The
 //! answer is how many bytes are read, and by how many reads. Besides, each of these reads fails in turn: the whole is then
@@ -17,6 +17,7 @@
 mod pieces;
 
 use anyhow::{Context, Result, bail, ensure};
+use board_types::choice::{ClockTable, TimerKind};
 use cases::judge_cases;
 use loader::byte_input::{ReadFault, read_all};
 use loader::hex_fault::HexFault;
@@ -96,8 +97,19 @@ fn run_answer(alloc: Global, text: &[u8]) -> Result<Vec<u8>> {
 }
 
 fn told(alloc: Global, run: &RunFile) -> Result<String, AllocError> {
+    let timer = match run.timer {
+        TimerKind::I8253 => "8253",
+        TimerKind::I8254 => "8254",
+    };
+    let clocks = match run.clocks {
+        ClockTable::C1 => "C1",
+        ClockTable::C2 => "C2",
+    };
     let budget = run.budget.get();
-    let mut text = format!(in alloc; "{} {} {} {budget}", run.ram_kb, run.sw1, run.sw2)?;
+    let mut text = format!(in alloc;
+        "{} {} {} {timer} {clocks} {budget}",
+        run.ram_kb, run.sw1, run.sw2
+    )?;
     for key in run.keys.as_slice() {
         let stamp = key.stamp.get();
         let key = format!(in alloc; " {stamp} {}", key.code)?;
