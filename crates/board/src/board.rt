@@ -184,13 +184,13 @@ impl Board {
         })
     }
 
-    /// The same board, whose list of changes goes on in the memory of another allocator.
-    #[cfg(test)]
-    pub(crate) fn with_changes<A: Allocator>(self, changes: Vec<SpeakerChange, A>) -> Board<A>
+    /// The same board, whose list of changes, as `changes` has it, goes on in the memory of another allocator.
+    pub fn with_changes<A: Allocator>(self, changes: Vec<SpeakerChange, A>) -> Board<A>
         requires { changes.items ≡ self.changes }
         ensures plain { result.plain ≡ self.plain }
         ensures changes { result.changes ≡ self.changes }
         ensures trail { result.trail ≡ self.trail }
+        ensures turns { result.turns ≡ self.turns }
     {
         Board {
             plain: self.plain,
@@ -317,18 +317,6 @@ impl<A: Allocator> Board<A> {
             last = later(last, here, self.clock());
         }
         Ok(latest(last, self.holding(stops, reach), self.clock()))
-    }
-
-    /// Runs the board for `count` processor clocks, each made by itself, in place of the leaps of `run`.
-    #[cfg(test)]
-    pub(crate) fn run_ticking(&mut self, count: u64) -> Result<(), BoardFault> {
-        for _ in 0..count {
-            if self.is_past_limit(1) {
-                return Err(BoardFault::ClockLimit);
-            }
-            self.make_clock()?;
-        }
-        Ok(())
     }
 
     /// Makes room for `n` more changes of the speaker's level. Refused as `Memory`, with nothing changed, where
@@ -642,8 +630,7 @@ impl<A: Allocator> Board<A> {
     }
 
     /// How often an instruction was decoded since power-on.
-    #[cfg(test)]
-    pub(crate) fn decodes(&self) -> u64 {
+    pub fn decodes(&self) -> u64 {
         self.plain.chips.decodes()
     }
 

@@ -7,6 +7,4 @@ pub mod board;
 pub mod laws;
 mod plain;
 pub mod stop;
-#[cfg(test)]
-mod tests;
 pub mod trail;

@@ -8,8 +8,13 @@ pub trait Bench {
     fn make(&mut self, verb: &str, words: Words) -> Option<bool>;
 }
 
-/// Makes `steps`, parted by semicolons, up to the first that doesn't come out, which the error names.
-pub fn follow<B: Bench>(bench: &mut B, steps: &str) -> Result<()> {
+/// Makes `steps`, parted by semicolons, up to the first that doesn't come out, which the error names; and lets go of the
+/// bench, which is dear to prove of one that has boards, and here is proved of any.
+pub fn follow<B: Bench + Drop>(mut bench: B, steps: &str) -> Result<()> {
+    follow_on(&mut bench, steps)
+}
+
+fn follow_on<B: Bench>(bench: &mut B, steps: &str) -> Result<()> {
     for step in steps.split(';') {
         let mut words = Words(step);
         let verb = words.word().unwrap_or("");

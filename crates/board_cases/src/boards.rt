@@ -1,17 +1,19 @@
 //! Steps on a whole board.
+//!
+//! A function that may let go of a board on many ways is dear to prove. So boards are lent, and let go by `drop`.
 use crate::bench::Bench;
-use crate::cuts::{come_out_joined, comes_out_cut, comes_out_single};
+use crate::cuts::{come_out_joined, comes_out_cut, comes_out_single, comes_out_ticking};
 use crate::lasts::lasts_so;
 use crate::parts::Parts;
 use crate::stops::stops_so;
 use crate::trail::{has_entries, is_begun, is_entered};
 use crate::words::Words;
-use board::board::{Board, BoardFault, Config, SpeakerChange};
+use board::board::{Board, BoardFault, SpeakerChange};
 use board_types::address::ADDRESS_COUNT;
 use board_types::line::Line;
 use board_types::regs::Regs;
 use board_types::state::State;
-use std::alloc::Global;
+use std::alloc::{Allocator, Global};
 
 /// The parts, and the board that was made of them.
 #[derive(Drop)]
@@ -36,18 +38,9 @@ impl BoardBench {
     }
 
     fn build(&mut self, mut words: Words) -> Option<bool> {
-        let ram_kb = u16::try_from(words.count()?).ok()?;
-        let parts = &self.parts;
-        let config = Config {
-            ram_kb,
-            sw1: parts.sw1,
-            sw2: parts.sw2,
-            timer: parts.timer,
-            clocks: parts.clocks,
-        };
-        match Board::new(parts.alloc, &parts.image, config, parts.keys.copy().ok()?) {
+        match self.parts.board(words.size()?) {
             Ok(board) => {
-                self.board = Some(board);
+                put(&mut self.board, board);
                 Some(words.word()? == "taken")
             }
             Err(fault) => is_fault(fault, words),
@@ -55,38 +48,21 @@ impl BoardBench {
     }
 
     fn go_on_with_a_copy(&mut self) -> Option<bool> {
-        self.board = Some(self.board.as_ref()?.copy().ok()?);
+        let copy = copy_of(&self.board)?;
+        put(&mut self.board, copy);
         Some(true)
     }
 
     /// Keeps the board as it stands.
     fn keep(&mut self) -> Option<bool> {
-        self.kept = Some(self.board.as_ref()?.copy().ok()?);
+        let copy = copy_of(&self.board)?;
+        put(&mut self.kept, copy);
         Some(true)
-    }
-
-    /// Goes on with the board that was kept, and runs it.
-    fn run_again(&mut self, mut words: Words) -> Option<bool> {
-        let mut board = self.kept.as_ref()?.copy().ok()?;
-        self.judged = board.turns();
-        let ran = board.run(words.count()?).is_ok();
-        self.board = Some(board);
-        Some(ran)
-    }
-
-    /// Whether the turns since those that were judged last are at least the steps and at most three times the work and
-    /// three more.
-    fn took_turns(&mut self, mut words: Words) -> Option<bool> {
-        let (steps, work) = (words.count()?, words.count()?);
-        let turns = self.board.as_ref()?.turns();
-        let grown = turns.checked_sub(self.judged)?;
-        self.judged = turns;
-        Some(steps <= grown && grown <= work.saturating_mul(3).saturating_add(3))
     }
 }
 
 impl Bench for BoardBench {
-    fn make(&mut self, verb: &str, mut words: Words) -> Option<bool> {
+    fn make(&mut self, verb: &str, words: Words) -> Option<bool> {
         if self.board.is_none() {
             return match verb {
                 "ram" => self.build(words),
@@ -96,22 +72,70 @@ impl Bench for BoardBench {
         match verb {
             "copy" => self.go_on_with_a_copy(),
             "keep" => self.keep(),
-            "again" => self.run_again(words),
-            "work" => self.took_turns(words),
-            "cut" => comes_out_cut(self.parts.alloc, self.board.as_ref()?, words.count()?),
-            "single" => comes_out_single(self.parts.alloc, self.board.as_ref()?, words.count()?),
-            "pieces" => come_out_joined(self.parts.alloc, self.board.as_ref()?, words),
-            _ => act(self.board.as_mut()?, verb, words),
+            "again" => run_again(&self.kept, &mut self.board, &mut self.judged, words),
+            "work" => took_turns(self.board.as_ref()?, &mut self.judged, words),
+            _ => go_on(self.parts.alloc, self.board.as_mut()?, verb, words),
         }
     }
 }
 
-fn act(board: &mut Board, verb: &str, mut words: Words) -> Option<bool> {
+/// Puts a copy of the board that was kept in the place of the other, and runs it.
+fn run_again(
+    kept: &Option<Board>,
+    board: &mut Option<Board>,
+    judged: &mut u64,
+    words: Words,
+) -> Option<bool> {
+    put(board, copy_of(kept)?);
+    let board = board.as_mut()?;
+    *judged = board.turns();
+    change(board, "run", words)
+}
+
+/// Whether the turns since those that were judged last are at least the steps and at most three times the work and
+/// three more.
+fn took_turns(board: &Board, judged: &mut u64, mut words: Words) -> Option<bool> {
+    let (steps, work) = (words.count()?, words.count()?);
+    let turns = board.turns();
+    let grown = turns.checked_sub(*judged)?;
+    *judged = turns;
+    Some(steps <= grown && grown <= work.saturating_mul(3).saturating_add(3))
+}
+
+/// Makes a step that compares runs of copies of a board, or one on the board itself.
+fn go_on(alloc: Global, board: &mut Board, verb: &str, mut words: Words) -> Option<bool> {
+    match verb {
+        "cut" => comes_out_cut(alloc, board, words.count()?),
+        "single" => comes_out_single(alloc, board, words.count()?),
+        "ticking" => comes_out_ticking(alloc, board, words.count()?),
+        "pieces" => come_out_joined(alloc, board, words),
+        _ => change(board, verb, words),
+    }
+}
+
+fn copy_of(board: &Option<Board>) -> Option<Board> {
+    board.as_ref()?.copy().ok()
+}
+
+/// Puts a board in the place of another.
+fn put(place: &mut Option<Board>, board: Board) {
+    drop(place.replace(board));
+}
+
+/// Makes a step that changes a board, or one that only looks at it.
+pub fn change<A: Allocator>(board: &mut Board<A>, verb: &str, mut words: Words) -> Option<bool> {
     match verb {
         "run" => Some(board.run(words.count()?).is_ok()),
         "refused" => is_fault(board.run(words.count()?).err()?, words),
         "until" => stops_so(board, words),
         "last" => lasts_so(board, words),
+        _ => tells(board, verb, words),
+    }
+}
+
+/// Makes a step that only looks at a board.
+fn tells<A: Allocator>(board: &Board<A>, verb: &str, mut words: Words) -> Option<bool> {
+    match verb {
         "clock" => Some(board.clock() == words.clock()?),
         "state" => Some(state_name(board.state()) == words.word()?),
         "regs" => hold(board.regs(), words),
@@ -119,18 +143,37 @@ fn act(board: &mut Board, verb: &str, mut words: Words) -> Option<bool> {
         "bytes" => stand_at(board, words),
         "lost" => Some(board.lost() == words.count()?),
         "changes" => are_listed(board.speaker_changes(), words),
+        "decodes" => were_decoded(board.decodes(), words),
+        _ => lists(board, verb, words),
+    }
+}
+
+/// Makes a step that looks at the trail or the screen.
+fn lists<A: Allocator>(board: &Board<A>, verb: &str, mut words: Words) -> Option<bool> {
+    match verb {
         "trail" => Some(has_entries(board, words.index()?)),
         "begun" => is_begun(&board.trail(words.index()?)?, words),
         "entered" => is_entered(&board.trail(words.index()?)?, words),
-        "blank" => Some(board.screen().ok()?.as_str().trim().is_empty()),
-        "screen" => words.are_shown(board.screen().ok()?.as_str()),
-        "alone" => words.are_alone(board.screen().ok()?.as_str()),
+        _ => shows(board.screen().ok()?.as_str(), verb, words),
+    }
+}
+
+fn shows(screen: &str, verb: &str, mut words: Words) -> Option<bool> {
+    match verb {
+        "blank" => Some(screen.trim().is_empty()),
+        "screen" => words.are_shown(screen),
+        "alone" => words.are_alone(screen),
         _ => None,
     }
 }
 
+/// Whether so many decodings are at least the first of the words and at most the second.
+fn were_decoded(decodes: u64, mut words: Words) -> Option<bool> {
+    Some(words.count()? <= decodes && decodes <= words.count()?)
+}
+
 /// Whether the words are an address and the bytes that stand in memory from it on.
-fn stand_at(board: &Board, mut words: Words) -> Option<bool> {
+fn stand_at<A: Allocator>(board: &Board<A>, mut words: Words) -> Option<bool> {
     let mut addr = words.address()?;
     for word in words.0.split_whitespace() {
         if addr >= ADDRESS_COUNT {
@@ -145,7 +188,7 @@ fn stand_at(board: &Board, mut words: Words) -> Option<bool> {
 }
 
 /// Whether the words are the fault's number and name.
-fn is_fault(fault: BoardFault, mut words: Words) -> Option<bool> {
+pub fn is_fault(fault: BoardFault, mut words: Words) -> Option<bool> {
     Some(words.count()? == u64::from(fault.number()) && words.word()? == fault.name())
 }
 
@@ -157,34 +200,46 @@ fn state_name(state: State) -> &'static str {
     }
 }
 
-/// Whether the words name all registers that aren't 0, in the order below, each with what it holds.
+/// The registers' names, in the order of `words_of`.
+const NAMES: [&str; 14] = [
+    "AX", "BX", "CX", "DX", "SP", "BP", "SI", "DI", "CS", "DS", "ES", "SS", "IP", "FL",
+];
+
+fn words_of(regs: Regs) -> [u16; 14] {
+    [
+        regs.ax,
+        regs.bx,
+        regs.cx,
+        regs.dx,
+        regs.sp,
+        regs.bp,
+        regs.si,
+        regs.di,
+        regs.cs,
+        regs.ds,
+        regs.es,
+        regs.ss,
+        regs.ip,
+        regs.flags.word(),
+    ]
+}
+
+/// Whether the words name all registers that aren't 0, in the order above, each with what it holds.
 fn hold(regs: Regs, words: Words) -> Option<bool> {
     let mut wanted = words.0.split_whitespace();
-    for (name, value) in [
-        ("AX", regs.ax),
-        ("BX", regs.bx),
-        ("CX", regs.cx),
-        ("DX", regs.dx),
-        ("SP", regs.sp),
-        ("BP", regs.bp),
-        ("SI", regs.si),
-        ("DI", regs.di),
-        ("CS", regs.cs),
-        ("DS", regs.ds),
-        ("ES", regs.es),
-        ("SS", regs.ss),
-        ("IP", regs.ip),
-        ("FL", regs.flags.word()),
-    ] {
-        if value == 0 {
-            continue;
-        }
-        let (register, digits) = wanted.next()?.split_once('=')?;
-        if register != name || u16::from_str_radix(digits, 16).ok()? != value {
+    let values = words_of(regs);
+    for (i, name) in NAMES.iter().enumerate() {
+        if values[i] != 0 && !is_named(wanted.next()?, name, values[i])? {
             return Some(false);
         }
     }
     Some(wanted.next().is_none())
+}
+
+/// Whether the word is the register's name and what it holds.
+fn is_named(word: &str, name: &str, value: u16) -> Option<bool> {
+    let (register, digits) = word.split_once('=')?;
+    Some(register == name && u16::from_str_radix(digits, 16).ok()? == value)
 }
 
 /// Whether the words are the changes, each a clock and a level.

@@ -5,6 +5,7 @@ use crate::words::Words;
 use board_types::bytes::Bytes;
 use bus::Bus;
 use std::alloc::Global;
+use std::mem;
 use wiring::chips::Chips;
 
 /// The parts, and the chips that were made of them.
@@ -24,22 +25,17 @@ impl ChipsBench {
     }
 
     fn build(&mut self, mut words: Words) -> Option<bool> {
-        let ram_kb = u16::try_from(words.count()?).ok()?;
-        let parts = &self.parts;
-        match Chips::new(
-            parts.alloc,
-            &parts.image,
-            ram_kb,
-            parts.sw1,
-            parts.sw2,
-            parts.timer,
-        ) {
+        match self.parts.chips(words.size()?) {
             Ok(chips) => {
-                self.chips = Some(chips);
+                self.put(chips);
                 Some(words.word()? == "taken")
             }
             Err(fault) => Some(words.count()? == u64::from(fault.number())),
         }
+    }
+
+    fn put(&mut self, chips: Chips) {
+        drop(self.chips.replace(chips));
     }
 }
 
@@ -63,9 +59,16 @@ fn act(chips: &mut Chips, verb: &str, mut words: Words) -> Option<bool> {
         "write" => chips.write8(words.address()?, words.byte()?),
         "arrive" => chips.arrive(words.byte()?),
         "settle" => chips.settle(),
-        "copy" => *chips = chips.copy().ok()?,
+        "copy" => return go_on_with_a_copy(chips),
         _ => return tells(chips, verb, words),
     }
+    Some(true)
+}
+
+/// Puts a copy in the place of the chips.
+pub fn go_on_with_a_copy(chips: &mut Chips) -> Option<bool> {
+    let copy = chips.copy().ok()?;
+    drop(mem::replace(chips, copy));
     Some(true)
 }
 

@@ -9,75 +9,159 @@ use std::alloc::Global;
 /// A stop that no case comes to.
 const NEVER: Words<'static> = Words("at FFFF FFFF");
 
+/// How a run is made.
+#[derive(Clone, Copy)]
+enum Way {
+    /// By `run`.
+    Plain,
+    /// By `run_until`, with a stop that doesn't hold. It makes the first clock by itself, without a leap.
+    PastStop,
+}
+
 /// Whether a run of so many clocks shows the same where it is cut in two, at each clock, by `run` and by `run_until`;
 /// `None` where a run is refused.
 pub fn comes_out_cut(alloc: Global, board: &Board, clocks: u64) -> Option<bool> {
-    let whole = shown_behind(alloc, board, clocks)?;
+    let whole = shown_cut(alloc, board, Way::Plain, clocks, 0)?;
+    are_cut_so(alloc, board, clocks, whole.as_str())
+}
+
+fn are_cut_so(alloc: Global, board: &Board, clocks: u64, whole: &str) -> Option<bool> {
     for first in 0..=clocks {
         let rest = clocks.checked_sub(first)?;
-        let cut = shown_cut(alloc, board, first, rest)?;
-        let stopped = shown_past_stops(alloc, board, first, rest)?;
-        if cut.as_str() != whole.as_str() || stopped.as_str() != whole.as_str() {
+        if !is_cut_so(alloc, board, first, rest, whole)? {
             return Some(false);
         }
     }
     Some(true)
+}
+
+/// Whether two runs show this text, made either way.
+fn is_cut_so(alloc: Global, board: &Board, first: u64, rest: u64, whole: &str) -> Option<bool> {
+    let cut = shown_cut(alloc, board, Way::Plain, first, rest)?;
+    let stopped = shown_cut(alloc, board, Way::PastStop, first, rest)?;
+    Some(cut.as_str() == whole && stopped.as_str() == whole)
 }
 
 /// Whether a run that is made clock by clock shows at each clock what one run up to there shows.
 pub fn comes_out_single(alloc: Global, board: &Board, clocks: u64) -> Option<bool> {
+    comes_out_beside(alloc, board, Way::Plain, clocks)
+}
+
+/// The same of a run that makes each clock by itself, and never leaps.
+pub fn comes_out_ticking(alloc: Global, board: &Board, clocks: u64) -> Option<bool> {
+    comes_out_beside(alloc, board, Way::PastStop, clocks)
+}
+
+fn comes_out_beside(alloc: Global, board: &Board, way: Way, clocks: u64) -> Option<bool> {
     let mut single = board.copy().ok()?;
-    for passed in 1..=clocks {
-        single.run(1).ok()?;
-        let whole = shown_behind(alloc, board, passed)?;
-        if shown(alloc, &single)?.as_str() != whole.as_str() {
+    let answer = go_on_alike(alloc, board, &mut single, way, clocks);
+    drop(single);
+    answer
+}
+
+/// Runs `single`, which stands where `board` does, clock by clock.
+fn go_on_alike(
+    alloc: Global,
+    board: &Board,
+    single: &mut Board,
+    way: Way,
+    clocks: u64,
+) -> Option<bool> {
+    for passed in 0..=clocks {
+        if passed > 0 {
+            run(single, way, 1)?;
+        }
+        if !comes_to(alloc, board, passed, single)? {
             return Some(false);
         }
     }
     Some(true)
 }
 
+/// Whether a run of so many clocks comes to what another board is.
+fn comes_to(alloc: Global, board: &Board, clocks: u64, other: &Board) -> Option<bool> {
+    let mut later = board.copy().ok()?;
+    let answer = is_like(alloc, &mut later, clocks, other);
+    drop(later);
+    answer
+}
+
+fn is_like(alloc: Global, board: &mut Board, clocks: u64, other: &Board) -> Option<bool> {
+    run(board, Way::Plain, clocks)?;
+    Some(has_same_memory(board, other) && shows_the_same(alloc, board, other)?)
+}
+
+/// Of memory the first and the last 64 bytes of each 4,096 are read.
+fn has_same_memory(one: &Board, other: &Board) -> bool {
+    for index in 0..256 * 64_u32 {
+        let page = index / 64 * 4_096;
+        let first = page + index % 64;
+        let last = page + 4_095 - index % 64;
+        if one.byte(first) != other.byte(first) || one.byte(last) != other.byte(last) {
+            return false;
+        }
+    }
+    true
+}
+
+fn shows_the_same(alloc: Global, one: &Board, other: &Board) -> Option<bool> {
+    let one = shown(alloc, one)?;
+    let other = shown(alloc, other)?;
+    Some(one.as_str() == other.as_str())
+}
+
 /// Whether runs of so many clocks, one after another, show what one run of their sum shows.
 pub fn come_out_joined(alloc: Global, board: &Board, words: Words) -> Option<bool> {
+    let whole = shown_cut(alloc, board, Way::Plain, sum_of(words)?, 0)?;
+    let pieces = shown_in_pieces(alloc, board, words)?;
+    Some(pieces.as_str() == whole.as_str())
+}
+
+fn sum_of(words: Words) -> Option<u64> {
     let mut sum = 0u64;
     for word in words.0.split_whitespace() {
         sum = sum.checked_add(word.parse::<u64>().ok()?)?;
     }
-    let whole = shown_behind(alloc, board, sum)?;
-    Some(shown_in_pieces(alloc, board, words)?.as_str() == whole.as_str())
-}
-
-/// What a board shows behind a run.
-fn shown_behind(alloc: Global, board: &Board, clocks: u64) -> Option<String> {
-    shown_cut(alloc, board, clocks, 0)
+    Some(sum)
 }
 
 /// What a board shows behind two runs.
-fn shown_cut(alloc: Global, board: &Board, first: u64, rest: u64) -> Option<String> {
+fn shown_cut(alloc: Global, board: &Board, way: Way, first: u64, rest: u64) -> Option<String> {
     let mut later = board.copy().ok()?;
-    later.run(first).ok()?;
-    later.run(rest).ok()?;
-    shown(alloc, &later)
+    let text = run_twice(alloc, &mut later, way, first, rest);
+    drop(later);
+    text
 }
 
-/// What a board shows behind two runs with a stop that doesn't hold.
-fn shown_past_stops(alloc: Global, board: &Board, first: u64, rest: u64) -> Option<String> {
-    let mut later = board.copy().ok()?;
-    pass_the_stop(&mut later, first)?;
-    pass_the_stop(&mut later, rest)?;
-    shown(alloc, &later)
+fn run_twice(alloc: Global, board: &mut Board, way: Way, first: u64, rest: u64) -> Option<String> {
+    run(board, way, first)?;
+    run(board, way, rest)?;
+    shown(alloc, board)
 }
 
 /// What a board shows behind runs of these clocks.
 fn shown_in_pieces(alloc: Global, board: &Board, words: Words) -> Option<String> {
     let mut later = board.copy().ok()?;
-    for word in words.0.split_whitespace() {
-        later.run(word.parse::<u64>().ok()?).ok()?;
-    }
-    shown(alloc, &later)
+    let text = run_pieces(alloc, &mut later, words);
+    drop(later);
+    text
 }
 
-/// Runs the board with a stop that doesn't hold; `None` where it is told.
+fn run_pieces(alloc: Global, board: &mut Board, words: Words) -> Option<String> {
+    for word in words.0.split_whitespace() {
+        run(board, Way::Plain, word.parse::<u64>().ok()?)?;
+    }
+    shown(alloc, board)
+}
+
+/// Runs the board; `None` where that is refused, or a stop is told.
+fn run(board: &mut Board, way: Way, clocks: u64) -> Option<()> {
+    match way {
+        Way::Plain => board.run(clocks).ok(),
+        Way::PastStop => pass_the_stop(board, clocks),
+    }
+}
+
 fn pass_the_stop(board: &mut Board, clocks: u64) -> Option<()> {
     let stops = read_stops(NEVER)?;
     let stopped = board.run_until(clocks, &stops).ok()?;

@@ -1,7 +1,7 @@
 //! Cases of outside values for the system board. Of a case that differs the step that didn't come out is printed.
 //!
-//! A case is one line: `chips`, `board`, `timer` or `timer_8254`, a colon, and steps parted by semicolons, each a verb and
-//! its words. Ports, addresses, bytes and registers are hexadecimal; clocks, counts, sizes in KB, fault numbers and the
+//! A case is one line: `chips`, `board`, `heap`, `timer` or `timer_8254`, a colon, and steps parted by semicolons, each a
+//! verb and its words. Ports, addresses, bytes and registers are hexadecimal; clocks, counts, sizes in KB, fault numbers and the
 //! screen's lines, from 0, are decimal. Levels are `H` and `L`.
 //!
 //! Before the chips or the board are made: `put ADDRESS BYTE ..` into the image, from the address on,
@@ -16,19 +16,26 @@
 //!
 //! `board`: `run CLOCKS`, `refused CLOCKS FAULT NAME`, `clock CLOCK`, `state STATE`, `regs NAME=WORD ..` (all that
 //! aren't 0, from AX to FL), `byte ADDRESS BYTE`, `bytes ADDRESS BYTE ..` (from the address on), `lost COUNT`, `changes
-//! CLOCK-LEVEL ..` (all of the speaker's, as `72H 76L`), `screen LINE 'TEXT'`, `alone LINE 'TEXT'` (and the rest of the
-//! screen is blank), `blank` (the whole screen), `copy` (goes on with a copy), `keep` (a copy of the board as it stands),
-//! `again CLOCKS` (goes on with a copy of the one that was kept, and runs it), `until CLOCKS CLOCK NUMBER
-//! CONDITION ..` (a run that stops at this clock, by the condition of this number, or that has no stop where it is 0; a
-//! condition is `free`, `at CS IP`, `byte ADDRESS BYTE`, `sound` or `halted`), `last CLOCKS CLOCK NUMBER CONDITION ..` (a run
-//! to its end, at the last of whose clocks at which a condition held, both ends counted, it was the one of this number, or
-//! none held where it is 0), `trail COUNT` (of entries), `begun INDEX
-//! CLOCK CS IP BYTE ..` (the trail's entry at this index, from 0: an instruction), `entered INDEX CLOCK CS IP TYPE`,
+//! CLOCK-LEVEL ..` (all of the speaker's, as `72H 76L`), `decodes LEAST MOST` (how often an instruction was decoded since
+//! power-on), `screen LINE 'TEXT'`, `alone LINE 'TEXT'` (and the rest of the screen is blank), `blank` (the whole screen),
+//! `copy` (goes on with a copy), `keep` (a copy of the board as it stands), `again CLOCKS` (goes on with a copy of the one
+//! that was kept, and runs it), `until CLOCKS CLOCK NUMBER CONDITION ..` (a run that stops at this clock, by the condition
+//! of this number, or that has no stop where it is 0; a condition is `free`, `at CS IP`, `byte ADDRESS BYTE`, `sound` or
+//! `halted`), `last CLOCKS CLOCK NUMBER CONDITION ..` (a run to its end, at the last of whose clocks at which a condition
+//! held, both ends counted, it was the one of this number, or none held where it is 0), `trail COUNT` (of entries), `begun
+//! INDEX CLOCK CS IP BYTE ..` (the trail's entry at this index, from 0: an instruction), `entered INDEX CLOCK CS IP TYPE`,
 //! `work STEPS WORK` (of the run before it, one run alone: the turns that it took are at least its steps and at most
 //! three times its work and three more), `cut CLOCKS` (a run of so many clocks comes to the same report and trail where
 //! copies cut it in two, at each clock, by `run` and by `run_until` with a stop that never holds; the board itself stays),
-//! `single CLOCKS` (a copy that is run clock by clock shows at each what one run up to there shows), `pieces CLOCKS ..` (a
-//! copy that makes these runs one after another comes to what one run of their sum comes to).
+//! `single CLOCKS` (a copy that is run clock by clock shows at each what one run up to there shows, its memory too: of each
+//! 4,096 bytes the first and the last 64), `ticking CLOCKS` (the same of a copy that makes each clock by itself, without a
+//! leap: only the board's leaps are left out, for its timer lags behind as theirs does), `pieces CLOCKS ..` (a copy that
+//! makes these runs one after another comes to what one run of their sum comes to).
+//!
+//! `heap`, a board whose list of the speaker's changes lies in a heap of 4,096 bytes: `ram KB COUNT` makes it, with room
+//! for so many changes, and then there are `fill BYTES` (all of the heap is taken but so many bytes), `free` (they are given
+//! back), `reserve COUNT taken` or `reserve COUNT FAULT NAME` (room for so many changes more), and the steps of `board` but
+//! for `copy`, `keep`, `again` and those that compare or count runs.
 //!
 //! `timer`, the chips of a board with 16 KB, which make the timer's ticks late and many at once, beside a timer that makes
 //! each by itself: `out PORT BYTE`, `gate LEVEL` (of counter 2), `pass CLOCKS` (OUT2 has to agree after them), `in PORT`
@@ -40,6 +47,7 @@ mod bench;
 mod boards;
 mod chips;
 mod cuts;
+mod heap;
 mod lasts;
 mod parts;
 mod stops;
@@ -53,6 +61,7 @@ use board_types::choice::TimerKind;
 use boards::BoardBench;
 use cases::judge_cases;
 use chips::ChipsBench;
+use heap::follow_in_heap;
 use std::alloc::Global;
 use std::io;
 use timer::TimerBench;
@@ -65,14 +74,16 @@ fn main(rt: HostRuntime) -> io::Result<()> {
 fn judge(alloc: Global, case: &str) -> Result<()> {
     let (name, steps) = case.split_once(':').context("no colon")?;
     match name {
-        "chips" => follow(&mut ChipsBench::new(alloc), steps),
-        "board" => follow(&mut BoardBench::new(alloc), steps),
-        "timer" => follow(&mut timers(alloc, TimerKind::I8253)?, steps),
-        "timer_8254" => follow(&mut timers(alloc, TimerKind::I8254)?, steps),
+        "chips" => follow(ChipsBench::new(alloc), steps),
+        "board" => follow(BoardBench::new(alloc), steps),
+        "heap" => follow_in_heap(alloc, steps),
+        "timer" => follow_timers(alloc, TimerKind::I8253, steps),
+        "timer_8254" => follow_timers(alloc, TimerKind::I8254, steps),
         _ => bail!("nothing has this name"),
     }
 }
 
-fn timers(alloc: Global, kind: TimerKind) -> Result<TimerBench> {
-    TimerBench::new(alloc, kind).context("no memory")
+fn follow_timers(alloc: Global, kind: TimerKind, steps: &str) -> Result<()> {
+    let bench = TimerBench::new(alloc, kind).context("no memory")?;
+    follow(bench, steps)
 }

@@ -1,9 +1,14 @@
 //! What chips and boards are made of.
+ghost use Rattle.std.specs.Prelude.{◌≡◌, [], IfOk};
+
 use crate::words::Words;
+use board::board::{Board, BoardFault, Config};
 use board_types::choice::{ClockTable, TimerKind};
 use board_types::image::{Image, is_loadable};
 use board_types::keys::Keys;
+use memory::map::MemoryFault;
 use std::alloc::Global;
+use wiring::chips::Chips;
 
 /// The image, the key codes to come, the switches, the timer and the table of clocks.
 #[derive(Drop)]
@@ -29,6 +34,32 @@ impl Parts {
             timer: TimerKind::I8253,
             clocks: ClockTable::C1,
         }
+    }
+
+    /// The chips that are made of them.
+    pub fn chips(&self, ram_kb: u16) -> Result<Chips, MemoryFault> {
+        Chips::new(
+            self.alloc,
+            &self.image,
+            ram_kb,
+            self.sw1,
+            self.sw2,
+            self.timer,
+        )
+    }
+
+    /// A board that is made of them.
+    pub fn board(&self, ram_kb: u16) -> Result<Board, BoardFault>
+        ensures { IfOk result (λ board. board.changes ≡ []) }
+    {
+        let config = Config {
+            ram_kb,
+            sw1: self.sw1,
+            sw2: self.sw2,
+            timer: self.timer,
+            clocks: self.clocks,
+        };
+        Board::new(self.alloc, &self.image, config, self.keys.copy()?)
     }
 
     /// Makes a step that changes the parts.

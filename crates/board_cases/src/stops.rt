@@ -5,10 +5,11 @@ ghost use Rattle.board.specs.Stops.{HasAddress};
 use crate::words::Words;
 use board::board::Board;
 use board::stop::{Condition, Stops};
+use std::alloc::Allocator;
 
 /// Whether a run up to a stop comes to the clock, at the stop of this number, or at none where it is 0. The conditions
 /// stand behind.
-pub fn stops_so(board: &mut Board, mut words: Words) -> Option<bool> {
+pub fn stops_so<A: Allocator>(board: &mut Board<A>, mut words: Words) -> Option<bool> {
     let count = words.count()?;
     let clock = words.clock()?;
     let number = words.index()?;

@@ -3,6 +3,7 @@
 ghost use Rattle.std.specs.Prelude.{◌<◌, IfSome};
 
 use crate::bench::Bench;
+use crate::chips::go_on_with_a_copy;
 use crate::parts::Parts;
 use crate::words::Words;
 use board_types::choice::TimerKind;
@@ -91,10 +92,7 @@ impl Bench for TimerBench {
             "gate" => self.set_gate(words),
             "pass" => self.pass(words),
             "edge" => self.foresees(words),
-            "copy" => {
-                self.chips = self.chips.copy().ok()?;
-                Some(true)
-            }
+            "copy" => go_on_with_a_copy(&mut self.chips),
             _ => None,
         }
     }

@@ -2,10 +2,10 @@
 use crate::words::Words;
 use board::board::Board;
 use board::trail::{TRAIL_LENGTH, TrailEntry, TrailEvent};
-use std::alloc::Global;
+use std::alloc::{Allocator, Global};
 
 /// Whether the trail has so many entries.
-pub fn has_entries(board: &Board, count: usize) -> bool {
+pub fn has_entries<A: Allocator>(board: &Board<A>, count: usize) -> bool {
     board.trail(count).is_none() && (count == 0 || board.trail(count - 1).is_some())
 }
 
@@ -48,11 +48,15 @@ pub fn push_trail(alloc: Global, text: &mut String, board: &Board) -> Option<()>
         let Some(entry) = board.trail(index) else {
             return Some(());
         };
-        let place = place_text(alloc, &entry)?;
-        text.push_str(place.as_str()).ok()?;
-        push_event(alloc, text, &entry.event)?;
+        push_entry(alloc, text, &entry)?;
     }
     Some(())
+}
+
+fn push_entry(alloc: Global, text: &mut String, entry: &TrailEntry) -> Option<()> {
+    let place = place_text(alloc, entry)?;
+    text.push_str(place.as_str()).ok()?;
+    push_event(alloc, text, &entry.event)
 }
 
 fn place_text(alloc: Global, entry: &TrailEntry) -> Option<String> {

@@ -44,6 +44,11 @@ impl<'a> Words<'a> {
         self.word()?.parse::<u64>().ok()
     }
 
+    /// A size in KB, in decimal.
+    pub fn size(&mut self) -> Option<u16> {
+        u16::try_from(self.count()?).ok()
+    }
+
     /// A number of things in memory, in decimal.
     pub fn index(&mut self) -> Option<usize> {
         self.word()?.parse::<usize>().ok()

@@ -1,0 +1,94 @@
+//! Steps on a board whose list of the speaker's changes lies in a heap of its own, which can be full.
+use crate::bench::{Bench, follow};
+use crate::boards::{change, is_fault};
+use crate::parts::Parts;
+use crate::words::Words;
+use anyhow::Result;
+use board::board::Board;
+use linked_list_allocator::LocalHeap;
+use std::alloc::{Allocator, Global};
+use std::mem;
+
+/// How many bytes the heap has.
+const SIZE: usize = 4_096;
+
+/// Makes the steps, up to the first that doesn't come out, which the error names.
+pub fn follow_in_heap(alloc: Global, steps: &str) -> Result<()> {
+    let heap = LocalHeap::new(alloc, SIZE)?;
+    follow(HeapBench::new(alloc, &heap), steps)
+}
+
+/// The parts, and the board that was made of them.
+#[derive(Drop)]
+struct HeapBench<'h> {
+    heap: &'h LocalHeap,
+    parts: Parts,
+    board: Option<Board<&'h LocalHeap>>,
+    /// What is taken of the heap besides.
+    filler: Option<Vec<u8, &'h LocalHeap>>,
+}
+
+impl<'h> HeapBench<'h> {
+    /// Parts and no board.
+    fn new(alloc: Global, heap: &'h LocalHeap) -> Self {
+        HeapBench {
+            heap,
+            parts: Parts::new(alloc),
+            board: None,
+            filler: None,
+        }
+    }
+
+    /// Makes the board, whose list has room for so many changes.
+    fn build(&mut self, mut words: Words) -> Option<bool> {
+        let ram_kb = words.size()?;
+        let changes = Vec::with_capacity(self.heap, words.index()?).ok()?;
+        let board = self.parts.board(ram_kb).ok()?;
+        self.put(board.with_changes(changes))
+    }
+
+    fn put(&mut self, board: Board<&'h LocalHeap>) -> Option<bool> {
+        drop(self.board.replace(board));
+        Some(true)
+    }
+
+    /// Takes all of the heap but so many bytes.
+    fn fill(&mut self, left: usize) -> Option<bool> {
+        let size = self.heap.free().checked_sub(left)?;
+        let filler = Vec::with_capacity(self.heap, size).ok()?;
+        self.put_filler(Some(filler))
+    }
+
+    fn put_filler(&mut self, filler: Option<Vec<u8, &'h LocalHeap>>) -> Option<bool> {
+        drop(mem::replace(&mut self.filler, filler));
+        Some(true)
+    }
+
+    /// Makes a step on the board, if there is one.
+    fn go_on(&mut self, verb: &str, words: Words) -> Option<bool> {
+        match &mut self.board {
+            Some(board) if verb == "reserve" => reserves(board, words),
+            Some(board) => change(board, verb, words),
+            None if verb == "ram" => self.build(words),
+            None => self.parts.set(verb, words),
+        }
+    }
+}
+
+impl<'h> Bench for HeapBench<'h> {
+    fn make(&mut self, verb: &str, mut words: Words) -> Option<bool> {
+        match verb {
+            "fill" => self.fill(words.index()?),
+            "free" => self.put_filler(None),
+            _ => self.go_on(verb, words),
+        }
+    }
+}
+
+/// Whether room is made for so many changes, or is refused by this fault.
+fn reserves<A: Allocator>(board: &mut Board<A>, mut words: Words) -> Option<bool> {
+    match board.reserve_speaker(words.index()?) {
+        Ok(()) => Some(words.word()? == "taken"),
+        Err(fault) => is_fault(fault, words),
+    }
+}
