@@ -2,6 +2,7 @@
 
 use crate::code::{Code, SEGMENT};
 use anyhow::{Context, Result, bail};
+use board_types::choice::ClockTable;
 use decode::decode::decode;
 use decode::decoding::Decoding;
 use disassembler::text::InstrText;
@@ -89,7 +90,7 @@ fn judge_cost(bytes: &str, cl: &str, found: &str, clocks: &str) -> Result<()> {
     match decode(&code, SEGMENT, code.ip).unpack() {
         Decoding::NoRow => bail!("no row"),
         Decoding::Found(instr, _) => {
-            let taken = cost(&instr, &outcome).0;
+            let taken = cost(&instr, &outcome, ClockTable::C1).0;
             if taken != clocks.parse()? {
                 bail!("costs {taken}");
             }
