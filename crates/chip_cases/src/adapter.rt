@@ -4,7 +4,8 @@ ghost use Rattle.std.specs.Prelude.{◌<◌, IfSome};
 use anyhow::{Result, ensure};
 use board_types::timed::Timed;
 use mda_text::mda::{COLUMNS, Mda, ROWS};
-use std::alloc::Global;
+use std::alloc::{AllocError, Global};
+use std::mem;
 use std::str::SplitWhitespace;
 
 /// How many bytes text memory has.
@@ -47,25 +48,48 @@ pub fn obey(mda: &mut Mda, alloc: Global, command: &str) -> Result<()> {
 fn comes_out(mda: &mut Mda, alloc: Global, command: &str) -> Option<bool> {
     let mut words = Operands(command.split_whitespace());
     match words.0.next()? {
-        "new" => *mda = Mda::new(alloc).ok()?,
-        "copy" => *mda = mda.copy().ok()?,
+        "new" => put(mda, Mda::new(alloc)),
+        "copy" => {
+            let copy = mda.copy();
+            put(mda, copy)
+        }
+        "line" => has_line(mda, command),
+        "poke" => poke(mda, words),
+        "changed" => names(mda, words),
+        verb => access(mda, verb, words),
+    }
+}
+
+/// Puts an adapter in the place of another.
+fn put(place: &mut Mda, made: Result<Mda, AllocError>) -> Option<bool> {
+    drop(mem::replace(place, made.ok()?));
+    Some(true)
+}
+
+/// Makes a command of at most three operands.
+fn access(mda: &mut Mda, verb: &str, mut words: Operands) -> Option<bool> {
+    match verb {
         "out" => mda.write_port(words.word()?, words.byte()?),
-        "poke" => poke(mda, words)?,
         "clocks" => mda.advance(words.number()?),
-        "in" => return Some(mda.read_port(words.word()?) == words.byte()?),
-        "peek" => return Some(mda.read_mem(words.offset()?) == words.byte()?),
-        "cell" => return shows(mda, words.byte()?, words.byte()?, words.byte()?),
         "mark" => return Some(mda.mark() == words.number()?),
-        "changed" => return names(mda, words),
-        "all" => return Some(mda.changed_since(words.number()?).count() == 2000),
-        "line" => return has_line(mda, command),
-        _ => return None,
+        _ => return tells(mda, verb, words),
     }
     Some(true)
 }
 
+/// Makes one that only looks at the adapter.
+fn tells(mda: &Mda, verb: &str, mut words: Operands) -> Option<bool> {
+    Some(match verb {
+        "in" => mda.read_port(words.word()?) == words.byte()?,
+        "peek" => mda.read_mem(words.offset()?) == words.byte()?,
+        "all" => mda.changed_since(words.number()?).count() == 2000,
+        "cell" => return shows(mda, words.byte()?, words.byte()?, words.byte()?),
+        _ => return None,
+    })
+}
+
 /// Writes bytes from an offset of text memory on, one by one.
-fn poke(mda: &mut Mda, mut words: Operands) -> Option<()> {
+fn poke(mda: &mut Mda, mut words: Operands) -> Option<bool> {
     let mut offset = words.offset()?;
     for word in words.0 {
         if offset >= TEXT_SIZE {
@@ -74,7 +98,7 @@ fn poke(mda: &mut Mda, mut words: Operands) -> Option<()> {
         mda.write_mem(offset, u8::from_str_radix(word, 16).ok()?);
         offset += 1;
     }
-    Some(())
+    Some(true)
 }
 
 fn shows(mda: &Mda, row: u8, column: u8, character: u8) -> Option<bool> {

@@ -25,13 +25,16 @@ pub fn follow_counter(kind: TimerKind, case: &str) -> Result<()> {
     let now = parts.next().context("no state")?;
     compare(kind, &pit, now, now.split_whitespace())?;
     for part in parts {
-        let mut words = part.split_whitespace();
-        let ticks = decimal(words.next()).context("no ticks")?;
-        let mut ahead = pit;
-        ahead.advance(ticks);
-        compare(kind, &ahead, part, words)?;
+        compare_ahead(kind, pit, part)?;
     }
     Ok(())
+}
+
+/// Compares a counter so many ticks ahead with what the part says behind their number.
+fn compare_ahead(kind: TimerKind, mut pit: Pit, part: &str) -> Result<()> {
+    let mut words = part.split_whitespace();
+    pit.advance(decimal(words.next()).context("no ticks")?);
+    compare(kind, &pit, part, words)
 }
 
 /// Makes an operation: a control word or a read-back, a byte written or read, a level of the gate, ticks, or none.
@@ -54,40 +57,55 @@ fn operate(pit: &mut Pit, operation: &str) -> Result<()> {
 /// changes.
 fn compare(kind: TimerKind, pit: &Pit, part: &str, mut words: SplitWhitespace) -> Result<()> {
     let out = words.next().context("no level")? == "1";
-    let count = u16::from_str_radix(words.next().context("no count")?, 16)?;
-    let mut read = *pit;
-    read.write(3, READS_BOTH);
-    let low = u16::from(read.read(0));
-    let high = u16::from(read.read(0));
     ensure!(pit.out(0).is_high() == out, "OUT at {part}");
-    ensure!(256 * high + low == count, "{high:02X}{low:02X} at {part}");
+    let count = hexadecimal(words.next()).context("no count")?;
+    let found = count_of(*pit);
+    ensure!(found == count, "{found:04X} at {part}");
     if kind == TimerKind::I8254 {
-        let status = u8::from_str_radix(words.next().context("no status")?, 16)?;
-        let mut back = *pit;
-        back.write(3, READS_STATUS);
-        ensure!(back.read(0) == status, "the status at {part}");
+        let status = hexadecimal(words.next()).context("no status")?;
+        ensure!(status_of(*pit) == status, "the status at {part}");
     }
-    ensure!(
-        is_told(pit.until_change(0), words.next()),
-        "the next change at {part}"
-    );
-    Ok(())
+    judge_change(pit.until_change(0), words.next(), part)
+}
+
+fn count_of(mut pit: Pit) -> u16 {
+    pit.write(3, READS_BOTH);
+    let low = u16::from(pit.read(0));
+    256 * u16::from(pit.read(0)) + low
+}
+
+fn status_of(mut pit: Pit) -> u16 {
+    pit.write(3, READS_STATUS);
+    u16::from(pit.read(0))
 }
 
 /// Lets the raster of an adapter at power-on go on by as many clocks as each part says, one after another, and compares
 /// the status and the clocks until its bit 0 changes with what it says.
 pub fn follow_raster(alloc: Global, case: &str) -> Result<()> {
     let mut mda = Mda::new(alloc)?;
+    let answer = follow_parts(&mut mda, case);
+    drop(mda);
+    answer
+}
+
+fn follow_parts(mda: &mut Mda, case: &str) -> Result<()> {
     for part in case.split('|') {
-        let mut words = part.split_whitespace();
-        mda.advance(decimal(words.next()).context("no clocks")?);
-        let status = u8::from_str_radix(words.next().context("no status")?, 16)?;
-        ensure!(mda.read_port(STATUS_PORT) == status, "the status at {part}");
-        ensure!(
-            is_told(mda.until_change(), words.next()),
-            "the next change at {part}"
-        );
+        follow_part(mda, part)?;
     }
+    Ok(())
+}
+
+fn follow_part(mda: &mut Mda, part: &str) -> Result<()> {
+    let mut words = part.split_whitespace();
+    mda.advance(decimal(words.next()).context("no clocks")?);
+    let status = hexadecimal(words.next()).context("no status")?;
+    let found = u16::from(mda.read_port(STATUS_PORT));
+    ensure!(found == status, "the status at {part}");
+    judge_change(mda.until_change(), words.next(), part)
+}
+
+fn judge_change(turn: Option<u64>, word: Option<&str>, part: &str) -> Result<()> {
+    ensure!(is_told(turn, word), "the next change at {part}");
     Ok(())
 }
 
@@ -100,4 +118,8 @@ fn is_told(turn: Option<u64>, word: Option<&str>) -> bool {
 
 fn decimal(word: Option<&str>) -> Option<u64> {
     word?.parse().ok()
+}
+
+fn hexadecimal(word: Option<&str>) -> Option<u16> {
+    u16::from_str_radix(word?, 16).ok()
 }

@@ -9,8 +9,12 @@ pub trait Bench {
     fn access(&mut self, verb: Verb, place: u64, value: u64) -> Option<u64>;
 }
 
-/// Makes `steps`, parted by semicolons, up to the first that fails, which the error names.
-pub fn follow<B: Bench>(bench: &mut B, steps: &str) -> Result<()> {
+/// Makes `steps`, parted by semicolons, up to the first that fails, which the error names; and lets go of the bench.
+pub fn follow<B: Bench + Drop>(mut bench: B, steps: &str) -> Result<()> {
+    follow_on(&mut bench, steps)
+}
+
+fn follow_on<B: Bench>(bench: &mut B, steps: &str) -> Result<()> {
     for step in steps.split(';') {
         make(bench, step).context(step.trim())?;
     }
@@ -21,12 +25,7 @@ pub fn follow<B: Bench>(bench: &mut B, steps: &str) -> Result<()> {
 fn make<B: Bench>(bench: &mut B, step: &str) -> Result<()> {
     let (name, operands) = first_word(step);
     let (verb, place_radix, radix) = verb_of(name).context("no such verb")?;
-    let (place, values) = if place_radix == 0 {
-        (0, operands)
-    } else {
-        let (place, values) = first_word(operands);
-        (number(place, place_radix).context("no such place")?, values)
-    };
+    let (place, values) = place_in(operands, place_radix).context("no such place")?;
     if radix == 0 {
         ensure!(values.is_empty(), "no values");
         bench.access(verb, place, 0).context("refused")?;
@@ -34,10 +33,31 @@ fn make<B: Bench>(bench: &mut B, step: &str) -> Result<()> {
     }
     ensure!(!values.is_empty(), "a value is missing");
     for word in values.split_whitespace() {
-        let value = number(word, radix).context("no such value")?;
-        let came = bench.access(verb, place, value).context("refused")?;
-        ensure!(came == value, "wanted {word}, came {came:02X}");
+        make_access(bench, verb, place, number(word, radix), word)?;
     }
+    Ok(())
+}
+
+/// The place that stands first, where the verb has one, and what follows it.
+fn place_in(operands: &str, radix: u32) -> Option<(u64, &str)> {
+    if radix == 0 {
+        return Some((0, operands));
+    }
+    let (place, values) = first_word(operands);
+    Some((number(place, radix)?, values))
+}
+
+/// Makes the access of one value, which stands as `word`.
+fn make_access<B: Bench>(
+    bench: &mut B,
+    verb: Verb,
+    place: u64,
+    value: Option<u64>,
+    word: &str,
+) -> Result<()> {
+    let value = value.context("no such value")?;
+    let came = bench.access(verb, place, value).context("refused")?;
+    ensure!(came == value, "wanted {word}, came {came:02X}");
     Ok(())
 }
 

@@ -77,14 +77,14 @@ fn main(rt: HostRuntime) -> io::Result<()> {
 fn judge(mda: &mut Mda, alloc: Global, case: &str) -> Result<()> {
     let (name, steps) = case.split_once(':').context("no colon")?;
     match name {
-        "pit" => follow(&mut Pit::new(), steps),
-        "pit_8254" => follow(&mut Pit::with(TimerKind::I8254), steps),
-        "pic" => follow(&mut Pic::new(), steps),
-        "ppi" => follow(&mut Port::new(), steps),
-        "keyboard" => follow(&mut Keyboards::new(alloc)?, steps),
-        "memory" => follow(&mut Memories::new(alloc), steps),
-        "keys" => follow(&mut KeyCodes::new(alloc), steps),
-        "words" => follow(&mut Words::new(), steps),
+        "pit" => follow(Pit::new(), steps),
+        "pit_8254" => follow(Pit::with(TimerKind::I8254), steps),
+        "pic" => follow(Pic::new(), steps),
+        "ppi" => follow(Port::new(), steps),
+        "keyboard" => follow(Keyboards::new(alloc)?, steps),
+        "memory" => follow(Memories::new(alloc), steps),
+        "keys" => follow(KeyCodes::new(alloc), steps),
+        "words" => follow(Words::new(), steps),
         "counter" => follow_counter(TimerKind::I8253, steps),
         "counter_8254" => follow_counter(TimerKind::I8254, steps),
         "raster" => follow_raster(alloc, steps),

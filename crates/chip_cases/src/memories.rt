@@ -41,7 +41,8 @@ impl Bench for Keyboards {
             }
             Verb::Copy => {
                 let copy = self.keyboard.copy().ok()?;
-                self.aside = mem::replace(&mut self.keyboard, copy);
+                let keyboard = mem::replace(&mut self.keyboard, copy);
+                drop(mem::replace(&mut self.aside, keyboard));
             }
             Verb::Swap => mem::swap(&mut self.keyboard, &mut self.aside),
             _ => return None,
@@ -79,7 +80,7 @@ impl Memories {
     fn make(&mut self, ram_kb: u16) -> u64 {
         match Memory::new(self.alloc, ram_kb, &self.image) {
             Ok(memory) => {
-                self.memory = Some(memory);
+                drop(self.memory.replace(memory));
                 0
             }
             Err(fault) => u64::from(fault.number()),
@@ -109,7 +110,10 @@ fn access_memory(memory: &mut Memory, verb: Verb, addr: u32, value: u64) -> Opti
     match verb {
         Verb::Write => memory.write(addr, u8::try_from(value).ok()?),
         Verb::Read => return Some(u64::from(memory.read(addr))),
-        Verb::Copy => *memory = memory.copy().ok()?,
+        Verb::Copy => {
+            let copy = memory.copy().ok()?;
+            drop(mem::replace(memory, copy));
+        }
         _ => return None,
     }
     Some(value)
