@@ -11,7 +11,7 @@ from tests.support import ToolCase, example
 
 EXAMPLES = ('readback', 'tone', 'nested')  # a counter that is read back, the speaker, keys and the timer's interrupts
 CHOICES = [{'timer': timer, 'clocks': clocks} for timer, clocks in itertools.product(('8253', '8254'), ('C1', 'C2'))]
-STOP = {'readback': 'byte 400 F6', 'tone': 'sound', 'nested': 'halted'}
+STOP = {'readback': 'break F000:0067', 'tone': 'sound', 'nested': 'halted'}
 LAST, SHOWN = 600, 'regs\nscreen\ntrail\ndump 400 16\ndump B0000 160\n'
 
 

@@ -180,11 +180,11 @@ class Terminal(ToolCase):
         os.close(self.terminal)
         os.waitpid(self.pid, 0)
 
-    def wait_for(self, text: str, meanwhile: bytes = b'') -> str:
-        """What is shown before a text; while nothing is, something is typed again and again."""
+    def wait_for(self, text: str, meanwhile: bytes = b'', pause: float = 0.5) -> str:
+        """What is shown before a text; while nothing is for so many seconds, something is typed again and again."""
         until = time.monotonic() + 60
         while text not in self.shown and time.monotonic() < until:
-            if select.select([self.terminal], [], [], 0.5)[0]:
+            if select.select([self.terminal], [], [], pause)[0]:
                 self.shown += os.read(self.terminal, 4096).decode()
             elif meanwhile:
                 os.write(self.terminal, meanwhile)
@@ -211,7 +211,8 @@ class Terminal(ToolCase):
         os.write(self.terminal, b'go 100000')
         self.wait_for('go 100000')
         os.write(self.terminal, b'\x03')
-        self.wait_for('dbg> ')
+        # Python's reader of lines sees a control-C late that comes just before it begins to wait.
+        self.wait_for('dbg> ', b'\x03', pause=5)
         self.assertEqual(self.say('where'), before)
 
 
