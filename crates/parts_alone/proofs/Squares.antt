@@ -5,6 +5,7 @@ use Rattle.std.proofs.Common.{◌≡◌, ℕ, Bool, not, [], ◌∷◌, ◌++◌
 use Rattle.board_types.specs.Iterate.{iterate}
 use Rattle.board_types.specs.Lines.{is_high}
 use Rattle.board_types.specs.contracts.line.Line.{the_type}
+use Rattle.board_types.specs.declared.choice.TimerKind.TheVariants.{I8253}
 use Rattle.board_types.specs.declared.line.Line.{Line}
 use Rattle.board_types.specs.declared.line.Line.TheVariants.{Low, High}
 use Rattle.pit8253.specs.declared.program.Radix.TheVariants.{Binary}
@@ -19,11 +20,11 @@ use Rattle.parts_alone.specs.Timer.{changes, level_after, square}
 
 -- counter 2 with its gate high
 abbrev gated : CounterState
-gated = one.after_gate (one.power_on Low) High
+gated = one.after_gate (one.power_on I8253 Low) High
 
 -- the timer after the words of its programming
 abbrev pub programmed : ℕ → ℕ → PitState
-programmed low high = after_write (after_write (after_write (after_gate power_on 2 High) 3 0xB6) 2 low) 2 high
+programmed low high = after_write (after_write (after_write (after_gate (power_on I8253) 2 High) 3 0xB6) 2 low) 2 high
 
 is_set_up : (low high : ℕ) → (programmed low high).counter_2 ≡ after_setup gated 0x36 low high
 unfolding power_on after_gate after_write one.after_gate one.after_write one.after_control_word
