@@ -17,8 +17,8 @@ class Sorry(Exception):
 
 def parser(doc: str) -> argparse.ArgumentParser:
     """A parser whose help is the tool's own docstring."""
-    tool = os.path.basename(sys.argv[0])
-    return argparse.ArgumentParser(prog=f'tools/{tool}', description=doc, allow_abbrev=False,
+    folder, tool = os.path.split(os.path.realpath(sys.argv[0]))
+    return argparse.ArgumentParser(prog=f'{os.path.basename(folder)}/{tool}', description=doc, allow_abbrev=False,
                                    formatter_class=argparse.RawDescriptionHelpFormatter)
 
 
@@ -52,18 +52,50 @@ def waiting(what: str, seconds: float = 2) -> Iterator[Callable[[str], None]]:
 
 def start(main: Callable[[list[str]], int]) -> None:
     """Runs a tool to its exit status; a reader that goes away, as `head` does, is no mistake."""
+    with_streams()
     try:
-        status = main(sys.argv[1:])
+        status = status_of(main)
         sys.stdout.flush()
     except Sorry as sorry:
-        print(f'{os.path.basename(sys.argv[0])}: {sorry}', file=sys.stderr)
-        status = HINT_STATUS
+        status = refuse(str(sorry))
     except BrokenPipeError:
-        os.dup2(os.open(os.devnull, os.O_WRONLY), sys.stdout.fileno())
+        silence()
         status = 0
+    except OSError as error:
+        silence()
+        status = refuse(f'{error.filename}: {error.strerror}' if error.filename else str(error.strerror or error))
     except KeyboardInterrupt:
+        silence()
         status = 130
     sys.exit(status)
+
+
+def status_of(main: Callable[[list[str]], int]) -> int:
+    """A tool's exit status, also where its parser ends it behind the help, which may not be written yet."""
+    try:
+        return main(sys.argv[1:])
+    except SystemExit as ended:
+        return ended.code if isinstance(ended.code, int) else int(ended.code is not None)
+
+
+def refuse(sentence: str) -> int:
+    """Tells why the tool can't do it, and returns the status."""
+    with contextlib.suppress(OSError):
+        print(f'{os.path.basename(sys.argv[0])}: {sentence}', file=sys.stderr)
+    return HINT_STATUS
+
+
+def silence() -> None:
+    """What isn't written to standard output yet is dropped, so that Python doesn't try it again at its end."""
+    os.dup2(os.open(os.devnull, os.O_WRONLY), sys.stdout.fileno())
+
+
+def with_streams() -> None:
+    """In place of a standard stream that the tool was started without stands one that is empty."""
+    for number, name, mode in ((0, 'stdin', 'r'), (1, 'stdout', 'w'), (2, 'stderr', 'w')):
+        if getattr(sys, name) is None:
+            os.dup2(os.open(os.devnull, os.O_RDWR), number)
+            setattr(sys, name, open(number, mode, encoding='utf-8'))  # pylint: disable=consider-using-with
 
 
 def read_text(path: str) -> str:

@@ -26,7 +26,7 @@ class Build(ToolCase):
         super().setUp()
         os.makedirs(f'{self.room}/top/tools/board')
         for name in ('pcboard', 'tools/build', 'tools/board/__init__.py', 'tools/board/building.py',
-                     'tools/board/crates.py'):
+                     'tools/board/command.py', 'tools/board/crates.py'):
             shutil.copy(f'{TOP}/{name}', f'{self.room}/top/{name}')
         for name in ('low', 'pcboard', 'other'):
             os.makedirs(f'{self.room}/top/crates/{name}/src')

@@ -26,6 +26,7 @@ class Contracts(ToolCase):
         for folder in ('tools', 'docs'):
             (self.path / folder).mkdir()
         shutil.copy(f'{TOOLS}/contracts', f'{self.room}/tools/contracts')
+        shutil.copytree(f'{TOOLS}/board', f'{self.room}/tools/board', ignore=shutil.ignore_patterns('__pycache__'))
         shutil.copytree(f'{TOP}/crates/bus', f'{self.room}/crates/bus', ignore=shutil.ignore_patterns('out'))
         self.file('crates.txt', '# Libraries.\nbus: board_types\n')
         self.assertEqual(self.run_it('--check'), 1)
@@ -42,7 +43,7 @@ class Contracts(ToolCase):
 
     def test_words(self) -> None:
         self.assertIn('--write', self.tool('contracts', '--help')[0])
-        self.assertIn('--write', self.tool('contracts', 'board', status=2)[0])
+        self.assertIn('--write', self.tool('contracts', 'board', status=2)[1])
 
 
 if __name__ == '__main__':

@@ -47,7 +47,7 @@ class Refused(ToolCase):
         super().setUp()
         for folder in ('bin', 'top/dev', 'top/tools/board'):
             os.makedirs(f'{self.room}/{folder}')
-        for file in ('dev/refused', 'tools/board/__init__.py', *(f'tools/board/{it}.py' for it in ('building', 'crates', 'edits'))):
+        for file in ('dev/refused', 'tools/board/__init__.py', *(f'tools/board/{it}.py' for it in ('building', 'command', 'crates', 'edits'))):
             shutil.copy(f'{TOP}/{file}', f'{self.room}/top/{file}')
         for name in ('low', 'high', 'broken'):
             for folder in ('src', 'refused', 'must-fail'):

@@ -1,0 +1,134 @@
+"""Every tool: help at once, words that aren't its own refused, and no traceback whatever is in its way. A tool that is added
+under tools/, dev/ or bench/ is among them by itself."""
+from __future__ import annotations
+
+import concurrent.futures as futures
+import os
+import signal
+import subprocess
+import time
+import unittest
+from collections.abc import Callable
+
+from tests.support import EXAMPLES, TOP, ToolCase
+
+FOLDERS = ('tools', 'dev', 'bench')
+SECONDS = 60  # so long nothing takes, on a busy machine too; a proof takes longer
+# Words with a path, `{}`, beyond those that are tried of each tool: one path, two and three.
+WORDS = ('tools/judge --same all {} {}', 'tools/judge --class {} {}', 'tools/judge {} - --run {}', 'tools/keys a --run {}',
+         'tools/keys --read {}', 'tools/picture it.svg --of {} {}', 'tools/runfile --from {}', 'tools/sound {}',
+         'tools/trace --vcd {} hello.asm hello.json', 'tools/trace --hex {} hello.json', 'tools/try hello.asm --run {}',
+         'tools/try hello.asm --write {}', 'tools/why run {} hello.json', 'tools/why run hello.asm {}', 'tools/why --all {}',
+         'tools/why fault {}', 'tools/dbg hello.asm {}', 'bench/count {} --steps')
+MAY_SUCCEED = {'tools/why fault', 'tools/trace --vcd', 'tools/try hello.asm --write'}
+
+
+def tools() -> list[str]:
+    """All files there that can be started."""
+    paths = [f'{folder}/{name}' for folder in FOLDERS for name in sorted(os.listdir(f'{TOP}/{folder}'))]
+    return [it for it in paths if os.path.isfile(f'{TOP}/{it}') and os.access(f'{TOP}/{it}', os.X_OK)]
+
+
+class EveryTool(ToolCase):
+    """Each one, in a folder of its own, where no `rt` is and nothing is kept."""
+
+    def setUp(self) -> None:
+        super().setUp()
+        for name in ('hello.asm', 'hello.json'):
+            os.symlink(f'{EXAMPLES}/{name}', f'{self.room}/{name}')
+        from board import program
+        self.environment = {'PATH': '/usr/bin:/bin', 'HOME': self.room, 'PCBOARD': program.path()}
+
+    def begin(self, tool: str, *words: str, out: int = subprocess.PIPE) -> subprocess.Popen[str]:
+        """Starts a tool, whose standard input is empty."""
+        return subprocess.Popen([f'{TOP}/{tool}', *words], stdin=subprocess.DEVNULL, stdout=out, stderr=subprocess.PIPE, text=True,
+                                cwd=self.room, env=self.environment, start_new_session=True)
+
+    def run_tool(self, line: str, out: int = subprocess.PIPE) -> tuple[int, str, str]:
+        """Its status and what it prints. It neither ends in a traceback nor begins to prove."""
+        with self.begin(*line.split(), out=out) as process:
+            try:
+                printed, told = process.communicate(timeout=SECONDS)
+            except subprocess.TimeoutExpired:
+                os.killpg(process.pid, signal.SIGKILL)
+                self.fail(f'{line}: it goes on for {SECONDS} seconds')
+        for sign in ('Traceback', 'Exception ignored'):
+            self.assertNotIn(sign, told, line)
+        self.assertFalse(os.path.exists(f'{self.room}/.cache'), line)
+        return process.returncode, printed, told
+
+    def each(self, check: Callable[[str], None], lines: list[str]) -> None:
+        """Checks all of them, some side by side."""
+        with futures.ThreadPoolExecutor(4) as pool:
+            for line, one in [(line, pool.submit(check, line)) for line in lines]:
+                with self.subTest(line=line):
+                    one.result()
+
+    def test_there_are_tools_in_each_folder(self) -> None:
+        self.assertEqual({it.partition('/')[0] for it in tools()}, set(FOLDERS))
+        for tool in tools():
+            with open(f'{TOP}/{tool}', encoding='utf-8') as file:
+                self.assertTrue(file.read(2) == '#!', tool)
+
+    def test_help_is_given_at_once(self) -> None:
+        def check(tool: str) -> None:
+            status, printed, told = self.run_tool(f'{tool} --help')
+            self.assertEqual((status, told), (0, ''), tool)
+            self.assertIn(os.path.basename(tool), printed, tool)
+            self.assertGreater(len(printed), 200, tool)
+        self.each(check, tools())
+
+    def test_unknown_words_are_refused(self) -> None:
+        def check(tool: str) -> None:
+            status, printed, told = self.run_tool(f'{tool} --nonsense')
+            self.assertEqual((status, printed), (2, ''), tool)
+            self.assertIn(os.path.basename(tool), told, tool)
+        self.each(check, tools())
+
+    def test_a_closed_pipe(self) -> None:
+        def check(tool: str) -> None:
+            reading, writing = os.pipe()
+            os.close(reading)
+            try:
+                status, _, told = self.run_tool(f'{tool} --help', out=writing)
+            finally:
+                os.close(writing)
+            self.assertEqual((status, told), (0, ''), tool)
+        self.each(check, tools())
+
+    def test_a_missing_file_and_a_folder_for_a_file(self) -> None:
+        def check(line: str) -> None:
+            status, _, told = self.run_tool(line)
+            if not any(line.startswith(it) for it in MAY_SUCCEED):
+                self.assertGreater(status, 0, line)
+                self.assertNotEqual(told, '', line)
+        lines = [*WORDS, *(f'{tool} {{}} {{}}' for tool in tools())]
+        self.each(check, [it.replace('{}', path) for it in lines for path in (f'{self.room}/none/none', self.room)])
+
+    def test_control_c(self) -> None:
+        """As the terminal sends it, where a tool waits for a file."""
+        os.mkfifo(f'{self.room}/waits')
+        for line in ('tools/judge waits', 'tools/keys --read waits', 'tools/table waits', 'tools/try hello.asm --run waits',
+                     'tools/why run waits hello.json', 'tools/runfile --from waits', 'tools/trace hello.asm waits', 'tools/dbg hello.asm waits'):
+            with self.subTest(line=line), self.begin(*line.split()) as process:
+                writing = self.opened(process, f'{self.room}/waits')
+                os.killpg(process.pid, signal.SIGINT)
+                _, told = process.communicate(timeout=SECONDS)
+                os.close(writing)
+                self.assertNotIn('Traceback', told, line)
+                self.assertNotEqual(process.returncode, 0, line)
+
+    def opened(self, process: subprocess.Popen[str], path: str) -> int:
+        """The other end of a pipe, once the tool has opened it."""
+        until = time.monotonic() + SECONDS
+        while time.monotonic() < until and process.poll() is None:
+            try:
+                return os.open(path, os.O_WRONLY | os.O_NONBLOCK)
+            except OSError:
+                time.sleep(0.01)
+        process.kill()
+        return self.fail(f'it never opened the pipe: {process.args!r}')
+
+
+if __name__ == '__main__':
+    unittest.main()
