@@ -3,7 +3,10 @@ import contextlib
 import io
 import os
 import shutil
+import re
 import subprocess
+import unittest
+from collections.abc import Callable
 
 from board import building
 from tests.support import TOP, ToolCase
@@ -19,13 +22,38 @@ printf '#!/bin/sh\necho "it runs $*"\n' > out/pcboard; chmod +x out/pcboard
 """
 
 
+def kit_of_readme() -> tuple[str, str]:
+    """The kit and the logic with which it was proved, by README's end."""
+    with open(f'{TOP}/README.md', encoding='utf-8') as page:
+        kit, logic = re.findall(r'^(rattle-kit-\S+) logic ([0-9a-f]+)$', page.read(), re.M)[0]
+    return kit, logic
+
+
+class Version(unittest.TestCase):
+    """What tells the version, and the kit."""
+
+    def test_the_newest_changes_are_those_of_the_version(self) -> None:
+        with open(f'{TOP}/VERSION', encoding='ascii') as version, open(f'{TOP}/CHANGELOG.md', encoding='utf-8') as changes:
+            self.assertEqual(re.findall(r'^# (\d.*)$', changes.read(), re.M)[0], version.read().strip())
+
+    def test_the_logic_is_that_of_rt(self) -> None:
+        """Another kit of the same logic is told, and no failure."""
+        if not shutil.which('rt'):
+            return
+        kit, logic = kit_of_readme()
+        here, _, its_logic = subprocess.run(['rt', 'version'], capture_output=True, text=True, check=True).stdout.split()
+        self.assertEqual(its_logic, logic)
+        if here != kit:
+            print(f'README was proved with {kit}, and {here} of the same logic is here')
+
+
 class Build(ToolCase):
     """The program's way from nothing to its run."""
 
     def setUp(self) -> None:
         super().setUp()
         os.makedirs(f'{self.room}/top/tools/board')
-        for name in ('pcboard', 'tools/build', 'tools/board/__init__.py', 'tools/board/building.py',
+        for name in ('pcboard', 'VERSION', 'README.md', 'tools/build', 'tools/board/__init__.py', 'tools/board/building.py',
                      'tools/board/command.py', 'tools/board/crates.py'):
             shutil.copy(f'{TOP}/{name}', f'{self.room}/top/{name}')
         for name in ('low', 'pcboard', 'other'):
@@ -37,10 +65,26 @@ class Build(ToolCase):
         for name, text in (('rt', ''), ('rattle', RATTLE), ('rattle-link', LINK)):
             os.chmod(self.file(f'bin/{name}', text), 0o755)
 
-    def launch(self, has_rt: bool = True) -> subprocess.CompletedProcess[str]:
+    def launch(self, *words: str, has_rt: bool = True) -> subprocess.CompletedProcess[str]:
         path = f'{self.room}/bin:/usr/bin:/bin' if has_rt else '/usr/bin:/bin'
-        return subprocess.run([f'{self.room}/top/pcboard', 'run'], capture_output=True, text=True, check=False,
+        return subprocess.run([f'{self.room}/top/pcboard', *(words or ['run'])], capture_output=True, text=True, check=False,
                               env={'PATH': path, 'XDG_CACHE_HOME': f'{self.room}/cache'})
+
+    def change_text(self, path: str) -> Callable[[], None]:
+        """Adds a byte to a file of the repository, or makes it, and returns what takes that back."""
+        full = f'{self.room}/top/{path}'
+        os.makedirs(os.path.dirname(full), exist_ok=True)
+        with open(full, 'a+', encoding='utf-8') as file:
+            file.seek(0)
+            was = file.read()
+            file.write('\n')
+
+        def put_back() -> None:
+            if was:
+                self.file(f'top/{path}', was)
+            else:
+                os.remove(full)
+        return put_back
 
     def change(self, path: str) -> None:
         """Makes a file or a folder of the repository newer than the program."""
@@ -87,6 +131,33 @@ class Build(ToolCase):
         self.assertEqual(changed.returncode, 127)
         self.assertIn('have changed since it was built', changed.stderr)
         self.assertNotIn("isn't built", changed.stderr)
+
+    def test_the_version(self) -> None:
+        """It is told without a program, and its sum changes with what the program is made of alone."""
+        def told() -> list[str]:
+            ran = self.launch('--version', has_rt=False)
+            self.assertEqual((ran.returncode, ran.stderr), (0, ''))
+            self.assertRegex(ran.stdout, r'\Apcboard \d+\.\d+\.\d+\nkit \S+\nlogic [0-9a-f]{16}\nsources [0-9a-f]{64}\n\Z')
+            return ran.stdout.splitlines()
+        first = told()
+        self.assertEqual(tuple(it.split()[-1] for it in first[1:3]), kit_of_readme())
+        self.change_text('crates/other/src/lib.rt')
+        self.assertEqual(told(), first)
+        for path in ('crates/low/src/lib.rt', 'crates/pcboard/src/main.rt', 'crates.txt', 'crates/low/specs/New.antt'):
+            was, put_back = told(), self.change_text(path)
+            self.assertNotEqual(told(), was, path)
+            put_back()
+            self.assertEqual(told(), first, path)
+
+    def test_help_is_an_answer(self) -> None:
+        self.launch()
+        self.file('top/crates/pcboard/out/pcboard', '#!/bin/sh\necho "the help of $*" >&2\nexit 2\n')
+        for words in (['--help'], ['-h'], ['run', '--help'], ['asm', '-h'], ['debug', '--help']):
+            ran = self.launch(*words)
+            self.assertEqual((ran.returncode, ran.stdout, ran.stderr), (0, f'the help of {" ".join(words)}\n', ''))
+        for words in (['--nonsense'], ['run', '--', '--help'], ['run', 'a', '--help'], ['--version', 'a']):
+            ran = self.launch(*words)
+            self.assertEqual((ran.returncode, ran.stdout, ran.stderr), (2, '', f'the help of {" ".join(words)}\n'))
 
     def test_a_crate_that_fails_is_told(self) -> None:
         os.chmod(self.file('bin/rattle', '#!/bin/sh\necho "not proved: $PWD"\nexit 1\n'), 0o755)

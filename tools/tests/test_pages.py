@@ -56,7 +56,7 @@ class Links(unittest.TestCase):
     """The pages' links."""
 
     def test_each_link_leads_somewhere(self) -> None:
-        pages = ['README.md', *(f'docs/{it}' for it in sorted(os.listdir(f'{TOP}/docs')) if it.endswith('.md'))]
+        pages = ['README.md', 'CHANGELOG.md', *(f'docs/{it}' for it in sorted(os.listdir(f'{TOP}/docs')) if it.endswith('.md'))]
         for page in pages:
             with open(f'{TOP}/{page}', encoding='utf-8') as file:
                 links = re.findall(r'\]\(([^)\s]+)\)', file.read())
