@@ -2,8 +2,11 @@
 import contextlib
 import io
 import os
-import shutil
+import pty
 import re
+import shlex
+import shutil
+import signal
 import subprocess
 import unittest
 from collections.abc import Callable
@@ -27,6 +30,15 @@ def kit_of_readme() -> tuple[str, str]:
     with open(f'{TOP}/README.md', encoding='utf-8') as page:
         kit, logic = re.findall(r'^(rattle-kit-\S+) logic ([0-9a-f]+)$', page.read(), re.M)[0]
     return kit, logic
+
+
+def is_running(process: int) -> bool:
+    """Whether a process is there, and hasn't ended."""
+    try:
+        with open(f'/proc/{process}/stat', encoding='ascii') as told:
+            return told.read().rpartition(')')[2].split()[0] != 'Z'
+    except (FileNotFoundError, ProcessLookupError):
+        return False
 
 
 class Version(unittest.TestCase):
@@ -158,6 +170,56 @@ class Build(ToolCase):
         for words in (['--nonsense'], ['run', '--', '--help'], ['run', 'a', '--help'], ['--version', 'a']):
             ran = self.launch(*words)
             self.assertEqual((ran.returncode, ran.stdout, ran.stderr), (2, '', f'the help of {" ".join(words)}\n'))
+
+    def stand_in(self, lines: str) -> None:
+        """Puts a script in the place of the program that was built."""
+        self.launch()
+        self.file('top/crates/pcboard/out/pcboard', f'#!/bin/sh\n{lines}\n')
+
+    def test_what_a_program_leaves_unsaid(self) -> None:
+        self.stand_in('echo out; echo err >&2; exit 3')
+        here, pipe, missing = self.file('here it is', ''), f'{self.room}/pipe', f'{self.room}/no such'
+        os.mkfifo(pipe)
+        for words, told in (
+                (['run', here, missing], [f"{missing} can't be opened: it isn't there"]),
+                (['run', '--hex', self.room, missing], [f"{self.room} can't be read: it is a folder",
+                                                        f"{missing} can't be opened: it isn't there"]),
+                (['asm', '--list', here], ["the answer couldn't be written, or what it is made from couldn't be read"]),
+                (['run', pipe, here], ["the answer couldn't be written, or what it is made from couldn't be read"])):
+            ran = self.launch(*words)
+            self.assertEqual((ran.returncode, ran.stdout), (3, 'out\n'))
+            self.assertEqual(ran.stderr, 'err\n' + ''.join(f'pcboard: {it}\n' for it in told))
+
+    def test_a_refusal_at_a_terminal(self) -> None:
+        self.stand_in('echo "fault 3 BadLine line 1" >&2; exit 1')
+        self.assertEqual(self.launch('asm', 'my file').stderr, 'fault 3 BadLine line 1\n')
+        terminal, end = pty.openpty()
+        ran = subprocess.run([f'{self.room}/top/pcboard', 'asm', 'my file'], stderr=end, check=False)
+        os.close(end)
+        self.assertEqual(ran.returncode, 1)
+        self.assertEqual(os.read(terminal, 1000).decode().splitlines(),
+                         ['fault 3 BadLine line 1', r'pcboard: tools/why asm my\ file tells more'])
+        os.close(terminal)
+
+    def test_standard_input_is_the_program_s(self) -> None:
+        self.stand_in('cat; exit 1')
+        for words in ([], ['debug', 'a', 'b']):
+            ran = subprocess.run([f'{self.room}/top/pcboard', *words], input='lines\n', capture_output=True, text=True, check=False)
+            self.assertEqual((ran.returncode, ran.stdout, ran.stderr), (1, 'lines\n', ''))
+        closed = subprocess.run(['/bin/sh', '-c', f'{shlex.quote(self.room)}/top/pcboard run <&-'], capture_output=True, check=False)
+        self.assertEqual((closed.returncode, closed.stdout), (1, b''))
+
+    def test_signals_reach_the_program_and_it_never_outlives_the_launcher(self) -> None:
+        self.stand_in('echo $$; exec sleep 100')
+        for number in (signal.SIGTERM, signal.SIGINT, signal.SIGHUP, signal.SIGKILL):
+            words = ['env', '--default-signal=TERM,INT,HUP', f'{self.room}/top/pcboard', 'run']  # also where nohup runs the tests
+            with subprocess.Popen(words, stdin=subprocess.DEVNULL, stdout=subprocess.PIPE, text=True) as process:
+                assert process.stdout
+                program = int(process.stdout.readline())
+                process.send_signal(number)
+                self.assertEqual(process.wait(timeout=60), -number)
+                self.assertEqual(process.stdout.read(), '')  # no one has it open any more, so the program has ended too
+            self.assertFalse(is_running(program))
 
     def test_a_crate_that_fails_is_told(self) -> None:
         os.chmod(self.file('bin/rattle', '#!/bin/sh\necho "not proved: $PWD"\nexit 1\n'), 0o755)

@@ -41,8 +41,8 @@ class EveryTool(ToolCase):
 
     def begin(self, tool: str, *words: str, out: int = subprocess.PIPE) -> subprocess.Popen[str]:
         """Starts a tool, whose standard input is empty."""
-        return subprocess.Popen([f'{TOP}/{tool}', *words], stdin=subprocess.DEVNULL, stdout=out, stderr=subprocess.PIPE, text=True,
-                                cwd=self.room, env=self.environment, start_new_session=True)
+        return subprocess.Popen(['env', '--default-signal=INT', f'{TOP}/{tool}', *words], stdin=subprocess.DEVNULL, stdout=out,
+                                stderr=subprocess.PIPE, text=True, cwd=self.room, env=self.environment, start_new_session=True)
 
     def run_tool(self, line: str, out: int = subprocess.PIPE) -> tuple[int, str, str]:
         """Its status and what it prints. It neither ends in a traceback nor begins to prove."""
