@@ -72,11 +72,6 @@ def files(names, top=TOP):
     return [path for path in inside if path.endswith(('.rt', '.antt'))]
 
 
-def sources(names):
-    """What a program is made of: these folders, which change where a file comes or goes, and these files."""
-    return [f'{TOP}/crates.txt', *folders(names), *files(names)]
-
-
 def size(names):
     return sum(map(os.path.getsize, files(names)))
 
@@ -234,15 +229,21 @@ def hand_out(crates, target):
     shutil.copy(f'{crates.folder(target)}/out/{made}', f'{to}.new')
     os.replace(f'{to}.new', to)
     if crates.is_program(target):
-        list_sources(f'{to}.sources', crates.below(target))
+        list_sources(f'{to}.sources', to, crates.below(target))
 
 
-def list_sources(path, crates):
-    """Lists them for the launcher, where `find` can read such a list: it needn't look for them then."""
-    with open(path, 'w', encoding='utf-8') as text:
-        text.write(''.join(f'{it}\0' for it in sources(crates)))
-    if subprocess.run(['find', '-files0-from', path, '-maxdepth', '0', '-quit'], capture_output=True, check=False).returncode:
-        os.remove(path)
+def list_sources(path, program, names):
+    """Lists for the launcher what a program was made of, as `sha256sum` does, by the copies that were proved: first the
+    program's own sum, then a line for each file, in the order of their paths."""
+    paths = sorted(os.path.relpath(it, STAGE) for it in [f'{STAGE}/crates.txt', *files(names, STAGE)])
+    with open(f'{path}.new', 'w', encoding='utf-8') as text:
+        text.write(f'{sum_of(program)}\n' + ''.join(f'{sum_of(f"{STAGE}/{it}")}  {it}\n' for it in paths))
+    os.replace(f'{path}.new', path)
+
+
+def sum_of(path):
+    with open(path, 'rb') as file:
+        return hashlib.sha256(file.read()).hexdigest()
 
 
 def lock(log, progress):

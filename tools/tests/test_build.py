@@ -77,9 +77,9 @@ class Build(ToolCase):
         for name, text in (('rt', ''), ('rattle', RATTLE), ('rattle-link', LINK)):
             os.chmod(self.file(f'bin/{name}', text), 0o755)
 
-    def launch(self, *words: str, has_rt: bool = True) -> subprocess.CompletedProcess[str]:
+    def launch(self, *words: str, has_rt: bool = True, top: str = '') -> subprocess.CompletedProcess[str]:
         path = f'{self.room}/bin:/usr/bin:/bin' if has_rt else '/usr/bin:/bin'
-        return subprocess.run([f'{self.room}/top/pcboard', *(words or ['run'])], capture_output=True, text=True, check=False,
+        return subprocess.run([f'{top or f"{self.room}/top"}/pcboard', *(words or ['run'])], capture_output=True, text=True, check=False,
                               env={'PATH': path, 'XDG_CACHE_HOME': f'{self.room}/cache'})
 
     def change_text(self, path: str) -> Callable[[], None]:
@@ -98,7 +98,7 @@ class Build(ToolCase):
                 os.remove(full)
         return put_back
 
-    def change(self, path: str) -> None:
+    def touch(self, path: str) -> None:
         """Makes a file or a folder of the repository newer than the program."""
         program = os.stat(f'{self.room}/top/crates/pcboard/out/pcboard').st_mtime
         os.utime(f'{self.room}/top/{path}', (program + 5, program + 5))
@@ -112,13 +112,59 @@ class Build(ToolCase):
 
     def test_what_the_program_is_made_of_is_looked_at_and_nothing_else(self) -> None:
         self.launch()
-        self.change('crates/other/src/lib.rt')
-        self.assertEqual(self.launch().stderr, '')
+        self.change_text('crates/other/src/lib.rt')
         for path in ('crates/low/src/lib.rt', 'crates/low/src', 'crates.txt'):
-            self.change(path)
+            self.touch(path)
+        self.assertEqual(self.launch().stderr, '')
+        for path in ('crates/low/src/lib.rt', 'crates/pcboard/src/main.rt', 'crates.txt', 'crates/low/proofs/New.antt'):
+            put_back = self.change_text(path)
+            os.utime(f'{self.room}/top/{path}', (1, 1))  # seen, however old it is
+            self.assertIn('have changed since it was built', self.launch(has_rt=False).stderr, path)
             self.assertIn('less than the first time', self.launch().stderr, path)
-            os.utime(f'{self.room}/top/{path}', (1, 1))
+            self.assertEqual(self.launch().stderr, '')
+            put_back()
+            self.assertIn('less than the first time', self.launch().stderr, path)
         os.remove(f'{self.room}/top/crates/low/src/lib.rt')
+        self.assertIn('proving 2 crates', self.launch().stderr)
+
+    def test_a_byte_that_is_changed_back(self) -> None:
+        self.launch()
+        put_back = self.change_text('crates/low/src/lib.rt')
+        self.assertIn('have changed since it was built', self.launch(has_rt=False).stderr)
+        put_back()
+        for has_rt in (True, False):
+            self.assertEqual(self.launch(has_rt=has_rt).stderr, '')
+
+    def test_a_clone_that_is_copied_or_moved_or_reached_otherwise(self) -> None:
+        """It runs the program that it holds, at once, and sees what changes in it and not in the other one."""
+        self.launch()
+        places = [f'{self.room}/a copy of it', f'{self.room}/moved', f'{self.room}/a link']
+        shutil.copytree(f'{self.room}/top', places[0], copy_function=shutil.copy)
+        os.rename(f'{self.room}/top', places[1])
+        os.symlink(places[1], places[2])
+        for has_rt in (True, False):
+            for place in places:
+                ran = self.launch(has_rt=has_rt, top=place)
+                self.assertEqual((ran.returncode, ran.stdout, ran.stderr), (0, 'it runs run\n', ''), place)
+        with open(f'{places[0]}/crates/low/src/lib.rt', 'a', encoding='utf-8') as source:
+            source.write('// more\n')
+        self.assertEqual(self.launch(top=places[1]).stderr, '')
+        self.assertIn('proving 2 crates', self.launch(top=places[0]).stderr)
+
+    def test_a_clone_that_can_only_be_read(self) -> None:
+        self.launch()
+        for folder, _, files in os.walk(f'{self.room}/top', topdown=False):
+            for path in (*(f'{folder}/{it}' for it in files), folder):
+                os.chmod(path, 0o555)
+                self.addCleanup(os.chmod, path, 0o755)
+        for has_rt in (True, False):
+            self.assertEqual(self.launch(has_rt=has_rt).stderr, '')
+
+    def test_a_program_that_was_built_otherwise_is_judged_by_times(self) -> None:
+        """As one that `rt ci` left, which takes the place of that to which the list belongs."""
+        self.stand_in('echo another')
+        self.assertEqual(self.launch().stdout, 'another\n')
+        self.touch('crates/low/src/lib.rt')
         self.assertIn('proving 2 crates', self.launch().stderr)
 
     def test_a_crate_is_proved_again_where_it_or_one_below_has_changed(self) -> None:
@@ -127,7 +173,6 @@ class Build(ToolCase):
                                    ('pcboard/src/main.rt', '// more', 'low pcboard low pcboard pcboard')):
             self.launch()
             self.file(f'top/crates/{path}', text)
-            self.change(f'crates/{path}')
             self.launch()
             with open(proved, encoding='ascii') as names:
                 self.assertEqual(names.read().split(), crates.split())
@@ -138,9 +183,9 @@ class Build(ToolCase):
         self.assertIn("isn't built yet", none.stderr)
         self.launch()
         self.assertEqual(self.launch(has_rt=False).stdout, 'it runs run\n')
-        self.change('crates/low/src/lib.rt')
+        self.change_text('crates/low/src/lib.rt')
         changed = self.launch(has_rt=False)
-        self.assertEqual(changed.returncode, 127)
+        self.assertEqual((changed.returncode, changed.stdout), (0, 'it runs run\n'))
         self.assertIn('have changed since it was built', changed.stderr)
         self.assertNotIn("isn't built", changed.stderr)
 

@@ -3,6 +3,7 @@ under tools/, dev/ or bench/ is among them by itself."""
 from __future__ import annotations
 
 import concurrent.futures as futures
+import contextlib
 import os
 import signal
 import subprocess
@@ -112,11 +113,19 @@ class EveryTool(ToolCase):
                      'tools/why run waits hello.json', 'tools/runfile --from waits', 'tools/trace hello.asm waits', 'tools/dbg hello.asm waits'):
             with self.subTest(line=line), self.begin(*line.split()) as process:
                 writing = self.opened(process, f'{self.room}/waits')
-                os.killpg(process.pid, signal.SIGINT)
-                _, told = process.communicate(timeout=SECONDS)
+                told = self.interrupted(process)
                 os.close(writing)
                 self.assertNotIn('Traceback', told, line)
                 self.assertNotEqual(process.returncode, 0, line)
+
+    def interrupted(self, process: subprocess.Popen[str]) -> str:
+        """What a tool tells at control-C, which is pressed again where it goes on."""
+        for _ in range(SECONDS):
+            os.killpg(process.pid, signal.SIGINT)
+            with contextlib.suppress(subprocess.TimeoutExpired):
+                return process.communicate(timeout=1)[1]
+        os.killpg(process.pid, signal.SIGKILL)
+        return self.fail(f'control-C ends it not: {process.args!r}')
 
     def opened(self, process: subprocess.Popen[str], path: str) -> int:
         """The other end of a pipe, once the tool has opened it."""
