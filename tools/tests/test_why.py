@@ -181,6 +181,31 @@ class Runs(ToolCase):
         self.assertIn('--all FILE', self.tool('why', '--all', status=2)[1])
         self.assertIn('1,048,576', self.tool('why', '--all', self.file('long.asm', ';' * 1048577), status=1)[0])
 
+    def test_tells_lines_as_compilers_do(self) -> None:
+        text = 'SEGMENT MAIN AT 0F000h\nstart: NOP\n MOV AX,0x10\n FROB\nstart: HLT\n DB 256\nENDS\n'
+        path = self.file('my source.asm', text)
+        out, err = self.tool('why', '--lines', path, status=1)
+        told = [re.fullmatch(r'(.+):(\d+): error: (\w+): (.+)', it) for it in out.splitlines()]
+        self.assertEqual([it and (it[1], it[2], it[3]) for it in told],
+                         [(path, '3', 'BadLine'), (path, '4', 'UnknownName'), (path, '5', 'TwiceDefined'), (path, '6', 'OutOfRange')])
+        self.assertIn('hexadecimal numbers end with h', out)
+        self.assertIn('the name is defined twice, first in line 2\n', out)
+        self.assertEqual(err, '')
+        self.assertEqual(self.tool('why', '--lines', example('hello')[0]), ('', ''))
+        self.assertIn("nothing.asm can't be opened", self.tool('why', '--lines', 'nothing.asm', status=3)[1])
+        self.assertIn('--lines FILE', self.tool('why', '--lines', status=2)[1])
+        long = self.file('long.asm', ';' * 1048577)
+        self.assertEqual(self.tool('why', '--lines', long, status=1)[0],
+                         f'{long}:1: error: SourceTooLong: the source has more than 1,048,576 bytes\n')
+
+    def test_lines_are_those_of_all(self) -> None:
+        """Of the lines of the hints, and of what no line has for its own."""
+        lines = [line for number, line, _ in HINTS if number not in (7, 8, 11)]
+        path = self.file('many.asm', 'SEGMENT MAIN AT 0F000h\nstart: NOP\n' + '\n'.join(lines) + '\nENDS\n')
+        all_lines = re.findall(r'asm, line (\d+):.*\(fault \d+, (\w+)\)', self.tool('why', '--all', path, status=1)[0])
+        self.assertGreater(len(all_lines), 40)
+        self.assertEqual(re.findall(r'^.*\.asm:(\d+): error: (\w+): ', self.tool('why', '--lines', path, status=1)[0], re.M), all_lines)
+
     def test_reads_a_fault_and_refuses_else(self) -> None:
         source, _ = self.program(' MOV AX,0x10')
         out, _ = self.tool('why', 'fault', source, given='fault 3 BadLine line 3\n')

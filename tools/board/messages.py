@@ -1,0 +1,37 @@
+"""A refused line in one line, in the form that compilers use and editors read: FILE:LINE: error: NAME: what to do."""
+from __future__ import annotations
+
+import re
+from typing import Iterator
+
+from board.command import read_text
+from board.every import refused_lines
+from board.faults import Fault
+from board.hints import hint_of
+
+TWICE_DEFINED = 6
+
+
+def first_definition(lines: list[str], number: int) -> int | None:
+    """The earlier line that defines what line `number` defines again."""
+    name = re.match(r'\s*(?:SEGMENT\s+)?(\w+)', lines[number - 1], re.I)
+    if not name:
+        return None
+    word = re.compile(rf'\s*(SEGMENT\s+)?{name[1]}\s*(:|\sEQU\b|\sAT\b)', re.I)
+    return next((n for n, it in enumerate(lines[:number - 1], 1) if word.match(it)), None)
+
+
+def what_to_do(lines: list[str], fault: Fault) -> str:
+    """A hint by the line's look, else what the fault means."""
+    text = lines[fault.line - 1] if fault.line and fault.line <= len(lines) else None
+    told = text is not None and hint_of(text, fault.number, lines) or fault.kind.meaning
+    first = first_definition(lines, fault.line) if text is not None and fault.line and fault.number == TWICE_DEFINED else None
+    return ' '.join((f'{told}, first in line {first}' if first else told).split())
+
+
+def messages(path: str) -> Iterator[tuple[int, str]]:
+    """Each refused line of a source, with its message. A fault of the whole source stands at line 1."""
+    lines = [it.rstrip('\r') for it in read_text(path).split('\n')]
+    for fault, is_after in refused_lines(path):
+        behind = ' (where the refused lines above are blank)' if is_after else ''
+        yield fault.line or 1, f'{fault.kind.name}: {what_to_do(lines, fault)}{behind}'
