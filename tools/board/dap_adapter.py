@@ -1,0 +1,466 @@
+"""The Debug Adapter Protocol's requests, answered by a session of `pcboard debug`."""
+from __future__ import annotations
+
+import base64
+import os
+import queue
+import re
+import shutil
+import subprocess
+import sys
+from typing import Any, Callable
+
+from board.command import Sorry, read_text
+from board.dap_board import FLAG_BITS, MOST_BREAKPOINTS, Far, Gone, Machine, Paused
+from board.dap_values import Disassembly, Expression, is_code
+from board.dap_wire import Broken, Read
+from board.listing import Listing, listing_of, physical
+from board.places import far_of
+from board.program import TOP, Files
+from board.runfile import DEFAULTS, budget_of, text_of
+from board.scancodes import stamped, strokes_of
+
+Fields = dict[str, Any]
+THREAD, REGISTERS, FLAGS, BOARD = 1, 1, 2, 3
+CAPABILITIES = {'supportsConfigurationDoneRequest': True, 'supportsStepBack': True, 'supportsEvaluateForHovers': True,
+                'supportsReadMemoryRequest': True, 'supportsDisassembleRequest': True, 'supportsInstructionBreakpoints': True,
+                'supportsFunctionBreakpoints': True, 'supportsTerminateRequest': True, 'supportsSteppingGranularity': True}
+SHOWING = ('regs', 'screen', 'dump', 'trail')
+READ_ONLY = "the board's answers are those of its source: registers and memory can't be written"
+BESIDE_A_RUN = ('pause', 'disconnect', 'terminate', 'threads', 'setBreakpoints', 'setFunctionBreakpoints',
+                'setInstructionBreakpoints', 'setExceptionBreakpoints')
+
+
+def field(fields: Fields, name: str, kind: type, default: Any = None) -> Any:
+    """A request's field, if it is of this kind; without a default it has to be there."""
+    found = fields.get(name)
+    if found is None and default is not None:
+        return default
+    if not isinstance(found, kind) or isinstance(found, bool) and kind is int:
+        raise Sorry(f'the field "{name}" is missing, or no {kind.__name__}')
+    return found
+
+
+def symbols_of(path: str) -> dict[str, Far]:
+    """Labels of a file with lines `SSSS:OOOO NAME`, or as nm prints them, `ADDRESS TYPE NAME`."""
+    found: dict[str, Far] = {}
+    for line in read_text(path).splitlines():
+        if far := re.fullmatch(r'([0-9A-Fa-f]{1,4}):([0-9A-Fa-f]{1,4}) (\S+)\s*', line):
+            found[far[3]] = int(far[1], 16), int(far[2], 16)
+        elif plain := re.fullmatch(r'([0-9A-Fa-f]+) [A-Za-z] (\S+)\s*', line):
+            address = int(plain[1], 16)
+            if address < 1 << 20:
+                found[plain[2]] = address >> 16 << 12, address & 0xFFFF
+    return found
+
+
+class Adapter:
+    """One client's session, from its first message to its last."""
+
+    def __init__(self, messages: queue.Queue[Read], write: Callable[[Fields], None], room: str) -> None:
+        self.messages, self.write, self.room = messages, write, room
+        self.machine: Machine | None = None
+        self.program, self.line_base, self.is_entry = '', 1, False
+        self.breakpoints: dict[str, dict[Far, int]] = {'line': {}, 'function': {}, 'instruction': {}}
+        self.count, self.is_running, self.is_over, self.is_paused, self.screen = 0, False, False, False, ''
+
+    def serve(self) -> None:
+        """Answers messages until the client leaves."""
+        try:
+            while not self.is_over:
+                self.take(self.messages.get())
+        finally:
+            if self.machine:
+                self.machine.close()
+
+    def take(self, message: Read) -> None:
+        """Answers one message; what is broken has an error for an answer."""
+        if message is None:
+            self.is_over = True
+        elif isinstance(message, Broken):
+            self.answer({}, {}, message.why)
+        elif message.get('type') == 'request':
+            self.request(message)
+
+    def answer(self, request: Fields, body: Fields, error: str = '') -> None:
+        """The response to a request."""
+        number, command = request.get('seq'), request.get('command')
+        told: Fields = {'type': 'response', 'request_seq': number if isinstance(number, int) else 0, 'success': not error,
+                        'command': command if isinstance(command, str) else '', 'body': body}
+        if error:
+            told |= {'message': error, 'body': {'error': {'id': 1, 'format': re.sub(r'[{}]', '', error), 'showUser': True}}}
+        self.write(told)
+
+    def event(self, name: str, body: Fields | None = None) -> None:
+        """An event."""
+        self.write({'type': 'event', 'event': name, 'body': body or {}})
+
+    def output(self, text: str, category: str = 'console', at: Fields | None = None) -> None:
+        """Text for the user."""
+        self.event('output', {'category': category, 'output': text} | (at or {}))
+
+    def request(self, request: Fields) -> None:
+        """Answers a request, and does then what it has started."""
+        command, then = request.get('command'), None
+        try:
+            method = getattr(self, f'on_{command}', None) if isinstance(command, str) and command.isalpha() else None
+            if method is None:
+                raise Sorry(f'{command} is no request that is known here')
+            if self.is_running and command not in BESIDE_A_RUN:
+                raise Sorry('the board runs; pause first')
+            found = method(field(request, 'arguments', dict, {}))
+            body, then = found if isinstance(found, tuple) else (found, None)
+            self.answer(request, body)
+        except Gone as gone:
+            self.answer(request, {}, str(gone))
+            self.end(gone)
+        except Sorry as sorry:
+            self.answer(request, {}, str(sorry))
+        except (TypeError, ValueError, KeyError, IndexError, AttributeError, RecursionError, OverflowError) as error:
+            self.answer(request, {}, f"{command} isn't as the protocol has it: {type(error).__name__}")
+        if then:
+            self.move(then)
+
+    def end(self, gone: Gone) -> None:
+        """The board is no more."""
+        self.output(f'{gone}\n', 'important')
+        if self.machine:
+            self.machine.close()
+        self.machine = None
+        self.event('terminated')
+
+    def poll(self) -> None:
+        """Between the pieces of a run: answers what has come meanwhile."""
+        while not self.messages.empty():
+            self.take(self.messages.get())
+        if self.is_over or self.is_paused:
+            raise Paused
+
+    def move(self, what: Callable[[], tuple[str, str]]) -> None:
+        """Lets the board move, and tells where it has stopped and why."""
+        self.is_running, self.is_paused = True, False
+        try:
+            reason, text = what()
+        except Paused:
+            reason, text = 'pause', 'paused'
+        except Gone as gone:
+            return self.end(gone)
+        except Sorry as sorry:
+            reason, text = 'pause', str(sorry)
+        finally:
+            self.is_running = False
+        if not self.is_over:
+            self.stopped(reason, text)
+
+    def stopped(self, reason: str, text: str) -> None:
+        """Tells a stop, and the screen if it is another."""
+        try:
+            place, lines = self.board().place(), self.board().many('screen')
+        except Gone as gone:
+            return self.end(gone)
+        screen = '\n'.join(it.rstrip() for it in lines).rstrip()
+        if screen != self.screen:
+            self.screen = screen
+            edge = '-' * 80
+            self.output(f'screen at clock {self.board().clock}\n{edge}\n{screen}\n{edge}\n', 'stdout')
+        hit = [them[place] for them in self.breakpoints.values() if place in them] if reason.endswith('breakpoint') else []
+        told = {'reason': reason, 'description': text, 'text': text, 'threadId': THREAD, 'allThreadsStopped': True}
+        self.event('stopped', told | ({'hitBreakpointIds': hit} if hit else {}))
+
+    def board(self) -> Machine:
+        """The board, once there is one."""
+        if self.machine is None:
+            raise Sorry('no board is launched')
+        return self.machine
+
+    # beginning and end
+
+    def on_initialize(self, given: Fields) -> Fields:
+        self.line_base = 1 if given.get('linesStartAt1', True) else 0
+        return CAPABILITIES
+
+    def on_launch(self, given: Fields) -> tuple[Fields, None]:
+        if self.machine:
+            raise Sorry('a board is launched already')
+        self.program = os.path.realpath(field(given, 'program', str))
+        is_hex = field(given, 'hex', bool, self.program.lower().endswith('.hex'))
+        self.is_entry = field(given, 'stopOnEntry', bool, False)
+        run_file = self.run_file(given)
+        try:
+            files = Files(shutil.copyfile(self.program, f'{self.room}/file'), shutil.copyfile(run_file, f'{self.room}/run'), is_hex)
+        except OSError as error:
+            raise Sorry(f"{error.filename} can't be read: {error.strerror}") from None
+        try:
+            budget, listing = budget_of(files), listing_of(files)
+            if symbols := given.get('symbols'):
+                listing = Listing(listing.lines, listing.at, listing.labels | symbols_of(symbols))
+            self.machine = Machine(files, listing, budget, self.poll)
+        except Sorry as sorry:
+            raise self.explained(run_file, is_hex, sorry) from None
+        self.event('initialized')
+        return {}, None
+
+    on_attach = on_launch
+
+    def run_file(self, given: Fields) -> str:
+        """The run file that is named, or one of the keys and budget that are."""
+        if given.get('run'):
+            return os.path.realpath(field(given, 'run', str))
+        fields = dict(DEFAULTS)
+        if keys := field(given, 'keys', str, ''):
+            fields['keys'] = stamped(strokes_of(keys), 2000, 500, 1500)
+            fields['budget'] = max(fields['budget'], 2 * fields['keys'][-1][0])
+        fields['budget'] = field(given, 'budget', int, fields['budget'])
+        path = f'{self.room}/own.json'
+        with open(path, 'w', encoding='utf-8') as file:
+            file.write(text_of(fields))
+        return path
+
+    def explained(self, run_file: str, is_hex: bool, sorry: Sorry) -> Sorry:
+        """Tells by tools/why what is refused, each line of a source at its place, and gives the first of it."""
+        why = [sys.executable, '-S', f'{TOP}/tools/why']
+        first = ''
+        if not is_hex:
+            told = subprocess.run([*why, '--lines', '--', self.program], stdin=subprocess.DEVNULL, capture_output=True, text=True, errors='replace', check=False)
+            for line in told.stdout.splitlines():
+                number, _, text = line.removeprefix(f'{self.program}:').partition(': error: ')
+                at = {'source': self.source(), 'line': int(number) - 1 + self.line_base}
+                self.output(f'{line}\n', 'stderr', at)
+                first = first or f'{os.path.basename(self.program)}, line {number}: {text}'
+        if not first:
+            told = subprocess.run([*why, 'run', *(['--hex'] if is_hex else []), '--', self.program, run_file],
+                                  stdin=subprocess.DEVNULL, capture_output=True, text=True, errors='replace', check=False)
+            lines = [it.removeprefix('why: ') for it in told.stderr.splitlines() if it.startswith('why: ')]
+            self.output(''.join(f'{it}\n' for it in lines) or f'{sorry}\n', 'stderr')
+            first = lines[0] if lines else str(sorry)
+        return Sorry(first)
+
+    def on_configurationDone(self, _: Fields) -> tuple[Fields, Callable[[], tuple[str, str]]]:
+        self.board()
+        return {}, (lambda: ('entry', 'the start of the run')) if self.is_entry else self.run_on
+
+    def on_disconnect(self, _: Fields) -> Fields:
+        self.is_over = True
+        return {}
+
+    def on_terminate(self, given: Fields) -> Fields:
+        self.event('terminated')
+        return self.on_disconnect(given)
+
+    # breakpoints
+
+    def wanted(self) -> set[Far]:
+        """The places of all breakpoints."""
+        return {place for them in self.breakpoints.values() for place in them}
+
+    def set_breakpoints(self, kind: str, asked: list[Any], place_of: Callable[[Any], tuple[Far, Fields]]) -> Fields:
+        """Puts these breakpoints for those of a kind, and tells of each where it is, or why it is nowhere."""
+        self.breakpoints[kind], told = {}, list[Fields]()
+        for it in asked:
+            self.count += 1
+            try:
+                place, more = place_of(it)
+                if len(self.wanted() | {place}) > MOST_BREAKPOINTS:
+                    raise Sorry(f'there are {MOST_BREAKPOINTS} breakpoints already, the most that go')
+                number = self.breakpoints[kind].setdefault(place, self.count)
+                told.append({'id': number, 'verified': True, 'instructionReference': f'0x{physical(*place):05X}'} | more)
+            except Sorry as sorry:
+                told.append({'id': self.count, 'verified': False, 'message': str(sorry)})
+        return {'breakpoints': told}
+
+    def on_setBreakpoints(self, given: Fields) -> Fields:
+        path = field(field(given, 'source', dict), 'path', str, '')
+        asked = field(given, 'breakpoints', list, [{'line': it} for it in given.get('lines') or []])
+        if os.path.realpath(path) != self.program:
+            return {'breakpoints': [{'verified': False, 'message': 'this file is not the program that runs'} for _ in asked]}
+        return self.set_breakpoints('line', asked, lambda it: self.of_line(field(it, 'line', int) + 1 - self.line_base))
+
+    def of_line(self, number: int) -> tuple[Far, Fields]:
+        """A line's place, or that of the next line with code."""
+        lines = self.board().listing.lines
+        if not lines:
+            raise Sorry('Intel HEX has no source lines')
+        here = lines[number - 1] if 1 <= number <= len(lines) else None
+        found = here if here and here.address else next((it for it in lines[max(0, number - 1):] if is_code(it)), None)
+        if found is None or found.address is None or number < 1:
+            raise Sorry(f'no line of the source from {number} on places an instruction')
+        more: Fields = {'line': found.number - 1 + self.line_base, 'source': self.source()}
+        if found is not here:
+            more['message'] = f'line {number} places nothing, so this is at line {found.number}'
+        return found.address, more
+
+    def on_setFunctionBreakpoints(self, given: Fields) -> Fields:
+        return self.set_breakpoints('function', field(given, 'breakpoints', list),
+                                    lambda it: (far_of(self.board().listing, field(it, 'name', str)), {}))
+
+    def on_setInstructionBreakpoints(self, given: Fields) -> Fields:
+        def place_of(it: Any) -> tuple[Far, Fields]:
+            address = self.address(field(it, 'instructionReference', str)) + field(it, 'offset', int, 0)
+            return self.far(address), {}
+        return self.set_breakpoints('instruction', field(given, 'breakpoints', list), place_of)
+
+    def on_setExceptionBreakpoints(self, _: Fields) -> Fields:
+        return {'breakpoints': []}
+
+    def far(self, address: int) -> Far:
+        """CS:IP of a physical address: a line's or label's there, else by the present CS."""
+        listing, segment = self.board().listing, self.board().registers()['CS']
+        line = listing.at.get(address)
+        label = next((it for it in listing.labels.values() if physical(*it) == address), None)
+        offset = (address - 16 * segment) % (1 << 20)
+        if line and line.address or label:
+            return line.address if line and line.address else label or (0, 0)
+        if offset > 0xFFFF:
+            raise Sorry(f"{address:05X}h can't be reached with the present CS, {segment:04X}h")
+        return segment, offset
+
+    def address(self, text: str) -> int:
+        """The physical address of a reference: 0x and its digits, or a place."""
+        if re.fullmatch(r'0[xX][0-9A-Fa-f]{1,8}', text):
+            return int(text, 16)
+        return physical(*far_of(self.board().listing, text))
+
+    # moving
+
+    def told(self, met: Far | None, reason: str, text: str) -> tuple[str, str]:
+        """Why the board stands where it does."""
+        if met:
+            kinds = [kind for kind, them in self.breakpoints.items() if met in them]
+            name = {'line': 'breakpoint'}.get(kinds[0], f'{kinds[0]} breakpoint') if kinds else 'breakpoint'
+            return name, f'clock {self.board().clock}: {name}'
+        if self.board().clock >= self.board().budget:
+            return 'pause', f'the run ends at clock {self.board().clock}, {self.board().state()}'
+        return reason, f'clock {self.board().clock}: {text}'
+
+    def run_on(self) -> tuple[str, str]:
+        board = self.board()
+        while board.clock < board.budget:
+            # Breakpoints may change while it runs.
+            met = board.run(self.wanted(), board.budget)
+            if met is None or met in self.wanted():
+                return self.told(met, 'pause', 'the run ends')
+        return self.told(None, 'pause', 'the run ends')
+
+    def on_continue(self, _: Fields) -> tuple[Fields, Callable[[], tuple[str, str]]]:
+        if self.board().clock >= self.board().budget:
+            raise Sorry(f'the run ends at clock {self.board().budget}; step, or go back')
+        return {'allThreadsContinued': True}, self.run_on
+
+    def on_next(self, _: Fields) -> tuple[Fields, Callable[[], tuple[str, str]]]:
+        board = self.board()
+        return {}, lambda: self.told(board.next(self.wanted()), 'step', 'step')
+
+    def on_stepIn(self, _: Fields) -> tuple[Fields, Callable[[], tuple[str, str]]]:
+        board = self.board()
+
+        def step() -> tuple[str, str]:
+            board.step()
+            return self.told(None, 'step', 'step')
+        return {}, step
+
+    def on_stepOut(self, _: Fields) -> tuple[Fields, Callable[[], tuple[str, str]]]:
+        board = self.board()
+        return {}, lambda: self.told(board.out(self.wanted()), 'step', 'step out')
+
+    def on_stepBack(self, _: Fields) -> tuple[Fields, Callable[[], tuple[str, str]]]:
+        board = self.board()
+        if board.clock == 0:
+            raise Sorry('this is the start of the run')
+
+        def back() -> tuple[str, str]:
+            board.back()
+            return 'step', f'clock {board.clock}: step back'
+        return {}, back
+
+    def on_reverseContinue(self, _: Fields) -> tuple[Fields, Callable[[], tuple[str, str]]]:
+        board = self.board()
+        if board.clock == 0:
+            raise Sorry('this is the start of the run')
+
+        def back() -> tuple[str, str]:
+            met = board.back_to(self.wanted())
+            return self.told(met, 'entry', 'no breakpoint was passed before: the start of the run') if met is None else (
+                'breakpoint', f'clock {board.clock}: breakpoint')
+        return {}, back
+
+    def on_pause(self, _: Fields) -> Fields:
+        self.is_paused = True
+        return {}
+
+    # looking
+
+    def source(self) -> Fields:
+        return {'name': os.path.basename(self.program), 'path': self.program}
+
+    def on_threads(self, _: Fields) -> Fields:
+        return {'threads': [{'id': THREAD, 'name': '8086'}]}
+
+    def on_stackTrace(self, given: Fields) -> Fields:
+        board = self.board()
+        frames = [self.frame(number, place) for number, place in enumerate([board.place(), *(it for it, _ in board.callers())], 1)]
+        first, count = field(given, 'startFrame', int, 0), field(given, 'levels', int, 0)
+        return {'stackFrames': frames[first:first + count if count else None], 'totalFrames': len(frames)}
+
+    def frame(self, number: int, place: Far) -> Fields:
+        """A frame: the label, and the source line that placed what stands there."""
+        listing, address = self.board().listing, physical(*place)
+        name = listing.label_before(*place) or '{:04X}:{:04X}'.format(*place)
+        told: Fields = {'id': number, 'name': name, 'line': 0, 'column': 0, 'instructionPointerReference': f'0x{address:05X}'}
+        line = listing.at.get(address)
+        if line and self.board().dump(address, len(line.shown)) == line.shown:
+            told |= {'line': line.number - 1 + self.line_base, 'column': self.line_base, 'source': self.source()}
+        return told
+
+    def on_scopes(self, _: Fields) -> Fields:
+        self.board()
+        names = (('Registers', REGISTERS), ('Flags', FLAGS), ('Board', BOARD))
+        return {'scopes': [{'name': name, 'variablesReference': it, 'expensive': False} for name, it in names]}
+
+    def on_variables(self, given: Fields) -> Fields:
+        board, which = self.board(), field(given, 'variablesReference', int)
+        registers = board.registers()
+        flags = {name: registers['FL'] >> bit & 1 for name, bit in FLAG_BITS.items()}
+        told = {REGISTERS: {name: f'{it:04X}h' for name, it in registers.items()},
+                FLAGS: {name: str(it) for name, it in flags.items()},
+                BOARD: {'clock': str(board.clock), 'budget': str(board.budget)}}.get(which)
+        if told is None:
+            raise Sorry(f'there are no variables {which}')
+        if which == REGISTERS:
+            told['FL'] += f' {" ".join(name for name, it in flags.items() if it)}'.rstrip()
+        return {'variables': [{'name': name, 'value': it, 'variablesReference': 0, 'evaluateName': name} for name, it in told.items()]}
+
+    def on_setVariable(self, _: Fields) -> Fields:
+        raise Sorry(READ_ONLY)
+
+    on_setExpression = on_writeMemory = on_setVariable
+
+    def on_evaluate(self, given: Fields) -> Fields:
+        text, board = field(given, 'expression', str).strip(), self.board()
+        if given.get('context') == 'repl' and text.partition(' ')[0] in SHOWING and '\n' not in text:
+            return {'result': '\n'.join(it.rstrip() for it in board.many(text)).rstrip(), 'variablesReference': 0}
+        value = Expression(board, text).value()
+        at = {} if value.address is None else {'memoryReference': f'0x{value.address:05X}'}
+        return {'result': value.shown(), 'variablesReference': 0} | at
+
+    def on_readMemory(self, given: Fields) -> Fields:
+        address = self.address(field(given, 'memoryReference', str)) + field(given, 'offset', int, 0)
+        count = field(given, 'count', int)
+        if not 0 <= count <= 1 << 20:
+            raise Sorry('count goes from 0 to 1048576')
+        is_there = 0 <= address < 1 << 20
+        octets = self.board().dump(address, count) if is_there and count else b''
+        return {'address': f'0x{max(address, 0):05X}', 'data': base64.b64encode(octets).decode(), 'unreadableBytes': count - len(octets)}
+
+    def on_disassemble(self, given: Fields) -> Fields:
+        count = field(given, 'instructionCount', int)
+        if not 0 <= count <= 10000 or abs(field(given, 'instructionOffset', int, 0)) > 10000:
+            raise Sorry('instructionCount goes to 10000')
+        address = self.address(field(given, 'memoryReference', str)) + field(given, 'offset', int, 0)
+        self.board().trail()
+        told = []
+        for row in Disassembly(self.board()).rows(address, field(given, 'instructionOffset', int, 0), count):
+            it: Fields = {'address': f'0x{max(row.address, 0):05X}', 'instruction': row.text or '??', 'instructionBytes': row.octets.hex(' ').upper()}
+            if row.line:
+                it |= {'location': self.source(), 'line': row.line - 1 + self.line_base}
+            told.append(it | ({} if row.text and not row.text.startswith('DB ') else {'presentationHint': 'invalid'}))
+        return {'instructions': told}

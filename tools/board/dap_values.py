@@ -1,0 +1,198 @@
+"""What an editor asks about: expressions of registers, labels, numbers and memory, and disassembly from what ran."""
+from __future__ import annotations
+
+import re
+from dataclasses import dataclass
+
+from board.command import Sorry
+from board.dap_board import FLAG_BITS, Machine
+from board.listing import Line, code_of, label_in, physical
+from board.places import far_of
+
+BYTE_REGISTERS = {'AL': ('AX', 0), 'AH': ('AX', 8), 'BL': ('BX', 0), 'BH': ('BX', 8), 'CL': ('CX', 0), 'CH': ('CX', 8),
+                  'DL': ('DX', 0), 'DH': ('DX', 8)}
+TOKEN = re.compile(r"\s*(0x[0-9A-Fa-f]+|[0-9][0-9A-Fa-f]*[Hh]|[01]+[Bb]|\d+|[A-Za-z_]\w*|'[^']'|[-+*:\[\]()])")
+DATA = re.compile(r'(\w+\s*:)?\s*D[BWD]\b', re.I)
+LONGEST_INSTRUCTION = 8
+
+
+@dataclass(frozen=True)
+class Value:
+    """A number, of a byte or a word where it has a size, and the physical address that it is or was read from."""
+    number: int
+    size: int = 2
+    address: int | None = None
+
+    def shown(self) -> str:
+        """As the dialect writes it, and in decimal."""
+        number = self.number % (1 << 8 * self.size) if self.number >= 0 or self.size < 4 else self.number
+        sign = f" '{chr(number)}'" if self.size == 1 and 32 <= number < 127 else ''
+        return f'{number:0{2 * self.size + 1}X}h ({number}){sign}'
+
+
+def number_in(word: str) -> int:
+    """A number as the dialect or C writes it."""
+    if word.lower().startswith('0x'):
+        return int(word, 16)
+    if word[-1] in 'Hh':
+        return int(word[:-1], 16)
+    return int(word[:-1], 2) if word[-1] in 'Bb' else int(word)
+
+
+class Expression:
+    """An expression, read from its beginning on: sums and products of registers, flags, labels, numbers, and memory as
+    BYTE [..], WORD [..], ES:[..]."""
+
+    def __init__(self, machine: Machine, text: str) -> None:
+        self.machine, self.text, self.registers = machine, text, machine.registers()
+        self.words, at = list[str](), 0
+        while text[at:].strip():
+            found = TOKEN.match(text, at)
+            if not found:
+                raise Sorry(f'{text[at:].strip()[:40]} is no part of an expression')
+            self.words.append(found[1])
+            at = found.end()
+        if not self.words or len(self.words) > 200:
+            raise Sorry('an expression has 1 to 200 words')
+
+    def value(self) -> Value:
+        """The whole expression's value."""
+        found = self._sum()
+        if self.words:
+            raise Sorry(f'{self.words[0]} is one word too many')
+        return found
+
+    def _take(self, *wanted: str) -> str:
+        """The next word, if it is one of these."""
+        return self.words.pop(0) if self.words and self.words[0].upper() in wanted else ''
+
+    def _sum(self) -> Value:
+        found = self._product()
+        while sign := self._take('+', '-'):
+            right = self._product()
+            found = Value(found.number + (right.number if sign == '+' else -right.number), max(found.size, right.size))
+        return found
+
+    def _product(self) -> Value:
+        found = self._term()
+        while self._take('*'):
+            right = self._term()
+            found = Value(found.number * right.number, max(found.size, right.size))
+        return found
+
+    def _term(self) -> Value:
+        if self._take('-'):
+            return Value(-self._term().number)
+        if self._take('('):
+            found = self._sum()
+            self._close(')')
+            return found
+        size = {'BYTE': 1, 'WORD': 2}.get(self._take('BYTE', 'WORD').upper(), 0)
+        if self.words[:1] == ['['] or size:
+            return self._memory(None if self.words[:1] == ['['] else self._name().number, size or 1)
+        found = self._name()
+        return self._memory(found.number, 1) if self.words[:1] == [':'] else found
+
+    def _close(self, sign: str) -> None:
+        if not self._take(sign):
+            raise Sorry(f'{self.text}: a {sign} is missing')
+
+    def _memory(self, segment: int | None, size: int) -> Value:
+        """What stands in memory; without a segment in that of DS, or with BP in that of SS."""
+        if segment is not None:
+            self._close(':')
+        if not self._take('['):
+            raise Sorry(f'{self.text}: memory is written BYTE [..] or WORD ES:[..]')
+        is_stack = 'BP' in [it.upper() for it in self.words]
+        offset = self._sum().number % 0x10000
+        self._close(']')
+        segment = self.registers['SS' if is_stack else 'DS'] if segment is None else segment % 0x10000
+        address = physical(segment, offset)
+        octets = b''.join(self.machine.dump(physical(segment, (offset + it) % 0x10000), 1) for it in range(size))
+        return Value(int.from_bytes(octets, 'little'), size, address)
+
+    def _name(self) -> Value:
+        """A register, flag, label or number."""
+        word = self.words.pop(0) if self.words else ''
+        upper = word.upper()
+        if upper in self.registers:
+            return Value(self.registers[upper])
+        if upper in BYTE_REGISTERS:
+            register, shift = BYTE_REGISTERS[upper]
+            return Value(self.registers[register] >> shift & 0xFF, 1)
+        if upper in FLAG_BITS:
+            return Value(self.registers['FL'] >> FLAG_BITS[upper] & 1, 1)
+        if upper == 'SEG' and self.words:
+            return Value(far_of(self.machine.listing, self.words.pop(0))[0])
+        if word[:1].isdigit():
+            return Value(number_in(word), 2 if number_in(word) < 0x10000 else 4)
+        if len(word) == 3 and word[0] == "'":
+            return Value(ord(word[1]), 1)
+        label = self.machine.listing.label_of(word)
+        if label is None:
+            raise Sorry(f'{word or self.text} is no register, flag, label or number')
+        return Value(label[1], 2, physical(*label))
+
+
+def is_code(line: Line) -> bool:
+    """Whether a line places an instruction, and not data."""
+    return line.address is not None and not DATA.match(code_of(line.text).strip())
+
+
+@dataclass(frozen=True)
+class Row:
+    """A row of disassembly: bytes at an address, their text, and the source line that placed them."""
+    address: int
+    octets: bytes
+    text: str
+    line: int | None
+
+
+class Disassembly:
+    """Instructions of memory, as far as the trail told their texts or the source has them; else bytes."""
+
+    def __init__(self, machine: Machine) -> None:
+        self.machine, self.memory = machine, dict[int, int]()
+
+    def _octets(self, address: int, count: int) -> bytes:
+        """Bytes of memory, each read once."""
+        if not 0 <= address < 1 << 20:
+            return b''
+        if any(it not in self.memory for it in range(address, min(address + count, 1 << 20))):
+            base = max(0, address - 256)
+            self.memory.update(enumerate(self.machine.dump(base, 1024), base))
+        return bytes(self.memory[it] for it in range(address, min(address + count, 1 << 20)))
+
+    def at(self, address: int) -> Row:
+        """The row that begins at an address."""
+        line, event = self.machine.listing.at.get(address), self.machine.known.get(address)
+        if event and self._octets(address, len(event.octets)) == event.octets:
+            text = event.text
+            same = line is not None and line.shown[:8] == event.octets[:8]
+            return Row(address, event.octets, text, line.number if line and same else None)
+        if line and line.shown and is_code(line) and self._octets(address, len(line.shown)) == line.shown:
+            label, code = label_in(line.text), code_of(line.text).strip()
+            return Row(address, line.shown, code.partition(':')[2].strip() if label else code, line.number)
+        octets = self._octets(address, 1)
+        return Row(address, octets, f'DB 0{octets[0]:02X}h' if octets else '', None)
+
+    def before(self, address: int) -> Row:
+        """The row that ends where this address begins."""
+        for length in range(LONGEST_INSTRUCTION, 0, -1):
+            row = self.at(address - length)
+            if len(row.octets) == length and length > 1 or length == 1:
+                return row
+        return self.at(address - 1)
+
+    def rows(self, address: int, first: int, count: int) -> list[Row]:
+        """So many rows from the one that stands `first` rows behind the address on, or before it."""
+        at, found = address, list[Row]()
+        for _ in range(max(0, -first)):
+            at = self.before(at).address
+        for _ in range(max(0, first)):
+            at += len(self.at(at).octets) or 1
+        while len(found) < count:
+            row = self.at(at)
+            found.append(row)
+            at += len(row.octets) or 1
+        return found

@@ -1,0 +1,366 @@
+"""tools/dap, by a client of the tests' own, over the built program; each place is held against a session of debug."""
+from __future__ import annotations
+
+import base64
+import json
+import os
+import signal
+import subprocess
+import sys
+import tempfile
+import threading
+import time
+import unittest
+import unittest.mock
+from typing import Any
+
+from tests.support import TOOLS, ToolCase, example
+
+from board.dap_board import is_repeated, operation_of
+from board.dap_values import number_in
+from board.dap_wire import Broken, Reader
+from board.program import Files, Session, path
+from board.report import registers_of
+
+Fields = dict[str, Any]
+
+
+class Client:
+    """An editor, as far as the protocol goes."""
+
+    def __init__(self, room: str) -> None:
+        os.makedirs(f'{room}/tmp', exist_ok=True)
+        self.adapter = subprocess.Popen([sys.executable, '-S', f'{TOOLS}/dap'], stdin=subprocess.PIPE, stdout=subprocess.PIPE,
+                                        stderr=subprocess.PIPE, cwd=room, env=os.environ | {'TMPDIR': f'{room}/tmp'})
+        self.count, self.events = 0, list[Fields]()
+        assert self.adapter.stdout
+        self.reader = Reader(self.adapter.stdout.fileno())
+        self.watch = threading.Timer(120, self.adapter.kill)
+        self.watch.start()
+
+    def raw(self, octets: bytes) -> None:
+        """Sends bytes."""
+        assert self.adapter.stdin
+        self.adapter.stdin.write(octets)
+        self.adapter.stdin.flush()
+
+    def send(self, command: str, **arguments: Any) -> int:
+        """Sends a request, and returns its number."""
+        self.count += 1
+        body = json.dumps({'seq': self.count, 'type': 'request', 'command': command, 'arguments': arguments}).encode()
+        self.raw(b'Content-Length: %d\r\n\r\n%b' % (len(body), body))
+        return self.count
+
+    def read(self) -> Fields:
+        """The next message."""
+        message = self.reader.next()
+        assert isinstance(message, dict), self.adapter.stderr and self.adapter.stderr.read()
+        return message
+
+    def response(self, number: int) -> Fields:
+        """The response to a request; events on the way are kept."""
+        while True:
+            message = self.read()
+            if message['type'] == 'event':
+                self.events.append(message)
+            elif message['request_seq'] == number:
+                return message
+
+    def ask(self, command: str, **arguments: Any) -> Fields:
+        """The body that answers a request."""
+        answer = self.response(self.send(command, **arguments))
+        assert answer['success'], answer
+        return answer['body']
+
+    def refused(self, command: str, **arguments: Any) -> str:
+        """Why a request is refused."""
+        answer = self.response(self.send(command, **arguments))
+        assert not answer['success'], answer
+        return answer['message']
+
+    def event(self, name: str) -> Fields:
+        """The next event of this name."""
+        while True:
+            found = next((it for it in self.events if it['event'] == name), None)
+            if found:
+                self.events.remove(found)
+                return found['body']
+            message = self.read()
+            if message['type'] == 'event':
+                self.events.append(message)
+
+    def launch(self, source: str, *lines: int, **more: Any) -> list[Fields]:
+        """Begins as an editor does, and returns its breakpoints."""
+        self.ask('initialize', adapterID='zebludor', linesStartAt1=True)
+        self.ask('launch', program=source, **more)
+        self.event('initialized')
+        told = self.lines(source, *lines)
+        self.ask('setExceptionBreakpoints', filters=[])
+        self.ask('configurationDone')
+        return told
+
+    def lines(self, source: str, *lines: int) -> list[Fields]:
+        """Sets breakpoints by line."""
+        return self.ask('setBreakpoints', source={'path': source}, breakpoints=[{'line': it} for it in lines])['breakpoints']
+
+    def move(self, command: str) -> Fields:
+        """Moves, and returns the stop."""
+        self.ask(command, threadId=1)
+        return self.event('stopped')
+
+    def variables(self, which: int) -> dict[str, str]:
+        """A scope's variables."""
+        return {it['name']: it['value'] for it in self.ask('variables', variablesReference=which)['variables']}
+
+    def clock(self) -> int:
+        """Where the board stands."""
+        return int(self.variables(3)['clock'])
+
+    def line(self) -> int:
+        """The present line."""
+        return self.ask('stackTrace', threadId=1)['stackFrames'][0]['line']
+
+    def leave(self) -> int:
+        """Disconnects, and returns the adapter's status."""
+        self.ask('disconnect')
+        return self.end()
+
+    def end(self) -> int:
+        """Closes the streams and waits."""
+        assert self.adapter.stdin and self.adapter.stdout and self.adapter.stderr
+        try:
+            self.adapter.stdin.close()
+        except BrokenPipeError:
+            pass
+        status = self.adapter.wait()
+        self.watch.cancel()
+        self.told = self.adapter.stderr.read().decode()
+        self.adapter.stdout.close()
+        self.adapter.stderr.close()
+        return status
+
+
+class Words(unittest.TestCase):
+    """What needs no board."""
+
+    def test_operations(self) -> None:
+        self.assertEqual([operation_of(it) for it in ('REP MOVSW', 'ES: INC BYTE [00000h]', 'HLT', 'LOCK XCHG AX,BX')],
+                         ['MOVSW', 'INC', 'HLT', 'XCHG'])
+        self.assertEqual([is_repeated(it) for it in ('REP ES: MOVSW', 'MOVSW', 'REPNE SCASB')], [True, False, True])
+        self.assertEqual([number_in(it) for it in ('0B8h', '0x10', '101b', '17')], [0xB8, 0x10, 5, 17])
+
+    def test_messages(self) -> None:
+        with tempfile.TemporaryFile() as file:
+            file.write(b'Content-Length: 2\r\n\r\n{}Content-Length: 1\r\n\r\n[X: 1\r\n\r\nContent-Length: 3000000\r\n\r\n'
+                       + b' ' * 3000000 + b'Content-Length: 2\r\n\r\n[]Content-Length: 2\r\nX: y\r\n\r\n{}' + b'x' * 9000
+                       + b'\r\nContent-Length: 2\r\n\r\n{}Content-Length: 9\r\n\r\n{')
+            file.seek(0)
+            reader = Reader(file.fileno())
+            found = [reader.next() for _ in range(8)]
+        kinds = ['broken' if isinstance(it, Broken) else it for it in found]
+        self.assertEqual(kinds, [{}, 'broken', 'broken', 'broken', 'broken', {}, {}, None])
+
+
+class Sessions(ToolCase):
+    """Sessions on the examples."""
+
+    def client(self) -> Client:
+        client = Client(self.room)
+        self.addCleanup(client.watch.cancel)
+        return client
+
+    def agrees(self, client: Client, name: str) -> None:
+        """Registers and memory are those of a session that goes there directly."""
+        told = {it: int(value.split('h')[0], 16) for it, value in client.variables(1).items()}
+        body = client.ask('readMemory', memoryReference='0xB0000', count=64)
+        with Session(Files(*example(name))) as session:
+            session.many('regs')
+            session.go_to(client.clock())
+            self.assertEqual(told, registers_of(session.many('regs')))
+            self.assertEqual(base64.b64decode(body['data']), session.dump(0xB0000, 64))
+
+    def test_forth_and_back(self) -> None:
+        client, (source, run) = self.client(), example('ticks')
+        told = client.launch(source, 25, 24, run=run, stopOnEntry=True)
+        self.assertEqual([(it['verified'], it['line']) for it in told], [(True, 25), (True, 25)])
+        self.assertIn('line 24 places nothing', told[1]['message'])
+        self.assertEqual(client.event('stopped')['reason'], 'entry')
+        self.assertEqual((client.clock(), client.line()), (0, 37))
+        clocks = []
+        for command in ('continue', 'continue', 'reverseContinue', 'stepBack', 'stepIn', 'next', 'continue', 'continue', 'continue'):
+            clocks.append((client.move(command)['reason'], client.clock()))
+            self.agrees(client, 'ticks')
+        self.assertEqual(clocks[:5], [('breakpoint', 204), ('breakpoint', 593), ('breakpoint', 204), ('step', 143), ('step', 204)])
+        self.assertEqual(clocks[6], ('breakpoint', 593))
+        self.assertEqual(client.leave(), 0)
+        self.assertEqual(os.listdir(f'{self.room}/tmp'), [])
+
+    def test_the_end_and_the_start(self) -> None:
+        client, (source, run) = self.client(), example('hello')
+        client.launch(source, run=run)
+        self.assertIn('the run ends at clock 100, halted', client.event('stopped')['text'])
+        self.assertIn('HI\n', client.event('output')['output'])
+        self.assertIn('the run ends at clock 100', client.refused('continue', threadId=1))
+        self.assertEqual(client.move('reverseContinue')['reason'], 'entry')
+        self.assertEqual(client.clock(), 0)
+        self.assertIn('start of the run', client.refused('stepBack', threadId=1))
+        self.assertEqual(client.leave(), 0)
+
+    def test_calls_interrupts_and_repeats(self) -> None:
+        lines = ('        MOV SP,400h\n        MOV DI,0\n        MOV CX,900\n        CALL some\n        REP STOSB\n        HLT\n'
+                 'some:   MOV AX,5\nagain:  DEC AX\n        JNZ again\n        RET')
+        source, run = self.program(lines, 100000)
+        client = self.client()
+        client.launch(source, 6, run=run)
+        client.event('stopped')
+        self.assertEqual(client.line(), 6)
+        seen = []
+        for command in ('next', 'next', 'stepBack', 'reverseContinue', 'stepIn', 'next', 'stepOut'):
+            client.move(command)
+            seen.append(client.line())
+        self.assertEqual(seen, [7, 8, 7, 6, 9, 10, 7])
+        client.lines(source, 11)
+        client.move('reverseContinue')
+        frames = client.ask('stackTrace', threadId=1)['stackFrames']
+        self.assertEqual([(it['name'], it['line']) for it in frames], [('again+1', 11), ('start+C', 7)])
+        self.assertEqual(client.leave(), 0)
+
+    def test_looking(self) -> None:
+        client, (source, run) = self.client(), example('ticks')
+        client.launch(source, 25, run=run)
+        client.event('stopped')
+        for text, wanted in (('AX', '0B000h'), ('tick', '0002Eh (46)'), ('BYTE ES:[0]', "030h (48) '0'"), ('AX+2*3', '0B006h'),
+                             ('WORD CS:[tick]', '0FE26h'), ('IF', '000h (0)'), ('-1+tick', '0002Dh'), ("'A'", '041h')):
+            self.assertIn(wanted, client.ask('evaluate', expression=text, context='watch')['result'], text)
+        for text in ('nope', '', '1 2', '[', 'BYTE', '(1', '@', '1+', '((((' * 80):
+            client.refused('evaluate', expression=text, context='hover')
+        self.assertIn('AX=B000', client.ask('evaluate', expression='regs', context='repl')['result'])
+        self.assertEqual(client.variables(2)['IF'], '0')
+        rows = client.ask('disassemble', memoryReference='0xF002E', instructionOffset=-2, instructionCount=5)['instructions']
+        self.assertEqual([(it['address'], it['instruction']) for it in rows],
+                         [('0xF002B', 'HLT'), ('0xF002C', 'JMP SHORT idle'), ('0xF002E', 'INC BYTE ES:[0]'), ('0xF0033', 'MOV AL,20h'),
+                          ('0xF0035', 'OUT 20h,AL')])
+        last = client.ask('readMemory', memoryReference='0xFFFFF', count=4)
+        self.assertEqual((len(base64.b64decode(last['data'])), last['unreadableBytes']), (1, 3))
+        told = client.ask('setInstructionBreakpoints', breakpoints=[{'instructionReference': '0xF0035'}, {'instructionReference': '0x00400'}])
+        self.assertEqual([it['verified'] for it in told['breakpoints']], [True, False])
+        self.assertEqual(client.move('continue')['reason'], 'instruction breakpoint')
+        client.ask('setFunctionBreakpoints', breakpoints=[{'name': 'tick'}, {'name': 'F000:37'}, {'name': 'nope'}])
+        client.move('continue')
+        self.assertEqual(client.line(), 28)
+        self.assertIn("can't be written", client.refused('setVariable', variablesReference=1, name='AX', value='1'))
+        self.assertEqual(client.leave(), 0)
+
+    def test_a_refused_source(self) -> None:
+        source, run = self.program('        MOV AX,0x10\n        FROB')
+        client = self.client()
+        client.ask('initialize')
+        self.assertIn('it.asm, line 3: BadLine: hexadecimal', client.refused('launch', program=source, run=run))
+        told = [client.event('output'), client.event('output')]
+        self.assertEqual([it['line'] for it in told], [3, 4])
+        self.assertEqual(told[0]['output'].rstrip(), self.tool('why', '--lines', source, status=1)[0].splitlines()[0])
+        self.assertIn('no board', client.refused('continue', threadId=1))
+        self.assertIn("can't be read", client.refused('launch', program='nothing.asm', run=run))
+        bad = self.file('bad.json', '{}')
+        self.assertIn('bad.json', client.refused('launch', program=example('hello')[0], run=bad))
+        self.assertEqual(client.leave(), 0)
+
+    def test_pauses_and_new_breakpoints(self) -> None:
+        source, run = self.program('again:  INC AX\n        JMP SHORT again', 1 << 39)
+        client = self.client()
+        client.launch(source, run=run)
+        self.assertIn('pause first', client.refused('stepIn', threadId=1))
+        client.ask('pause', threadId=1)
+        self.assertEqual(client.event('stopped')['reason'], 'pause')
+        client.ask('continue', threadId=1)
+        client.ask('setBreakpoints', source={'path': source}, breakpoints=[{'line': 3}])
+        client.ask('pause', threadId=1)
+        client.event('stopped')
+        self.assertEqual(client.move('continue')['reason'], 'breakpoint')
+        self.assertEqual(client.line(), 3)
+        self.assertEqual(client.leave(), 0)
+
+    def test_seventeen_breakpoints_and_halts(self) -> None:
+        client, (source, run) = self.client(), example('ticks')
+        told = client.launch(source, *range(8, 31), run=run, stopOnEntry=True)
+        self.assertEqual(len({it['line'] for it in told if it['verified']}), 15)
+        client.event('stopped')
+        client.lines(source, 23)
+        client.move('continue')
+        self.assertEqual(client.line(), 23)
+        with Session(Files(source, run)) as session:
+            session.many('regs')
+            session.go_to(client.clock() - 1)
+            self.assertIn('IRET', session.many('trail')[-1])
+        self.assertEqual(client.leave(), 0)
+
+    def test_keys_hex_and_symbols(self) -> None:
+        source, run = example('monitor')
+        symbols = self.file('monitor.sym', 'F0000 T start\nF000:0003 third\n')
+        client = self.client()
+        client.launch(source.replace('.asm', '.hex'), run=run, symbols=symbols, stopOnEntry=True)
+        client.event('stopped')
+        client.move('stepIn')
+        self.assertIn('start', client.ask('stackTrace', threadId=1)['stackFrames'][0]['name'])
+        self.assertEqual(client.leave(), 0)
+        client = self.client()
+        client.launch(example('keys')[0], keys='a', budget=5000)
+        self.assertIn('clock 5000', client.event('stopped')['text'])
+        self.assertEqual(client.leave(), 0)
+
+    def test_broken_requests(self) -> None:
+        client, (source, run) = self.client(), example('hello')
+        for octets in (b'Content-Length: 3\r\n\r\n{a}', b'Nothing: 1\r\n\r\n', b'Content-Length: 2\r\n\r\n[]',
+                       b'Content-Length: 10000000\r\n\r\n' + b'a' * 10000000, b'Content-Length: 4\r\n\r\n\xff\xfe\xff\xff'):
+            client.raw(octets)
+            self.assertFalse(client.response(0)['success'])
+        self.assertIn('no request that is known', client.refused('frobnicate'))
+        self.assertIn('no board', client.refused('stackTrace', threadId=1))
+        client.launch(source, run=run, stopOnEntry=True)
+        client.event('stopped')
+        for command, given in (('setBreakpoints', {}), ('setBreakpoints', {'source': 3}), ('readMemory', {'memoryReference': 3}),
+                               ('readMemory', {'memoryReference': '0x0', 'count': -1}), ('variables', {'variablesReference': 'x'}),
+                               ('disassemble', {'memoryReference': '0x0', 'instructionCount': 10 ** 9}), ('launch', {'program': source}),
+                               ('setFunctionBreakpoints', {'breakpoints': 3}), ('evaluate', {'expression': ['x']})):
+            client.refused(command, **given)
+        self.assertFalse(client.lines(source, 99999)[0]['verified'])
+        self.assertFalse(client.lines('/nothing.asm', 1)[0]['verified'])
+        body = b'{"seq":7000,"type":"request","command":"threads"}'
+        message = b'Content-Length: %d\r\n\r\n%b' % (len(body), body)
+        for half in (message[:9], message[9:40], message[40:] + message[:30]):
+            client.raw(half)
+            time.sleep(0.05)
+        self.assertTrue(client.response(7000)['success'])
+        self.assertEqual(client.end(), 0)
+        self.assertEqual(os.listdir(f'{self.room}/tmp'), [])
+
+    def test_nothing_is_left(self) -> None:
+        for number in (signal.SIGTERM, signal.SIGINT, None):
+            client = self.client()
+            client.launch(*self.program('again: JMP SHORT again', 1 << 39)[:1], run=self.program('again: JMP SHORT again', 1 << 39)[1])
+            client.ask('threads')
+            if number:
+                client.adapter.send_signal(number)
+            self.assertIn(client.end(), (0, 130))
+            self.assertEqual(client.told, '')
+            self.assertEqual(os.listdir(f'{self.room}/tmp'), [])
+
+    def test_a_board_that_dies(self) -> None:
+        pid = f'{self.room}/pid'
+        killed = self.file('pcboard', f'#!/bin/sh\ncase $1 in debug) echo $$ > {pid};; esac\nexec {path()} "$@"\n')
+        os.chmod(killed, 0o755)
+        client, (source, run) = None, example('hello')
+        with unittest.mock.patch.dict(os.environ, {'PCBOARD': killed}):
+            client = self.client()
+        client.launch(source, run=run, stopOnEntry=True)
+        client.event('stopped')
+        with open(pid, encoding='ascii') as file:
+            os.kill(int(file.read()), signal.SIGKILL)
+        self.assertIn("board's process has ended", client.refused('stackTrace', threadId=1))
+        client.event('terminated')
+        self.assertIn('no board', client.refused('stackTrace', threadId=1))
+        self.assertEqual(client.leave(), 0)
+
+
+if __name__ == '__main__':
+    unittest.main()
