@@ -1,0 +1,138 @@
+"""What stands in editors/: the grammar is that of the words, VS Code's folder fits the tools, and Emacs debugs with it."""
+from __future__ import annotations
+
+import glob
+import json
+import os
+import re
+import shutil
+import subprocess
+import unittest
+
+from tests.support import EXAMPLES, TOOLS, TOP, ToolCase, example
+
+from board.hints import STATEMENTS, WORDS
+from board.program import Files, Session
+
+FOLDER = f'{TOP}/editors/vscode'
+MODE_CLIENT = f'{TOOLS}/tests/dap_mode.el'
+
+
+def has_dap_mode() -> bool:
+    """Whether Emacs with dap-mode is installed."""
+    asked = ['emacs', '--batch', '--eval', "(progn (package-initialize) (require 'dap-mode))"]
+    return bool(shutil.which('emacs')) and subprocess.run(asked, capture_output=True, check=False).returncode == 0
+
+
+class Folder(ToolCase):
+    """VS Code's folder."""
+
+    def setUp(self) -> None:
+        super().setUp()
+        with open(f'{FOLDER}/package.json', encoding='utf-8') as file:
+            self.package = json.load(file)['contributes']
+        with open(f'{FOLDER}/zebludor.tmLanguage.json', encoding='utf-8') as file:
+            self.rules = [(it['name'].removesuffix('.zebludor'), it['match']) for it in json.load(file)['patterns']]
+
+    def test_the_grammar_is_that_of_the_words(self) -> None:
+        done = subprocess.run([f'{TOP}/editors/grammar', '--check'], capture_output=True, text=True, check=False)
+        self.assertEqual((done.returncode, done.stdout), (0, ''))
+        self.assertEqual([self.name_of(it) for it in sorted(STATEMENTS - WORDS) if 'keyword' not in self.name_of(it)], [])
+
+    def name_of(self, word: str) -> str:
+        """What the grammar takes a word for: the first rule that fits at its beginning."""
+        return next((name for name, rule in self.rules if re.match(re.sub(r'^\(\?i\)', '', rule), word, re.I)), '')
+
+    def test_the_grammar_colours(self) -> None:
+        for word, wanted in (('mov', 'keyword.mnemonic'), ('REPNE', 'keyword.prefix'), ('ax', 'variable.language.register'), ('DB', 'keyword.directive'),
+                             ('short', 'keyword.operator'), ('0B8h', 'constant.numeric.hexadecimal'), ('101b', 'constant.numeric.binary'),
+                             ('17', 'constant.numeric.decimal'), ('start: NOP', 'entity.name.label'), ("'a;b'", 'string.quoted.single'), ('; x', 'comment.line.semicolon'),
+                             ('ES: MOVSB', 'variable.language.register'), ('movable', '')):
+            self.assertEqual(self.name_of(word), wanted, word)
+
+    def test_what_it_names_is_there(self) -> None:
+        for name in (self.package['languages'][0]['configuration'], self.package['grammars'][0]['path'], self.package['debuggers'][0]['program']):
+            self.assertTrue(os.path.exists(f'{FOLDER}/{name}'), name)
+        self.assertTrue(os.path.samefile(f'{FOLDER}/dap', f'{TOOLS}/dap'))
+        self.assertIn('usage: tools/dap', subprocess.run([f'{FOLDER}/dap', '--help'], capture_output=True, text=True, check=True).stdout)
+
+    def test_the_matcher_reads_why(self) -> None:
+        pattern = self.package['problemMatchers'][0]['pattern']
+        source, _ = self.program(' FROB')
+        found = re.match(pattern['regexp'], self.tool('why', '--lines', source, status=1)[0].splitlines()[0])
+        assert found
+        self.assertEqual((found[pattern['file']], found[pattern['line']], found[pattern['severity']]), (source, '3', 'error'))
+        self.assertTrue(found[pattern['message']].startswith('UnknownName: '))
+
+    def test_ten_lines(self) -> None:
+        for name in ('emacs.el', 'nvim.lua'):
+            with open(f'{TOP}/editors/{name}', encoding='utf-8') as file:
+                self.assertLessEqual(len([it for it in file if it.strip() and not it.startswith((';', '--'))]), 10)
+
+
+class Editors(ToolCase):
+    """The editors themselves, where they are installed."""
+
+    def batch(self, *words: str) -> list[str]:
+        """What Emacs prints, with a home of its own."""
+        os.makedirs(f'{self.room}/tmp')
+        done = subprocess.run(['emacs', '--batch', *words], capture_output=True, text=True, check=False, timeout=300,
+                              env=os.environ | {'HOME': self.room, 'TMPDIR': f'{self.room}/tmp'})
+        self.assertEqual(done.returncode, 0, done.stderr)
+        return done.stdout.splitlines()
+
+    def test_dap_mode_debugs(self) -> None:
+        if not has_dap_mode():
+            print('not run: Emacs with dap-mode')
+            return
+        source, run = example('ticks')
+        told = self.batch('-l', MODE_CLIENT, f'{TOP}/editors/emacs.el', source, run, '25')
+        reasons = [it.split()[0] for it in told[:8]]
+        self.assertEqual(reasons, ['entry', 'breakpoint', 'step', 'step', 'step', 'step', 'breakpoint', 'breakpoint'])
+        with Session(Files(source, run)) as session:
+            clocks = ['0'] + self.clocks(session)
+        self.assertEqual([it.split()[2] for it in told[:8]], clocks)
+        self.assertEqual([it.split()[1] for it in told[:8]], ['37', '25', '26', '27', '26', '25', '25', '25'])
+        self.assertEqual(told[8:], ['0002Eh (46)', 'MAcAAA==', 'gone'])
+
+    def clocks(self, session: Session) -> list[str]:
+        """The same moves in the debugger."""
+        session.many('break F000:2E')
+        commands = ('go 1000', 'step', 'step', 'back step', 'back step', 'go 1000', 'back stop')
+        return [session.one(it).split()[-1] for it in commands]
+
+    def test_quickfix_and_compile(self) -> None:
+        source, _ = self.program(' FROB\n MOV AX,0x10')
+        if shutil.which('vim'):
+            self.file('it.vim', f"let &makeprg = '{TOOLS}/why --lines %'\nsilent! make\ncall writefile(map(getqflist(), 'v:val.lnum'), 'found')\nqa!\n")
+            subprocess.run(['vim', '-u', 'NONE', '-es', '-S', 'it.vim', source], cwd=self.room, stdin=subprocess.DEVNULL, capture_output=True, check=False, timeout=100)
+            with open(f'{self.room}/found', encoding='ascii') as file:
+                self.assertEqual(file.read().split(), ['3', '4'])
+        else:
+            print('not run: vim')
+        if not shutil.which('emacs'):
+            print('not run: Emacs')
+            return
+        text = ("(progn (require 'compile) (let ((b (compilation-start \"%s/why --lines %s\"))) (while (get-buffer-process b) (accept-process-output nil 0.1))"
+                "(with-current-buffer b (compilation--ensure-parse (point-max)) (princ compilation-num-errors-found))))")
+        self.assertEqual(self.batch('--eval', text % (TOOLS, source)), ['2'])
+
+
+class Examples(unittest.TestCase):
+    """The grammar on all examples."""
+
+    def test_each_word_has_a_colour(self) -> None:
+        with open(f'{FOLDER}/zebludor.tmLanguage.json', encoding='utf-8') as file:
+            rules = [re.sub(r'^\(\?i\)', '', it['match']) for it in json.load(file)['patterns']]
+        sources = glob.glob(f'{EXAMPLES}/*.asm')
+        self.assertGreater(len(sources), 10)
+        for path in sources:
+            with open(path, encoding='ascii') as file:
+                for line in file:
+                    operation = re.match(r'\s+([A-Z]+)\b', line)
+                    if operation:
+                        self.assertTrue(any(re.match(it, operation[1], re.I) for it in rules), line)
+
+
+if __name__ == '__main__':
+    unittest.main()
