@@ -341,9 +341,15 @@ class Adapter:
                 return self.told(met, 'pause', 'the run ends')
         return self.told(None, 'pause', 'the run ends')
 
+    def unless_ended(self) -> Machine:
+        """The board, unless it has run to the budget's end: beyond it goes by single steps alone."""
+        board = self.board()
+        if board.clock >= board.budget:
+            raise Sorry(f'the run ends at clock {board.budget}; step, or go back')
+        return board
+
     def on_continue(self, _: Fields) -> tuple[Fields, Callable[[], tuple[str, str]]]:
-        if self.board().clock >= self.board().budget:
-            raise Sorry(f'the run ends at clock {self.board().budget}; step, or go back')
+        self.unless_ended()
         return {'allThreadsContinued': True}, self.run_on
 
     def on_next(self, _: Fields) -> tuple[Fields, Callable[[], tuple[str, str]]]:
@@ -359,7 +365,7 @@ class Adapter:
         return {}, step
 
     def on_stepOut(self, _: Fields) -> tuple[Fields, Callable[[], tuple[str, str]]]:
-        board = self.board()
+        board = self.unless_ended()
         return {}, lambda: self.told(board.out(self.wanted()), 'step', 'step out')
 
     def on_stepBack(self, _: Fields) -> tuple[Fields, Callable[[], tuple[str, str]]]:

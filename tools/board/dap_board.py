@@ -37,6 +37,19 @@ def is_repeated(text: str) -> bool:
     return bool({'REP', 'REPNE'} & set(text.split()[:-1]))
 
 
+def ends_with_call(octets: bytes) -> bool:
+    """Whether four bytes end with a near CALL: E8 and a word, or FF with 2 in reg and the displacement that mod asks for."""
+    if octets[-3:-2] == b'\xE8':
+        return True
+    for length in (2, 3, 4):
+        opcode, form = octets[-length], octets[1 - length]
+        mode, digit, memory = form >> 6, form >> 3 & 7, form & 7
+        wanted = 4 if mode == 2 or mode == 0 and memory == 6 else 3 if mode == 1 else 2
+        if opcode == 0xFF and digit == 2 and length == wanted:
+            return True
+    return False
+
+
 class Machine:
     """The board at a clock. `poll` is called between the pieces of a run, and raises Paused to end it."""
 
@@ -312,8 +325,7 @@ class Machine:
         while registers['SP'] <= frame < 0xFFFC and len(found) < 64:
             octets = self.dump(physical(registers['SS'], frame), 4)
             above, back = (int.from_bytes(octets[at:at + 2], 'little') for at in (0, 2))
-            before = self.dump(physical(code, back - 3 & 0xFFFF), 3)
-            if len(octets) < 4 or before[:1] != b'\xE8' and before[1:2] != b'\xFF':
+            if len(octets) < 4 or back < 4 or not ends_with_call(self.dump(physical(code, back - 4), 4)):
                 break
             found.append(((code, back), 'BP'))
             if above <= frame:

@@ -4,6 +4,7 @@ from __future__ import annotations
 import base64
 import json
 import os
+import random
 import signal
 import subprocess
 import sys
@@ -16,7 +17,7 @@ from typing import Any
 
 from tests.support import TOOLS, ToolCase, example
 
-from board.dap_board import is_repeated, operation_of
+from board.dap_board import ends_with_call, is_repeated, operation_of
 from board.dap_values import number_in
 from board.dap_wire import Broken, Reader
 from board.program import Files, Session, path
@@ -149,6 +150,11 @@ class Words(unittest.TestCase):
         self.assertEqual([is_repeated(it) for it in ('REP ES: MOVSW', 'MOVSW', 'REPNE SCASB')], [True, False, True])
         self.assertEqual([number_in(it) for it in ('0B8h', '0x10', '101b', '17')], [0xB8, 0x10, 5, 17])
 
+    def test_calls(self) -> None:
+        for octets, wanted in (('90E80000', True), ('9090FFD0', True), ('90FF5702', True), ('FF970002', True), ('FF160002', True), ('FFFFFFFF', False),
+                               ('9090FF17', True), ('90909090', False), ('90FF1702', False), ('00000000', False), ('9090FF16', False)):
+            self.assertEqual(ends_with_call(bytes.fromhex(octets)), wanted, octets)
+
     def test_messages(self) -> None:
         with tempfile.TemporaryFile() as file:
             file.write(b'Content-Length: 2\r\n\r\n{}Content-Length: 1\r\n\r\n[X: 1\r\n\r\nContent-Length: 3000000\r\n\r\n'
@@ -195,6 +201,20 @@ class Sessions(ToolCase):
         self.assertEqual(client.leave(), 0)
         self.assertEqual(os.listdir(f'{self.room}/tmp'), [])
 
+    def test_random_walks(self) -> None:
+        """Forty moves forth and back each; at some of them the board is held against a session that goes there directly."""
+        for name, line in (('ticks', 28), ('fibonacci', 35), ('clock', 30), ('strings', 20)):
+            moves, client = random.Random(name), self.client()
+            client.launch(example(name)[0], line, run=example(name)[1], stopOnEntry=True)
+            client.event('stopped')
+            for count in range(1, 41):
+                kind = moves.choice(('continue', 'next', 'stepIn', 'stepIn', 'stepOut', 'stepBack', 'reverseContinue'))
+                if client.response(client.send(kind, threadId=1))['success']:
+                    client.event('stopped')
+                if count % 8 == 0:
+                    self.agrees(client, name)
+            self.assertEqual(client.leave(), 0)
+
     def test_the_end_and_the_start(self) -> None:
         client, (source, run) = self.client(), example('hello')
         client.launch(source, run=run)
@@ -223,6 +243,24 @@ class Sessions(ToolCase):
         client.move('reverseContinue')
         frames = client.ask('stackTrace', threadId=1)['stackFrames']
         self.assertEqual([(it['name'], it['line']) for it in frames], [('again+1', 11), ('start+C', 7)])
+        self.assertEqual(client.leave(), 0)
+
+    def test_callers_by_the_chain(self) -> None:
+        """Behind a long loop the trail tells no caller; BP does, and where it doesn't there is none."""
+        lines = ('        MOV SP,400h\n        CALL outer\n        HLT\nouter:  PUSH BP\n        MOV BP,SP\n        CALL inner\n        POP BP\n        RET\n'
+                 'inner:  PUSH BP\n        MOV BP,SP\n        MOV CX,100\nhere:   LOOP here\n        NOP\n        POP BP\n        RET')
+        source, run = self.program(lines, 10000)
+        client = self.client()
+        client.launch(source, 15, run=run)
+        client.event('stopped')
+        self.assertEqual([it['line'] for it in client.ask('stackTrace', threadId=1)['stackFrames']], [15, 9, 5])
+        client.move('stepOut')
+        self.assertEqual(client.line(), 9)
+        self.assertEqual(client.leave(), 0)
+        client = self.client()
+        client.launch(example('nested')[0], 30, run=example('nested')[1])
+        client.event('stopped')
+        self.assertEqual([it['line'] for it in client.ask('stackTrace', threadId=1)['stackFrames']], [30])
         self.assertEqual(client.leave(), 0)
 
     def test_looking(self) -> None:

@@ -8,7 +8,7 @@ import unittest
 
 from tests.support import EXAMPLES, TOOLS, TOP, ToolCase
 
-PAGES = ('README.md', 'docs/first-program.md', 'docs/for-archivists.md', 'docs/for-teachers.md', 'docs/for-firmware.md', 'docs/EXAMPLES.md',
+PAGES = ('README.md', 'docs/editors.md', 'docs/first-program.md', 'docs/for-archivists.md', 'docs/for-teachers.md', 'docs/for-firmware.md', 'docs/EXAMPLES.md',
          'docs/DEBUGGER.md', 'docs/sweeps.md')
 SESSION = r'((?:break|byte|sound|halted|go|step|back|regs|screen|dump|trail|quit)\b.*)'  # what is typed in a session of debug
 MINE = 'SEGMENT MAIN AT 0F000h\nstart:  MOV AX,0xB000\n        MOV ES,AX\n        HLT\nENDS\nSEGMENT RESET AT 0FFFFh\n        JMP FAR start\nENDS\n'
