@@ -1,0 +1,143 @@
+"""A listing's labels and lines as an ELF file with DWARF 3, by which gdb knows them: addresses are physical ones, and the code
+is the board's (the file has none). Made by hand, so that no assembler has to be there."""
+from __future__ import annotations
+
+import os
+import struct
+from dataclasses import dataclass, field
+
+from board.listing import Line, Listing, physical
+
+MEMORY = 1 << 20
+MACHINE, EXECUTABLE, PROGBITS, SYMTAB, STRTAB, NOBITS = 3, 2, 1, 2, 3, 8
+ASSEMBLER = 0x8001  # DW_LANG_Mips_Assembler, the language of all assemblers in DWARF 3
+
+
+def uleb(value: int) -> bytes:
+    """A number of DWARF without sign."""
+    more, low = value >> 7, value & 0x7F
+    return bytes([low | 0x80]) + uleb(more) if more else bytes([low])
+
+
+def sleb(value: int) -> bytes:
+    """A number of DWARF with its sign."""
+    more, low = value >> 7, value & 0x7F
+    is_last = more == (-1 if low & 0x40 else 0)
+    return bytes([low]) if is_last else bytes([low | 0x80]) + sleb(more)
+
+
+def runs_of(listing: Listing) -> list[list[tuple[int, Line]]]:
+    """The lines that place bytes, by address, in runs of which each line ends where the next begins."""
+    runs: list[list[tuple[int, Line]]] = []
+    end = -1
+    for address, line in sorted(listing.at.items()):
+        if not line.shown:
+            continue
+        # The listing shows a long line's first bytes alone; it reaches to the next line of its segment.
+        is_next = bool(runs) and (address == end or len(runs[-1][-1][1].shown) >= 8 and is_same(runs[-1][-1][1], line))
+        if not is_next:
+            runs.append([])
+        runs[-1].append((address, line))
+        end = address + len(line.shown)
+    return runs
+
+
+def is_same(one: Line, other: Line) -> bool:
+    """Whether two lines place bytes in the same segment."""
+    return bool(one.address and other.address and one.address[0] == other.address[0])
+
+
+def end_of(run: list[tuple[int, Line]]) -> int:
+    """Where a run of lines ends."""
+    return run[-1][0] + len(run[-1][1].shown)
+
+
+def counted(rest: bytes) -> bytes:
+    """A part of DWARF with its length before it."""
+    return struct.pack('<I', len(rest)) + rest
+
+
+def steps_of(run: list[tuple[int, Line]]) -> bytes:
+    """The program of line numbers for a run: each line's address and number, and where the last one ends."""
+    program, address, number = b'\x00\x05\x02' + struct.pack('<I', run[0][0]), run[0][0], 1
+    for here, line in run:
+        program += b'\x02' + uleb(here - address) + b'\x03' + sleb(line.number - number) + b'\x01'
+        address, number = here, line.number
+    return program + b'\x02' + uleb(end_of(run) - address) + b'\x00\x01\x01'
+
+
+def lines_of(listing: Listing, name: str) -> bytes:
+    """`.debug_line`."""
+    lengths = bytes([0, 1, 1, 1, 1, 0, 0, 0, 1, 0, 0, 1])  # how many operands each standard step has
+    files = b'\x00' + name.encode('utf-8', 'surrogateescape') + b'\x00\x00\x00\x00\x00'
+    header = bytes([1, 1, 0xFB, 14, 13]) + lengths + files
+    program = b''.join(map(steps_of, runs_of(listing)))
+    return counted(struct.pack('<HI', 3, len(header)) + header + program)
+
+
+def unit_of(path: str) -> tuple[bytes, bytes]:
+    """`.debug_abbrev` and `.debug_info`: one unit, the source, over all of memory."""
+    forms = ((0x03, 0x08), (0x1B, 0x08), (0x13, 0x05), (0x10, 0x06), (0x11, 0x01), (0x12, 0x01))
+    abbreviation = b'\x01\x11\x00' + bytes(it for pair in forms for it in pair) + b'\x00\x00\x00'
+    folder, name = (it.encode('utf-8', 'surrogateescape') + b'\x00' for it in os.path.split(path))
+    unit = b'\x01' + name + folder + struct.pack('<HIII', ASSEMBLER, 0, 0, MEMORY)
+    return abbreviation, counted(struct.pack('<HIB', 3, 0, 4) + unit)
+
+
+@dataclass
+class Table:
+    """Names, each with its place."""
+    octets: bytes = b'\x00'
+    places: dict[str, int] = field(default_factory=dict)
+
+    def place(self, name: str) -> int:
+        """Where a name stands."""
+        if name not in self.places:
+            self.places[name] = len(self.octets)
+            self.octets += name.encode() + b'\x00'
+        return self.places[name]
+
+
+def symbols_of(listing: Listing) -> tuple[bytes, bytes]:
+    """`.symtab` and `.strtab`: each label, up to the next one or the end of its run."""
+    names, rows = Table(), bytes(16)
+    places = {name: physical(*at) for name, at in listing.labels.items()}
+    ends = sorted({*places.values(), *map(end_of, runs_of(listing))})
+    for name, address in sorted(places.items(), key=lambda it: it[1]):
+        end = next((it for it in ends if it > address), address)
+        rows += struct.pack('<IIIBBH', names.place(name), address, end - address, 0x12, 0, 1)
+    return rows, names.octets
+
+
+@dataclass(frozen=True)
+class Section:
+    """A section of the file. One that is linked has the names of its rows in the section of that number."""
+    name: str
+    kind: int
+    octets: bytes = b''
+    flags: int = 0
+    size: int = 0
+    link: int = 0
+    first_global: int = 0
+    row: int = 0
+
+
+def elf_of(listing: Listing, path: str) -> bytes:
+    """The file's bytes, for a source at this absolute path."""
+    abbreviation, unit = unit_of(path)
+    symbols, names = symbols_of(listing)
+    sections = [Section('.text', NOBITS, flags=6, size=MEMORY), Section('.debug_abbrev', PROGBITS, abbreviation),
+                Section('.debug_info', PROGBITS, unit), Section('.debug_line', PROGBITS, lines_of(listing, os.path.basename(path))),
+                Section('.symtab', SYMTAB, symbols, link=6, first_global=1, row=16), Section('.strtab', STRTAB, names)]
+    table = Table()
+    rows, body = bytes(40), b''
+    for section in [*sections, Section('.shstrtab', STRTAB)]:
+        place = table.place(section.name)
+        octets = table.octets if section.name == '.shstrtab' else section.octets
+        rows += struct.pack('<10I', place, section.kind, section.flags, 0, 52 + len(body), section.size or len(octets),
+                            section.link, section.first_global, 1, section.row)
+        body += octets
+    count = len(sections) + 2
+    head = b'\x7fELF\x01\x01\x01' + bytes(9) + struct.pack('<HHIIIIIHHHHHH', EXECUTABLE, MACHINE, 1, 0, 0, 52 + len(body), 0, 52, 32, 0,
+                                                           40, count, count - 1)
+    return head + body + rows

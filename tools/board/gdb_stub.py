@@ -1,0 +1,228 @@
+"""Answers to gdb's requests from a board's (gdb's manual, "Remote Protocol", "Packets")."""
+from __future__ import annotations
+
+import re
+
+from board.command import Sorry
+from board.gdb_board import MEMORY, MOST_STOPS, Board, Met, far_of_address
+from board.gdb_wire import MOST_BYTES, Wire
+from board.listing import Listing, physical
+
+# The order of the `g` packet. Those that point into a segment are told as physical addresses, so that gdb finds code and stack.
+NAMES = ('AX', 'CX', 'DX', 'BX', 'SP', 'BP', 'SI', 'DI', 'IP', 'FL', 'CS', 'SS', 'DS', 'ES')
+SEGMENT_OF = {'SP': 'SS', 'BP': 'SS', 'IP': 'CS'}
+INTERRUPTED, ILLEGAL, TRAP, TIME_IS_UP = 2, 4, 5, 24  # signals, by gdb's own numbers
+MOST_MEMORY = MOST_BYTES // 4
+STOPS, MOVES = ('break', 'byte', 'sound', 'halted'), ('go', 'step', 'back')
+READ_ONLY = "E.the board's answers are those of its source: nothing is written"
+
+
+def word_of(value: int) -> str:
+    """A register as a packet has it."""
+    return value.to_bytes(4, 'little').hex()
+
+
+class Stub:
+    """A session with gdb over a wire."""
+
+    def __init__(self, wire: Wire, board: Board, listing: Listing) -> None:
+        self._wire, self._board, self._listing = wire, board, listing
+        self._addresses = set[int]()
+        self._told = set[int]()
+        self._has_ended, self._last, self._state = False, 'S05', 'running'
+        self._can_name_breaks = False
+        board.is_interrupted = wire.is_interrupted
+
+    def serve(self) -> None:
+        """Answers until the client goes, or the board has died, which it is told."""
+        while not self._has_ended:
+            request = self._wire.receive()
+            try:
+                answer = self.answer(request)
+            except Sorry as sorry:
+                answer = self._sorry(request, str(sorry))
+            self._wire.send(answer)
+            if request == 'QStartNoAckMode':
+                self._wire.has_acknowledgements = False
+
+    def _sorry(self, request: str, text: str) -> str:
+        """The answer where the board gave none. One that has died has no more to say."""
+        text = re.sub(r'[^ -~]|[$#}*]', ' ', text)
+        if not self._board.is_alive:
+            self._has_ended = True
+            if self._is_run(request):
+                self.tell('the board has died: its process was ended from outside')
+                return 'X09'
+        if self._is_run(request):
+            self.tell(text)
+            return self._stopped(TRAP)
+        return f'E.{text}'
+
+    @staticmethod
+    def _is_run(request: str) -> bool:
+        """Whether a request's answer is a stop."""
+        return request[:1] in tuple('cCsS') or request in ('bc', 'bs')
+
+    def tell(self, text: str) -> None:
+        """Shows a line in gdb, while it waits for an answer."""
+        self._wire.send('O' + f'{text}\n'.encode('utf-8', 'replace').hex())
+
+    def answer(self, request: str) -> str:
+        """The answer to a request; to one that isn't known it is empty, as the protocol has it."""
+        first = request[:1]
+        if self._is_run(request):
+            return self._run(request)
+        if first == 'g':
+            return ''.join(map(word_of, self._registers()))
+        if first == 'p':
+            return self._register(request[1:])
+        if first == 'm':
+            return self._memory(request[1:])
+        if first in ('Z', 'z'):
+            return self._breakpoint(request)
+        if first in ('G', 'P', 'M'):
+            return READ_ONLY
+        if first in ('q', 'Q'):
+            return self._question(request)
+        if first in ('H', 'T'):
+            return 'OK'
+        if request == '?':
+            return self._last
+        if first in ('D', 'k') or request.startswith('vKill'):
+            self._has_ended = True
+            return 'OK'
+        return ''
+
+    def _question(self, request: str) -> str:
+        """Answers to requests that begin with q."""
+        name = re.split('[:,;]', request, maxsplit=1)[0]
+        if name == 'qSupported':
+            self._can_name_breaks = 'swbreak+' in request
+            return f'PacketSize={MOST_BYTES // 2:x};ReverseStep+;ReverseContinue+;QStartNoAckMode+;swbreak+'
+        if name == 'qRcmd':
+            return self._monitor(request.partition(',')[2])
+        return {'QStartNoAckMode': 'OK', 'qAttached': '1', 'qC': 'QC1', 'qfThreadInfo': 'm1', 'qsThreadInfo': 'l'}.get(name, '')
+
+    def _registers(self) -> list[int]:
+        """The sixteen registers of `g`; FS and GS aren't there."""
+        found = self._board.registers()
+        return [physical(found[SEGMENT_OF[it]], found[it]) if it in SEGMENT_OF else found[it] for it in NAMES] + [0, 0]
+
+    def _register(self, text: str) -> str:
+        """A register by its number."""
+        if not re.fullmatch('[0-9a-f]{1,4}', text) or int(text, 16) >= 16:
+            return 'E01'
+        return word_of(self._registers()[int(text, 16)])
+
+    def _memory(self, text: str) -> str:
+        """Bytes of memory, as many as there are."""
+        found = re.fullmatch('([0-9a-f]{1,16}),([0-9a-f]{1,8})', text)
+        if not found or int(found[1], 16) >= MEMORY:
+            return 'E01'
+        return self._board.dump(int(found[1], 16), min(int(found[2], 16), MOST_MEMORY)).hex()
+
+    def _breakpoint(self, request: str) -> str:
+        """Puts in a breakpoint or takes it out. One beyond memory is never met."""
+        found = re.fullmatch('([zZ])([01]),([0-9a-f]{1,16}),[0-9a-f]+(;.*)?', request)
+        if not found:
+            return '' if re.match('[zZ][2-9]', request) else 'E01'
+        address = int(found[3], 16)
+        if found[1] == 'z':
+            self._addresses.discard(address)
+        elif address < MEMORY:
+            if len(self._addresses | {address}) + len(self._board.named) > MOST_STOPS:
+                return f'E.the board has room for {MOST_STOPS} stops'
+            self._addresses.add(address)
+        return 'OK'
+
+    def _breaks(self) -> list[str]:
+        """The stops that the breakpoints are. Where it is a guess by which CS one is come to, that is told once."""
+        found: list[str] = []
+        for address in sorted(self._addresses):
+            segment, offset, is_known = far_of_address(self._listing, address, self._board.registers()['CS'])
+            found.append(f'break {segment:X}:{offset:X}')
+            if not is_known and address not in self._told:
+                self._told.add(address)
+                self.tell(f'breakpoint at {address:05x}: where CS:IP is {segment:04X}:{offset:04X}; by another CS it is passed')
+        return found
+
+    def _run(self, request: str) -> str:
+        """A run, forth or back. An address to go on from would be a change of the board."""
+        if re.fullmatch('[cs].+|[CS]..;.*', request):
+            return READ_ONLY
+        if request == 'bs':
+            self._state = 'running'
+            return self._stopped(TRAP) if self._board.back_step() else self._stopped(TRAP, 'replaylog:begin;')
+        if request[0] in 'sS':
+            return self._step()
+        met = self._board.back(self._breaks()) if request == 'bc' else self._board.go(self._breaks())
+        return self._ended(met)
+
+    def _step(self) -> str:
+        """A step. One of a single clock makes it likely that the processor stands."""
+        before = self._board.clock
+        self._board.step()
+        state = self._board.state() if self._board.clock == before + 1 else 'running'
+        if state not in ('running', self._state):
+            self.tell(f'clock {self._board.clock}: the processor is {state}')
+        self._state = state
+        return self._stopped(ILLEGAL if state == 'jammed' else TRAP)
+
+    def _ended(self, met: Met) -> str:
+        """How a run ended, told with its clock."""
+        here = f'clock {self._board.clock}'
+        if met.how == 'begin':
+            self.tell(f'{here}: the beginning')
+            return self._stopped(TRAP, 'replaylog:begin;')
+        if met.how == 'break':
+            self.tell(here)
+            return self._stopped(TRAP, 'swbreak:;' if self._can_name_breaks else '')
+        if met.how == 'stop':
+            self.tell(f'{here}: stop {met.number} ({self._board.named[met.number - 1]})')
+            return self._stopped(TRAP)
+        self._state = self._board.state()
+        what = "the end of the run file's budget" if met.how == 'budget' else 'interrupted'
+        self.tell(f'{here}: {what}; the processor is {self._state}')
+        signal = INTERRUPTED if met.how == 'interrupt' else TIME_IS_UP
+        return self._stopped(ILLEGAL if self._state == 'jammed' and met.how == 'budget' else signal)
+
+    def _stopped(self, signal: int, why: str = '') -> str:
+        """A stop, which `?` asks for again."""
+        self._last = f'T{signal:02x}'
+        return self._last + why + 'thread:1;'
+
+    def _monitor(self, text: str) -> str:
+        """A command of the debugger, with its answer shown as it comes."""
+        try:
+            command = ' '.join(bytes.fromhex(text).decode('ascii').split(' ')).strip()
+        except ValueError:
+            return 'E.no command of the debugger'
+        words = command.split() or ['']
+        if words[0] in ('', 'help') or not command.isprintable():
+            self.tell('commands: ' + ', '.join((*STOPS, *MOVES, 'regs', 'screen', 'dump', 'trail')) + ' (docs/DEBUGGER.md)')
+        elif words[0] == 'quit':
+            self.tell("gdb's own quit ends the session")
+        elif words[0] in STOPS:
+            self.tell(self._board.name(command))
+        elif words[0] in MOVES:
+            self.tell(self._moved(words))
+        else:
+            self.tell('\n'.join(it.rstrip() for it in self._board.many(command)))
+        return 'OK'
+
+    def _moved(self, words: list[str]) -> str:
+        """The answer to a command that moves the board. Breakpoints are gdb's: here they are passed."""
+        self._state = 'running'
+        if words[0] == 'go' and len(words) == 2 and re.fullmatch('[0-9]{1,13}', words[1]):
+            return self._answered(self._board.go([], self._board.clock + int(words[1])))
+        if words == ['back', 'stop']:
+            here, met = self._board.clock, self._board.back([])
+            if met.how == 'begin':
+                self._board.go_to(here)
+                return 'fault 54 BeforeStart'
+            return self._answered(met)
+        return self._board.one(' '.join(words))
+
+    def _answered(self, met: Met) -> str:
+        """A run's end, as the debugger tells it."""
+        return f'stop {met.number} clock {self._board.clock}' if met.how == 'stop' else f'clock {self._board.clock}'
