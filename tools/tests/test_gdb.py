@@ -1,0 +1,340 @@
+"""tools/gdb: by a client of the tests' own, by hostile ones, and by gdb itself where it is installed."""
+from __future__ import annotations
+
+import os
+import random
+import re
+import shutil
+import signal
+import socket
+import subprocess
+import sys
+import time
+import unittest
+
+from tests.support import TOOLS, ToolCase, example
+
+from board.gdb_board import far_of_address
+from board.gdb_elf import sleb, uleb
+from board.gdb_stub import NAMES
+from board.gdb_wire import framed, unescaped
+from board.listing import Line, Listing
+from board.program import Files, Session
+from board.report import registers_of
+
+SECONDS = 60
+GDB = shutil.which('gdb')
+LONG = '{"version":1,"ram":64,"sw1":0,"sw2":0,"budget":1000000000000,"keys":[]}'
+BUSY = 'again:  INC AX\n        JMP SHORT again'
+
+
+class Words(unittest.TestCase):
+    """Packets, numbers and places by themselves."""
+
+    def test_packets(self) -> None:
+        self.assertEqual(framed('OK'), b'$OK#9a')  # as gdb's manual has it
+        self.assertEqual(unescaped(b'a}\x03b}\x04'), b'a#b$')
+
+    def test_numbers(self) -> None:
+        """The examples of the DWARF 3 standard, 7.6."""
+        self.assertEqual([uleb(it).hex() for it in (2, 127, 128, 129, 12857)], ['02', '7f', '8001', '8101', 'b964'])
+        self.assertEqual([sleb(it).hex() for it in (2, -2, 127, -127, 128, -128, -129)], ['02', '7e', 'ff00', '817f', '8001', '807f', 'ff7e'])
+
+    def test_places(self) -> None:
+        line = Line(1, 'a: NOP', (0xF000, 0x10), b'\x90')
+        listing = Listing([line], {0xF0010: line}, {'b': (0x50, 4)})
+        for address, wanted in ((0xF0010, (0xF000, 0x10, True)), (0x504, (0x50, 4, True)), (0xFFFF2, (0xFFFF, 2, False)),
+                                (0xF0123, (0xF000, 0x123, False))):
+            self.assertEqual(far_of_address(listing, address, 0xFFFF), wanted)
+
+
+class Client:
+    """A client that speaks the protocol, with acknowledgements."""
+
+    def __init__(self, port: int) -> None:
+        self.socket = socket.create_connection(('127.0.0.1', port), SECONDS)
+        self.socket.setsockopt(socket.IPPROTO_TCP, socket.TCP_NODELAY, 1)
+        self.held, self.shown = b'', ''
+
+    def close(self) -> None:
+        self.socket.close()
+
+    def byte(self) -> bytes:
+        if not self.held:
+            self.held = self.socket.recv(1 << 16)
+            if not self.held:
+                raise EOFError
+        found, self.held = self.held[:1], self.held[1:]
+        return found
+
+    def packet(self) -> str:
+        """The next packet; what is shown meanwhile is kept."""
+        while True:
+            while self.byte() != b'$':
+                pass
+            text = b''
+            while (sign := self.byte()) != b'#':
+                text += sign
+            assert framed(text.decode())[-2:] == self.byte() + self.byte()
+            try:
+                self.socket.sendall(b'+')
+            except OSError:
+                pass  # who has said the last word may be gone
+            if text[:1] == b'O' and text != b'OK':
+                self.shown += bytes.fromhex(text[1:].decode()).decode()
+            else:
+                return text.decode()
+
+    def ask(self, request: str) -> str:
+        self.socket.sendall(framed(request))
+        return self.packet()
+
+    def monitor(self, command: str) -> str:
+        """What a command of the debugger shows."""
+        self.shown = ''
+        assert self.ask('qRcmd,' + command.encode().hex()) == 'OK'
+        return self.shown
+
+    def registers(self) -> list[int]:
+        text = bytes.fromhex(self.ask('g'))
+        return [int.from_bytes(text[at:at + 4], 'little') for at in range(0, len(text), 4)]
+
+
+def told_as(lines: list[str]) -> list[int]:
+    """The registers of a session as gdb is told them."""
+    found = registers_of(lines)
+    for name, segment in (('SP', 'SS'), ('BP', 'SS'), ('IP', 'CS')):
+        found[name] = (16 * found[segment] + found[name]) % (1 << 20)
+    return [found[it] for it in NAMES] + [0, 0]
+
+
+class Served(ToolCase):
+    """Clients of the tests' own."""
+
+    def serve(self, file: str, run: str, *words: str) -> tuple[subprocess.Popen[str], int]:
+        """The tool as it serves, with its port."""
+        os.makedirs(f'{self.room}/tmp', exist_ok=True)
+        tool = subprocess.Popen([sys.executable, '-S', f'{TOOLS}/gdb', '--serve', file, run, *words], stdout=subprocess.PIPE,
+                                stderr=subprocess.PIPE, text=True, env=os.environ | {'TMPDIR': f'{self.room}/tmp'})
+        self.addCleanup(self.leave, tool)
+        assert tool.stdout
+        script = tool.stdout.readline().split()[-1]
+        with open(script, encoding='utf-8') as text:
+            return tool, int(text.read().strip().rpartition(':')[2])
+
+    @staticmethod
+    def leave(tool: subprocess.Popen[str]) -> None:
+        if tool.poll() is None:
+            tool.terminate()
+        tool.communicate()
+
+    def client(self, file: str, run: str, *words: str) -> Client:
+        self.tool_process, self.port = self.serve(file, run, *words)
+        client = Client(self.port)
+        self.addCleanup(client.close)
+        return client
+
+    def assert_nothing_left(self, status: int = 0) -> None:
+        """That the tool ends, with its board, and leaves no file."""
+        self.assertEqual(self.tool_process.wait(SECONDS), status)
+        self.assertEqual(os.listdir(f'{self.room}/tmp'), [])
+
+    def board_of(self) -> int:
+        """The board's process."""
+        with open(f'/proc/{self.tool_process.pid}/task/{self.tool_process.pid}/children', encoding='ascii') as file:
+            return int(file.read().split()[0])
+
+    def test_forth_and_back(self) -> None:
+        client = self.client(*example('ticks'))
+        self.assertIn('ReverseContinue+', client.ask('qSupported:swbreak+'))
+        self.assertEqual(client.ask('Z0,f002e,1'), 'OK')
+        for request, wanted, shown in (('c', 'T05swbreak:;thread:1;', 'clock 204\n'), ('c', 'T05swbreak:;thread:1;', 'clock 593\n'),
+                                       ('bs', 'T05thread:1;', ''), ('bc', 'T05swbreak:;thread:1;', 'clock 204\n'),
+                                       ('bc', 'T05replaylog:begin;thread:1;', 'clock 0: the beginning\n'),
+                                       ('bs', 'T05replaylog:begin;thread:1;', ''), ('s', 'T05thread:1;', '')):
+            client.shown = ''
+            self.assertEqual((client.ask(request), client.shown), (wanted, shown), request)
+        self.assertEqual(client.registers()[8], 0xF0000)
+        self.assertEqual(client.ask('z0,f002e,1'), 'OK')
+        self.assertEqual(client.ask('c'), 'T18thread:1;')
+        self.assertIn("clock 100000: the end of the run file's budget; the processor is halted", client.shown)
+        self.assertEqual(client.ask('m' + 'fffff,10'), 'ff')
+        self.assertEqual(client.ask('D'), 'OK')
+        self.assert_nothing_left()
+
+    def test_stops_of_monitor_come_first(self) -> None:
+        client = self.client(*example('ticks'))
+        client.ask('Z0,f002e,1')
+        self.assertEqual(client.ask('c'), 'T05thread:1;')  # a client that knows no swbreak isn't told of one
+        self.assertEqual(client.monitor('byte B0000 31'), 'stop 1\n')
+        client.shown = ''
+        client.ask('c')
+        self.assertEqual(client.shown, 'clock 205: stop 1 (byte B0000 31)\n')
+        client.ask('z0,f002e,1')
+        self.assertEqual(client.monitor('back 10'), 'clock 195\n')
+        self.assertEqual(client.monitor('go 1000'), 'stop 1 clock 205\n')
+        self.assertEqual(client.monitor('go x'), 'fault 51 BadCommand\n')
+        self.assertIn("gdb's own quit", client.monitor('quit'))
+
+    def test_more_stops_than_sixteen(self) -> None:
+        client = self.client(*example('fibonacci'))
+        for place in range(40):
+            client.ask(f'Z0,{0x100 + place:x},1')
+            client.ask('Z0,f0002,1')
+            client.ask('c')
+            client.ask('bc')
+            client.ask(f'z0,{0x100 + place:x},1')
+        self.assertEqual([client.ask(f'Z0,{0x100 + it:x},1')[:2] for it in range(16)], ['OK'] * 15 + ['E.'])
+
+    def test_nothing_is_written(self) -> None:
+        client = self.client(*example('hello'))
+        before = client.registers()
+        for request in ('G00', 'P0=00000000', 'M500,1:00'):
+            self.assertIn('nothing is written', client.ask(request))
+        self.assertEqual(client.registers(), before)
+
+    def test_an_interrupt(self) -> None:
+        client = self.client(self.program(BUSY)[0], self.file('long.json', LONG))
+        client.socket.sendall(framed('c'))
+        time.sleep(0.5)
+        client.socket.sendall(b'\x03')
+        self.assertEqual(client.packet(), 'T02thread:1;')
+        self.assertIn('interrupted; the processor is running', client.shown)
+
+    def test_a_jam(self) -> None:
+        client = self.client(*self.program('        NOP\n        DB 0Fh', 1000))
+        self.assertEqual(client.ask('c'), 'T04thread:1;')
+        self.assertIn('the processor is jammed', client.shown)
+
+    def test_hostile_clients(self) -> None:
+        client = self.client(*example('hello'))
+        wanted = client.registers()
+        client.socket.sendall(b'junk\x03+++$g#00')  # a wrong sum
+        self.assertEqual(client.byte(), b'-')
+        client.socket.sendall(b'$' + b'a' * 10_000_000 + b'#00')
+        self.assertEqual(client.byte(), b'-')
+        for request in ('', 'vMustReplyEmpty', 'nope', 'qNope', 'Z2,0,1', 'vCont?', 'X0,0:'):
+            self.assertEqual(client.ask(request), '', request)
+        for request in ('m', 'mx,y', 'm100000,1', 'pff', 'p', 'Z0,', 'zz', 'Z0,zz,1'):
+            self.assertRegex(client.ask(request), '^(E|$)', request)
+        self.assertEqual(client.ask('m0,ffffffff'), client.ask('m0,4000'))
+        for text in ('zz', '676f0a', 'ff'):
+            client.ask(f'qRcmd,{text}')
+        for request in ('c100', 's100', 'cc', 'C05;1'):
+            client.ask(request)
+        self.assertEqual(client.registers(), wanted)
+        with self.assertRaises(OSError):
+            Client(self.port)
+        client.socket.sendall(b'$g')  # half a packet, and gone
+        client.close()
+        self.assert_nothing_left()
+
+    def test_one_that_goes_in_a_run(self) -> None:
+        client = self.client(self.program(BUSY)[0], self.file('long.json', LONG))
+        client.socket.sendall(framed('c'))
+        time.sleep(0.3)
+        client.close()
+        self.assert_nothing_left()
+
+    def test_one_that_never_speaks(self) -> None:
+        client = self.client(*example('hello'))
+        client.close()
+        again = Client(self.port)
+        self.addCleanup(again.close)
+        self.assertEqual(again.ask('?'), 'S05')
+
+    def test_a_board_that_dies(self) -> None:
+        client = self.client(*example('hello'))
+        client.ask('g')
+        os.kill(self.board_of(), signal.SIGKILL)
+        self.assertEqual(client.ask('s'), 'X09')
+        self.assertIn('the board has died', client.shown)
+        self.assert_nothing_left()
+
+    def test_ended_from_outside(self) -> None:
+        for sign, status in ((signal.SIGINT, 130), (signal.SIGTERM, 143)):
+            client = self.client(*example('hello'))
+            client.ask('g')
+            self.tool_process.send_signal(sign)
+            self.assert_nothing_left(status)
+
+    def test_here_alone(self) -> None:
+        self.client(*example('hello'))
+        with open('/proc/net/tcp', encoding='ascii') as file:
+            rows = [it.split() for it in file if f':{self.port:04X} ' in it]
+        self.assertEqual({it[1] for it in rows if it[3] == '0A'} - {f'0100007F:{self.port:04X}'}, set())
+
+    def test_random_walks(self) -> None:
+        """The end of each has the registers and memory of a session that goes there directly."""
+        chance = random.Random(53)
+        for walk in range(20):
+            files = example(('ticks', 'fibonacci', 'nested', 'keys')[walk % 4])
+            client = self.client(*files)
+            client.ask('Z0,f0020,1')
+            requests = [chance.choice(('s', 's', 's', 'bs', 'bs', 'bc', 'c')) for _ in range(40)]
+            for request in requests:
+                client.ask(request)
+            clock = int(client.monitor('go 0').split()[-1])
+            with Session(Files(*files)) as direct:
+                direct.go_to(clock)
+                self.assertEqual(client.registers(), told_as(direct.many('regs')), (walk, requests))
+                for address in (0, 0x400, 0xB0000):
+                    self.assertEqual(client.ask(f'm{address:x},400'), direct.dump(address, 1024).hex(), (walk, requests))
+            client.ask('k')
+            client.close()
+
+    def test_speed(self) -> None:
+        """The least of some times, since other work may hold up each."""
+        client = self.client(self.program(BUSY)[0], self.file('long.json', LONG))
+        client.monitor('go 10000000')
+        for request, most in (('s', 0.03), ('bs', 0.15)):
+            times = []
+            for _ in range(5):
+                begun = time.monotonic()
+                client.ask(request)
+                client.ask('g')
+                times.append(time.monotonic() - begun)
+            self.assertLess(min(times), most, request)
+
+    def test_refusals(self) -> None:
+        self.assertIn('fault 3', self.tool('gdb', '--serve', example('hello')[1], example('hello')[1], status=2)[1])
+        self.assertIn("can't be read", self.tool('gdb', 'no.asm', example('hello')[1], status=2)[1])
+        self.assertIn('no words', self.tool('gdb', '--serve', *example('hello'), '-batch', status=2)[1])
+        self.assertIn("can't be served", self.tool('gdb', '--serve', '99999', *example('hello'), status=2)[1])
+
+
+class Gdb(ToolCase):
+    """gdb itself. Where it isn't installed that is told, and nothing tried."""
+
+    def gdb(self, files: tuple[str, str], *commands: str, words: tuple[str, ...] = ()) -> str:
+        """What gdb prints."""
+        if not GDB:
+            print("not run: gdb isn't installed")
+            return ''
+        given = [it for command in commands for it in ('-ex', command)]
+        out, err = self.tool('gdb', *files, *words, '-nx', '-batch', *given)
+        return out + err
+
+    def test_a_session(self) -> None:
+        told = self.gdb(example('ticks'), 'break tick', 'continue', 'x/i $pc', 'stepi', 'p/x $pc', 'reverse-stepi', 'continue', 'list',
+                        'reverse-continue', 'reverse-continue', 'x/2xb 0xf002e', 'monitor regs', 'set {char}0x500 = 1', 'set $eax = 1',
+                        'monitor go 0')
+        for wanted in (('Breakpoint 1, tick () at', '=> 0xf002e <tick>:	inc    BYTE PTR es:0x0', '= 0xf0033', '25\ttick:   INC BYTE ES:[0]',
+                        'No more reverse-execution history.', '0xf002e <tick>:	0x26	0xfe', 'CS=FFFF DS=0000 ES=0000 SS=0000 IP=0000',
+                        'Writing to memory is not allowed', 'Writing to registers is not allowed') if GDB else ()):
+            self.assertIn(wanted, told)
+
+    def test_hex(self) -> None:
+        source, run = example('monitor')
+        told = self.gdb((source.replace('.asm', '.hex'), run), 'break *0xf0000', 'continue', 'p/x $pc', words=('--hex',))
+        for wanted in (('where CS:IP is F000:0000; by another CS it is passed', '= 0xf0000') if GDB else ()):
+            self.assertIn(wanted, told)
+
+    def test_a_watch(self) -> None:
+        told = self.gdb(example('ticks'), 'watch *(char*)0xb0000', 'continue', 'continue')
+        if GDB:
+            self.assertRegex(told, "(?s)Old value = 0.*New value = 48 '0'.*Old value = 48 '0'.*New value = 49 '1'")
+
+
+if __name__ == '__main__':
+    unittest.main()
