@@ -229,16 +229,16 @@ def hand_out(crates, target):
     shutil.copy(f'{crates.folder(target)}/out/{made}', f'{to}.new')
     os.replace(f'{to}.new', to)
     if crates.is_program(target):
-        list_sources(f'{to}.sources', to, crates.below(target))
+        list_sources(to, crates.below(target), crates.top)
 
 
-def list_sources(path, program, names):
-    """Lists for the launcher what a program was made of, as `sha256sum` does, by the copies that were proved: first the
-    program's own sum, then a line for each file, in the order of their paths."""
-    paths = sorted(os.path.relpath(it, STAGE) for it in [f'{STAGE}/crates.txt', *files(names, STAGE)])
-    with open(f'{path}.new', 'w', encoding='utf-8') as text:
-        text.write(f'{sum_of(program)}\n' + ''.join(f'{sum_of(f"{STAGE}/{it}")}  {it}\n' for it in paths))
-    os.replace(f'{path}.new', path)
+def list_sources(program, names, top):
+    """Lists beside a program, for the launcher, what it was made of, by what was proved below `top`: first the program's own
+    sum, then as `sha256sum` does a line for each file, in the order of their paths."""
+    paths = sorted(os.path.relpath(it, top) for it in [f'{top}/crates.txt', *files(names, top)])
+    with open(f'{program}.sources.new', 'w', encoding='utf-8') as text:
+        text.write(f'{sum_of(program)}\n' + ''.join(f'{sum_of(f"{top}/{it}")}  {it}\n' for it in paths))
+    os.replace(f'{program}.sources.new', f'{program}.sources')
 
 
 def sum_of(path):

@@ -1,5 +1,6 @@
 """tools/build and the launcher, over a repository of two crates and an `rt` that only writes what a build leaves."""
 import contextlib
+import hashlib
 import io
 import os
 import pty
@@ -12,6 +13,7 @@ import unittest
 from collections.abc import Callable
 
 from board import building
+from board.crates import Crates
 from tests.support import TOP, ToolCase
 
 # It leaves what was to be built; a program, which the linker makes, is a script that tells how it was called.
@@ -159,6 +161,16 @@ class Build(ToolCase):
                 self.addCleanup(os.chmod, path, 0o755)
         for has_rt in (True, False):
             self.assertEqual(self.launch(has_rt=has_rt).stderr, '')
+
+    def test_launcher_and_build_list_the_same(self) -> None:
+        """Over the repository's own sources, whose names and folders are many."""
+        program = self.file('top/pcboard.built', '')
+        building.list_sources(program, Crates(TOP).below('pcboard'), TOP)
+        with open(f'{program}.sources', encoding='utf-8') as listed:
+            lines = listed.read().splitlines(keepends=True)[1:]
+        self.assertGreater(len(lines), 1000)
+        told = subprocess.run([f'{TOP}/pcboard', '--version'], capture_output=True, text=True, check=True).stdout
+        self.assertIn(f'\nsources {hashlib.sha256("".join(lines).encode()).hexdigest()}\n', told)
 
     def test_a_program_that_was_built_otherwise_is_judged_by_times(self) -> None:
         """As one that `rt ci` left, which takes the place of that to which the list belongs."""
