@@ -177,6 +177,7 @@ class Build(ToolCase):
         self.stand_in('echo another')
         self.assertEqual(self.launch().stdout, 'another\n')
         self.touch('crates/low/src/lib.rt')
+        self.assertIn('sources may have changed', self.launch(has_rt=False).stderr)
         self.assertIn('proving 2 crates', self.launch().stderr)
 
     def test_a_crate_is_proved_again_where_it_or_one_below_has_changed(self) -> None:
@@ -198,7 +199,7 @@ class Build(ToolCase):
         self.change_text('crates/low/src/lib.rt')
         changed = self.launch(has_rt=False)
         self.assertEqual((changed.returncode, changed.stdout), (0, 'it runs run\n'))
-        self.assertIn('have changed since it was built', changed.stderr)
+        self.assertIn('its sources have changed since it was built', changed.stderr)
         self.assertNotIn("isn't built", changed.stderr)
 
     def test_the_version(self) -> None:
