@@ -192,8 +192,8 @@ class Adapter:
             raise Sorry(f"{error.filename} can't be read: {error.strerror}") from None
         try:
             budget, listing = budget_of(files), listing_of(files)
-            if symbols := given.get('symbols'):
-                listing = Listing(listing.lines, listing.at, listing.labels | symbols_of(symbols))
+            if symbols := field(given, 'symbols', str, ''):
+                listing = Listing(listing.lines, listing.at, listing.labels | symbols_of(os.path.realpath(symbols)))
             self.machine = Machine(files, listing, budget, self.poll)
         except Sorry as sorry:
             raise self.explained(run_file, is_hex, sorry) from None
@@ -221,7 +221,8 @@ class Adapter:
         why = [sys.executable, '-S', f'{TOP}/tools/why']
         first = ''
         if not is_hex:
-            told = subprocess.run([*why, '--lines', '--', self.program], stdin=subprocess.DEVNULL, capture_output=True, text=True, errors='replace', check=False)
+            told = subprocess.run([*why, '--lines', '--', self.program], stdin=subprocess.DEVNULL, capture_output=True, text=True,
+                                  errors='replace', check=False)
             for line in told.stdout.splitlines():
                 number, _, text = line.removeprefix(f'{self.program}:').partition(': error: ')
                 at = {'source': self.source(), 'line': int(number) - 1 + self.line_base}
