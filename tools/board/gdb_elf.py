@@ -99,12 +99,15 @@ class Table:
 
 
 def symbols_of(listing: Listing) -> tuple[bytes, bytes]:
-    """`.symtab` and `.strtab`: each label, up to the next one or the end of its run."""
+    """`.symtab` and `.strtab`: each label, up to the next one or the end of its run; one behind all bytes has a size of 1, for gdb
+    would take it for all that follows."""
     names, rows = Table(), bytes(16)
     places = {name: physical(*at) for name, at in listing.labels.items()}
-    ends = sorted({*places.values(), *map(end_of, runs_of(listing))})
+    runs = runs_of(listing)
+    ends = sorted({*places.values(), *map(end_of, runs)})
     for name, address in sorted(places.items(), key=lambda it: it[1]):
-        end = next((it for it in ends if it > address), address)
+        is_in_run = any(run[0][0] <= address < end_of(run) for run in runs)
+        end = next(it for it in ends if it > address) if is_in_run else address + 1
         rows += struct.pack('<IIIBBH', names.place(name), address, end - address, 0x12, 0, 1)
     return rows, names.octets
 

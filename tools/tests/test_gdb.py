@@ -12,7 +12,7 @@ import sys
 import time
 import unittest
 
-from tests.support import TOOLS, ToolCase, example
+from tests.support import TOOLS, TOP, ToolCase, example
 
 from board.gdb_board import far_of_address
 from board.gdb_elf import sleb, uleb
@@ -323,6 +323,38 @@ class Gdb(ToolCase):
                         'No more reverse-execution history.', '0xf002e <tick>:	0x26	0xfe', 'CS=FFFF DS=0000 ES=0000 SS=0000 IP=0000',
                         'Writing to memory is not allowed', 'Writing to registers is not allowed') if GDB else ()):
             self.assertIn(wanted, told)
+
+    def test_the_page(self) -> None:
+        """Each line that the page shows is printed, in its order."""
+        with open(f'{TOP}/docs/editors.md', encoding='utf-8') as file:
+            block = re.search(r'^```\n\$ sed (.*?)^```', file.read(), re.M | re.S)
+        assert block
+        os.symlink(f'{TOP}/examples', f'{self.room}/examples')
+        lines = block[0].splitlines()[1:-1]
+        subprocess.run(lines[0].removeprefix('$ '), shell=True, cwd=self.room, check=True)
+        typed = [it.removeprefix('(gdb) ') for it in lines if it.startswith('(gdb) ')]
+        told = self.gdb((f'{self.room}/lost.asm', f'{TOP}/examples/clock.json'), *typed)
+        for line in lines if GDB else []:
+            if not line.startswith(('$ ', '(gdb) ')):
+                self.assertIn(line, told)
+
+    def test_a_walk(self) -> None:
+        """Walks by gdb end where a session has the same registers and memory."""
+        chance = random.Random(8086)
+        for walk in range(20 if GDB else 0):
+            files = example(('ticks', 'fibonacci', 'nested', 'keys')[walk % 4])
+            steps = [chance.choice(('stepi', 'stepi', 'stepi', 'reverse-stepi', 'reverse-stepi', 'continue', 'reverse-continue'))
+                     for _ in range(40)]
+            told = self.gdb(files, 'break *0xf0020', *steps, 'monitor go 0', 'p/x $pc', 'p/x $esp', 'x/16xb 0x400', 'monitor regs')
+            clock = int(re.findall(r'^clock (\d+)$', told, re.M)[-1])
+            with Session(Files(*files)) as direct:
+                direct.go_to(clock)
+                lines = direct.many('regs')
+                registers = told_as(lines)
+                memory = re.sub('..', r'\t0x\g<0>', direct.dump(0x400, 16).hex())
+            self.assertIn('\n'.join(lines), told, steps)
+            for wanted in (f'= {registers[8]:#x}\n', f'= {registers[4]:#x}\n', memory[:40], memory[40:]):
+                self.assertIn(wanted, told, steps)
 
     def test_hex(self) -> None:
         source, run = example('monitor')
