@@ -27,9 +27,10 @@ MISTAKES = (('first', 'JMP FAR start', 'DW 0FFFFh', 'FFFF:0000 has FF FF'), ('he
 
 
 def blocks(page: str) -> list[str]:
-    """The blocks of a page that show commands."""
+    """The blocks of a page that show commands. What is typed in gdb is test_gdb's."""
     with open(f'{TOP}/{page}', encoding='utf-8') as file:
-        return [it for it in re.findall(r'^```\n(.*?)^```', file.read(), re.M | re.S) if it.startswith('$ ')]
+        found = re.findall(r'^```\n(.*?)^```', file.read(), re.M | re.S)
+    return [it for it in found if it.startswith('$ ') and '(gdb) ' not in it]
 
 
 def commands(block: str) -> list[tuple[str, str, str]]:
