@@ -13,7 +13,7 @@ from board.report import registers_of
 
 MOST_STOPS = 16
 FIRST_PIECE = 1 << 16
-LEAST_SECONDS, MOST_SECONDS = 0.1, 0.3  # of a run's piece, behind which an interrupt is seen
+LEAST_SECONDS, MOST_SECONDS = 0.2, 0.6  # of a run's piece, behind which an interrupt is seen
 PASSED_OVER = 200  # stops that nobody wants any more, before a session without them is begun
 MEMORY = 1 << 20
 

@@ -38,7 +38,8 @@ class Words(unittest.TestCase):
     def test_numbers(self) -> None:
         """The examples of the DWARF 3 standard, 7.6."""
         self.assertEqual([uleb(it).hex() for it in (2, 127, 128, 129, 12857)], ['02', '7f', '8001', '8101', 'b964'])
-        self.assertEqual([sleb(it).hex() for it in (2, -2, 127, -127, 128, -128, -129)], ['02', '7e', 'ff00', '817f', '8001', '807f', 'ff7e'])
+        self.assertEqual([sleb(it).hex() for it in (2, -2, 127, -127, 128, -128, -129)],
+                         ['02', '7e', 'ff00', '817f', '8001', '807f', 'ff7e'])
 
     def test_places(self) -> None:
         line = Line(1, 'a: NOP', (0xF000, 0x10), b'\x90')
