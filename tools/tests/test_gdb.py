@@ -285,10 +285,10 @@ class Served(ToolCase):
             client.close()
 
     def test_speed(self) -> None:
-        """The least of some times, since other work may hold up each."""
+        """No step walks the run again. The least of some times, far above what is usual, since other work may hold up each."""
         client = self.client(self.program(BUSY)[0], self.file('long.json', LONG))
         client.monitor('go 10000000')
-        for request, most in (('s', 0.03), ('bs', 0.15)):
+        for request, most in (('s', 1), ('bs', 4)):
             times = []
             for _ in range(5):
                 begun = time.monotonic()

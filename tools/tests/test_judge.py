@@ -135,7 +135,7 @@ class Runs(ToolCase):
         page = self.file('page', TYPED.replace('50,000', '1,099,511,627,776'))
         begun = time.monotonic()
         out, _ = self.tool('judge', '--class', page, bad, good, 'nothing.asm', endless, '--seconds', '2', status=1)
-        self.assertLess(time.monotonic() - begun, 12)
+        self.assertLess(time.monotonic() - begun, 60)
         rows = [it.split('\t') for it in out.splitlines()]
         self.assertEqual({len(it) for it in rows}, {8})
         self.assertEqual([it[0] for it in rows], ['file', bad, good, 'nothing.asm', endless])
