@@ -2,6 +2,7 @@
 from __future__ import annotations
 
 import os
+import signal
 import subprocess
 import sys
 import tempfile
@@ -12,6 +13,9 @@ TOP = os.path.dirname(TOOLS)
 EXAMPLES = f'{TOP}/examples'
 STORED = f'{TOOLS}/tests/stored'
 sys.path.insert(0, TOOLS)
+# What a test starts is interrupted as at a terminal, also where the tests are started with such signals ignored.
+signal.signal(signal.SIGINT, signal.default_int_handler)
+signal.signal(signal.SIGHUP, signal.SIG_DFL)
 
 RESET = "ENDS\nSEGMENT RESET AT 0FFFFh\n        JMP FAR start\nENDS\n"
 

@@ -255,7 +255,11 @@ class Build(ToolCase):
         ran = subprocess.run([f'{self.room}/top/pcboard', 'asm', 'my file'], stderr=end, check=False)
         os.close(end)
         self.assertEqual(ran.returncode, 1)
-        self.assertEqual(os.read(terminal, 1000).decode().splitlines(),
+        shown = b''
+        with contextlib.suppress(OSError):  # the terminal's end
+            while part := os.read(terminal, 1000):
+                shown += part
+        self.assertEqual(shown.decode().splitlines(),
                          ['fault 3 BadLine line 1', r'pcboard: tools/why asm my\ file tells more'])
         os.close(terminal)
 
