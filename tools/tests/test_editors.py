@@ -53,7 +53,6 @@ class Folder(ToolCase):
     def test_what_it_names_is_there(self) -> None:
         for name in (self.package['languages'][0]['configuration'], self.package['grammars'][0]['path'], self.package['debuggers'][0]['program']):
             self.assertTrue(os.path.exists(f'{FOLDER}/{name}'), name)
-        self.assertTrue(os.path.samefile(f'{FOLDER}/dap', f'{TOOLS}/dap'))
         self.assertIn('usage: tools/dap', subprocess.run([f'{FOLDER}/dap', '--help'], capture_output=True, text=True, check=True).stdout)
 
     def test_the_matcher_reads_why(self) -> None:
