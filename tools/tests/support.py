@@ -53,8 +53,9 @@ class ToolCase(unittest.TestCase):
         return example('hello')[0], self.file('c2.json', f'{{{fields}}}')
 
     def tool(self, name: str, *words: str, given: str = '', status: int | None = 0) -> tuple[str, str]:
-        """What a tool prints on its two streams, where it ends with this status."""
-        ran = subprocess.run([sys.executable, '-S', f'{TOOLS}/{name}', *words], input=given, capture_output=True, text=True,
+        """What a tool prints on its two streams, where it ends with this status. One of another folder is named with it."""
+        path = f'{TOP}/{name}' if '/' in name else f'{TOOLS}/{name}'
+        ran = subprocess.run([sys.executable, '-S', path, *words], input=given, capture_output=True, text=True,
                              cwd=self.room, check=False)
         if status is not None:
             self.assertEqual(ran.returncode, status, ran.stderr or ran.stdout)

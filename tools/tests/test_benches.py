@@ -1,4 +1,4 @@
-"""benches: the C header against the sources. The benches themselves are run by tools/benches, which builds the archives."""
+"""benches: the C header against the sources. The benches themselves are run by dev/benches, which builds the archives."""
 from __future__ import annotations
 
 import unittest
@@ -6,12 +6,12 @@ from importlib.machinery import SourceFileLoader
 from importlib.util import module_from_spec, spec_from_loader
 from types import ModuleType
 
-from tests.support import TOOLS
+from tests.support import TOP
 
 
 def benches() -> ModuleType:
     """The tool, which has no suffix, as a module."""
-    loader = SourceFileLoader('benches', f'{TOOLS}/benches')
+    loader = SourceFileLoader('benches', f'{TOP}/dev/benches')
     spec = spec_from_loader('benches', loader)
     assert spec
     module = module_from_spec(spec)

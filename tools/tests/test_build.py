@@ -1,4 +1,4 @@
-"""tools/build and the launcher, over a repository of two crates and an `rt` that only writes what a build leaves."""
+"""dev/build and the launcher, over a repository of two crates and an `rt` that only writes what a build leaves."""
 import contextlib
 import hashlib
 import io
@@ -66,8 +66,9 @@ class Build(ToolCase):
 
     def setUp(self) -> None:
         super().setUp()
-        os.makedirs(f'{self.room}/top/tools/board')
-        for name in ('pcboard', 'VERSION', 'README.md', 'tools/build', 'tools/board/__init__.py', 'tools/board/building.py',
+        for folder in ('dev', 'tools/board'):
+            os.makedirs(f'{self.room}/top/{folder}')
+        for name in ('pcboard', 'VERSION', 'README.md', 'dev/build', 'tools/board/__init__.py', 'tools/board/building.py',
                      'tools/board/command.py', 'tools/board/crates.py'):
             shutil.copy(f'{TOP}/{name}', f'{self.room}/top/{name}')
         for name in ('low', 'pcboard', 'other'):

@@ -1,4 +1,4 @@
-"""tools/contracts: the page that is made of the sources' comments is what they say."""
+"""dev/contracts: the page that is made of the sources' comments is what they say."""
 import pathlib
 import shutil
 import subprocess
@@ -16,16 +16,16 @@ class Contracts(ToolCase):
         self.path = pathlib.Path(self.room)
 
     def test_the_page_is_what_the_sources_say(self) -> None:
-        self.tool('contracts', '--check')
+        self.tool('dev/contracts', '--check')
 
     def run_it(self, word: str) -> int:
-        ran = subprocess.run([sys.executable, f'{self.room}/tools/contracts', word], capture_output=True, check=False)
+        ran = subprocess.run([sys.executable, f'{self.room}/dev/contracts', word], capture_output=True, check=False)
         return ran.returncode
 
     def test_a_changed_comment_and_a_new_clause_are_seen(self) -> None:
-        for folder in ('tools', 'docs'):
+        for folder in ('dev', 'tools', 'docs'):
             (self.path / folder).mkdir()
-        shutil.copy(f'{TOOLS}/contracts', f'{self.room}/tools/contracts')
+        shutil.copy(f'{TOP}/dev/contracts', f'{self.room}/dev/contracts')
         shutil.copytree(f'{TOOLS}/board', f'{self.room}/tools/board', ignore=shutil.ignore_patterns('__pycache__'))
         shutil.copytree(f'{TOP}/crates/bus', f'{self.room}/crates/bus', ignore=shutil.ignore_patterns('out'))
         self.file('crates.txt', '# Libraries.\nbus: board_types\n')
@@ -42,8 +42,8 @@ class Contracts(ToolCase):
             self.assertEqual(self.run_it('--check'), 1)
 
     def test_words(self) -> None:
-        self.assertIn('--write', self.tool('contracts', '--help')[0])
-        self.assertIn('--write', self.tool('contracts', 'board', status=2)[1])
+        self.assertIn('--write', self.tool('dev/contracts', '--help')[0])
+        self.assertIn('--write', self.tool('dev/contracts', 'board', status=2)[1])
 
 
 if __name__ == '__main__':

@@ -1,4 +1,4 @@
-"""tools/refusals: what it takes for a true refusal, and each allocation of the program refused in turn."""
+"""dev/refusals: what it takes for a true refusal, and each allocation of the program refused in turn."""
 import importlib.machinery
 import importlib.util
 import re
@@ -6,11 +6,11 @@ import sys
 import unittest
 import unittest.mock
 
-from tests.support import TOOLS, ToolCase
+from tests.support import TOP, ToolCase
 
 from board.program import Ran
 
-LOADER = importlib.machinery.SourceFileLoader('refusals', f'{TOOLS}/refusals')
+LOADER = importlib.machinery.SourceFileLoader('refusals', f'{TOP}/dev/refusals')
 SPEC = importlib.util.spec_from_loader('refusals', LOADER)
 assert SPEC
 REFUSALS = sys.modules['refusals'] = importlib.util.module_from_spec(SPEC)
@@ -66,7 +66,7 @@ class Refusing(ToolCase):
     """Over the built program."""
 
     def test_each_allocation_refused(self) -> None:
-        out, _ = self.tool('refusals')
+        out, _ = self.tool('dev/refusals')
         counts = re.findall(r': (\d+) allocations refused, (\d+) told, 0 other answers', out)
         self.assertEqual(len(counts), 15)
         for count, told in counts:
