@@ -10,9 +10,9 @@ import sys
 HERE = os.path.dirname(os.path.realpath(__file__))
 sys.path.insert(0, f'{os.path.dirname(HERE)}/tools')
 
-from board.command import Sorry
-from board.program import path as built_program
-from board.runfile import read_run_file, text_of
+from toolbox.command import Sorry
+from toolbox.program import path as built_program
+from toolbox.runfile import read_run_file, text_of
 
 
 def program(named: str | None) -> str:

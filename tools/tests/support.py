@@ -64,5 +64,5 @@ class ToolCase(unittest.TestCase):
 
     def pcboard(self, *words: str, given: str = '') -> subprocess.CompletedProcess[str]:
         """A run of the program itself. That it isn't there is a failure."""
-        from board import program
+        from toolbox import program
         return subprocess.run([program.path(), *words], input=given, capture_output=True, text=True, check=False)

@@ -12,9 +12,9 @@ import subprocess
 import unittest
 from collections.abc import Callable
 
-from board import building
-from board.crates import Crates
 from tests.support import TOP, ToolCase
+from toolbox import building
+from toolbox.crates import Crates
 
 # It leaves what was to be built; a program, which the linker makes, is a script that tells how it was called.
 RATTLE = r"""#!/bin/sh
@@ -66,10 +66,10 @@ class Build(ToolCase):
 
     def setUp(self) -> None:
         super().setUp()
-        for folder in ('dev', 'tools/board'):
+        for folder in ('dev', 'tools/toolbox'):
             os.makedirs(f'{self.room}/top/{folder}')
-        for name in ('pcboard', 'VERSION', 'README.md', 'dev/build', 'tools/board/__init__.py', 'tools/board/building.py',
-                     'tools/board/command.py', 'tools/board/crates.py'):
+        shared = (f'tools/toolbox/{it}.py' for it in ('__init__', 'building', 'command', 'crates'))
+        for name in ('pcboard', 'VERSION', 'README.md', 'dev/build', *shared):
             shutil.copy(f'{TOP}/{name}', f'{self.room}/top/{name}')
         for name in ('low', 'pcboard', 'other'):
             os.makedirs(f'{self.room}/top/crates/{name}/src')

@@ -26,7 +26,7 @@ class Contracts(ToolCase):
         for folder in ('dev', 'tools', 'docs'):
             (self.path / folder).mkdir()
         shutil.copy(f'{TOP}/dev/contracts', f'{self.room}/dev/contracts')
-        shutil.copytree(f'{TOOLS}/board', f'{self.room}/tools/board', ignore=shutil.ignore_patterns('__pycache__'))
+        shutil.copytree(f'{TOOLS}/toolbox', f'{self.room}/tools/toolbox', ignore=shutil.ignore_patterns('__pycache__'))
         shutil.copytree(f'{TOP}/crates/bus', f'{self.room}/crates/bus', ignore=shutil.ignore_patterns('out'))
         self.file('crates.txt', '# Libraries.\nbus: board_types\n')
         self.assertEqual(self.run_it('--check'), 1)

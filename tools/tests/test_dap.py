@@ -17,11 +17,11 @@ from typing import Any
 
 from tests.support import TOOLS, ToolCase, example
 
-from board.dap_board import ends_with_call, is_repeated, operation_of
-from board.dap_values import number_in
-from board.dap_wire import Broken, Reader
-from board.program import Files, Session, path
-from board.report import registers_of
+from toolbox.dap_board import ends_with_call, is_repeated, operation_of
+from toolbox.dap_values import number_in
+from toolbox.dap_wire import Broken, Reader
+from toolbox.program import Files, Session, path
+from toolbox.report import registers_of
 
 Fields = dict[str, Any]
 

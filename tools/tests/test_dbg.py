@@ -10,10 +10,10 @@ from unittest import mock
 
 from tests.support import TOOLS, ToolCase, example
 
-from board.command import Sorry
-from board.listing import Line, Listing, code_of, label_in, line_of
-from board.places import address_of, event_of, far_of, line_at, number_of
-from board.program import path
+from toolbox.command import Sorry
+from toolbox.listing import Line, Listing, code_of, label_in, line_of
+from toolbox.places import address_of, event_of, far_of, line_at, number_of
+from toolbox.program import path
 
 
 class Places(unittest.TestCase):

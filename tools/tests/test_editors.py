@@ -11,8 +11,8 @@ import unittest
 
 from tests.support import EXAMPLES, TOOLS, TOP, ToolCase, example
 
-from board.hints import STATEMENTS, WORDS
-from board.program import Files, Session
+from toolbox.hints import STATEMENTS, WORDS
+from toolbox.program import Files, Session
 
 FOLDER = f'{TOP}/editors/vscode'
 MODE_CLIENT = f'{TOOLS}/tests/dap_mode.el'

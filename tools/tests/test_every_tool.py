@@ -37,7 +37,7 @@ class EveryTool(ToolCase):
         super().setUp()
         for name in ('hello.asm', 'hello.json'):
             os.symlink(f'{EXAMPLES}/{name}', f'{self.room}/{name}')
-        from board import program
+        from toolbox import program
         self.environment = {'PATH': '/usr/bin:/bin', 'HOME': self.room, 'PCBOARD': program.path()}
 
     def begin(self, tool: str, *words: str, out: int = subprocess.PIPE) -> subprocess.Popen[str]:

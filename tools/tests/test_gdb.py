@@ -14,13 +14,13 @@ import unittest
 
 from tests.support import TOOLS, TOP, ToolCase, example
 
-from board.gdb_board import far_of_address
-from board.gdb_elf import sleb, uleb
-from board.gdb_stub import NAMES
-from board.gdb_wire import framed, unescaped
-from board.listing import Line, Listing
-from board.program import Files, Session
-from board.report import registers_of
+from toolbox.gdb_board import far_of_address
+from toolbox.gdb_elf import sleb, uleb
+from toolbox.gdb_stub import NAMES
+from toolbox.gdb_wire import framed, unescaped
+from toolbox.listing import Line, Listing
+from toolbox.program import Files, Session
+from toolbox.report import registers_of
 
 SECONDS = 60
 GDB = shutil.which('gdb')

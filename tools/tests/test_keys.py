@@ -4,7 +4,7 @@ import unittest
 
 from tests.support import ToolCase, example
 
-from board.scancodes import NAMED, SIGNS, stamped, strokes_of
+from toolbox.scancodes import NAMED, SIGNS, stamped, strokes_of
 
 
 class Codes(unittest.TestCase):

@@ -7,9 +7,9 @@ import unittest
 
 from tests.support import EXAMPLES, ToolCase, example
 
-from board.nowhere import told_of
-from board.program import Files, Session, answer_of
-from board.report import report_of
+from toolbox.nowhere import told_of
+from toolbox.program import Files, Session, answer_of
+from toolbox.report import report_of
 
 VECTOR = 'ENDS\nSEGMENT VECTORS AT 0\n ORG {:X}h\n DW own,SEG own\n'
 TICK = (' MOV AL,13h\n OUT 20h,AL\n MOV AL,8\n OUT 21h,AL\n MOV AL,1\n OUT 21h,AL\n MOV AL,34h\n OUT 43h,AL\n MOV AL,100\n'

@@ -57,7 +57,7 @@ def cases() -> list[Case]:
 class Outsized(ToolCase):
     def answer(self, case: Case) -> tuple[int, bytes, bytes]:
         """What the program says, in so much time and memory."""
-        from board import program
+        from toolbox import program
         for name, text in case.texts.items():
             if name.startswith('file '):
                 with open(f'{self.room}/{name[5:]}', 'wb') as file:

@@ -76,7 +76,7 @@ class Pages(ToolCase):
         super().setUp()
         os.symlink(EXAMPLES, f'{self.room}/examples')
         os.symlink(TOOLS, f'{self.room}/tools')
-        from board import program
+        from toolbox import program
         os.symlink(program.path(), f'{self.room}/pcboard')
         with open(f'{EXAMPLES}/fibonacci.asm', encoding='utf-8') as file:
             model = file.read()

@@ -9,7 +9,7 @@ from xml.etree import ElementTree
 
 from tests.support import STORED, TOOLS, TOP, ToolCase, example
 
-from board.text_memory import Cell, cell_of, look_alike, shown, starts
+from toolbox.text_memory import Cell, cell_of, look_alike, shown, starts
 
 ATTRIBUTES = f'{TOOLS}/tests/attributes.asm'
 

@@ -8,7 +8,7 @@ import unittest.mock
 
 from tests.support import TOP, ToolCase
 
-from board.program import Ran
+from toolbox.program import Ran
 
 LOADER = importlib.machinery.SourceFileLoader('refusals', f'{TOP}/dev/refusals')
 SPEC = importlib.util.spec_from_loader('refusals', LOADER)

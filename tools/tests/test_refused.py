@@ -6,8 +6,8 @@ import shutil
 import subprocess
 import sys
 
-from board.edits import FOLDERS, edits_of, judge
 from tests.support import TOP, ToolCase
+from toolbox.edits import FOLDERS, edits_of, judge
 
 RT = """
 import types
@@ -45,9 +45,10 @@ class Refused(ToolCase):
 
     def setUp(self) -> None:
         super().setUp()
-        for folder in ('bin', 'top/dev', 'top/tools/board'):
+        for folder in ('bin', 'top/dev', 'top/tools/toolbox'):
             os.makedirs(f'{self.room}/{folder}')
-        for file in ('dev/refused', 'tools/board/__init__.py', *(f'tools/board/{it}.py' for it in ('building', 'command', 'crates', 'edits'))):
+        shared = (f'tools/toolbox/{it}.py' for it in ('__init__', 'building', 'command', 'crates', 'edits'))
+        for file in ('dev/refused', *shared):
             shutil.copy(f'{TOP}/{file}', f'{self.room}/top/{file}')
         for name in ('low', 'high', 'broken'):
             for folder in ('src', 'refused', 'must-fail'):

@@ -4,12 +4,12 @@ from unittest import mock
 
 from tests.support import ToolCase, example
 
-from board import events
-from board.command import Sorry
-from board.places import event_of
-from board.program import Files
-from board.runfile import budget_of
-from board.vcd import Signal, waveform
+from toolbox import events
+from toolbox.command import Sorry
+from toolbox.places import event_of
+from toolbox.program import Files
+from toolbox.runfile import budget_of
+from toolbox.vcd import Signal, waveform
 
 
 class Stored(unittest.TestCase):

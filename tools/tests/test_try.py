@@ -11,7 +11,7 @@ import unittest
 
 from tests.support import TOOLS, ToolCase, example
 
-from board.command import waiting
+from toolbox.command import waiting
 
 
 class Tries(ToolCase):

@@ -6,8 +6,8 @@ import unittest
 
 from tests.support import TOP, ToolCase, example
 
-from board.faults import KINDS, MEMORY, Fault, fault_in
-from board.hints import hint_of
+from toolbox.faults import KINDS, MEMORY, Fault, fault_in
+from toolbox.hints import hint_of
 
 HINTS = (
     (3, ' MOV AX,0x10', '0x10'), (3, ' MOV AL,[es:bx]', 'before the brackets'), (3, ' MOV word ptr [BX],1', 'no PTR'),

@@ -9,8 +9,8 @@ import sys
 from concurrent.futures import ThreadPoolExecutor
 from dataclasses import dataclass, field
 
-from board.command import waiting
-from board.program import path as program_path
+from toolbox.command import waiting
+from toolbox.program import path as program_path
 
 HIDDEN = argparse.SUPPRESS
 JUDGE = os.path.join(os.path.dirname(os.path.dirname(os.path.realpath(__file__))), 'judge')

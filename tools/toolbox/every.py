@@ -7,11 +7,11 @@ import re
 import tempfile
 from typing import Iterator
 
-from board.command import Sorry, waiting
-from board.faults import Fault, fault_in
-from board.hints import STATEMENTS, WORDS
-from board.listing import code_of, label_in
-from board.program import refusal, run
+from toolbox.command import Sorry, waiting
+from toolbox.faults import Fault, fault_in
+from toolbox.hints import STATEMENTS, WORDS
+from toolbox.listing import code_of, label_in
+from toolbox.program import refusal, run
 
 NO_SEGMENT, SHORT_OF_A_LINE = 11, (8, 9, 10, 12)
 DEFINING = re.compile(r'EQU|D[BWDQT]|RES[BWDQ]|PROC|LABEL|MACRO|SEGMENT|STRUC|TIMES', re.I)

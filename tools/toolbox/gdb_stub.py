@@ -3,10 +3,10 @@ from __future__ import annotations
 
 import re
 
-from board.command import Sorry
-from board.gdb_board import MEMORY, MOST_STOPS, Board, Met, far_of_address
-from board.gdb_wire import MOST_BYTES, Wire
-from board.listing import Listing, physical
+from toolbox.command import Sorry
+from toolbox.gdb_board import MEMORY, MOST_STOPS, Board, Met, far_of_address
+from toolbox.gdb_wire import MOST_BYTES, Wire
+from toolbox.listing import Listing, physical
 
 # The order of the `g` packet. Those that point into a segment are told as physical addresses, so that gdb finds code and stack.
 NAMES = ('AX', 'CX', 'DX', 'BX', 'SP', 'BP', 'SI', 'DI', 'IP', 'FL', 'CS', 'SS', 'DS', 'ES')

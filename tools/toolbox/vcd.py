@@ -3,7 +3,7 @@ from __future__ import annotations
 
 from dataclasses import dataclass
 
-from board.report import NANOSECONDS
+from toolbox.report import NANOSECONDS
 
 @dataclass(frozen=True)
 class Signal:

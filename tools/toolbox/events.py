@@ -3,9 +3,9 @@ from __future__ import annotations
 
 from typing import Iterator
 
-from board.command import Sorry
-from board.places import Event, event_of
-from board.program import CLOCKS_OF_A_TRAIL, Files, transcript
+from toolbox.command import Sorry
+from toolbox.places import Event, event_of
+from toolbox.program import CLOCKS_OF_A_TRAIL, Files, transcript
 
 TRAIL = 32
 

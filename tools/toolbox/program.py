@@ -8,7 +8,7 @@ import tempfile
 from dataclasses import dataclass
 from typing import Iterable, Iterator
 
-from board.command import Sorry
+from toolbox.command import Sorry
 
 TOP = os.path.dirname(os.path.dirname(os.path.dirname(os.path.realpath(__file__))))
 LAST_CLOCK = 1 << 40

@@ -11,7 +11,7 @@ import tempfile
 import types
 from collections.abc import Callable, Iterator
 
-from board.crates import KIT, TOP, Crates
+from toolbox.crates import KIT, TOP, Crates
 
 FOLDERS = ('must-fail', 'refused')
 

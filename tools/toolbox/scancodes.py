@@ -4,7 +4,7 @@ from __future__ import annotations
 import re
 from dataclasses import dataclass
 
-from board.command import Sorry
+from toolbox.command import Sorry
 
 UP = 0x80
 # From code 02h, 10h, 1Eh and 2Bh on: the signs of the four rows, plain and with shift.

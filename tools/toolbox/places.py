@@ -4,8 +4,8 @@ from __future__ import annotations
 import re
 from dataclasses import dataclass
 
-from board.command import Sorry
-from board.listing import Line, Listing, code_of, physical
+from toolbox.command import Sorry
+from toolbox.listing import Line, Listing, code_of, physical
 
 
 @dataclass(frozen=True)

@@ -5,11 +5,11 @@ from __future__ import annotations
 import time
 from typing import Callable
 
-from board.command import Sorry
-from board.listing import Listing, physical
-from board.places import Event, event_of
-from board.program import CLOCKS_OF_A_TRAIL, Files, Session
-from board.report import registers_of
+from toolbox.command import Sorry
+from toolbox.listing import Listing, physical
+from toolbox.places import Event, event_of
+from toolbox.program import CLOCKS_OF_A_TRAIL, Files, Session
+from toolbox.report import registers_of
 
 Far = tuple[int, int]
 PREFIXES = ('ES:', 'CS:', 'SS:', 'DS:', 'LOCK', 'REP', 'REPNE')

@@ -5,13 +5,13 @@ import re
 from dataclasses import dataclass, field
 from typing import Any, Callable
 
-from board.command import Sorry, read_text
-from board.events import events
-from board.listing import Listing, listing_of
-from board.places import address_of, far_of, number_of
-from board.program import LAST_CLOCK, Files, Session
-from board.report import REGISTERS, ROWS, Report
-from board.scancodes import stamped, strokes_of
+from toolbox.command import Sorry, read_text
+from toolbox.events import events
+from toolbox.listing import Listing, listing_of
+from toolbox.places import address_of, far_of, number_of
+from toolbox.program import LAST_CLOCK, Files, Session
+from toolbox.report import REGISTERS, ROWS, Report
+from toolbox.scancodes import stamped, strokes_of
 
 FLAGS = {'CF': 0, 'PF': 2, 'AF': 4, 'ZF': 6, 'SF': 7, 'TF': 8, 'IF': 9, 'DF': 10, 'OF': 11}
 HALVES = [it + half for it in 'ABCD' for half in 'LH']

@@ -5,11 +5,11 @@ from __future__ import annotations
 import re
 from dataclasses import dataclass, field
 
-from board.listing import Line, Listing, code_of, listing_of, physical
-from board.places import Event, event_of, line_at
-from board.program import LAST_CLOCK, Files, Session
-from board.report import Report, registers_of
-from board.runfile import read_run_file
+from toolbox.listing import Line, Listing, code_of, listing_of, physical
+from toolbox.places import Event, event_of, line_at
+from toolbox.program import LAST_CLOCK, Files, Session
+from toolbox.report import Report, registers_of
+from toolbox.runfile import read_run_file
 
 TRAIL, LONGEST_LOOP, ZEROS, NEAR = 32, 8, 4, 32
 IF, TF = 0x200, 0x100

@@ -6,7 +6,7 @@ import os
 import struct
 from dataclasses import dataclass, field
 
-from board.listing import Line, Listing, physical
+from toolbox.listing import Line, Listing, physical
 
 MEMORY = 1 << 20
 MACHINE, EXECUTABLE, PROGBITS, SYMTAB, STRTAB, NOBITS = 3, 2, 1, 2, 3, 8

@@ -5,7 +5,7 @@ from __future__ import annotations
 import difflib
 import re
 
-from board.listing import code_of, label_in
+from toolbox.listing import code_of, label_in
 
 STATEMENTS = frozenset('''AAA AAD AAM AAS ADC ADD AND CALL CBW CLC CLD CLI CMC CMP CMPSB CMPSW CWD DAA DAS DEC DIV ESC HLT
 IDIV IMUL IN INC INT INT3 INTO IRET JA JAE JB JBE JC JCXZ JE JG JGE JL JLE JMP JNA JNAE JNB JNBE JNC JNE JNG JNGE JNL JNLE

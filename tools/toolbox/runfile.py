@@ -8,9 +8,9 @@ import os
 import tempfile
 from typing import Any, Iterator
 
-from board.command import Sorry, read_text
-from board.program import Files, answer_of
-from board.report import Report, report_of
+from toolbox.command import Sorry, read_text
+from toolbox.program import Files, answer_of
+from toolbox.report import Report, report_of
 
 DEFAULTS: dict[str, Any] = {'version': 1, 'ram': 64, 'sw1': 0, 'sw2': 0, 'budget': 100000, 'keys': []}
 # What version 2 has besides: which chip the timer is, and which table the clocks. Of version 1 they are the first ones.

@@ -4,10 +4,10 @@ from __future__ import annotations
 import re
 from dataclasses import dataclass
 
-from board.command import Sorry
-from board.dap_board import FLAG_BITS, Machine
-from board.listing import Line, code_of, label_in, physical
-from board.places import far_of
+from toolbox.command import Sorry
+from toolbox.dap_board import FLAG_BITS, Machine
+from toolbox.listing import Line, code_of, label_in, physical
+from toolbox.places import far_of
 
 BYTE_REGISTERS = {'AL': ('AX', 0), 'AH': ('AX', 8), 'BL': ('BX', 0), 'BH': ('BX', 8), 'CL': ('CX', 0), 'CH': ('CX', 8),
                   'DL': ('DX', 0), 'DH': ('DX', 8)}

@@ -10,15 +10,15 @@ import subprocess
 import sys
 from typing import Any, Callable
 
-from board.command import Sorry, read_text
-from board.dap_board import FLAG_BITS, MOST_BREAKPOINTS, Far, Gone, Machine, Paused
-from board.dap_values import Disassembly, Expression, is_code
-from board.dap_wire import Broken, Read
-from board.listing import Listing, listing_of, physical
-from board.places import far_of
-from board.program import TOP, Files
-from board.runfile import DEFAULTS, budget_of, text_of
-from board.scancodes import stamped, strokes_of
+from toolbox.command import Sorry, read_text
+from toolbox.dap_board import FLAG_BITS, MOST_BREAKPOINTS, Far, Gone, Machine, Paused
+from toolbox.dap_values import Disassembly, Expression, is_code
+from toolbox.dap_wire import Broken, Read
+from toolbox.listing import Listing, listing_of, physical
+from toolbox.places import far_of
+from toolbox.program import TOP, Files
+from toolbox.runfile import DEFAULTS, budget_of, text_of
+from toolbox.scancodes import stamped, strokes_of
 
 Fields = dict[str, Any]
 THREAD, REGISTERS, FLAGS, BOARD = 1, 1, 2, 3

@@ -6,7 +6,7 @@ import re
 import tempfile
 from dataclasses import dataclass, field
 
-from board.program import Files, answer_of, run
+from toolbox.program import Files, answer_of, run
 
 ADDRESS_COLUMNS = 28
 PROBE_NAME = 'PROBE_OF_LABELS'

@@ -14,7 +14,7 @@ import sys
 import threading
 import time
 
-from board.crates import KIT, TOP, Crates
+from toolbox.crates import KIT, TOP, Crates
 
 CACHE = os.environ.get('XDG_CACHE_HOME') or os.path.expanduser('~/.cache')
 STAGE = f'{CACHE}/zebludor/{hashlib.sha256(TOP.encode()).hexdigest()[:12]}'

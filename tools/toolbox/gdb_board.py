@@ -5,11 +5,11 @@ import time
 from dataclasses import dataclass
 from typing import Callable
 
-from board.command import Sorry
-from board.listing import Listing, physical
-from board.places import Event, event_of
-from board.program import LAST_CLOCK, Files, Session
-from board.report import registers_of
+from toolbox.command import Sorry
+from toolbox.listing import Listing, physical
+from toolbox.places import Event, event_of
+from toolbox.program import LAST_CLOCK, Files, Session
+from toolbox.report import registers_of
 
 MOST_STOPS = 16
 FIRST_PIECE = 1 << 16

@@ -4,9 +4,9 @@ from __future__ import annotations
 
 from dataclasses import dataclass
 
-from board.command import Sorry
-from board.program import Files, Session
-from board.report import COLUMNS, ROWS, Report
+from toolbox.command import Sorry
+from toolbox.program import Files, Session
+from toolbox.report import COLUMNS, ROWS, Report
 
 TEXT_MEMORY, WORDS = 0xB0000, 2048
 

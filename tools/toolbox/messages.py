@@ -4,10 +4,10 @@ from __future__ import annotations
 import re
 from typing import Iterator
 
-from board.command import read_text
-from board.every import refused_lines
-from board.faults import Fault
-from board.hints import hint_of
+from toolbox.command import read_text
+from toolbox.every import refused_lines
+from toolbox.faults import Fault
+from toolbox.hints import hint_of
 
 TWICE_DEFINED = 6
 
