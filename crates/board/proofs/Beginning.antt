@@ -10,16 +10,16 @@ use Rattle.wiring.specs.Speaker.{is_speaker_high_after}
 use Rattle.wiring.specs.Wires as wires
 use Rattle.wiring.specs.Wires.{after_arrivals}
 use Rattle.wiring.proofs.Clocks.{clock_of_arrivals, clock_of_clocked, clock_of_keys_settled}
-use Rattle.board.specs.declared.act.Act.{Act}
-use Rattle.board.specs.Board.{BoardState}
+use Rattle.board_plain.specs.declared.act.Act.{Act}
+use Rattle.board_plain.specs.Board.{BoardState}
 use Rattle.board.specs.Leap.{ActsCalmly, PassesOn}
-use Rattle.board.specs.Plain.{Plain, after_act, after_clock, chips_after_clock, clock_of, codes_at, next_act, speaker_level}
-use Rattle.board.specs.Trail.{last, trail_next}
+use Rattle.board_plain.specs.Plain.{Plain, after_act, after_clock, chips_after_clock, clock_of, codes_at, next_act, speaker_level}
+use Rattle.board_plain.specs.Trail.{last, trail_next}
 use Rattle.board.specs.Turns.{IsLeapOn, IsStepOn}
-use Rattle.board.proofs.Clocks.{clock_of_act}
-use Rattle.board.proofs.Foreseen.{foreseen}
+use Rattle.board_plain.proofs.Clocks.{clock_of_act}
+use Rattle.board_plain.proofs.Foreseen.{foreseen}
 use Rattle.board.proofs.Leap.{clock_of_leap}
-use Rattle.board.proofs.Runs.{no_change}
+use Rattle.board.proofs.Ticking.{no_change}
 use Rattle.board.proofs.Works.{acts_now}
 
 -- the speaker's level stays

@@ -4,15 +4,15 @@ use Rattle.std.specs.Bool.{IsTrue}
 use Rattle.std.specs.Prelude.{◌⊎◌}
 use Rattle.std.proofs.lemmas.Bool.{cases_lt}
 use Rattle.board_types.proofs.Iterate.{iterate_add, iterate_zero}
-use Rattle.board.specs.declared.stop.Condition.{Condition}
+use Rattle.board_plain.specs.declared.stop.Condition.{Condition}
 use Rattle.board.specs.AwaitFree.{AllAwaitFree, IsTurnBetween}
-use Rattle.board.specs.Board.{BoardState}
+use Rattle.board_plain.specs.Board.{BoardState}
 use Rattle.board.specs.Found.{found_at, found_before}
-use Rattle.board.specs.Lasts.{IsLastOf}
-use Rattle.board.specs.Plain.{Plain, after_clock, after_clocks, clock_of}
-use Rattle.board.specs.Stops.{holding}
+use Rattle.board_plain.specs.Lasts.{IsLastOf}
+use Rattle.board_plain.specs.Plain.{Plain, after_clock, after_clocks, clock_of}
+use Rattle.board_plain.specs.Stops.{holding}
 use Rattle.board.specs.Turns.{IsLeapOn, IsStrideOn, IsTickOn, IsTurnOn}
-use Rattle.board.specs.Work.{work_next}
+use Rattle.board_plain.specs.Work.{work_next}
 use Rattle.board.proofs.Leap.{holding_stays}
 use Rattle.board.proofs.Search.{none_held}
 use Rattle.board.proofs.Turns.{SoFar, before_rest, so_far_leap, so_far_none, so_far_tick}

@@ -27,17 +27,17 @@ use Rattle.wiring.specs.Ports.{byte_at}
 use Rattle.wiring.specs.Speaker.{is_speaker_high}
 use Rattle.wiring.specs.Wires as wires
 use Rattle.wiring.specs.Wires.{after_settling, is_requested}
-use Rattle.board.specs.declared.act.Act.{Act}
-use Rattle.board.specs.declared.act.Act.TheVariants.{Nothing}
-use Rattle.board.specs.declared.stop.Condition.{Condition}
-use Rattle.board.specs.declared.stop.Condition.TheVariants.{Free, At, Byte, Sound, Halted}
-use Rattle.board.specs.Laws.{NoKeyComes, WiresHold}
+use Rattle.board_plain.specs.declared.act.Act.{Act}
+use Rattle.board_plain.specs.declared.act.Act.TheVariants.{Nothing}
+use Rattle.board_plain.specs.declared.stop.Condition.{Condition}
+use Rattle.board_plain.specs.declared.stop.Condition.TheVariants.{Free, At, Byte, Sound, Halted}
+use Rattle.board_plain.specs.Laws.{NoKeyComes, WiresHold}
 use Rattle.board.specs.Leap.{IsQuiet, StaysIdle, leapt}
-use Rattle.board.specs.Plain.{Plain, after_act, after_clock, after_clocks, byte_of, change_next, changes_in, chips_after_clock, clock_of, codes_at, next_act, speaker_level, state_of}
-use Rattle.board.specs.Stops.{holding, holds}
-use Rattle.board.specs.Trail.{entry_at, event_of, trail_in, trail_next}
-use Rattle.board.proofs.Quiet.{clock_alone, holds_later, none_comes, nothing_by}
-use Rattle.board.proofs.Runs.{no_change}
+use Rattle.board_plain.specs.Plain.{Plain, after_act, after_clock, after_clocks, byte_of, change_next, changes_in, chips_after_clock, clock_of, codes_at, next_act, speaker_level, state_of}
+use Rattle.board_plain.specs.Stops.{holding, holds}
+use Rattle.board_plain.specs.Trail.{entry_at, event_of, trail_in, trail_next}
+use Rattle.board_plain.proofs.Quiet.{clock_alone, holds_later, none_comes, nothing_by}
+use Rattle.board.proofs.Ticking.{no_change}
 
 -- the processor does nothing where it is busy or idle
 

@@ -18,13 +18,14 @@ use Rattle.scheduler.specs.Deadlines.{DeadlinesState, deadline_of, no_deadlines,
 use Rattle.wiring.specs.Chips.{ChipsState}
 use Rattle.wiring.specs.Edges.{ticks_between, IsEdgeOf, TurnsIn}
 use Rattle.wiring.specs.Wires.{is_requested}
-use Rattle.board.specs.declared.act.Act.TheVariants.{Nothing}
+use Rattle.board_plain.specs.declared.act.Act.TheVariants.{Nothing}
 use Rattle.board.specs.Arrivals.{Awaits, IsNextStamp}
-use Rattle.board.specs.Laws.{NoKeyComes, WiresHold}
+use Rattle.board_plain.specs.Laws.{NoKeyComes, WiresHold}
 use Rattle.board.specs.Leap.{AreDeadlines, IsFreeClock, IsLastQuiet, IsQuiet, IsTight, StaysIdle, acts_before, is_idle, last_of, leapt}
-use Rattle.board.specs.Plain.{Plain, act_at, clock_of, codes_at, is_free, next_act}
-use Rattle.board.specs.Work.{work_next}
-use Rattle.board.proofs.KeyOrder.{codes_append, codes_more, past_at, to_come_at}
+use Rattle.board_plain.specs.Plain.{Plain, act_at, clock_of, codes_at, is_free, next_act}
+use Rattle.board_plain.specs.Work.{work_next}
+use Rattle.board_plain.proofs.Codes.{codes_append, codes_more}
+use Rattle.board.proofs.KeyOrder.{past_at, to_come_at}
 use Rattle.board.proofs.Works.{acts_now, edge_0_works, edge_2_works, keys_come, no_leap}
 
 -- a last clock is behind every deadline that acts before it, and up to every other

@@ -4,18 +4,19 @@ use Rattle.std.specs.Bool.{IsTrue}
 use Rattle.std.specs.Prelude.{◌⊎◌, ◌&&◌, ◌==◌, slice_index_or}
 use Rattle.std.proofs.lemmas.Bool.Decides.{leb_tells, nat_tests}
 use Rattle.board_types.proofs.Iterate.{iterate_add}
-use Rattle.board.specs.declared.stop.Condition.{Condition}
-use Rattle.board.specs.declared.stop.Condition.TheVariants.{Free, At, Byte, Sound, Halted}
+use Rattle.board_plain.specs.declared.stop.Condition.{Condition}
+use Rattle.board_plain.specs.declared.stop.Condition.TheVariants.{Free, At, Byte, Sound, Halted}
 use Rattle.board.specs.AwaitFree.{awaits_free, AllAwaitFree, IsTurnBetween}
-use Rattle.board.specs.Board.{BoardState, Ran}
+use Rattle.board_plain.specs.Board.{BoardState, Ran}
 use Rattle.board.specs.HeldBack.{IsHeldBack}
-use Rattle.board.specs.Plain.{Plain, after_clock, after_clocks, clock_of, is_free}
-use Rattle.board.specs.Stops.{holding, holds, FitsRoom, NoStop, StopsAt}
+use Rattle.board_plain.specs.Plain.{Plain, after_clock, after_clocks, clock_of, is_free}
+use Rattle.board_plain.specs.Stops.{holding, holds, FitsRoom, NoStop, StopsAt}
 use Rattle.board.specs.Turns.{IsLeapOn, IsStrideOn, IsTickOn, IsTurnOn}
-use Rattle.board.specs.Work.{work_next}
+use Rattle.board_plain.specs.Work.{work_next}
 use Rattle.board.proofs.Leap.{holding_stays}
-use Rattle.board.proofs.Runs.{ran_none}
-use Rattle.board.proofs.Stopping.{no_stop_more, no_stop_none, none_passed, none_there, not_held_before_stop, ran_to_stop, stops_here}
+use Rattle.board_plain.proofs.Runs.{ran_none}
+use Rattle.board_plain.proofs.Stopping.{no_stop_more, no_stop_none}
+use Rattle.board.proofs.Stopped.{none_passed, none_there, not_held_before_stop, ran_to_stop, stops_here}
 use Rattle.board.proofs.Turns.{Counts, HeldRun, SoFar, before_rest, counted, held_run, not_counted, ran_whole, so_far_first, so_far_leap, so_far_none, so_far_tick, stride_moves, turn_moves}
 
 -- a run so far that passed no stop; at its clock it hasn't looked for one

@@ -2,18 +2,19 @@
 use Rattle.std.proofs.Common.{◌≡◌, ℕ, ◌+◌, ◌-◌, ◌*◌, ◌<◌, ◌≤◌, min, inl, inr, ◌++◌, length, sym, ap, ◌∙◌, subst, arith, append-nil}
 use Rattle.std.specs.Prelude.{◌⊎◌, OnOk, Result, Ok, Err}
 use Rattle.board_types.proofs.Iterate.{total_zero, total_more, total_add}
-use Rattle.board.specs.Board.{BoardState, Ran, StoppedEarly}
+use Rattle.board_plain.specs.Board.{BoardState, Ran, StoppedEarly}
 use Rattle.board.specs.HeldBack.{IsHeldBack}
-use Rattle.board.specs.Laws.{WiresHold}
+use Rattle.board_plain.specs.Laws.{WiresHold}
 use Rattle.board.specs.Leap.{IsQuiet, IsTight, leapt}
-use Rattle.board.specs.Plain.{Plain, after_clock, changes_in, clock_of}
-use Rattle.board.specs.Trail.{last}
+use Rattle.board_plain.specs.Plain.{Plain, after_clock, changes_in, clock_of}
+use Rattle.board_plain.specs.Trail.{last}
 use Rattle.board.specs.Turns.{IsLeapOn, IsStepOn, IsStrideOn, IsTickOn, IsTurnOn}
-use Rattle.board.specs.Work.{steps_in, steps_next, work_in, work_next}
-use Rattle.board.proofs.Lasts.{last_within, nothing_added}
+use Rattle.board_plain.specs.Work.{steps_in, steps_next, work_in, work_next}
+use Rattle.board_plain.proofs.LastEntries.{last_within, nothing_added}
 use Rattle.board.proofs.Leap.{board_leaps, clock_of_leap, no_changes, no_entries}
 use Rattle.board.proofs.Rooms.{works_at_once}
-use Rattle.board.proofs.Runs.{not_held, ran_more, ran_none, runs_join, stopped}
+use Rattle.board.proofs.Ticking.{not_held, ran_more, stopped}
+use Rattle.board_plain.proofs.Runs.{ran_none, runs_join}
 use Rattle.board.proofs.Works.{first_has_none, none_to_do, none_to_step, busy_of_leap, one_step_at_most}
 
 -- a leap is a run

@@ -19,14 +19,14 @@ use Rattle.wiring.specs.Edges.{ticks_between, TurnsIn}
 use Rattle.wiring.specs.Leap as leaps
 use Rattle.wiring.specs.Wires as wires
 use Rattle.wiring.specs.Wires.{after_arrival, after_arrivals, after_gate_wire, after_key_settling, after_settling}
-use Rattle.board.specs.declared.act.Act.{Act}
-use Rattle.board.specs.declared.act.Act.TheVariants.{Nothing, Request, SingleStep, Iteration, Instruction}
-use Rattle.board.specs.Laws.{NoKeyComes, WiresHold}
+use Rattle.board_plain.specs.declared.act.Act.{Act}
+use Rattle.board_plain.specs.declared.act.Act.TheVariants.{Nothing, Request, SingleStep, Iteration, Instruction}
+use Rattle.board_plain.specs.Laws.{NoKeyComes, WiresHold}
 use Rattle.board.specs.Leap.{IsQuiet, is_idle, leapt}
-use Rattle.board.specs.Plain.{Plain, after_act, after_clock, after_clocks, chips_after_clock, clock_of, codes_at, next_act}
-use Rattle.board.specs.Work.{edges_next, edges_of, jams_of, keys_next, steps_in, steps_next, steps_of, work_in, work_next}
+use Rattle.board_plain.specs.Plain.{Plain, after_act, after_clock, after_clocks, chips_after_clock, clock_of, codes_at, next_act}
+use Rattle.board_plain.specs.Work.{edges_next, edges_of, jams_of, keys_next, steps_in, steps_next, steps_of, work_in, work_next}
 use Rattle.board.proofs.Leap.{board_leaps, clock_of_leap, does_nothing, out_0_stays, out_2_stays, quiet_for}
-use Rattle.board.proofs.Quiet.{none_comes}
+use Rattle.board_plain.proofs.Quiet.{none_comes}
 
 -- none in a quiet clock
 

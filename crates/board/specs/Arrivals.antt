@@ -3,7 +3,7 @@
 use Rattle.std.specs.Prelude.{ℕ, ◌+◌, ◌<◌, ◌≤◌, ◌⊎◌, List, All, length, take, drop, Option, None, Some}
 use Rattle.board_types.specs.declared.keys.StampedKey.{StampedKey}
 use Rattle.board.specs.declared.arrivals.Arrived.{Arrived}
-use Rattle.board.specs.Plain.{codes_at}
+use Rattle.board_plain.specs.Plain.{codes_at}
 
 -- the first `next` keys are stamped before a clock, and the others with it or later
 pub record Awaits (next clock : ℕ) (keys : List StampedKey) : Type 0 where

@@ -1,9 +1,9 @@
 -- Stops that wait for a free processor: none of them is passed in the midst of a step.
 -- For proofs alone: no public contract rests on it.
 use Rattle.std.specs.Prelude.{ℕ, ◌≡◌, ◌<◌, Bool, true, false, List, length, slice_index_or}
-use Rattle.board.specs.declared.stop.Condition.{Condition}
-use Rattle.board.specs.declared.stop.Condition.TheVariants.{Free, At, Byte, Sound, Halted}
-use Rattle.board.specs.Board.{BoardState}
+use Rattle.board_plain.specs.declared.stop.Condition.{Condition}
+use Rattle.board_plain.specs.declared.stop.Condition.TheVariants.{Free, At, Byte, Sound, Halted}
+use Rattle.board_plain.specs.Board.{BoardState}
 use Rattle.board.specs.Turns.{IsStrideOn, IsTurnOn}
 
 -- whether it holds only where the processor is free

@@ -1,8 +1,8 @@
 -- A clock that finds no room for its change of the speaker's level.
 -- For proofs alone: no public contract rests on it.
 use Rattle.std.specs.Prelude.{◌≡◌, ◌≢◌}
-use Rattle.board.specs.Plain.{after_clock, speaker_level}
-use Rattle.board.specs.Board.{BoardState}
+use Rattle.board_plain.specs.Plain.{after_clock, speaker_level}
+use Rattle.board_plain.specs.Board.{BoardState}
 
 -- the next clock brings a change that there is no room for, and nothing is done
 pub record IsHeldBack (old new : BoardState) : Type 0 where

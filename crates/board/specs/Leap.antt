@@ -18,12 +18,12 @@ use Rattle.wiring.specs.Chips.{ChipsState}
 use Rattle.wiring.specs.Edges.{ticks_between, IsEdgeOf}
 use Rattle.wiring.specs.Leap as wires
 use Rattle.wiring.specs.Wires.{is_requested}
-use Rattle.board.specs.declared.act.Act.{Act}
-use Rattle.board.specs.declared.act.Act.TheVariants.{Nothing}
+use Rattle.board_plain.specs.declared.act.Act.{Act}
+use Rattle.board_plain.specs.declared.act.Act.TheVariants.{Nothing}
 use Rattle.board.specs.Arrivals.{IsNextStamp}
-use Rattle.board.specs.Laws.{NoKeyComes, WiresHold, writes_of}
-use Rattle.board.specs.Plain.{Plain, chips_after_clock, clock_of, next_act}
-use Rattle.board.specs.Work.{work_next}
+use Rattle.board_plain.specs.Laws.{NoKeyComes, WiresHold, writes_of}
+use Rattle.board_plain.specs.Plain.{Plain, chips_after_clock, clock_of, next_act}
+use Rattle.board_plain.specs.Work.{work_next}
 
 -- an act that does nothing
 abbrev pub is_idle : Act → Bool

@@ -1,8 +1,8 @@
 -- Where IP has to be for a stop to hold.
 -- For proofs alone: no public contract rests on it.
 use Rattle.std.specs.Prelude.{ℕ, ◌≡◌, ◌+◌, ◌<◌, ◌≤◌, ◌^◌, ◌⊎◌, List, length, slice_index_or}
-use Rattle.board.specs.declared.stop.Condition.{Condition}
-use Rattle.board.specs.declared.stop.Condition.TheVariants.{Free, At}
+use Rattle.board_plain.specs.declared.stop.Condition.{Condition}
+use Rattle.board_plain.specs.declared.stop.Condition.TheVariants.{Free, At}
 use Rattle.board.specs.declared.stop.Reach.{Reach}
 
 -- an address within a reach

@@ -1,12 +1,12 @@
 -- Turns: time goes on by a clock that has work, or leaps.
 -- For proofs alone: no public contract rests on it.
 use Rattle.std.specs.Prelude.{ℕ, ◌≡◌, ◌+◌, ◌-◌, ◌≤◌, ◌⊎◌, ◌++◌, length}
-use Rattle.board.specs.Board.{BoardState}
-use Rattle.board.specs.Laws.{WiresHold}
+use Rattle.board_plain.specs.Board.{BoardState}
+use Rattle.board_plain.specs.Laws.{WiresHold}
 use Rattle.board.specs.Leap.{IsQuiet, IsTight, leapt}
-use Rattle.board.specs.Plain.{after_clock, change_next, clock_of}
-use Rattle.board.specs.Trail.{last, trail_next}
-use Rattle.board.specs.Work.{work_next}
+use Rattle.board_plain.specs.Plain.{after_clock, change_next, clock_of}
+use Rattle.board_plain.specs.Trail.{last, trail_next}
+use Rattle.board_plain.specs.Work.{work_next}
 
 -- one clock of a board, with the change and the entry that it brings in the lists
 pub record IsTickOn (old new : BoardState) : Type 0 where

@@ -4,7 +4,7 @@ ghost use Rattle.board_types.specs.Keys.{IsInOrder};
 ghost use Rattle.board.specs.Arrivals.{Awaits, HaveArrived, IsNextStamp};
 ghost use Rattle.wiring.specs.Wires.{after_arrivals};
 ghost use Rattle.board.specs.Leap.{ComesAfter};
-ghost use Rattle.board.specs.Plain.{chips_after_clock, codes_at};
+ghost use Rattle.board_plain.specs.Plain.{chips_after_clock, codes_at};
 
 use board_bus::cached::CachedChips;
 use board_types::clock::Clock;
@@ -82,7 +82,7 @@ fn arrive(chips: &mut CachedChips, keys: &[StampedKey], arrived: &mut Arrived, c
 
 /// The chips' part of a clock, and the keys that arrive in it.
 #[inline(never)]
-#[tactic(auto, unfolding(crate::specs::Plain::chips_after_clock))]
+#[tactic(auto, unfolding(board_plain::specs::Plain::chips_after_clock))]
 pub(crate) fn pass_clock(chips: &mut CachedChips, keys: &[StampedKey], arrived: &mut Arrived)
     requires within { chips.old.clock < 2 ^ 40 }
     requires in_order { IsInOrder keys.now }

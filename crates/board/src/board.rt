@@ -3,29 +3,33 @@ ghost use Rattle.std.specs.Prelude.{IsTrue, None, true, All, ◌-◌, slice_get,
 ghost use Rattle.std.specs.Result.{IfErr, IsErrOf};
 ghost use Rattle.std.specs.String.{string_bytes};
 ghost use Rattle.memory.specs.Map.{IsRamSize, FitsRam};
-ghost use Rattle.board.specs.declared.act.Act.TheVariants.{Instruction};
-ghost use Rattle.board.specs.declared.board.BoardFault.TheVariants.{Memory};
-ghost use Rattle.board.specs.Board.{Ran, StoppedEarly, board_fault_name, board_fault_number};
+ghost use Rattle.board_plain.specs.declared.act.Act.TheVariants.{Instruction};
+ghost use Rattle.board_plain.specs.declared.fault.BoardFault.TheVariants.{Memory};
+ghost use Rattle.board_plain.specs.Board.{Ran, StoppedEarly, board_fault_name, board_fault_number};
 ghost use Rattle.board.specs.HeldBack.{IsHeldBack};
 ghost use Rattle.board.specs.KeptAgain.{IsExact};
 ghost use Rattle.board.specs.Leap.{IsQuiet, leapt};
 ghost use Rattle.board.specs.Reach.{AllWithin};
-ghost use Rattle.board.specs.Plain.{after_clock, after_clocks, byte_of, change_next, changes_in, clock_of, is_free, lost_codes, next_act, power_on, registers_of, screen_of, speaker_level, state_of};
-ghost use Rattle.board.specs.Stops.{FitsRoom, HasAddress, IsStopOf, NoStop, holding, run_length};
-ghost use Rattle.board.specs.Lasts.{IsLastOf};
+ghost use Rattle.board_plain.specs.Plain.{after_clock, after_clocks, byte_of, change_next, changes_in, clock_of, is_free, lost_codes, next_act, power_on, registers_of, screen_of, speaker_level, state_of};
+ghost use Rattle.board_plain.specs.Stops.{FitsRoom, HasAddress, IsStopOf, NoStop, holding, run_length};
+ghost use Rattle.board_plain.specs.Lasts.{IsLastOf};
 ghost use Rattle.board.specs.Found.{found_at, found_before};
-ghost use Rattle.board.specs.Trail.{last, trail_in, trail_next};
+ghost use Rattle.board_plain.specs.Trail.{last, trail_in, trail_next};
 ghost use Rattle.board.specs.AwaitFree.{IsTurnBetween};
 ghost use Rattle.board.specs.Turns.{IsStepOn, IsStrideOn, IsTickOn, IsTurnOn};
-ghost use Rattle.board.specs.Work.{steps_in, work_in, work_next};
+ghost use Rattle.board_plain.specs.Work.{steps_in, work_in, work_next};
 ghost use Rattle.board_types.specs.Lines.{from_bool};
 
-use crate::act::Act;
-use crate::plain::PlainBoard;
-use crate::stop::{Reach, Stop, Stopped, Stops, all_await_free};
-use crate::trail::{Trail, TrailEntry};
+use crate::engine::Engine;
+use crate::stop::{Reach, all_await_free};
+use crate::trail::Trail;
+use board_plain::act::Act;
+use board_plain::config::Config;
+use board_plain::fault::BoardFault;
+use board_plain::speaker::SpeakerChange;
+use board_plain::stop::{Stop, Stopped, Stops};
+use board_plain::trail::TrailEntry;
 use board_types::bytes::Bytes;
-use board_types::choice::{ClockTable, TimerKind};
 use board_types::clock::Clock;
 use board_types::image::Image;
 use board_types::keys::Keys;
@@ -36,78 +40,12 @@ use decode::decoded::Decoded;
 use memory::map::MemoryFault;
 use std::alloc::{AllocError, Allocator, Global};
 use std::marker::Model;
-use thiserror::Error;
-
-/// Why a board refuses a call.
-#[derive(Clone, Copy, Debug, PartialEq, Eq, Drop, Error)]
-pub enum BoardFault {
-    #[error("the RAM's size isn't a multiple of 16 KB from 16 to 640, or the image goes past it")]
-    RamSize,
-    #[error("out of memory")]
-    Memory,
-    #[error("the board can't go past clock 2^40")]
-    ClockLimit,
-}
-
-impl BoardFault {
-    /// The fault's number.
-    pub fn number(self) -> u8
-        ensures { result ≡ board_fault_number self }
-    {
-        match self {
-            BoardFault::RamSize => 36,
-            BoardFault::Memory => 41,
-            BoardFault::ClockLimit => 42,
-        }
-    }
-
-    /// The fault's name, as it is printed.
-    pub fn name(self) -> &'static str
-        ensures { result.now ≡ board_fault_name self }
-    {
-        match self {
-            BoardFault::RamSize => "RamSize",
-            BoardFault::Memory => "Memory",
-            BoardFault::ClockLimit => "ClockLimit",
-        }
-    }
-}
-
-impl From<AllocError> for BoardFault {
-    ghost from_gives = { λ _ fault. fault ≡ Memory };
-
-    fn from(_error: AllocError) -> BoardFault {
-        BoardFault::Memory
-    }
-}
-
-/// How a board is fitted out.
-#[derive(Clone, Copy, Debug, PartialEq, Eq)]
-pub struct Config {
-    /// RAM in units of 1,024 bytes.
-    pub ram_kb: u16,
-    /// The first switch block.
-    pub sw1: u8,
-    /// The five switches of the second block that the board reads, 0 to 31.
-    pub sw2: u8,
-    /// Which chip the timer is.
-    pub timer: TimerKind,
-    /// By which table the processor's clocks count.
-    pub clocks: ClockTable,
-}
-
-/// A change of the speaker's level, at a clock.
-#[derive(Clone, Copy, Debug, PartialEq, Eq)]
-pub struct SpeakerChange {
-    pub clock: Clock,
-    pub level: Line,
-}
 
 /// A board at a clock, with the changes of its speaker's level since power-on and the last entries of its trail. The
 /// list of changes grows in memory of its own allocator, `A`.
 #[derive(Drop)]
 pub struct Board<A: Allocator = Global> {
-    plain: PlainBoard,
+    engine: Engine,
     changes: Vec<SpeakerChange, A>,
     trail: Trail,
     /// The leaps of time and the clocks that were made by themselves since power-on; each is a clock at least.
@@ -117,20 +55,20 @@ pub struct Board<A: Allocator = Global> {
 impl<A: Allocator> Model for Board<A> {
     ghost use Rattle.std.specs.Prelude.{◌≤◌, ◌^◌, ◌-◌, length};
     ghost use Rattle.std.specs.Vec.{vec_capacity};
-    ghost use Rattle.board.specs.Board.{BoardState};
-    ghost use Rattle.board.specs.Plain.{clock_of};
+    ghost use Rattle.board_plain.specs.Board.{BoardState};
+    ghost use Rattle.board_plain.specs.Plain.{clock_of};
 
     ghost Value = { BoardState };
 
     ghost view = { λ b. record {
-      plain = b.plain;
+      plain = b.engine;
       changes = b.changes.items;
       room = vec_capacity b.changes - length b.changes.items;
       trail = b.trail;
       turns = b.turns;
     } };
 
-    ghost invariant = { λ b. (clock_of b.plain ≤ 2 ^ 40) × (length b.trail ≤ 32) × (b.turns ≤ clock_of b.plain) };
+    ghost invariant = { λ b. (clock_of b.engine ≤ 2 ^ 40) × (length b.trail ≤ 32) × (b.turns ≤ clock_of b.engine) };
 }
 
 impl Board {
@@ -154,13 +92,13 @@ impl Board {
             ↔ (¬ (IsRamSize config.ram_kb × FitsRam image.now (1024 * config.ram_kb))) }
         ensures no_limit { ¬ (IsErrOf result BoardFault.ClockLimit) }
     {
-        let plain = match PlainBoard::new(alloc, image, config, keys) {
-            Ok(plain) => plain,
+        let engine = match Engine::new(alloc, image, config, keys) {
+            Ok(engine) => engine,
             Err(MemoryFault::RamSize) => return Err(BoardFault::RamSize),
             Err(MemoryFault::OutOfMemory) => return Err(BoardFault::Memory),
         };
         Ok(Board {
-            plain,
+            engine,
             changes: Vec::new(alloc),
             trail: Trail::new(alloc)?,
             turns: 0,
@@ -177,7 +115,7 @@ impl Board {
         ensures err { IfErr result (λ fault. fault ≡ BoardFault.Memory) }
     {
         Ok(Board {
-            plain: self.plain.copy()?,
+            engine: self.engine.copy()?,
             changes: self.changes.clone()?,
             trail: self.trail.copy()?,
             turns: self.turns,
@@ -193,7 +131,7 @@ impl Board {
         ensures turns { result.turns ≡ self.turns }
     {
         Board {
-            plain: self.plain,
+            engine: self.engine,
             changes,
             trail: self.trail,
             turns: self.turns,
@@ -268,7 +206,7 @@ impl<A: Allocator> Board<A> {
         // a stop that holds at the start is none there, so the first clock is made by itself
         self.make_clock()?;
         'turns: loop {
-            if let Some(number) = self.plain.holding_within(stops.as_slice(), reach) {
+            if let Some(number) = self.holding(stops, reach) {
                 let clock = self.clock();
                 return Ok(Some(Stop { number, clock }));
             }
@@ -343,16 +281,16 @@ impl<A: Allocator> Board<A> {
         requires within { AllWithin reach stops.now.items }
         ensures { result ≡ holding stops.now.items self.now.plain }
     {
-        self.plain.holding_within(stops.as_slice(), reach)
+        self.engine.holding_within(stops.as_slice(), reach)
     }
 
     /// Whether a run of `count` clocks would go past the last clock.
-    #[tactic(auto, unfolding(crate::specs::Plain::clock_of))]
+    #[tactic(auto, unfolding(board_plain::specs::Plain::clock_of))]
     fn is_past_limit(&self, count: u64) -> bool
         ensures trail { length self.now.trail ≤ 32 }
         ensures past { IsTrue result ↔ (2 ^ 40 < clock_of self.now.plain + count) }
     {
-        Clock::LAST - self.plain.chips.clock().get() < count
+        Clock::LAST - self.engine.chips.clock().get() < count
     }
 
     /// One turn of a run that ends at the clock `end`: time leaps to the next clock at which something is due, or, where
@@ -411,11 +349,11 @@ impl<A: Allocator> Board<A> {
         ensures err { OnErr result (IsHeldBack self.old self.new) }
         ensures fault { IfErr result (λ fault. fault ≡ BoardFault.Memory) }
     {
-        self.plain.look_ahead();
-        if self.plain.is_free() {
+        self.engine.look_ahead();
+        if self.engine.is_free() {
             return self.free_turn(end);
         }
-        if let Some(clocks) = self.plain.calm_clocks(end - self.clock().get()) {
+        if let Some(clocks) = self.engine.calm_clocks(end - self.clock().get()) {
             self.leap(clocks);
             return Ok(());
         }
@@ -432,10 +370,10 @@ impl<A: Allocator> Board<A> {
         ensures err { OnErr result (IsHeldBack self.old self.new) }
         ensures fault { IfErr result (λ fault. fault ≡ BoardFault.Memory) }
     {
-        if self.plain.takes_request() {
+        if self.engine.takes_request() {
             return self.turn_by(&Act::Request, end);
         }
-        let next = self.plain.next_act();
+        let next = self.engine.next_act();
         self.turn_by(&next, end)
     }
 
@@ -449,7 +387,7 @@ impl<A: Allocator> Board<A> {
         ensures made { IsTrue result → IsStepOn end self.old self.new }
         ensures not_made { ¬ (IsTrue result) → self.new ≡ self.old }
     {
-        if !self.plain.stride(&mut self.trail, end) {
+        if !self.engine.stride(&mut self.trail, end) {
             return false;
         }
         self.turns += 1;
@@ -467,7 +405,7 @@ impl<A: Allocator> Board<A> {
         ensures err { OnErr result (IsHeldBack self.old self.new) }
         ensures fault { IfErr result (λ fault. fault ≡ BoardFault.Memory) }
     {
-        let quiet = self.plain.quiet_clocks(next, end - self.clock().get());
+        let quiet = self.engine.quiet_clocks(next, end - self.clock().get());
         if quiet == 0 {
             self.run_clock(next)?;
             return Ok(());
@@ -482,8 +420,8 @@ impl<A: Allocator> Board<A> {
         ensures exact { IsExact self.old.plain.cpu self.old.plain.chips result }
         ensures kept { self.new ≡ self.old }
     {
-        self.plain.look_ahead();
-        self.plain.next_act()
+        self.engine.look_ahead();
+        self.engine.next_act()
     }
 
     /// The next clock, made by itself.
@@ -509,7 +447,7 @@ impl<A: Allocator> Board<A> {
         ensures room { self.new.room ≡ self.old.room }
         ensures turns { self.new.turns ≡ self.old.turns + 1 }
     {
-        self.plain.leap(clocks);
+        self.engine.leap(clocks);
         self.turns += 1;
     }
 
@@ -529,10 +467,10 @@ impl<A: Allocator> Board<A> {
         ensures err { OnErr result (IsHeldBack self.old self.new) }
         ensures fault { IfErr result (λ fault. fault ≡ BoardFault.Memory) }
     {
-        let high = self.plain.is_high_next(next);
+        let high = self.engine.is_high_next(next);
         self.list_change(high)?;
-        self.plain.note(next, &mut self.trail);
-        self.plain.tick(next);
+        self.engine.note(next, &mut self.trail);
+        self.engine.tick(next);
         self.turns += 1;
         Ok(())
     }
@@ -550,7 +488,7 @@ impl<A: Allocator> Board<A> {
         ensures err { OnErr result (IsHeldBack self.old self.new) }
         ensures fault { IfErr result (λ fault. fault ≡ BoardFault.Memory) }
     {
-        if high == self.plain.is_high() {
+        if high == self.engine.is_high() {
             return Ok(());
         }
         self.add_change(high)
@@ -581,44 +519,44 @@ impl<A: Allocator> Board<A> {
     }
 
     /// The board's clock.
-    #[tactic(auto, unfolding(crate::specs::Plain::clock_of))]
+    #[tactic(auto, unfolding(board_plain::specs::Plain::clock_of))]
     pub fn clock(&self) -> Clock
         ensures { result ≡ clock_of self.now.plain }
     {
-        self.plain.chips.clock()
+        self.engine.chips.clock()
     }
 
     /// The processor's registers.
-    #[tactic(auto, unfolding(crate::specs::Plain::registers_of))]
+    #[tactic(auto, unfolding(board_plain::specs::Plain::registers_of))]
     pub fn regs(&self) -> Regs
         ensures { result ≡ registers_of self.now.plain }
     {
-        self.plain.cpu.regs()
+        self.engine.cpu.regs()
     }
 
     /// The byte at the physical address `addr`, below 100000h.
-    #[tactic(auto, unfolding(crate::specs::Plain::byte_of))]
+    #[tactic(auto, unfolding(board_plain::specs::Plain::byte_of))]
     pub fn byte(&self, addr: u32) -> u8
         requires { addr < 2 ^ 20 }
         ensures { result ≡ byte_of self.now.plain addr }
     {
-        self.plain.chips.byte(addr)
+        self.engine.chips.byte(addr)
     }
 
     /// Whether the processor runs, is halted or is jammed.
-    #[tactic(auto, unfolding(crate::specs::Plain::state_of))]
+    #[tactic(auto, unfolding(board_plain::specs::Plain::state_of))]
     pub fn state(&self) -> State
         ensures { result ≡ state_of self.now.plain }
     {
-        self.plain.cpu.state()
+        self.engine.cpu.state()
     }
 
     /// How many key codes were lost because the keyboard's queue was full.
-    #[tactic(auto, unfolding(crate::specs::Plain::lost_codes))]
+    #[tactic(auto, unfolding(board_plain::specs::Plain::lost_codes))]
     pub fn lost(&self) -> u64
         ensures { result ≡ lost_codes self.now.plain }
     {
-        self.plain.chips.lost()
+        self.engine.chips.lost()
     }
 
     /// How many turns the board has made since power-on, at most one a clock: each leap of time is one, and each clock
@@ -631,7 +569,7 @@ impl<A: Allocator> Board<A> {
 
     /// How often an instruction was decoded since power-on.
     pub fn decodes(&self) -> u64 {
-        self.plain.chips.decodes()
+        self.engine.chips.decodes()
     }
 
     /// The changes of the speaker's level since power-on, where it is low.
@@ -651,12 +589,12 @@ impl<A: Allocator> Board<A> {
     }
 
     /// The screen's 25 rows of 80 characters, each ended by a line feed.
-    #[tactic(auto, unfolding(crate::specs::Plain::screen_of))]
+    #[tactic(auto, unfolding(board_plain::specs::Plain::screen_of))]
     pub fn screen(&self) -> Result<String, BoardFault>
         ensures ok { IfOk result (λ text. string_bytes text ≡ screen_of self.now.plain) }
         ensures err { IfErr result (λ fault. fault ≡ BoardFault.Memory) }
     {
-        Ok(self.plain.chips.text()?)
+        Ok(self.engine.chips.text()?)
     }
 }
 

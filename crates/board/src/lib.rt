@@ -1,10 +1,8 @@
-//! The system board: processor, chips and keys, run clock by clock.
+//! The system board, run: an engine in which time leaps, and which shows what the plain board is at each clock.
 #![tactic(auto)]
 
-mod act;
 mod arrivals;
 pub mod board;
-pub mod laws;
-mod plain;
-pub mod stop;
-pub mod trail;
+mod engine;
+mod stop;
+mod trail;

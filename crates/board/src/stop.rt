@@ -1,36 +1,17 @@
-//! What a run stops at.
+//! What is known of some stops beforehand: whether they wait for a free processor, and at which IP they may hold.
 ghost use Rattle.std.specs.Prelude.{◌≡◌, ◌≤◌, ◌↔◌, IsTrue};
 ghost use Rattle.board.specs.AwaitFree.{awaits_free, AllAwaitFree};
 ghost use Rattle.board.specs.Reach.{AllWithin};
 
-use arrayvec::ArrayVec;
-use board_types::clock::Clock;
+use board_plain::stop::Condition;
 
-/// What a run may stop at, at any clock, also in the midst of an instruction.
-#[derive(Clone, Copy, Debug, PartialEq, Eq, Default)]
-pub enum Condition {
-    /// The processor is free: the clocks of its last step or entry are over, also where it is halted or jammed.
-    #[default]
-    Free,
-    /// It is free at this CS:IP, whether or not an interrupt is taken there.
-    At(u16, u16),
-    /// The byte at this physical address, below 100000h, is this one.
-    Byte(u32, u8),
-    /// The speaker is high.
-    Sound,
-    /// The processor is halted.
-    Halted,
-}
-
-impl Condition {
-    /// Whether it holds only where the processor is free.
-    fn awaits_free(self) -> bool
-        ensures { result ≡ awaits_free self }
-    {
-        match self {
-            Condition::Free | Condition::At(..) => true,
-            Condition::Byte(..) | Condition::Sound | Condition::Halted => false,
-        }
+/// Whether it holds only where the processor is free.
+fn awaits_free(condition: Condition) -> bool
+    ensures { result ≡ awaits_free condition }
+{
+    match condition {
+        Condition::Free | Condition::At(..) => true,
+        Condition::Byte(..) | Condition::Sound | Condition::Halted => false,
     }
 }
 
@@ -39,7 +20,7 @@ pub(crate) fn all_await_free(conditions: &[Condition]) -> bool
     ensures { IsTrue result → AllAwaitFree conditions.now }
 {
     for condition in conditions {
-        if !condition.awaits_free() {
+        if !awaits_free(*condition) {
             return false;
         }
     }
@@ -86,16 +67,3 @@ impl Reach {
         self.lowest <= ip && ip <= self.highest
     }
 }
-
-/// The conditions that a run may stop at, numbered from 1.
-pub type Stops = ArrayVec<Condition, 16>;
-
-/// Where a run stopped: the least number of a condition that holds there, and the clock.
-#[derive(Clone, Copy, Debug, PartialEq, Eq)]
-pub struct Stop {
-    pub number: usize,
-    pub clock: Clock,
-}
-
-/// A run's stop, if it met one.
-pub type Stopped = Option<Stop>;

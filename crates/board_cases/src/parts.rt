@@ -2,7 +2,9 @@
 ghost use Rattle.std.specs.Prelude.{◌≡◌, [], IfOk};
 
 use crate::words::Words;
-use board::board::{Board, BoardFault, Config};
+use board::board::Board;
+use board_plain::config::Config;
+use board_plain::fault::BoardFault;
 use board_types::choice::{ClockTable, TimerKind};
 use board_types::image::{Image, is_loadable};
 use board_types::keys::Keys;

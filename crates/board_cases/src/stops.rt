@@ -1,10 +1,10 @@
 //! Runs up to a stop.
 ghost use Rattle.std.specs.Prelude.{All, IfSome};
-ghost use Rattle.board.specs.Stops.{HasAddress};
+ghost use Rattle.board_plain.specs.Stops.{HasAddress};
 
 use crate::words::Words;
 use board::board::Board;
-use board::stop::{Condition, Stops};
+use board_plain::stop::{Condition, Stops};
 use std::alloc::Allocator;
 
 /// Whether a run up to a stop comes to the clock, at the stop of this number, or at none where it is 0. The conditions

@@ -1,7 +1,7 @@
 //! The trail of a board.
 use crate::words::Words;
 use board::board::Board;
-use board::trail::{TRAIL_LENGTH, TrailEntry, TrailEvent};
+use board_plain::trail::{TRAIL_LENGTH, TrailEntry, TrailEvent};
 use std::alloc::{Allocator, Global};
 
 /// Whether the trail has so many entries.

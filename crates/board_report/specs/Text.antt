@@ -10,8 +10,8 @@ use Rattle.board_types.specs.declared.regs.Regs.{Regs}
 use Rattle.board_types.specs.Flags.{flags_word}
 use Rattle.board_types.specs.declared.state.State.{State}
 use Rattle.board_types.specs.declared.state.State.TheVariants.{Running, Halted, Jammed}
-use Rattle.board.specs.declared.board.SpeakerChange.{SpeakerChange}
-use Rattle.board.specs.Plain.{Plain, clock_of, registers_of, state_of, lost_codes, screen_of}
+use Rattle.board_plain.specs.declared.speaker.SpeakerChange.{SpeakerChange}
+use Rattle.board_plain.specs.Plain.{Plain, clock_of, registers_of, state_of, lost_codes, screen_of}
 
 unfoldable pub general_line : Regs → List ℕ
 general_line r =

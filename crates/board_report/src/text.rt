@@ -4,7 +4,8 @@ ghost use Rattle.std.specs.String.{string_bytes};
 ghost use Rattle.std.specs.List.{flat_map};
 ghost use Rattle.board_report.specs.Text.{change_line, clock_line, general_line, register_lines, report_text, segment_line, state_lines, state_name};
 
-use board::board::{Board, SpeakerChange};
+use board::board::Board;
+use board_plain::speaker::SpeakerChange;
 use board_types::digits::HexWord;
 use board_types::regs::Regs;
 use board_types::state::State;

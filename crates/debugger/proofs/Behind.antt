@@ -2,10 +2,10 @@
 use Rattle.std.proofs.Common.{◌≡◌, ℕ, ◌+◌, ◌-◌, ◌<◌, ◌≤◌, inl, inr, List, Option, None, Some, sym, ap, ◌∙◌, arith}
 use Rattle.std.proofs.lemmas.Bool.{cases_lt}
 use Rattle.board_types.proofs.Iterate.{iterate_add}
-use Rattle.board.specs.declared.stop.Condition.{Condition}
-use Rattle.board.specs.Lasts.{HeldLast, NoneHeld}
-use Rattle.board.specs.Plain.{Plain, after_clock, after_clocks, clock_of}
-use Rattle.board.specs.Stops.{holding}
+use Rattle.board_plain.specs.declared.stop.Condition.{Condition}
+use Rattle.board_plain.specs.Lasts.{HeldLast, NoneHeld}
+use Rattle.board_plain.specs.Plain.{Plain, after_clock, after_clocks, clock_of}
+use Rattle.board_plain.specs.Stops.{holding}
 
 -- none holds from the clock a after the first one on, short of the clock n
 abbrev pub NoneFrom : List Condition → ℕ → ℕ → Plain → Type 0

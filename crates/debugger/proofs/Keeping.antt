@@ -2,7 +2,7 @@
 use Rattle.std.proofs.Common.{◌≡◌, ℕ, ◌+◌, inl, inr, Bool, true, false, if◌then◌else◌, List, ◌∷◌, ◌++◌, take, drop, sym, subst}
 use Rattle.std.specs.Prelude.{◌⊎◌, Contains, insert}
 use Rattle.std.proofs.lemmas.List.Elements.{All-append, All-cons, All-contains_itself, All-drop, All-same, All-take, All-weaker}
-use Rattle.board.specs.Board.{BoardState}
+use Rattle.board_plain.specs.Board.{BoardState}
 use Rattle.debugger.specs.Kept.{AreKept}
 use Rattle.debugger.specs.Stands.{shown_of}
 

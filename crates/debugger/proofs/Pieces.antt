@@ -1,12 +1,12 @@
 -- A run in pieces is one run.
 use Rattle.std.proofs.Common.{◌≡◌, ℕ, ◌+◌, ◌-◌, ◌<◌, ◌≤◌, ◌^◌, List, length, Option, None, Some, refl, ◌∙◌, subst, arith}
-use Rattle.board.specs.declared.stop.Condition.{Condition}
-use Rattle.board.specs.declared.stop.Stop.{Stop}
-use Rattle.board.specs.Board.{BoardState, Ran, StoppedEarly}
-use Rattle.board.specs.Plain.{Plain, clock_of}
-use Rattle.board.specs.Stops.{run_length, IsStopOf, NoStop, StopsAt}
-use Rattle.board.proofs.Joining.{early_join, lengths_join, no_stop_add, searches_join}
-use Rattle.board.proofs.Runs.{ran_none}
+use Rattle.board_plain.specs.declared.stop.Condition.{Condition}
+use Rattle.board_plain.specs.declared.stop.Stop.{Stop}
+use Rattle.board_plain.specs.Board.{BoardState, Ran, StoppedEarly}
+use Rattle.board_plain.specs.Plain.{Plain, clock_of}
+use Rattle.board_plain.specs.Stops.{run_length, IsStopOf, NoStop, StopsAt}
+use Rattle.board_plain.proofs.Joining.{early_join, lengths_join, no_stop_add, searches_join}
+use Rattle.board_plain.proofs.Runs.{ran_none}
 use Rattle.debugger.specs.declared.answer.Answer.{Answer}
 use Rattle.debugger.specs.declared.fault.DebugFault.{DebugFault}
 use Rattle.debugger.specs.declared.fault.DebugFault.TheVariants.{ClockLimit, BadCommand, TooManyStops, Memory, BeforeStart}

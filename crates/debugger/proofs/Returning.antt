@@ -2,10 +2,10 @@
 use Rattle.std.proofs.Common.{◌≡◌, ℕ, ◌+◌, ◌-◌, ◌≤◌, List, [], ◌∷◌, length, None, Some, refl, sym, ap, ◌∙◌, subst, arith}
 use Rattle.std.specs.Prelude.{true, ◌==◌}
 use Rattle.std.proofs.lemmas.Bool.Decides.{Decides-eqb}
-use Rattle.board.specs.declared.stop.Condition.{Condition}
-use Rattle.board.specs.Lasts.{HeldLast, NoneHeld}
-use Rattle.board.specs.Plain.{Plain, after_clocks, clock_of}
-use Rattle.board.specs.Stops.{holding}
+use Rattle.board_plain.specs.declared.stop.Condition.{Condition}
+use Rattle.board_plain.specs.Lasts.{HeldLast, NoneHeld}
+use Rattle.board_plain.specs.Plain.{Plain, after_clocks, clock_of}
+use Rattle.board_plain.specs.Stops.{holding}
 use Rattle.debugger.specs.Back.{GoesBack, GoesBackTo, RefusesBack, RefusesBackTo}
 use Rattle.debugger.specs.declared.answer.Answer.{Answer}
 use Rattle.debugger.specs.declared.answer.Answer.TheVariants.{Clock}

@@ -3,14 +3,14 @@ use Rattle.std.proofs.Common.{◌≡◌, ℕ, ◌+◌, ◌≤◌, inl, inr, List
 use Rattle.std.specs.Prelude.{◌⊎◌, All, Contains, IfOk, Result}
 use Rattle.std.proofs.lemmas.List.{length-append}
 use Rattle.std.proofs.lemmas.List.Elements.{All-contains, All-nil, All-same, All-weaker}
-use Rattle.board.specs.declared.stop.Condition.{Condition}
-use Rattle.board.specs.declared.stop.Stop.{Stop}
-use Rattle.board.specs.Board.{BoardState, Ran, StoppedEarly}
-use Rattle.board.specs.Plain.{changes_in, clock_of}
-use Rattle.board.specs.Stops.{HasAddress, run_length}
-use Rattle.board.specs.Trail.{trail_in}
-use Rattle.board.proofs.Lasts.{last_within}
-use Rattle.board.proofs.Runs.{ran_none, runs_join}
+use Rattle.board_plain.specs.declared.stop.Condition.{Condition}
+use Rattle.board_plain.specs.declared.stop.Stop.{Stop}
+use Rattle.board_plain.specs.Board.{BoardState, Ran, StoppedEarly}
+use Rattle.board_plain.specs.Plain.{changes_in, clock_of}
+use Rattle.board_plain.specs.Stops.{HasAddress, run_length}
+use Rattle.board_plain.specs.Trail.{trail_in}
+use Rattle.board_plain.proofs.LastEntries.{last_within}
+use Rattle.board_plain.proofs.Runs.{ran_none, runs_join}
 use Rattle.debugger.specs.declared.fault.DebugFault.{DebugFault}
 use Rattle.debugger.specs.declared.fault.DebugFault.TheVariants.{ClockLimit, BadCommand, TooManyStops, Memory, BeforeStart}
 use Rattle.debugger.specs.Kept.{AreKept, IsSession, StandsNow}

@@ -1,10 +1,10 @@
 -- A session stands some clocks after the board with which it began, whatever it is told.
 use Rattle.std.proofs.Common.{◌≡◌, ℕ, List, [], ◌∷◌, Option, None, Some, Ok, Err, refl, sym, subst, ◌∙◌}
 use Rattle.std.specs.Prelude.{Result}
-use Rattle.board.specs.declared.stop.Condition.{Condition}
-use Rattle.board.specs.declared.stop.Condition.TheVariants as conditions
-use Rattle.board.specs.declared.stop.Stop.{Stop as StopType}
-use Rattle.board.specs.Stops.{run_length}
+use Rattle.board_plain.specs.declared.stop.Condition.{Condition}
+use Rattle.board_plain.specs.declared.stop.Condition.TheVariants as conditions
+use Rattle.board_plain.specs.declared.stop.Stop.{Stop as StopType}
+use Rattle.board_plain.specs.Stops.{run_length}
 use Rattle.debugger.specs.Back.{GoesBackTo, RefusesBack, RefusesBackTo, tell_clock}
 use Rattle.debugger.specs.declared.answer.Answer.{Answer}
 use Rattle.debugger.specs.declared.answer.Answer.TheVariants.{StopAt}

@@ -1,9 +1,9 @@
 -- Going back: how a session answers, and where it then stands.
 -- To be believed: public contracts say what they say by these definitions.
 use Rattle.std.specs.Prelude.{ℕ, ◌≡◌, ◌+◌, ◌-◌, ◌<◌, ◌≤◌, List, length, None, Some}
-use Rattle.board.specs.declared.stop.Condition.{Condition}
-use Rattle.board.specs.Lasts.{HeldLast, NoneHeld}
-use Rattle.board.specs.Plain.{clock_of}
+use Rattle.board_plain.specs.declared.stop.Condition.{Condition}
+use Rattle.board_plain.specs.Lasts.{HeldLast, NoneHeld}
+use Rattle.board_plain.specs.Plain.{clock_of}
 use Rattle.debugger.specs.declared.answer.Answer.{Answer}
 use Rattle.debugger.specs.declared.answer.Answer.TheVariants.{Clock}
 use Rattle.debugger.specs.declared.fault.DebugFault.{DebugFault}

@@ -3,7 +3,7 @@
 use Rattle.std.specs.Prelude.{ℕ, ◌+◌, ◌-◌, ◌*◌, ◌/◌, ◌%◌, min, List, ◌∷◌, ◌++◌, codes, map, true}
 use Rattle.std.specs.List.{flat_map, range_with_len}
 use Rattle.std.specs.Fmt.{digit_glyph}
-use Rattle.board.specs.Plain.{Plain, byte_of}
+use Rattle.board_plain.specs.Plain.{Plain, byte_of}
 use Rattle.board_types.specs.Digits.{hex_byte_text, hex_word}
 
 -- a physical address in five hexadecimal digits

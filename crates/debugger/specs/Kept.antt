@@ -1,11 +1,11 @@
 -- What a session keeps beside what it shows.
 -- For proofs alone: no public contract rests on it.
 use Rattle.std.specs.Prelude.{ℕ, ◌≡◌, ◌+◌, ◌⊎◌, List, All, Contains, None, Some}
-use Rattle.board.specs.declared.stop.Condition.{Condition}
-use Rattle.board.specs.Board.{BoardState}
-use Rattle.board.specs.Lasts.{NoneHeld}
-use Rattle.board.specs.Stops.{HasAddress}
-use Rattle.board.specs.Plain.{clock_of}
+use Rattle.board_plain.specs.declared.stop.Condition.{Condition}
+use Rattle.board_plain.specs.Board.{BoardState}
+use Rattle.board_plain.specs.Lasts.{NoneHeld}
+use Rattle.board_plain.specs.Stops.{HasAddress}
+use Rattle.board_plain.specs.Plain.{clock_of}
 use Rattle.debugger.specs.declared.fault.DebugFault.{DebugFault}
 use Rattle.debugger.specs.declared.fault.DebugFault.TheVariants.{ClockLimit, BadCommand, TooManyStops, Memory, BeforeStart}
 use Rattle.debugger.specs.Stands.{SessionState, shown_of, StandsAfter, StandsAt, gone}

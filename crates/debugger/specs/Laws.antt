@@ -2,7 +2,7 @@
 -- Laws: claims above the definitions, each proved as the contract of a function.
 use Rattle.std.specs.Prelude.{ℕ, ◌≡◌, ◌+◌, ◌<◌, ◌≤◌, ◌^◌, List, [], ◌∷◌, ◌++◌, codes, length, Result, Some}
 use Rattle.std.specs.Fmt.{decimal}
-use Rattle.board.specs.Board.{BoardState}
+use Rattle.board_plain.specs.Board.{BoardState}
 use Rattle.board_types.specs.Digits.{hex_byte_text, hex_word}
 use Rattle.debugger.specs.declared.answer.Answer.{Answer}
 use Rattle.debugger.specs.declared.fault.DebugFault.{DebugFault}

@@ -3,12 +3,12 @@
 use Rattle.std.specs.Prelude.{ℕ, ◌≡◌, ◌+◌, ◌-◌, ◌<◌, ◌≤◌, ◌^◌, List, [], ◌∷◌, ◌++◌, length, Option, None, Some, Result, Err, MatchResult}
 use Rattle.std.specs.List.{flat_map}
 use Rattle.std.specs.String.{string_bytes}
-use Rattle.board.specs.Board.{BoardState, Ran, StoppedEarly}
-use Rattle.board.specs.Plain.{clock_of, registers_of, screen_of}
-use Rattle.board.specs.Stops.{IsStopOf, NoStop, run_length}
-use Rattle.board.specs.declared.stop.Condition.{Condition}
-use Rattle.board.specs.declared.stop.Condition.TheVariants as conditions
-use Rattle.board.specs.declared.stop.Stop.{Stop as StopType}
+use Rattle.board_plain.specs.Board.{BoardState, Ran, StoppedEarly}
+use Rattle.board_plain.specs.Plain.{clock_of, registers_of, screen_of}
+use Rattle.board_plain.specs.Stops.{IsStopOf, NoStop, run_length}
+use Rattle.board_plain.specs.declared.stop.Condition.{Condition}
+use Rattle.board_plain.specs.declared.stop.Condition.TheVariants as conditions
+use Rattle.board_plain.specs.declared.stop.Stop.{Stop as StopType}
 use Rattle.board_report.specs.Text.{register_lines}
 use Rattle.debugger.specs.declared.answer.Answer.{Answer}
 use Rattle.debugger.specs.declared.answer.Answer.TheVariants.{Stop, Clock, StopAt, Text}

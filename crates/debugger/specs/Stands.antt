@@ -1,12 +1,12 @@
 -- Where a session stands, seen from the board with which it began.
 -- To be believed: public contracts say what they say by these definitions.
 use Rattle.std.specs.Prelude.{ℕ, ◌≡◌, ◌+◌, ◌-◌, List, [], ◌++◌}
-use Rattle.board.specs.declared.board.SpeakerChange.{SpeakerChange}
-use Rattle.board.specs.declared.stop.Condition.{Condition}
-use Rattle.board.specs.declared.trail.TrailEntry.{TrailEntry}
-use Rattle.board.specs.Board.{BoardState}
-use Rattle.board.specs.Plain.{Plain, after_clocks, changes_in, clock_of}
-use Rattle.board.specs.Trail.{last, trail_in}
+use Rattle.board_plain.specs.declared.speaker.SpeakerChange.{SpeakerChange}
+use Rattle.board_plain.specs.declared.stop.Condition.{Condition}
+use Rattle.board_plain.specs.declared.trail.TrailEntry.{TrailEntry}
+use Rattle.board_plain.specs.Board.{BoardState}
+use Rattle.board_plain.specs.Plain.{Plain, after_clocks, changes_in, clock_of}
+use Rattle.board_plain.specs.Trail.{last, trail_in}
 
 -- what a board shows, but for the room that is kept for further changes and the turns that it has made
 pub record Shown : Type 0 where

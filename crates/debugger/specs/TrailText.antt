@@ -3,9 +3,9 @@
 use Rattle.std.specs.Prelude.{ℕ, List, ◌++◌, codes}
 use Rattle.std.specs.List.{flat_map}
 use Rattle.std.specs.Fmt.{decimal}
-use Rattle.board.specs.declared.trail.TrailEntry.{TrailEntry}
-use Rattle.board.specs.declared.trail.TrailEvent.{TrailEvent}
-use Rattle.board.specs.declared.trail.TrailEvent.TheVariants.{Instruction, Entry}
+use Rattle.board_plain.specs.declared.trail.TrailEntry.{TrailEntry}
+use Rattle.board_plain.specs.declared.trail.TrailEvent.{TrailEvent}
+use Rattle.board_plain.specs.declared.trail.TrailEvent.TheVariants.{Instruction, Entry}
 use Rattle.board_types.specs.Digits.{hex_byte_text, hex_word}
 use Rattle.disassembler.specs.Text.{instr_text}
 

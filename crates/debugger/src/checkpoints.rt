@@ -1,7 +1,7 @@
 //! Copies of a board at some of the clocks that a session went by, from which it goes back.
 ghost use Rattle.std.specs.Prelude.{◌≡◌, ◌+◌, ◌<◌, ◌≤◌, [], All, Contains, IfOk, IfSome, length, take, None};
 ghost use Rattle.std.specs.Result.{IfErr};
-ghost use Rattle.board.specs.Plain.{clock_of};
+ghost use Rattle.board_plain.specs.Plain.{clock_of};
 ghost use Rattle.debugger.specs.Kept.{AreKept};
 ghost use Rattle.debugger.specs.Stands.{shown_of};
 
@@ -28,7 +28,7 @@ pub(crate) struct Checkpoints<A: Allocator> {
 
 impl<A: Allocator> Model for Checkpoints<A> {
     ghost use Rattle.std.specs.Prelude.{List, ◌≤◌, length};
-    ghost use Rattle.board.specs.Board.{BoardState};
+    ghost use Rattle.board_plain.specs.Board.{BoardState};
 
     ghost Value = { List BoardState };
 

@@ -6,7 +6,7 @@ ghost use Rattle.board_types.specs.Digits.{hex_byte_text};
 ghost use Rattle.debugger.specs.TrailText.{entry_line, event_text};
 
 use board::board::Board;
-use board::trail::{TrailEntry, TrailEvent};
+use board_plain::trail::{TrailEntry, TrailEvent};
 use board_types::digits::{HexByte, HexWord};
 use disassembler::text::InstrText;
 use std::alloc::{AllocError, Global};

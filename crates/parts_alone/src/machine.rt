@@ -2,11 +2,13 @@
 ghost use Rattle.std.specs.Prelude.{◌≡◌, ◌↔◌, ◌<◌, ◌*◌, ◌^◌, ◌∷◌, [], IfOk};
 ghost use Rattle.std.specs.Result.{IsErrOf};
 ghost use Rattle.memory.specs.Map.{IsRamSize, FitsRam};
-ghost use Rattle.board.specs.Plain.{board_after, power_on};
-ghost use Rattle.board.specs.Stops.{IsStopOf, run_length};
+ghost use Rattle.board_plain.specs.Plain.{board_after, power_on};
+ghost use Rattle.board_plain.specs.Stops.{IsStopOf, run_length};
 
-use board::board::{Board, BoardFault, Config};
-use board::stop::{Condition, Stopped, Stops};
+use board::board::Board;
+use board_plain::config::Config;
+use board_plain::fault::BoardFault;
+use board_plain::stop::{Condition, Stopped, Stops};
 use board_types::choice::{ClockTable, TimerKind};
 use board_types::image::Image;
 use board_types::keys::Keys;

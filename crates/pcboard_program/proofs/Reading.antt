@@ -5,7 +5,7 @@ use Rattle.std.proofs.lemmas.List.{take_all}
 use Rattle.assembler.specs.Gives.{Gives}
 use Rattle.loader.specs.HexText.{hex_text}
 use Rattle.loader.specs.RunFile.{Answers, run_of_text}
-use Rattle.board.specs.Board.{BoardState}
+use Rattle.board_plain.specs.Board.{BoardState}
 use Rattle.pcboard_program.specs.Answer.{AppendsA, GivesImage, IsHexOf, IsListingOf}
 use Rattle.pcboard_program.specs.Ready.{IsReady, seen_of}
 use Rattle.loader.specs.declared.run_file.RunFile.{RunFile}

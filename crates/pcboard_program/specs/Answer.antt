@@ -7,8 +7,8 @@ use Rattle.assembler.specs.Rows.{Row, names_of}
 use Rattle.assembler.specs.Listing.{Names, listed}
 use Rattle.assembler.specs.Gives.{Gives}
 use Rattle.assembler.specs.FirstFault.{IsFirst}
-use Rattle.board.specs.Board.{BoardState}
-use Rattle.board.specs.Plain.{power_on}
+use Rattle.board_plain.specs.Board.{BoardState}
+use Rattle.board_plain.specs.Plain.{power_on}
 use Rattle.debugger.specs.Stands.{session_about}
 use Rattle.pcboard_words.specs.CommandLine.{Answers as AnswersWords}
 use Rattle.pcboard_words.specs.declared.task.Task.{Task}

@@ -10,9 +10,9 @@ use Rattle.loader.specs.RunFault.{run_fault_number, run_fault_name}
 use Rattle.assembler.specs.declared.fault.AsmFault.TheVariants as asm
 use Rattle.loader.specs.declared.hex_fault.HexFault.TheVariants as hexes
 use Rattle.loader.specs.declared.run_fault.RunFault.TheVariants as runs
-use Rattle.board.specs.declared.board.BoardFault.TheVariants as boards
-use Rattle.board.specs.declared.board.BoardFault.{BoardFault}
-use Rattle.board.specs.Board.{board_fault_number, board_fault_name}
+use Rattle.board_plain.specs.declared.fault.BoardFault.TheVariants as boards
+use Rattle.board_plain.specs.declared.fault.BoardFault.{BoardFault}
+use Rattle.board_plain.specs.Board.{board_fault_number, board_fault_name}
 use Rattle.debugger.specs.Answers.{fault_number as debug_fault_number, fault_name as debug_fault_name}
 use Rattle.debugger.specs.declared.fault.DebugFault.TheVariants as sessions
 use Rattle.pcboard_program.specs.declared.fault.Fault.{Fault}

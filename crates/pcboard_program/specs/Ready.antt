@@ -1,8 +1,8 @@
 -- A board that is ready to run, as the program's functions tell each other.
 -- For proofs alone: no public contract rests on it.
 use Rattle.std.specs.Prelude.{ℕ, ◌≡◌, Bool, true, false, List, [], take, Ok}
-use Rattle.board.specs.Board.{BoardState}
-use Rattle.board.specs.Plain.{power_on}
+use Rattle.board_plain.specs.Board.{BoardState}
+use Rattle.board_plain.specs.Plain.{power_on}
 use Rattle.loader.specs.declared.run_file.RunFile.{RunFile}
 use Rattle.loader.specs.RunFile.{Answers, run_of_text}
 use Rattle.pcboard_program.specs.Answer.{GivesImage}

@@ -3,7 +3,7 @@
 use Rattle.std.specs.Prelude.{ℕ, ◌≡◌, ◌⊎◌, ◌++◌, Bool, false, List, codes, Option, IfSome, Ok, Err, string_bytes}
 use Rattle.std.specs.Io.KnownBytes.{Appends}
 use Rattle.assembler.specs.FirstFault.{IsFirst}
-use Rattle.board.specs.Board.{BoardState}
+use Rattle.board_plain.specs.Board.{BoardState}
 use Rattle.pcboard_words.specs.CommandLine.{Answers as AnswersWords}
 use Rattle.pcboard_words.specs.declared.task.LineFault.{LineFault}
 use Rattle.pcboard_words.specs.declared.task.LineFault.TheVariants.{Usage, Memory}

@@ -4,8 +4,8 @@
 use Rattle.std.specs.Prelude.{ℕ, ◌≡◌, ◌*◌, ◌<◌, ◌^◌, List}
 use Rattle.std.specs.String.{string_bytes}
 use Rattle.memory.specs.Map.{IsRamSize, FitsRam}
-use Rattle.board.specs.declared.board.Config.{Config}
-use Rattle.board.specs.Plain.{Plain, board_after, byte_of, changes_in, clock_of, power_on, registers_of, screen_of, state_of}
+use Rattle.board_plain.specs.declared.config.Config.{Config}
+use Rattle.board_plain.specs.Plain.{Plain, board_after, byte_of, changes_in, clock_of, power_on, registers_of, screen_of, state_of}
 use Rattle.assembler.specs.Gives.{Gives}
 use Rattle.loader.specs.declared.run_file.RunFile.{RunFile}
 use Rattle.pcboard_program.specs.declared.report.Report.{Report}

@@ -2,12 +2,12 @@
 ghost use Rattle.std.specs.Prelude.{◌≡◌, ◌++◌, codes, OnOk};
 ghost use Rattle.std.specs.Fmt.{decimal};
 ghost use Rattle.std.specs.Io.KnownBytes.{Appends};
-ghost use Rattle.board.specs.declared.board.BoardFault.TheVariants.{Memory};
+ghost use Rattle.board_plain.specs.declared.fault.BoardFault.TheVariants.{Memory};
 ghost use Rattle.pcboard_program.specs.declared.fault.Fault.TheVariants.{Board};
 ghost use Rattle.pcboard_program.specs.Faults.{fault_text, line_of, name_of, number_of};
 
 use assembler::fault::AsmFault;
-use board::board::BoardFault;
+use board_plain::fault::BoardFault;
 use debugger::fault::DebugFault;
 use loader::hex_fault::HexFault;
 use loader::run_fault::RunFault;

@@ -1,7 +1,7 @@
 //! The program, over any files, standard input and writers.
 ghost use Rattle.std.specs.Prelude.{◌≡◌, ◌≢◌, ◌≤◌, ◌<◌, ℕ, List, [], length, map, ◌⊎◌, IfErr, IfSome, OnOk};
 ghost use Rattle.std.specs.Io.KnownBytes.{Appends};
-ghost use Rattle.board.specs.Plain.{clock_of};
+ghost use Rattle.board_plain.specs.Plain.{clock_of};
 ghost use Rattle.board_types.specs.TextLines.{text_lines};
 ghost use Rattle.assembler.specs.Gives.{Gives};
 ghost use Rattle.assembler.specs.Rows.{AreRows, Row, names_of};
@@ -24,7 +24,8 @@ use crate::run::report_at_budget;
 use crate::unanswered::Unanswered;
 use assembler::assembly::assemble;
 use assembler::listing::Listing;
-use board::board::{Board, BoardFault};
+use board::board::Board;
+use board_plain::fault::BoardFault;
 use board_types::image::Image;
 use loader::byte_input::ByteInput;
 use loader::hex_writer::write_hex;

@@ -1,6 +1,6 @@
 //! The board that a program and a run file give.
 ghost use Rattle.std.specs.Prelude.{◌≡◌, ◌<◌, ℕ, Bool, List, length, false, IfErr, IfOk, IfSome};
-ghost use Rattle.board.specs.Plain.{clock_of};
+ghost use Rattle.board_plain.specs.Plain.{clock_of};
 ghost use Rattle.loader.specs.ByteInput.{CountsNone};
 ghost use Rattle.pcboard_program.specs.Answer.{GivesImage, IsTrueRefusal, first_line_end, run_text_of, source_of};
 ghost use Rattle.pcboard_program.specs.Ready.{IsReady};

@@ -1,6 +1,6 @@
 //! Running a source or an image for a number of clocks.
 ghost use Rattle.std.specs.Prelude.{◌≡◌, ℕ, List, IfErr, IfOk};
-ghost use Rattle.board.specs.Plain.{clock_of};
+ghost use Rattle.board_plain.specs.Plain.{clock_of};
 ghost use Rattle.assembler.specs.Gives.{Gives};
 ghost use Rattle.pcboard_program.specs.Ready.{IsAtPowerOn};
 ghost use Rattle.pcboard_program.specs.Report.{FitsBoard, ReportsImage, ReportsSource};
@@ -9,7 +9,9 @@ ghost use Rattle.pcboard_program.specs.Faults.{IsTrueOfImage, IsTrueOfSource, Is
 use crate::fault::Fault;
 use crate::report::Report;
 use assembler::assembly::assemble;
-use board::board::{Board, BoardFault, Config};
+use board::board::Board;
+use board_plain::config::Config;
+use board_plain::fault::BoardFault;
 use board_report::text::report_text;
 use board_types::image::Image;
 use loader::run_file::RunFile;

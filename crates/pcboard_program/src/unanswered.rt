@@ -1,11 +1,11 @@
 //! Why the program ends without an answer.
 ghost use Rattle.std.specs.Prelude.{◌≡◌};
-ghost use Rattle.board.specs.declared.board.BoardFault.TheVariants.{Memory};
+ghost use Rattle.board_plain.specs.declared.fault.BoardFault.TheVariants.{Memory};
 ghost use Rattle.pcboard_program.specs.declared.fault.Fault.TheVariants.{Board};
 ghost use Rattle.pcboard_program.specs.declared.unanswered.Unanswered.TheVariants.{Failed, Refused};
 
 use crate::fault::Fault;
-use board::board::BoardFault;
+use board_plain::fault::BoardFault;
 use loader::byte_input;
 use std::alloc::AllocFailed;
 use std::io;

@@ -1,6 +1,7 @@
 //! The board of the sessions: counter 2 divides by 2 and goes to the speaker, and then the processor halts.
 use anyhow::{Context, Result};
-use board::board::{Board, Config};
+use board::board::Board;
+use board_plain::config::Config;
 use board_types::choice::{ClockTable, TimerKind};
 use board_types::clock::Clock;
 use board_types::image::{Image, is_loadable};

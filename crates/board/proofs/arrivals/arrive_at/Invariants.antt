@@ -1,6 +1,6 @@
 use Rattle.std.proofs.Common.{◌≡◌, take}
 use Rattle.wiring.specs.Wires.{after_arrivals}
-use Rattle.board.specs.Plain.{codes_at}
+use Rattle.board_plain.specs.Plain.{codes_at}
 use Rattle.board.proofs.KeyOrder.{Arrived}
 use Rattle.board.proofs.arrivals.arrive_at.Given as goal
 

@@ -4,11 +4,11 @@ use Rattle.wiring.specs.Wires.{after_arrivals}
 use Rattle.board_types.specs.declared.keys.StampedKey.{StampedKey}
 use Rattle.board.specs.Arrivals.{HaveArrived}
 use Rattle.board.specs.Leap.{ComesAfter}
-use Rattle.board.specs.Plain.{codes_at}
+use Rattle.board_plain.specs.Plain.{codes_at}
 use Rattle.board.specs.declared.arrivals.Arrived.{Arrived}
 use Rattle.board.proofs.Calm.{no_key_by}
 use Rattle.board.proofs.KeyOrder.{have_later, next_of}
-use Rattle.board.proofs.Quiet.{none_comes}
+use Rattle.board_plain.proofs.Quiet.{none_comes}
 use Rattle.board.proofs.arrivals.let_arrive.Goals as goal
 
 -- no stamp is that of the clock

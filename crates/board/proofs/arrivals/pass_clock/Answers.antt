@@ -2,7 +2,7 @@ use Rattle.std.proofs.Common.{◌≡◌, ◌+◌, ◌-◌, ◌∙◌, ap, subst,
 use Rattle.std.proofs.lemmas.Grind.{common_steps}
 use Rattle.wiring.specs.Wires.{after_clocks}
 use Rattle.board.specs.Arrivals.{HaveArrived}
-use Rattle.board.proofs.Clocks.{clock_passed}
+use Rattle.board_plain.proofs.Clocks.{clock_passed}
 use Rattle.board.proofs.arrivals.pass_clock.Goals as goal
 
 pub returns-clause-chips : goal.returns-clause-chips

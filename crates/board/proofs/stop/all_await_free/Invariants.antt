@@ -1,6 +1,6 @@
 use Rattle.std.proofs.Common.{◌≡◌, ℕ, ◌<◌, true}
 use Rattle.std.specs.Prelude.{slice_index_or}
-use Rattle.board.specs.declared.stop.Condition.TheVariants.{Free}
+use Rattle.board_plain.specs.declared.stop.Condition.TheVariants.{Free}
 use Rattle.board.specs.AwaitFree.{awaits_free}
 use Rattle.board.proofs.stop.all_await_free.Given as goal
 

@@ -1,7 +1,7 @@
 use Rattle.std.proofs.Common.{◌≡◌, ◌++◌, ◌∷◌, [], List, All, sym, subst}
 use Rattle.std.proofs.lemmas.List.Elements.{All-push}
-use Rattle.board.specs.declared.stop.Condition.{Condition}
-use Rattle.board.specs.Stops.{HasAddress}
+use Rattle.board_plain.specs.declared.stop.Condition.{Condition}
+use Rattle.board_plain.specs.Stops.{HasAddress}
 use Rattle.board_cases.proofs.stops.read_stops.Goals as goal
 
 pub loop-number-preserved : goal.loop-number-preserved

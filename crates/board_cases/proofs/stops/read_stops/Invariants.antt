@@ -1,5 +1,5 @@
 use Rattle.std.proofs.Common.{All}
-use Rattle.board.specs.Stops.{HasAddress}
+use Rattle.board_plain.specs.Stops.{HasAddress}
 use Rattle.board_cases.proofs.stops.read_stops.Given as goal
 
 abbrev pub invariant-loop-number : goal.invariant-loop-number

@@ -1,7 +1,7 @@
 use Rattle.std.proofs.Common.{◌≤◌, subst, arith}
 use Rattle.std.proofs.lemmas.List.Elements.{All-more}
-use Rattle.board.specs.Board.{BoardState}
-use Rattle.board.specs.Plain.{clock_of}
+use Rattle.board_plain.specs.Board.{BoardState}
+use Rattle.board_plain.specs.Plain.{clock_of}
 use Rattle.debugger.proofs.checkpoints.place_after.Goals as goal
 
 pub loop-index-preserved : goal.loop-index-preserved

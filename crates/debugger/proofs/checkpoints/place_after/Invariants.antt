@@ -1,5 +1,5 @@
 use Rattle.std.proofs.Common.{◌≤◌, All, take}
-use Rattle.board.specs.Plain.{clock_of}
+use Rattle.board_plain.specs.Plain.{clock_of}
 use Rattle.debugger.proofs.checkpoints.place_after.Given as goal
 
 abbrev pub invariant-loop-index : goal.invariant-loop-index

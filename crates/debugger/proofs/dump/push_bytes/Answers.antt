@@ -1,5 +1,5 @@
 use Rattle.std.proofs.Common.{◌+◌, ◌∙◌, ap, ℕ}
-use Rattle.board.specs.Plain.{byte_of}
+use Rattle.board_plain.specs.Plain.{byte_of}
 use Rattle.debugger.specs.Dump.{spaced_byte}
 use Rattle.debugger.proofs.Lines.{byte_more, pushed}
 use Rattle.debugger.proofs.dump.push_bytes.Goals as goal

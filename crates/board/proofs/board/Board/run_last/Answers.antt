@@ -3,7 +3,7 @@ use Rattle.std.specs.Bool.{IsTrue}
 use Rattle.board.specs.AwaitFree.{AllAwaitFree}
 use Rattle.board.specs.Found.{found_before}
 use Rattle.board.proofs.Latest.{Looked}
-use Rattle.board.specs.Plain.{clock_of}
+use Rattle.board_plain.specs.Plain.{clock_of}
 use Rattle.board.proofs.Latest.{looked_between, looked_none}
 use Rattle.board.proofs.Search.{between_moves}
 use Rattle.board.proofs.Turns.{held_run, not_counted}

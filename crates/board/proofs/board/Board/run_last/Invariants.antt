@@ -1,5 +1,5 @@
 use Rattle.std.proofs.Common.{◌-◌}
-use Rattle.board.specs.Plain.{clock_of}
+use Rattle.board_plain.specs.Plain.{clock_of}
 use Rattle.board.proofs.Latest.{Looked}
 use Rattle.board.proofs.board.Board.run_last.Given as goal
 

@@ -1,7 +1,6 @@
 use Rattle.std.proofs.Common.{◌≡◌, ◌<◌, ◌+◌, None, Some, refl, sym, ap, ◌∙◌, subst, arith}
-use Rattle.board.specs.Board.{BoardState}
-use Rattle.board.specs.Plain.{clock_of}
-use Rattle.board.specs.Stops.{holding}
+use Rattle.board_plain.specs.Plain.{clock_of}
+use Rattle.board_plain.specs.Stops.{holding}
 use Rattle.board.proofs.Search.{between_moves, found, held_at_once, held_search, nothing_found, searched_between, searched_first}
 use Rattle.board.proofs.Turns.{not_counted}
 use Rattle.board.specs.AwaitFree.{AllAwaitFree}
@@ -52,9 +51,7 @@ turns-smaller g c =
 
 pub turns-preserved : goal.turns-preserved
 turns-preserved g c =
-    let now : c.self.inside.plain ≡ c.turns.self.plain = ap (λ (b : BoardState). b.plain) c.self.view_is in
-    let here : holding c.args.stops.now.items c.turns.self.plain ≡ None =
-    ap (holding c.args.stops.now.items) (sym now) ∙ ap (λ stops. holding stops c.self.inside.plain) (sym c.as_slice-in-turns.ensures.value) ∙ sym c.holding_within.ensures ∙ c.in_default.is in
+    let here : holding c.args.stops.now.items c.turns.self.plain ≡ None = sym c.holding.ensures ∙ c.in_default.is in
     let within = c.turns.invariant.so_far.within in
     let before : clock_of c.turns.self.plain < c.get.result + c.args.count = omega (arith, within, c.clock-in-turns.ensures, c.get-in-turns.ensures.value, c.if-get-end.false) in
     let waits : IsTrue c.all_await_free-whole.result → AllAwaitFree c.args.stops.now.items = λ yes. subst AllAwaitFree c.as_slice.ensures.value (c.all_await_free-whole.ensures yes) in
@@ -62,9 +59,7 @@ turns-preserved g c =
 
 pub returns-in_err-turn-clause-succeeds : goal.returns-in_err-turn-clause-succeeds
 returns-in_err-turn-clause-succeeds g c = λ within_limit enough.
-    let now : c.self.inside.plain ≡ c.turns.self.plain = ap (λ (b : BoardState). b.plain) c.self.view_is in
-    let here : holding c.args.stops.now.items c.turns.self.plain ≡ None =
-    ap (holding c.args.stops.now.items) (sym now) ∙ ap (λ stops. holding stops c.self.inside.plain) (sym c.as_slice-in-turns.ensures.value) ∙ sym c.holding_within.ensures ∙ c.in_default.is in
+    let here : holding c.args.stops.now.items c.turns.self.plain ≡ None = sym c.holding.ensures ∙ c.in_default.is in
     let within = c.turns.invariant.so_far.within in
     let before : clock_of c.turns.self.plain < c.get.result + c.args.count = omega (arith, within, c.clock-in-turns.ensures, c.get-in-turns.ensures.value, c.if-get-end.false) in
     let held = held_search c.args.stops.now.items (c.get.result + c.args.count) c.args.count c.args.self.now c.turns.self c.turn.new.self c.turns.invariant here
@@ -73,9 +68,7 @@ returns-in_err-turn-clause-succeeds g c = λ within_limit enough.
 
 pub returns-in_err-turn-clause-succeeds_to_stop : goal.returns-in_err-turn-clause-succeeds_to_stop
 returns-in_err-turn-clause-succeeds_to_stop g c = λ within_limit enough.
-    let now : c.self.inside.plain ≡ c.turns.self.plain = ap (λ (b : BoardState). b.plain) c.self.view_is in
-    let here : holding c.args.stops.now.items c.turns.self.plain ≡ None =
-    ap (holding c.args.stops.now.items) (sym now) ∙ ap (λ stops. holding stops c.self.inside.plain) (sym c.as_slice-in-turns.ensures.value) ∙ sym c.holding_within.ensures ∙ c.in_default.is in
+    let here : holding c.args.stops.now.items c.turns.self.plain ≡ None = sym c.holding.ensures ∙ c.in_default.is in
     let within = c.turns.invariant.so_far.within in
     let before : clock_of c.turns.self.plain < c.get.result + c.args.count = omega (arith, within, c.clock-in-turns.ensures, c.get-in-turns.ensures.value, c.if-get-end.false) in
     let held = held_search c.args.stops.now.items (c.get.result + c.args.count) c.args.count c.args.self.now c.turns.self c.turn.new.self c.turns.invariant here
@@ -84,8 +77,6 @@ returns-in_err-turn-clause-succeeds_to_stop g c = λ within_limit enough.
 
 pub returns-in-Some-clause-stop : goal.returns-in-Some-clause-stop
 returns-in-Some-clause-stop g c =
-    let now : c.self.inside.plain ≡ c.turns.self.plain = ap (λ (b : BoardState). b.plain) c.self.view_is in
-    let here : holding c.args.stops.now.items c.turns.self.plain ≡ Some c.in-Some.number =
-    ap (holding c.args.stops.now.items) (sym now) ∙ ap (λ stops. holding stops c.self.inside.plain) (sym c.as_slice-in-turns.ensures.value) ∙ sym c.holding_within.ensures ∙ c.in-Some.is in
+    let here : holding c.args.stops.now.items c.turns.self.plain ≡ Some c.in-Some.number = sym c.holding.ensures ∙ c.in-Some.is in
     (found c.args.stops.now.items (c.get.result + c.args.count) c.args.count c.args.self.now c.turns.self c.in-Some.number c.clock-clock.result c.turns.invariant
     (omega (arith, c.clock.ensures, c.get.ensures.value)) here c.clock-clock.ensures).stop

@@ -1,5 +1,5 @@
 use Rattle.std.proofs.Common.{◌-◌}
-use Rattle.board.specs.Plain.{clock_of}
+use Rattle.board_plain.specs.Plain.{clock_of}
 use Rattle.board.proofs.Search.{Searched}
 use Rattle.board.proofs.board.Board.run_until.Given as goal
 

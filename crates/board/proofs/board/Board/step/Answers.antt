@@ -1,14 +1,14 @@
 use Rattle.std.proofs.Common.{◌<◌, refl, sym, subst, arith}
-use Rattle.board.specs.Board.{BoardState}
-use Rattle.board.specs.Plain.{clock_of}
+use Rattle.board_plain.specs.Board.{BoardState}
+use Rattle.board_plain.specs.Plain.{clock_of}
 use Rattle.board.proofs.Beginning.{GoesOn, goes_on, step_of}
 use Rattle.board.proofs.board.Board.step.Goals as goal
 
 pub invariant_of-self-2 : goal.invariant_of-self-2
 invariant_of-self-2 g c =
     let yes = c.if-not-stride.false in
-    let before : clock_of c.self.inside.plain < c.args.end = subst (λ (b : BoardState). clock_of b.plain < c.args.end) (sym c.self.view_is) c.requires.before_end in
-    let on : GoesOn c.args.end c.self.inside.plain c.stride.new.self = goes_on c.args.end _ _ before (c.stride.ensures.passed yes) in
+    let before : clock_of c.self.inside.engine < c.args.end = subst (λ (b : BoardState). clock_of b.plain < c.args.end) (sym c.self.view_is) c.requires.before_end in
+    let on : GoesOn c.args.end c.self.inside.engine c.stride.new.self = goes_on c.args.end _ _ before (c.stride.ensures.passed yes) in
     let some = on.some in
     let within = on.within in
     let turns = c.self.invariant.2 in

@@ -1,6 +1,6 @@
 use Rattle.std.proofs.Common.{ℕ, ◌<◌}
 use Rattle.std.specs.Prelude.{slice_index_or}
-use Rattle.board.specs.declared.stop.Condition.TheVariants.{Free}
+use Rattle.board_plain.specs.declared.stop.Condition.TheVariants.{Free}
 use Rattle.board.specs.Reach.{IsWithin}
 use Rattle.board.proofs.stop.Reach.of.Given as goal
 

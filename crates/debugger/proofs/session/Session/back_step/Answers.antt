@@ -1,7 +1,7 @@
 use Rattle.std.proofs.Common.{◌≡◌, ℕ, List, [], ◌∷◌, ◌++◌, refl, ap, ◌∙◌, subst}
-use Rattle.board.specs.declared.stop.Condition.{Condition}
-use Rattle.board.specs.declared.stop.Condition.TheVariants.{Free}
-use Rattle.board.specs.Lasts.{HeldLast}
+use Rattle.board_plain.specs.declared.stop.Condition.{Condition}
+use Rattle.board_plain.specs.declared.stop.Condition.TheVariants.{Free}
+use Rattle.board_plain.specs.Lasts.{HeldLast}
 use Rattle.debugger.specs.Back.{tell_clock}
 use Rattle.debugger.specs.Kept.{StandsNow}
 use Rattle.debugger.specs.Stands.{gone}

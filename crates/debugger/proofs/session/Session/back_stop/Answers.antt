@@ -1,6 +1,6 @@
 use Rattle.std.proofs.Common.{◌≡◌, ℕ, List, [], refl, sym, ap, ◌∙◌, subst}
-use Rattle.board.specs.declared.stop.Condition.{Condition}
-use Rattle.board.specs.Lasts.{HeldLast}
+use Rattle.board_plain.specs.declared.stop.Condition.{Condition}
+use Rattle.board_plain.specs.Lasts.{HeldLast}
 use Rattle.debugger.specs.declared.answer.Answer.TheVariants.{StopAt}
 use Rattle.debugger.specs.Kept.{StandsNow}
 use Rattle.debugger.specs.Stands.{SessionState, gone}

@@ -1,5 +1,5 @@
 use Rattle.std.proofs.Common.{◌-◌, ap, arith}
-use Rattle.board.specs.Board.{Ran}
+use Rattle.board_plain.specs.Board.{Ran}
 use Rattle.debugger.specs.Stands.{SessionState}
 use Rattle.debugger.proofs.Standing.{at_board, at_clock, stands_from}
 use Rattle.debugger.proofs.session.Session.stand_at.Goals as goal

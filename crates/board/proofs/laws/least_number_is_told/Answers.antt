@@ -1,5 +1,0 @@
-use Rattle.board.proofs.LeastNumbers.{least_number_is_told}
-use Rattle.board.proofs.laws.least_number_is_told.Goals as goal
-
-pub returns : goal.returns
-returns c = least_number_is_told

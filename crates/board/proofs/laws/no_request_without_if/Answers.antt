@@ -1,5 +1,0 @@
-use Rattle.board.proofs.Requests.{no_request_without_if}
-use Rattle.board.proofs.laws.no_request_without_if.Goals as goal
-
-pub returns : goal.returns
-returns c = no_request_without_if

@@ -1,5 +1,0 @@
-use Rattle.board.proofs.Wires.{wires_always_hold}
-use Rattle.board.proofs.laws.wires_always_hold.Goals as goal
-
-pub returns : goal.returns
-returns c = wires_always_hold

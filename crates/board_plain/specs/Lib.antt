@@ -1,0 +1,8 @@
+pub mod Reset
+pub mod Plain
+pub mod Trail
+pub mod Board
+pub mod Stops
+pub mod Lasts
+pub mod Laws
+pub mod Work

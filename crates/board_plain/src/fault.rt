@@ -1,0 +1,50 @@
+//! Why a board refuses a call.
+ghost use Rattle.std.specs.Prelude.{◌≡◌};
+ghost use Rattle.board_plain.specs.Board.{board_fault_name, board_fault_number};
+ghost use Rattle.board_plain.specs.declared.fault.BoardFault.TheVariants.{Memory};
+
+use std::alloc::AllocError;
+use thiserror::Error;
+
+/// Why a board refuses a call.
+#[derive(Clone, Copy, Debug, PartialEq, Eq, Drop, Error)]
+pub enum BoardFault {
+    #[error("the RAM's size isn't a multiple of 16 KB from 16 to 640, or the image goes past it")]
+    RamSize,
+    #[error("out of memory")]
+    Memory,
+    #[error("the board can't go past clock 2^40")]
+    ClockLimit,
+}
+
+impl BoardFault {
+    /// The fault's number.
+    pub fn number(self) -> u8
+        ensures { result ≡ board_fault_number self }
+    {
+        match self {
+            BoardFault::RamSize => 36,
+            BoardFault::Memory => 41,
+            BoardFault::ClockLimit => 42,
+        }
+    }
+
+    /// The fault's name, as it is printed.
+    pub fn name(self) -> &'static str
+        ensures { result.now ≡ board_fault_name self }
+    {
+        match self {
+            BoardFault::RamSize => "RamSize",
+            BoardFault::Memory => "Memory",
+            BoardFault::ClockLimit => "ClockLimit",
+        }
+    }
+}
+
+impl From<AllocError> for BoardFault {
+    ghost from_gives = { λ _ fault. fault ≡ Memory };
+
+    fn from(_error: AllocError) -> BoardFault {
+        BoardFault::Memory
+    }
+}

@@ -1,0 +1,63 @@
+//! What holds of every plain board, over the definitions alone.
+ghost use Rattle.board_plain.specs.Laws.{HaltIsQuiet, JamIsQuiet, LeastNumberIsTold, LevelIsForeseen, MemoryTakesBytes, NoRequestWithoutIf, RequestIsTaken, RunsHaveOneEnd, RunsJoin, SearchesJoin, StayingRequestIsTaken, WiresAlwaysHold};
+
+/// Where the wires hold, the speaker's level at the next clock is known from the port writes that the processor is
+/// about to make: no read, entry, iteration or key touches it.
+pub fn level_is_foreseen()
+    ensures { LevelIsForeseen }
+{}
+
+/// At every clock of every board the wires have settled, and the keyboard, gates 0 and 1 are high, and IR2 to IR7 are
+/// low.
+pub fn wires_always_hold()
+    ensures { WiresAlwaysHold }
+{}
+
+/// At every clock of every board, each address of RAM and of text memory takes bytes.
+pub fn memory_takes_bytes()
+    ensures { MemoryTakesBytes }
+{}
+
+/// The processor takes a request in a clock exactly where one stands and it may: it is free and not jammed, IF is set,
+/// and no instruction keeps requests off. So a request that stays is taken, at the first clock at which it may be.
+pub fn request_is_taken()
+    ensures taken { RequestIsTaken }
+    ensures staying { StayingRequestIsTaken }
+{}
+
+/// A processor whose IF is 0 at each of some clocks takes no request in any of them.
+pub fn no_request_without_if()
+    ensures { NoRequestWithoutIf }
+{}
+
+/// A halted processor that is free, with no single step due, no key that comes, and IF 0 or no request in each of some
+/// clocks, stays as it is in them, with memory, keyboard, parallel port and text; the chips alone go on.
+pub fn halt_is_quiet()
+    ensures { HaltIsQuiet }
+{}
+
+/// A jammed processor that is free stays as it is in some clocks, whatever is requested, where no key comes; the chips
+/// alone go on.
+pub fn jam_is_quiet()
+    ensures { JamIsQuiet }
+{}
+
+/// Every run ends in one way: at the first clock after its start at which a condition holds, or without a stop.
+pub fn runs_have_one_end()
+    ensures { RunsHaveOneEnd }
+{}
+
+/// The number of a stop is the least of the conditions that hold at its clock.
+pub fn least_number_is_told()
+    ensures { LeastNumberIsTold }
+{}
+
+/// A run and the next one are one run of both their clocks: the changes and the trail are those of the whole.
+pub fn runs_join()
+    ensures { RunsJoin }
+{}
+
+/// A search that finds nothing and the next one are one search of both their clocks.
+pub fn searches_join()
+    ensures { SearchesJoin }
+{}
