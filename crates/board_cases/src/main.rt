@@ -1,6 +1,6 @@
 //! Cases of outside values for the system board. Of a case that differs the step that didn't come out is printed.
 //!
-//! A case is one line: `chips`, `board`, `heap`, `timer` or `timer_8254`, a colon, and steps parted by semicolons, each a
+//! A case is one line: `chips`, `board`, `heap`, `session`, `timer` or `timer_8254`, a colon, and steps parted by semicolons, each a
 //! verb and its words. Ports, addresses, bytes and registers are hexadecimal; clocks, counts, sizes in KB, fault numbers and the
 //! screen's lines, from 0, are decimal. Levels are `H` and `L`.
 //!
@@ -37,6 +37,11 @@
 //! back), `reserve COUNT taken` or `reserve COUNT FAULT NAME` (room for so many changes more), and the steps of `board` but
 //! for `copy`, `keep`, `again` and those that compare or count runs.
 //!
+//! `session`, a session of the debugger on the board of `tone.rt`: `heap SIZE` (how many bytes there are to list copies of
+//! its board in), and then `COMMAND = REPLY` (for a refusal its name), `kept LEAST MOST` (so many copies are kept), `lost
+//! COUNT` (of keys) and `as run` (clock, lost keys and the speaker's changes are those of a board that is run there from
+//! power-on).
+//!
 //! `timer`, the chips of a board with 16 KB, which make the timer's ticks late and many at once, beside a timer that makes
 //! each by itself: `out PORT BYTE`, `gate LEVEL` (of counter 2), `pass CLOCKS` (OUT2 has to agree after them), `in PORT`
 //! (the two bytes have to agree), `edge N` (the clock at which OUT 0 or 2 turns next, or none, has to be the one that
@@ -50,8 +55,10 @@ mod cuts;
 mod heap;
 mod lasts;
 mod parts;
+mod session;
 mod stops;
 mod timer;
+mod tone;
 mod trail;
 mod words;
 
@@ -62,6 +69,7 @@ use boards::BoardBench;
 use cases::judge_cases;
 use chips::ChipsBench;
 use heap::follow_in_heap;
+use session::follow_session;
 use std::alloc::Global;
 use std::io;
 use timer::TimerBench;
@@ -77,6 +85,7 @@ fn judge(alloc: Global, case: &str) -> Result<()> {
         "chips" => follow(ChipsBench::new(alloc), steps),
         "board" => follow(BoardBench::new(alloc), steps),
         "heap" => follow_in_heap(alloc, steps),
+        "session" => follow_session(alloc, steps),
         "timer" => follow_timers(alloc, TimerKind::I8253, steps),
         "timer_8254" => follow_timers(alloc, TimerKind::I8254, steps),
         _ => bail!("nothing has this name"),

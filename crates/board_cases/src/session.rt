@@ -1,37 +1,22 @@
-//! Cases of sessions that go back, by what no command tells. Of a case that differs the step that didn't come out is
-//! printed.
-//!
-//! A case is one line: how many bytes a session has to list copies of its board in, a colon, and steps parted by
-//! semicolons. A step is `COMMAND = REPLY` (for a refusal its name), `kept LEAST MOST` (so many copies are kept), `lost
-//! COUNT` (of keys) or `as run` (clock, lost keys and the speaker's changes are those of a board that is run there from
-//! power-on).
-#![tactic(auto)]
-
-mod tone;
-
+//! Sessions that go back, with copies of the board in a heap of their own, which may be too small for any.
+use crate::tone::tone_board;
 use anyhow::{Context, Result, bail, ensure};
 use board::board::Board;
-use cases::judge_cases;
 use debugger::session::Session;
 use linked_list_allocator::LocalHeap;
 use std::alloc::{Allocator, Global};
-use std::io;
-use tone::tone_board;
 
-fn main(rt: HostRuntime) -> io::Result<()> {
-    judge_cases(&rt, judge)
-}
-
-/// Makes a case's steps. Fails with the first that doesn't come out.
-fn judge(alloc: Global, case: &str) -> Result<()> {
-    let (size, steps) = case.split_once(':').context("no colon")?;
+/// Makes the steps behind `heap SIZE`, up to the first that doesn't come out, which the error names.
+pub fn follow_session(alloc: Global, steps: &str) -> Result<()> {
+    let (made, steps) = steps.split_once(';').context("no steps")?;
+    let size = made.trim().strip_prefix("heap ").context("no heap")?;
     let size = size.parse::<usize>().ok().context("no size")?;
     let heap = LocalHeap::new(alloc, size)?;
     let mut session = Session::with_checkpoints_in(&heap, tone_board(alloc)?)?;
-    follow(alloc, &mut session, steps)
+    follow_steps(alloc, &mut session, steps)
 }
 
-fn follow<A: Allocator>(alloc: Global, session: &mut Session<A>, steps: &str) -> Result<()> {
+fn follow_steps<A: Allocator>(alloc: Global, session: &mut Session<A>, steps: &str) -> Result<()> {
     for step in steps.split(';') {
         ensure!(comes_out(alloc, session, step.trim())?, "{step}");
     }
