@@ -2,3 +2,11 @@ pub mod Kept
 pub mod Decimal
 pub mod InAl
 pub mod Order
+pub mod Runs
+pub mod Powers
+pub mod Turns
+pub mod Rotations
+pub mod Unsigned
+pub mod Signs
+pub mod Signed
+mod Rows

@@ -1,5 +1,7 @@
-//! What arithmetic and the adjustments mean for numbers.
+//! What arithmetic, the adjustments, shifts, products and quotients mean for numbers.
 ghost use Rattle.execute_arith.specs.Laws.{AaaAdds, AadJoins, AadUndoesAam, AamParts, AasSubtracts, CmpTells, ComparisonTells, DaaAdds, DasSubtracts, NotInverts, SignsExtend, SumsStandInAl};
+ghost use Rattle.execute_arith.specs.ShiftLaws.{RotatesThroughCarryTurnRound, RotatesTurnRound, SarDivides, ShlMultiplies, ShrDivides};
+ghost use Rattle.execute_arith.specs.ProductLaws.{DivDivides, IdivDivides, ImulMultiplies, MulMultiplies};
 
 use bus::Bus;
 
@@ -64,4 +66,51 @@ pub fn signs_extend()
 /// NOT inverts each bit.
 pub fn not_inverts()
     ensures { NotInverts }
+{}
+
+/// SHL by n is times 2 to the power n, modulo the width.
+pub fn shl_multiplies()
+    ensures { ShlMultiplies }
+{}
+
+/// SHR by n divides the unsigned operand by 2 to the power n, toward 0.
+pub fn shr_divides()
+    ensures { ShrDivides }
+{}
+
+/// SAR by n divides the signed operand by 2 to the power n, toward minus infinity.
+pub fn sar_divides()
+    ensures { SarDivides }
+{}
+
+/// ROL and ROR by the width give the operand back.
+pub fn rotates_turn_round()
+    ensures { RotatesTurnRound }
+{}
+
+/// RCL and RCR by the width and 1 give the operand and CF back.
+pub fn rotates_through_carry_turn_round()
+    ensures { RotatesThroughCarryTurnRound }
+{}
+
+/// MUL leaves the product of the unsigned numbers in AX or DX:AX.
+pub fn mul_multiplies<B: Bus>()
+    ensures { MulMultiplies B.meaning }
+{}
+
+/// IMUL leaves the product of the signed numbers there.
+pub fn imul_multiplies<B: Bus>()
+    ensures { ImulMultiplies B.meaning }
+{}
+
+/// DIV leaves the quotient and the remainder of the unsigned numbers, whose sum with the divisor's multiple is the
+/// dividend; it has a fault, and enters interrupt 0, exactly where there is no such pair that fits.
+pub fn div_divides<B: Bus>()
+    ensures { DivDivides B.meaning }
+{}
+
+/// IDIV does so with signed numbers: the remainder is 0 or has the dividend's sign, and the least number doesn't count
+/// as a quotient that fits.
+pub fn idiv_divides<B: Bus>()
+    ensures { IdivDivides B.meaning }
 {}

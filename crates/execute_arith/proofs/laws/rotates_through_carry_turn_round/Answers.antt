@@ -1,0 +1,5 @@
+use Rattle.execute_arith.proofs.Rotations.{rotates_through_carry_turn_round}
+use Rattle.execute_arith.proofs.laws.rotates_through_carry_turn_round.Goals as goal
+
+pub returns : goal.returns
+returns c = rotates_through_carry_turn_round

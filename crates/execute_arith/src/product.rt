@@ -1,0 +1,170 @@
+//! What multiplication and division do.
+ghost use Rattle.std.specs.Prelude.{◌≡◌, ◌<◌, ◌*◌, IfSome, is_none};
+ghost use Rattle.execute_machine.specs.Locations.{machine};
+ghost use Rattle.execute_machine.specs.Widths.{size_of};
+ghost use Rattle.execute_arith.specs.Numbers.{double_half};
+ghost use Rattle.execute_arith.specs.Products.{accumulator, after_division, after_operation, after_product, dividend_of, has_fault, has_no_quotient, with_division, with_product, with_product_value};
+
+use crate::numbers::{
+    Division, FullProduct, divide_signed, divide_unsigned, signed_product, unsigned_product,
+};
+use board_types::regs::Flags;
+use bus::Bus;
+use digest::digest::Digest;
+use execute_machine::location::{locate_first, operand};
+use execute_machine::registers::Registers;
+use execute_machine::stack::enter;
+use execute_machine::width::Width;
+use isa::operation::Product;
+
+fn accumulator(registers: &Registers, width: Width) -> u16
+    ensures value { result ≡ accumulator registers.now width }
+    ensures bound { result < size_of width }
+{
+    let ax = registers.ax();
+    match width {
+        Width::Byte => ax % 256,
+        Width::Word => ax,
+    }
+}
+
+fn dividend_of(registers: &Registers, width: Width) -> u32
+    ensures value { result ≡ dividend_of registers.now width }
+    ensures bound { result < 2 * double_half width }
+{
+    let (low, high) = (u32::from(registers.ax()), u32::from(registers.dx()));
+    match width {
+        Width::Byte => low,
+        Width::Word => 65536 * high + low,
+    }
+}
+
+fn set_product_value(registers: &mut Registers, width: Width, value: u32)
+    requires { value < 2 * double_half width }
+    ensures { registers.new ≡ with_product_value registers.old width value }
+{
+    match width {
+        Width::Byte => registers.set_ax(value as u16),
+        Width::Word => {
+            registers.set_dx((value / 65536) as u16);
+            registers.set_ax((value % 65536) as u16);
+        }
+    }
+}
+
+#[tactic(auto, unfolding(crate::specs::Products::with_product))]
+fn set_product(registers: &mut Registers, width: Width, product: FullProduct)
+    requires { product.value < 2 * double_half width }
+    ensures { registers.new ≡ with_product registers.old width product }
+{
+    registers.flags.set(Flags {
+        carry: product.is_wide,
+        overflow: product.is_wide,
+        ..registers.flags.get()
+    });
+    set_product_value(registers, width, product.value);
+}
+
+#[tactic(auto, unfolding(crate::specs::Products::with_division))]
+fn set_division(registers: &mut Registers, width: Width, division: Division)
+    requires quotient { division.quotient < size_of width }
+    requires remainder { division.remainder < size_of width }
+    ensures { registers.new ≡ with_division registers.old width division }
+{
+    match width {
+        Width::Byte => registers.set_ax(256 * division.remainder + division.quotient),
+        Width::Word => {
+            registers.set_ax(division.quotient);
+            registers.set_dx(division.remainder);
+        }
+    }
+}
+
+/// Takes the quotient and the remainder, or enters interrupt 0 where there is none. Answers whether it was entered.
+#[tactic(auto, unfolding(crate::specs::Products::after_division))]
+fn finish_division<B: Bus>(
+    bus: &mut B,
+    registers: &mut Registers,
+    width: Width,
+    division: Option<Division>,
+) -> bool
+    requires quotient { IfSome division (λ d. d.quotient < size_of width) }
+    requires remainder { IfSome division (λ d. d.remainder < size_of width) }
+    ensures machine { machine registers.new (B.state bus.new)
+        ≡ after_division B.meaning (machine registers.old (B.state bus.old)) width division }
+    ensures fault { result ≡ is_none division }
+{
+    match division {
+        None => {
+            enter(bus, registers, 0);
+            true
+        }
+        Some(division) => {
+            set_division(registers, width, division);
+            false
+        }
+    }
+}
+
+#[tactic(auto, unfolding(crate::specs::Products::after_operation, crate::specs::Products::has_no_quotient))]
+fn perform_operation<B: Bus>(
+    bus: &mut B,
+    registers: &mut Registers,
+    operation: Product,
+    width: Width,
+    operand: u16,
+) -> bool
+    requires { operand < size_of width }
+    ensures machine { machine registers.new (B.state bus.new)
+        ≡ after_operation B.meaning (machine registers.old (B.state bus.old)) operation width operand }
+    ensures fault { result ≡ has_no_quotient registers.old operation width operand }
+{
+    let factor = accumulator(registers, width);
+    let dividend = dividend_of(registers, width);
+    match operation {
+        Product::Mul => {
+            set_product(registers, width, unsigned_product(width, factor, operand));
+            false
+        }
+        Product::Imul => {
+            set_product(registers, width, signed_product(width, factor, operand));
+            false
+        }
+        Product::Div => {
+            finish_division(
+                bus,
+                registers,
+                width,
+                divide_unsigned(width, dividend, operand),
+            )
+        }
+        Product::Idiv => {
+            finish_division(
+                bus,
+                registers,
+                width,
+                divide_signed(width, dividend, operand),
+            )
+        }
+    }
+}
+
+/// Multiplies or divides AL, AX or DX:AX by the first operand. A division without a quotient that fits enters interrupt
+/// 0 and changes nothing else, and the answer is whether that happened.
+#[inline(never)]
+#[tactic(auto, unfolding(crate::specs::Products::after_product, crate::specs::Products::has_fault))]
+pub fn perform_product<B: Bus>(
+    bus: &mut B,
+    registers: &mut Registers,
+    operation: Product,
+    instr: &Digest,
+) -> bool
+    ensures machine { machine registers.new (B.state bus.new)
+        ≡ after_product B.meaning (machine registers.old (B.state bus.old)) operation instr.now }
+    ensures fault { result ≡ has_fault B.meaning (machine registers.old (B.state bus.old)) operation instr.now }
+{
+    let place = locate_first(registers, instr);
+    let width = place.width();
+    let operand = operand(bus, registers, place, width);
+    perform_operation(bus, registers, operation, width, operand)
+}

@@ -1,0 +1,75 @@
+//! What shifts and rotates do.
+ghost use Rattle.std.specs.Prelude.{◌≡◌};
+ghost use Rattle.execute_machine.specs.Locations.{machine};
+ghost use Rattle.execute_arith.specs.Shifts.{after_shift, tells_result, with_shifted, with_told};
+
+use crate::single::{Shifted, shift_by};
+use bus::Bus;
+use digest::digest::Digest;
+use execute_machine::flags::{FlagRegister, StatusFlags};
+use execute_machine::location::{get, locate_first, locate_second, operand, put};
+use execute_machine::registers::Registers;
+use execute_machine::width::Width;
+use isa::operation::Shift;
+
+fn tells_result(operation: Shift) -> bool
+    ensures { result ≡ tells_result operation }
+{
+    matches!(operation, Shift::Shl | Shift::Shr | Shift::Sar)
+}
+
+/// The flags after single shifts that left this.
+fn tell(flags: &mut FlagRegister, operation: Shift, width: Width, after: Shifted)
+    ensures { flags.new ≡ with_told flags.old operation width after }
+{
+    let others = if tells_result(operation) {
+        StatusFlags {
+            auxiliary_carry: flags.auxiliary_carry(),
+            ..StatusFlags::of_result(width, after.value)
+        }
+    } else {
+        flags.status()
+    };
+    flags.set_status(StatusFlags {
+        carry: after.carry,
+        overflow: after.overflow,
+        ..others
+    });
+}
+
+/// The flags after so many single shifts that left this; none are set where there are none.
+#[tactic(auto, unfolding(crate::specs::Shifts::with_shifted))]
+fn set_shifted(flags: &mut FlagRegister, operation: Shift, width: Width, count: u16, after: Shifted)
+    ensures { flags.new ≡ with_shifted flags.old operation width count after }
+{
+    if count > 0 {
+        tell(flags, operation, width, after);
+    }
+}
+
+/// Shifts or rotates the first operand by as many single shifts as the second operand counts: 1, or CL. A count of 0
+/// writes the operand back and changes no flag.
+#[inline(never)]
+#[tactic(auto, unfolding(crate::specs::Shifts::after_shift))]
+pub fn perform_shift<B: Bus>(
+    bus: &mut B,
+    registers: &mut Registers,
+    operation: Shift,
+    instr: &Digest,
+)
+    ensures { machine registers.new (B.state bus.new)
+        ≡ after_shift B.meaning (machine registers.old (B.state bus.old)) operation instr.now }
+{
+    let place = locate_first(registers, instr);
+    let counter = locate_second(registers, instr);
+    let count = get(bus, registers, counter);
+    let width = place.width();
+    let before = Shifted {
+        value: operand(bus, registers, place, width),
+        carry: registers.flags.carry(),
+        overflow: registers.flags.overflow(),
+    };
+    let after = shift_by(operation, width, before, count);
+    set_shifted(&mut registers.flags, operation, width, count, after);
+    put(bus, registers, place, after.value);
+}

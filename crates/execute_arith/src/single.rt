@@ -1,0 +1,116 @@
+//! One shift by one place, and several in turn.
+ghost use Rattle.std.specs.Prelude.{◌≡◌, ◌<◌};
+ghost use Rattle.execute_machine.specs.Widths.{is_negative, size_of};
+ghost use Rattle.execute_arith.specs.Single.{after_left, after_right, after_right_rotation, after_single, left_value, right_value, second_bit};
+ghost use Rattle.execute_arith.specs.Shifts.{after_shifts};
+
+use execute_machine::width::Width;
+use isa::operation::Shift;
+
+/// An operand with CF and OF, as a shift finds and leaves them.
+#[derive(Clone, Copy)]
+pub struct Shifted {
+    pub value: u16,
+    pub carry: bool,
+    pub overflow: bool,
+}
+
+fn second_bit(width: Width, value: u16) -> bool
+    requires { value < size_of width }
+    ensures { result ≡ second_bit width value }
+{
+    value % width.half_size() >= width.half_size() / 2
+}
+
+fn left_value(width: Width, value: u16, entering: bool) -> u16
+    requires { value < size_of width }
+    ensures value { result ≡ left_value width value entering }
+    ensures bound { result < size_of width }
+{
+    2 * (value % width.half_size()) + u16::from(entering)
+}
+
+fn right_value(width: Width, value: u16, entering: bool) -> u16
+    requires { value < size_of width }
+    ensures value { result ≡ right_value width value entering }
+    ensures bound { result < size_of width }
+{
+    if entering {
+        value / 2 + width.half_size()
+    } else {
+        value / 2
+    }
+}
+
+/// To the left; the bit that enters at the bottom.
+#[tactic(auto, unfolding(crate::specs::Single::after_left))]
+fn left(width: Width, operand: Shifted, entering: bool) -> Shifted
+    requires { operand.value < size_of width }
+    ensures value { result ≡ after_left width operand entering }
+    ensures bound { result.value < size_of width }
+{
+    let value = left_value(width, operand.value, entering);
+    let leaving = width.is_negative(operand.value);
+    Shifted {
+        value,
+        carry: leaving,
+        overflow: width.is_negative(value) != leaving,
+    }
+}
+
+/// To the right; the bit that enters at the top.
+#[tactic(auto, unfolding(crate::specs::Single::after_right))]
+fn right(width: Width, operand: Shifted, entering: bool, overflow: bool) -> Shifted
+    requires { operand.value < size_of width }
+    ensures value { result ≡ after_right width operand entering overflow }
+    ensures bound { result.value < size_of width }
+{
+    Shifted {
+        value: right_value(width, operand.value, entering),
+        carry: operand.value % 2 == 1,
+        overflow,
+    }
+}
+
+#[tactic(auto, unfolding(crate::specs::Single::after_right_rotation))]
+fn right_rotation(width: Width, operand: Shifted, entering: bool) -> Shifted
+    requires { operand.value < size_of width }
+    ensures value { result ≡ after_right_rotation width operand entering }
+    ensures bound { result.value < size_of width }
+{
+    let value = right_value(width, operand.value, entering);
+    let overflow = width.is_negative(value) != second_bit(width, value);
+    right(width, operand, entering, overflow)
+}
+
+/// One place.
+#[tactic(auto, unfolding(crate::specs::Single::after_single))]
+fn single(operation: Shift, width: Width, operand: Shifted) -> Shifted
+    requires { operand.value < size_of width }
+    ensures value { result ≡ after_single operation width operand }
+    ensures bound { result.value < size_of width }
+{
+    let is_top = width.is_negative(operand.value);
+    match operation {
+        Shift::Rol => left(width, operand, is_top),
+        Shift::Ror => right_rotation(width, operand, operand.value % 2 == 1),
+        Shift::Rcl => left(width, operand, operand.carry),
+        Shift::Rcr => right_rotation(width, operand, operand.carry),
+        Shift::Shl => left(width, operand, false),
+        Shift::Shr => right(width, operand, false, is_top),
+        Shift::Sar => right(width, operand, is_top, false),
+    }
+}
+
+/// So many places.
+#[tactic(auto, unfolding(crate::specs::Shifts::after_shifts), using(board_types::proofs::Iterate::iterate_steps))]
+pub fn shift_by(operation: Shift, width: Width, operand: Shifted, count: u16) -> Shifted
+    requires { operand.value < size_of width }
+    ensures { result ≡ after_shifts operation width operand count }
+{
+    let mut now = operand;
+    for _ in 0..count {
+        now = single(operation, width, now);
+    }
+    now
+}

@@ -1,4 +1,0 @@
-pub mod Kept
-pub mod Unsigned
-pub mod Signs
-pub mod Signed

@@ -1,5 +1,0 @@
-use Rattle.execute_shift.proofs.Rotations.{rotates_through_carry_turn_round}
-use Rattle.execute_shift.proofs.laws.rotates_through_carry_turn_round.Goals as goal
-
-pub returns : goal.returns
-returns c = rotates_through_carry_turn_round

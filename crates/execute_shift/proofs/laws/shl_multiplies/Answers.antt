@@ -1,5 +1,0 @@
-use Rattle.execute_shift.proofs.Powers.{shl_multiplies}
-use Rattle.execute_shift.proofs.laws.shl_multiplies.Goals as goal
-
-pub returns : goal.returns
-returns c = shl_multiplies

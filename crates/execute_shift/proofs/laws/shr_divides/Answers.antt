@@ -1,5 +1,0 @@
-use Rattle.execute_shift.proofs.Powers.{shr_divides}
-use Rattle.execute_shift.proofs.laws.shr_divides.Goals as goal
-
-pub returns : goal.returns
-returns c = shr_divides
