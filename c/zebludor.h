@@ -1,6 +1,6 @@
 /* An IBM PC 5150 for benches in C and C++: the timer (Intel 8253 or 8254), the interrupt controller (Intel 8259A), the
- * parallel port (Intel 8255A, mode 0), and whole runs of the board. The chips are in libc_interface.a, the runs in
- * libc_run.a.
+ * parallel port (Intel 8255A, mode 0), and whole runs of the board. The chips are in libzebludor_chips.a, the runs in
+ * libzebludor_run.a.
  *
  * A chip is a struct of numbers in the caller's memory, and each call works on that struct alone. Structs may be
  * copied, compared field by field, kept in files. Any bytes in one are some chip, so no call can be refused: a level or
@@ -11,9 +11,9 @@
  * type, and lead to what is declared, as long as the call lasts; what a call writes doesn't overlap with what else it is
  * given, and no other thread touches it meanwhile.
  *
- * What each call does is proved: its clause stands in crates/c_interface/src and crates/c_run/src, and the definitions
- * that clauses name in the specs/ of the crates below. That this header declares what stands there is only tested.
- * docs/for-test-benches.md tells how to build and link. */
+ * What each call does is proved: its clause stands in crates/zebludor_chips/src and crates/zebludor_run/src, and the
+ * definitions that clauses name in the specs/ of the crates below. That this header declares what stands there is only
+ * tested. docs/for-test-benches.md tells how to build and link. */
 #ifndef ZEBLUDOR_H
 #define ZEBLUDOR_H
 

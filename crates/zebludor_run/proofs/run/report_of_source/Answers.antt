@@ -3,7 +3,7 @@ use Rattle.pcboard_program.specs.Answer.{GivesImage}
 use Rattle.pcboard_program.specs.declared.fault.Fault.TheVariants.{Source}
 use Rattle.pcboard_program.specs.Report.{FitsBoard}
 use Rattle.pcboard_program.specs.Faults.{IsWantOfMemory}
-use Rattle.c_run.proofs.run.report_of_source.Goals as goal
+use Rattle.zebludor_run.proofs.run.report_of_source.Goals as goal
 
 pub returns-in-Ok-clause-report : goal.returns-in-Ok-clause-report
 returns-in-Ok-clause-report c =

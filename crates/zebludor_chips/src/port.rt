@@ -2,7 +2,7 @@
 ghost use Rattle.std.specs.Prelude.{◌≡◌, ◌%◌};
 ghost use Rattle.ppi8255.specs.Image.{ppi_of};
 ghost use Rattle.ppi8255.specs.Ppi.{power_on, after_write, byte_at, lines_b};
-ghost use Rattle.c_interface.specs.Pins.{inputs_of};
+ghost use Rattle.zebludor_chips.specs.Pins.{inputs_of};
 
 use crate::levels::line_of;
 use ppi8255::image::PpiImage;

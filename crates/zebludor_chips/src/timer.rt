@@ -7,7 +7,7 @@ ghost use Rattle.pit8253.specs.Counter as one;
 ghost use Rattle.pit8253.specs.Counter.{out_of};
 ghost use Rattle.pit8253.specs.Image.{counter_of, kind_of, line_of, pit_of};
 ghost use Rattle.pit8253.specs.Pit.{power_on, counter, after_gate, after_read, after_ticks, after_write, byte_at};
-ghost use Rattle.c_interface.specs.Turns.{turn_of};
+ghost use Rattle.zebludor_chips.specs.Turns.{turn_of};
 
 use crate::levels::{kind_of, line_of, number_of};
 use board_types::timed::Timed;

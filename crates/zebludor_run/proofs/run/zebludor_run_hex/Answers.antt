@@ -2,8 +2,8 @@ use Rattle.std.specs.Prelude.{string_bytes, true}
 use Rattle.pcboard_program.specs.Answer.{IsReport, IsTrueRefusal}
 use Rattle.pcboard_program.specs.Faults.{IsWantOfMemory}
 use Rattle.pcboard_program.specs.declared.report.Report.{Report}
-use Rattle.c_run.proofs.Telling.{tells}
-use Rattle.c_run.proofs.run.zebludor_run_hex.Goals as goal
+use Rattle.zebludor_run.proofs.Telling.{tells}
+use Rattle.zebludor_run.proofs.run.zebludor_run_hex.Goals as goal
 
 pub returns-clause-told : goal.returns-clause-told
 returns-clause-told c =

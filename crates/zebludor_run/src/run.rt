@@ -5,7 +5,7 @@ ghost use Rattle.loader.specs.RunFile.{Answers, run_of_text};
 ghost use Rattle.pcboard_program.specs.Answer.{GivesImage, IsReport, IsTrueRefusal};
 ghost use Rattle.pcboard_program.specs.Faults.{IsWantOfMemory};
 ghost use Rattle.pcboard_program.specs.Report.{FitsBoard};
-ghost use Rattle.c_run.specs.Outcomes.{Accepts, Tells, buffer_after, fault_outcome, text_outcome};
+ghost use Rattle.zebludor_run.specs.Outcomes.{Accepts, Tells, buffer_after, fault_outcome, text_outcome};
 
 use assembler::assembly::assemble;
 use board_types::image::Image;

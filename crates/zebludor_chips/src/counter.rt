@@ -5,7 +5,7 @@ ghost use Rattle.board_types.specs.Lines.{is_high};
 ghost use Rattle.board_types.specs.Timed.{IsUntilTurn};
 ghost use Rattle.pit8253.specs.Counter.{after_control_word, after_gate, after_read, after_read_back, after_ticks, after_write, next_byte, out_of, power_on};
 ghost use Rattle.pit8253.specs.Image.{counter_of, kind_of, line_of};
-ghost use Rattle.c_interface.specs.Turns.{turn_of};
+ghost use Rattle.zebludor_chips.specs.Turns.{turn_of};
 
 use crate::levels::{kind_of, line_of, number_of};
 use board_types::choice::TimerKind;

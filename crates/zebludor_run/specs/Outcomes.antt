@@ -7,7 +7,7 @@ use Rattle.pcboard_program.specs.declared.fault.Fault.{Fault}
 use Rattle.pcboard_program.specs.Answer.{GivesImage}
 use Rattle.pcboard_program.specs.Faults.{line_of, number_of}
 use Rattle.pcboard_program.specs.Report.{FitsBoard}
-use Rattle.c_run.specs.declared.run.Outcome.{Outcome}
+use Rattle.zebludor_run.specs.declared.run.Outcome.{Outcome}
 
 -- a text for a buffer with so much room: status 0, or 2 where it is longer, and its length
 abbrev pub text_outcome : List ℕ → ℕ → Outcome
