@@ -13,8 +13,8 @@
 #![tactic(auto)]
 
 mod case;
-mod plain;
 mod run;
+mod spelled;
 mod streams;
 
 use anyhow::{Result, ensure};

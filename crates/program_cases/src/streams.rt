@@ -1,5 +1,5 @@
 //! Readers and writers of a case's texts, which can fail.
-use crate::plain::Plain;
+use crate::spelled::Spelled;
 use std::alloc::Global;
 use std::cell::Cell;
 use std::io;
@@ -43,7 +43,7 @@ impl Calls {
 /// A text to be read, a few bytes at a time. Every other call is interrupted, which counts as no read.
 #[derive(Drop)]
 pub struct Input<'a> {
-    text: Plain<'a>,
+    text: Spelled<'a>,
     reads: &'a Calls,
     is_interrupted: bool,
 }
@@ -52,7 +52,7 @@ impl<'a> Input<'a> {
     /// Its reads are among these.
     pub fn new(text: &'a str, reads: &'a Calls) -> Self {
         Input {
-            text: Plain::new(text),
+            text: Spelled::new(text),
             reads,
             is_interrupted: false,
         }
@@ -105,7 +105,7 @@ impl Output {
 
     /// Whether what was written begins with this text.
     pub fn begins(&self, text: &str) -> bool {
-        let mut wanted = Plain::new(text);
+        let mut wanted = Spelled::new(text);
         for byte in self.bytes.as_slice() {
             match wanted.next_byte() {
                 Some(now) if now == *byte => {}
@@ -118,7 +118,7 @@ impl Output {
 
     /// Whether this text was written, and no more.
     pub fn is(&self, text: &str) -> bool {
-        let mut wanted = Plain::new(text);
+        let mut wanted = Spelled::new(text);
         for byte in self.bytes.as_slice() {
             if wanted.next_byte() != Some(*byte) {
                 return false;

@@ -3,16 +3,16 @@
 
 /// What is left of a text.
 #[derive(Clone, Copy)]
-pub struct Plain<'a> {
+pub struct Spelled<'a> {
     /// The blanks that come first.
     blanks: u8,
     rest: &'a [u8],
 }
 
-impl<'a> Plain<'a> {
+impl<'a> Spelled<'a> {
     /// The whole of a text.
     pub fn new(text: &'a str) -> Self {
-        Plain {
+        Spelled {
             blanks: 0,
             rest: text.as_bytes(),
         }
