@@ -6,11 +6,8 @@ use std::alloc::Global;
 
 /// The fault that the line has whatever the other lines are, if it has one. In `text` `^` stands for a carriage return.
 pub fn answer_to(alloc: Global, text: &str) -> Result<String> {
-    let mut line = Vec::new(alloc);
-    for byte in text.as_bytes() {
-        line.push(if *byte == b'^' { b'\r' } else { *byte })?;
-    }
-    let answer = match read_line(alloc, line.as_slice()) {
+    let line = text.replace(alloc, '^', "\r")?;
+    let answer = match read_line(alloc, line.as_bytes()) {
         Ok(_) => "alone -",
         Err(SyntaxError::Fault(SyntaxFault::BadCharacter)) => "alone 2",
         Err(SyntaxError::Fault(SyntaxFault::BadLine)) => "alone 3",

@@ -1,6 +1,6 @@
-//! Cases of outside values for the assembler. Of a case that differs the answer that it got is printed.
+//! Cases of outside values for the assembler and the loader. Of a case that differs the answer that it got is printed.
 //!
-//! A case is one line, in one of four forms:
+//! A case is one line, in one of seven forms. For the assembler:
 //!
 //! `TEXT => ANSWER`, a line of a whole source: TEXT is line 8 of a source whose other lines define names and place it
 //! at 1000:1000 (`BEFORE` and `BEHIND` in src/placed.rt). The answer is the bytes that stand there in hexadecimal,
@@ -18,18 +18,34 @@
 //! at the instruction's address, and what then stands there must have the same text. It may be another row of the
 //! encoding table, or have no displacement where that was 0; XCHG and TEST may have their operands exchanged. The
 //! answer counts the instructions; of the first that comes back as another its text is printed.
+//!
+//! For the loader, where in TEXT and ANSWER `|` stands for a line feed and `^` for a carriage return:
+//!
+//! `hex: TEXT => ANSWER`, a HEX text. The answer is the HEX text that is written of the image that it gives, or its
+//! fault's number, behind it a blank and the fault's line where it has one.
+//!
+//! `run: TEXT => ANSWER`, a run file. The answer is `ram`, `sw1`, `sw2`, the timer, the table of clocks, the budget and,
+//! for each key, its stamp and code, parted by blanks; or its fault's number. Numbers are decimal.
+//!
+//! `read: SIZE MOST LIMIT => ANSWER`, SIZE bytes over memory, of which a read gives MOST at most and LIMIT are wanted.
+//! The answer is how many bytes are read, and by how many reads. Besides, each of these reads fails in turn: the whole
+//! is then refused as failed, and no read is made behind it.
 #![tactic(auto)]
 
 mod alone;
 mod back;
 mod code;
 mod front;
+mod hex_text;
+mod pieces;
 mod placed;
+mod reads;
+mod run_text;
 mod trip;
 
 use anyhow::{Context, Result, ensure};
 use cases::judge_cases;
-use std::alloc::Global;
+use std::alloc::{AllocError, Global};
 use std::io;
 
 fn main(rt: HostRuntime) -> io::Result<()> {
@@ -39,7 +55,13 @@ fn main(rt: HostRuntime) -> io::Result<()> {
 /// Fails where a case's answer is another one, or the case can't be read.
 fn judge(alloc: Global, case: &str) -> Result<()> {
     let (text, wanted) = case.split_once(" => ").context("no answer")?;
-    let answer = if wanted.starts_with("alone ") {
+    let answer = if let Some(text) = text.strip_prefix("hex: ") {
+        hex_text::answer_to(alloc, &unfolded(alloc, text)?)?
+    } else if let Some(text) = text.strip_prefix("run: ") {
+        run_text::answer_to(alloc, &unfolded(alloc, text)?)?
+    } else if let Some(text) = text.strip_prefix("read: ") {
+        reads::answer_to(alloc, text)?
+    } else if wanted.starts_with("alone ") {
         alone::answer_to(alloc, text)?
     } else if wanted.starts_with("front") {
         front::answer_to(alloc, text)?
@@ -50,4 +72,9 @@ fn judge(alloc: Global, case: &str) -> Result<()> {
     };
     ensure!(answer.as_str() == wanted, "{answer}");
     Ok(())
+}
+
+/// The text whose lines a case has in one.
+fn unfolded(alloc: Global, text: &str) -> Result<String, AllocError> {
+    text.replace(alloc, '|', "\n")?.replace(alloc, '^', "\r")
 }
