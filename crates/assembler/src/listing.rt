@@ -57,6 +57,13 @@ impl Listing {
         &self.image
     }
 
+    /// The image that the source gives, without the listing.
+    pub fn into_image(self) -> Image
+        ensures { result ≡ self.image }
+    {
+        self.image
+    }
+
     /// The listing's line `i`, from 0 on: where the line's bytes stand, the first eight of them, a `+` where there are
     /// more, and the source's line. `None` past the last line.
     pub fn line(&self, alloc: Global, i: usize) -> Result<Option<String>, AsmFault>

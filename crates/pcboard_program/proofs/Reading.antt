@@ -6,9 +6,8 @@ use Rattle.assembler.specs.Gives.{Gives}
 use Rattle.loader.specs.HexText.{hex_text}
 use Rattle.loader.specs.RunFile.{Answers, run_of_text}
 use Rattle.board_plain.specs.Board.{BoardState}
-use Rattle.pcboard_program.specs.Answer.{AppendsA, GivesImage, IsHexOf, IsListingOf}
-use Rattle.pcboard_program.specs.Ready.{IsReady, seen_of}
-use Rattle.loader.specs.declared.run_file.RunFile.{RunFile}
+use Rattle.pcboard_program.specs.Answer.{AppendsA, GivesImage, IsBoardOf, IsHexOf, IsListingOf, IsReport}
+use Rattle.pcboard_program.specs.Ready.{seen_of}
 
 pub shorter : (limit : ℕ) (bytes : List ℕ) → length (take limit bytes) < limit → take limit bytes ≡ bytes
 shorter limit bytes within = take_all limit bytes (omega (arith, length-take limit bytes))
@@ -37,17 +36,34 @@ seen_image : (hex : Bool) (bytes : List ℕ) (image : List (ℕ × ℕ)) → Giv
 seen_image true bytes image gives = gives
 seen_image false bytes image gives = seen_whole bytes image gives
 
--- the board of the bytes that were seen is the board of the whole file
-pub seen_ready : (file said : Option (List ℕ)) (hex : Bool) (bytes run : List ℕ) (board : BoardState) (run_file : RunFile)
-    → IfSome file (λ known. bytes ≡ seen_of hex known) → IfSome said (λ known. run ≡ known) → IsReady hex bytes run board run_file
-    → IfSome file (λ known. IfSome said (λ known_run. IsReady hex known known_run board run_file))
-seen_ready None said hex bytes run board run_file seen same ready = tt
-seen_ready (Some known) None hex bytes run board run_file seen same ready = tt
-seen_ready (Some known) (Some known_run) hex bytes run board run_file seen same ready = record {
-  image = ready.image;
-  gives = seen_image hex known ready.image (subst (λ bytes. GivesImage hex bytes ready.image) seen ready.gives);
-  says = subst (λ run. Answers (Ok run_file) (run_of_text run)) same ready.says;
-  start = ready.start;
+-- the report of the bytes that were seen is that of the whole file
+pub seen_report : (file said : Option (List ℕ)) (hex : Bool) (bytes run text : List ℕ)
+    → IfSome file (λ known. bytes ≡ seen_of hex known) → IfSome said (λ known. run ≡ known) → IsReport hex bytes run text
+    → IfSome file (λ known. IfSome said (λ known_run. IsReport hex known known_run text))
+seen_report None said hex bytes run text seen same report = tt
+seen_report (Some known) None hex bytes run text seen same report = tt
+seen_report (Some known) (Some known_run) hex bytes run text seen same report = record {
+  image = report.image;
+  gives = seen_image hex known report.image (subst (λ bytes. GivesImage hex bytes report.image) seen report.gives);
+  run_file = report.run_file;
+  says = subst (λ run. Answers (Ok report.run_file) (run_of_text run)) same report.says;
+  is_text = report.is_text;
+}
+
+-- and so is the board
+pub seen_board : (file said : Option (List ℕ)) (hex : Bool) (bytes run : List ℕ) (board : BoardState)
+    → IfSome file (λ known. bytes ≡ seen_of hex known) → IfSome said (λ known. run ≡ known) → IsBoardOf hex bytes run board
+    → IfSome file (λ known. IfSome said (λ known_run. IsBoardOf hex known known_run board))
+seen_board None said hex bytes run board seen same is_board = tt
+seen_board (Some known) None hex bytes run board seen same is_board = tt
+seen_board (Some known) (Some known_run) hex bytes run board seen same is_board = record {
+  image = is_board.image;
+  gives = seen_image hex known is_board.image (subst (λ bytes. GivesImage hex bytes is_board.image) seen is_board.gives);
+  run_file = is_board.run_file;
+  says = subst (λ run. Answers (Ok is_board.run_file) (run_of_text run)) same is_board.says;
+  plain = is_board.plain;
+  changes = is_board.changes;
+  trail = is_board.trail;
 }
 
 -- the HEX text of the image that was seen is that of the whole source

@@ -1,11 +1,9 @@
 -- A board that is ready to run, as the program's functions tell each other.
 -- For proofs alone: no public contract rests on it.
-use Rattle.std.specs.Prelude.{ℕ, ◌≡◌, Bool, true, false, List, [], take, Ok}
+use Rattle.std.specs.Prelude.{ℕ, ◌≡◌, Bool, true, false, List, [], take}
 use Rattle.board_plain.specs.Board.{BoardState}
 use Rattle.board_plain.specs.Plain.{power_on}
 use Rattle.loader.specs.declared.run_file.RunFile.{RunFile}
-use Rattle.loader.specs.RunFile.{Answers, run_of_text}
-use Rattle.pcboard_program.specs.Answer.{GivesImage}
 use Rattle.pcboard_program.specs.Report.{config_of}
 
 -- what is read of a program's file: a HEX text whole, if `hex`, else of a source one byte more than it may have
@@ -18,10 +16,3 @@ pub record IsAtPowerOn (image : List (ℕ × ℕ)) (run : RunFile) (board : Boar
   pub plain : board.plain ≡ power_on image (config_of run) run.keys
   pub changes : board.changes ≡ []
   pub trail : board.trail ≡ []
-
--- the bytes give an image, the run file's text says how to run, and this is the board at power-on
-pub record IsReady (hex : Bool) (bytes said : List ℕ) (board : BoardState) (run : RunFile) : Type 0 where
-  pub image : List (ℕ × ℕ)
-  pub gives : GivesImage hex bytes image
-  pub says : Answers (Ok run) (run_of_text said)
-  pub start : IsAtPowerOn image run board

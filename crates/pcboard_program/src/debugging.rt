@@ -10,7 +10,6 @@ ghost use Rattle.pcboard_program.specs.Taking.{TakesLine};
 ghost use Rattle.pcboard_program.specs.Transcript.{Transcript, ends_session, input_lines, refusal_text, reply_text, typed_command};
 ghost use Rattle.pcboard_program.specs.Unanswered.{IsUnjudged, UnlessFailed, WhereRefused};
 
-use crate::fault::Fault;
 use crate::input::next_byte;
 use crate::unanswered::Unanswered;
 use board::board::Board;
@@ -39,10 +38,8 @@ pub(crate) fn print_session<I: ByteInput, O: Write>(
     ensures end { IfErr result IsUnjudged }
     ensures unfailed { UnlessFailed (CountsNone (I.failures input.old) (I.failures input.new)) result }
 {
-    match Session::new(alloc, board) {
-        Ok(mut session) => answer_lines(alloc, &mut session, input, out),
-        Err(fault) => Err(Unanswered::Refused(Fault::Session(fault))),
-    }
+    let mut session = Session::new(alloc, board)?;
+    answer_lines(alloc, &mut session, input, out)
 }
 
 /// Answers lines as they come until one is `quit` or the input ends. An input of more than `u64::MAX` lines fails.

@@ -3,7 +3,7 @@ ghost use Rattle.std.specs.Prelude.{◌≡◌, ◌++◌, codes, OnOk};
 ghost use Rattle.std.specs.Fmt.{decimal};
 ghost use Rattle.std.specs.Io.KnownBytes.{Appends};
 ghost use Rattle.board_plain.specs.declared.fault.BoardFault.TheVariants.{Memory};
-ghost use Rattle.pcboard_program.specs.declared.fault.Fault.TheVariants.{Board};
+ghost use Rattle.pcboard_program.specs.declared.fault.Fault.TheVariants.{Board, Hex, Run, Source};
 ghost use Rattle.pcboard_program.specs.Faults.{fault_text, line_of, name_of, number_of};
 
 use assembler::fault::AsmFault;
@@ -24,6 +24,38 @@ pub enum Fault {
     Board(BoardFault),
     /// A debugger's session can't be begun.
     Session(DebugFault),
+}
+
+impl From<AsmFault> for Fault {
+    ghost from_gives = { λ part fault. fault ≡ Source part };
+
+    fn from(fault: AsmFault) -> Self {
+        Fault::Source(fault)
+    }
+}
+
+impl From<HexFault> for Fault {
+    ghost from_gives = { λ part fault. fault ≡ Hex part };
+
+    fn from(fault: HexFault) -> Self {
+        Fault::Hex(fault)
+    }
+}
+
+impl From<RunFault> for Fault {
+    ghost from_gives = { λ part fault. fault ≡ Run part };
+
+    fn from(fault: RunFault) -> Self {
+        Fault::Run(fault)
+    }
+}
+
+impl From<BoardFault> for Fault {
+    ghost from_gives = { λ part fault. fault ≡ Board part };
+
+    fn from(fault: BoardFault) -> Self {
+        Fault::Board(fault)
+    }
 }
 
 /// A want of memory that no other part tells is the board's.

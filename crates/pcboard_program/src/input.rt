@@ -12,6 +12,7 @@ use crate::unanswered::Unanswered;
 use assembler::fault::AsmFault;
 use loader::byte_input::{ByteInput, ReadFault, read_all};
 use loader::hex_fault::HexFault;
+use loader::run_fault::RunFault;
 use std::alloc::Global;
 
 /// One byte more than a source may have, so that a longer one is seen to be too long.
@@ -35,6 +36,26 @@ pub(crate) fn read_program<F: Opener>(
         let want = Fault::Source(AsmFault::Memory);
         read_front(alloc, &mut file, SOURCE_READ_LIMIT, want)
     }
+}
+
+/// The bytes of a program's file, as `read_program` has them, and those of a run file. Both files are read before either
+/// is judged.
+pub(crate) fn read_files<F: Opener>(
+    alloc: Global,
+    files: &F,
+    file: &str,
+    run: &str,
+    hex: bool,
+) -> Result<(Vec<u8>, Vec<u8>), Unanswered>
+    ensures bytes { IfSome (F.file_bytes files.now file.now)
+        (λ known. IfOk result (λ read. read.0.items ≡ seen_of hex known)) }
+    ensures said { IfSome (F.file_bytes files.now run.now) (λ known. IfOk result (λ read. read.1.items ≡ known)) }
+    ensures end { IfErr result IsUnjudged }
+{
+    let bytes = read_program(alloc, files, file, hex)?;
+    let mut run = files.open(run)?;
+    let said = read_whole(alloc, &mut run, Fault::Run(RunFault::Memory))?;
+    Ok((bytes, said))
 }
 
 /// All that `input` still has to give. `want` is the refusal where there is no memory for it.

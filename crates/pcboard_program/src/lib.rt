@@ -11,4 +11,5 @@ pub mod program;
 mod ready;
 pub mod report;
 pub mod run;
+mod texts;
 mod unanswered;

@@ -1,7 +1,6 @@
 //! The program, over any files, standard input and writers.
-ghost use Rattle.std.specs.Prelude.{◌≡◌, ◌≢◌, ◌≤◌, ◌<◌, ℕ, List, [], length, map, ◌⊎◌, IfErr, IfSome, OnOk};
+ghost use Rattle.std.specs.Prelude.{◌≡◌, ◌≢◌, ◌≤◌, ◌<◌, List, [], length, map, ◌⊎◌, IfErr, IfSome, OnOk, string_bytes};
 ghost use Rattle.std.specs.Io.KnownBytes.{Appends};
-ghost use Rattle.board_plain.specs.Plain.{clock_of};
 ghost use Rattle.board_types.specs.TextLines.{text_lines};
 ghost use Rattle.assembler.specs.Gives.{Gives};
 ghost use Rattle.assembler.specs.Rows.{AreRows, Row, names_of};
@@ -9,9 +8,7 @@ ghost use Rattle.loader.specs.ByteInput.{CountsNone};
 ghost use Rattle.loader.specs.HexText.{hex_text};
 ghost use Rattle.pcboard_program.specs.Answer.{AppendsA, IsAssembled, IsListingOf, Prints, PrintsTask};
 ghost use Rattle.pcboard_program.specs.Faults.{IsWantOfMemory, fault_text};
-ghost use Rattle.pcboard_program.specs.Ready.{IsAtPowerOn};
 ghost use Rattle.pcboard_program.specs.Refusal.{IsTrueOfTask, IsTrueOfText, IsTrueOfWords, PrintsNoAnswer, PrintsReplies, RefusesWords, TellsA, unreadable_text};
-ghost use Rattle.pcboard_program.specs.Report.{report_of};
 ghost use Rattle.pcboard_program.specs.Unanswered.{EndsFor, IsUnjudged, UnlessFailed, WhereRefused};
 
 use crate::debugging::print_session;
@@ -19,17 +16,15 @@ use crate::fault::{Fault, write_fault};
 use crate::input::read_program;
 use crate::listing::listing_text;
 use crate::opener::Opener;
-use crate::ready::{read_board, stored_board};
-use crate::run::report_at_budget;
+use crate::ready::{read_board, read_report, stored_report};
+use crate::report::Report;
 use crate::unanswered::Unanswered;
 use assembler::assembly::assemble;
 use assembler::listing::Listing;
-use board::board::Board;
 use board_plain::fault::BoardFault;
 use board_types::image::Image;
 use loader::byte_input::ByteInput;
 use loader::hex_writer::write_hex;
-use loader::run_file::RunFile;
 use pcboard_words::line::read_words;
 use pcboard_words::task::{LineFault, Task};
 use std::alloc::Global;
@@ -129,35 +124,28 @@ fn print_task<F: Opener, I: ByteInput, O: Write>(
 {
     match task {
         Task::Stored => {
-            let (board, run) = stored_board(alloc, input)?;
-            print_report(alloc, board, &run, out)
+            let report = stored_report(alloc, input)?;
+            print_report(&report, out)
         }
         Task::Asm { file, list } => print_assembled(alloc, files, file, list, out),
         Task::Run { file, run, hex } => {
-            let (board, run) = read_board(alloc, files, file, run, hex)?;
-            print_report(alloc, board, &run, out)
+            let report = read_report(alloc, files, file, run, hex)?;
+            print_report(&report, out)
         }
         Task::Debug { file, run, hex } => {
-            let (board, _) = read_board(alloc, files, file, run, hex)?;
+            let board = read_board(alloc, files, file, run, hex)?;
             print_session(alloc, board, input, out)
         }
     }
 }
 
-/// Runs a board at power-on as the run file says, and prints the report.
-fn print_report<O: Write>(
-    alloc: Global,
-    board: Board,
-    run: &RunFile,
-    out: &mut O,
-) -> Result<(), Unanswered>
-    requires { clock_of board.plain ≡ 0 }
-    ensures printed { OnOk result ((image : List (ℕ × ℕ)) → IsAtPowerOn image run.now board
-        → Appends (O.contents out.old) (O.contents out.new) (report_of image run.now)) }
+/// Prints a report.
+fn print_report<O: Write>(report: &Report, out: &mut O) -> Result<(), Unanswered>
+    ensures printed { OnOk result (Appends (O.contents out.old) (O.contents out.new)
+        (string_bytes report.now.text)) }
     ensures kept { IfErr result (WhereRefused (O.contents out.new ≡ O.contents out.old)) }
     ensures end { IfErr result IsUnjudged }
 {
-    let report = report_at_budget(alloc, board, run)?;
     Ok(print(out, report.text.as_str())?)
 }
 
@@ -176,10 +164,7 @@ fn print_assembled<F: Opener, O: Write>(
         (λ source. IsTrueOfText source fault))) }
 {
     let source = read_program(alloc, files, file, false)?;
-    let listing = match assemble(alloc, source.as_slice()) {
-        Ok(listing) => listing,
-        Err(fault) => return Err(Unanswered::Refused(Fault::Source(fault))),
-    };
+    let listing = assemble(alloc, source.as_slice())?;
     if list {
         print_listing(alloc, &listing, source.len(), out)
     } else {
@@ -202,10 +187,8 @@ fn print_listing<O: Write>(
     ensures kept { IfErr result (WhereRefused (O.contents out.new ≡ O.contents out.old)) }
     ensures end { IfErr result IsUnjudged }
 {
-    match listing_text(alloc, listing, size) {
-        Ok(text) => Ok(print(out, text.as_str())?),
-        Err(fault) => Err(Unanswered::Refused(Fault::Source(fault))),
-    }
+    let text = listing_text(alloc, listing, size)?;
+    Ok(print(out, text.as_str())?)
 }
 
 /// Prints the HEX text of an image.

@@ -1,17 +1,20 @@
-//! Running a source or an image for a number of clocks.
-ghost use Rattle.std.specs.Prelude.{◌≡◌, ℕ, List, IfErr, IfOk};
+//! Running a source, an image or texts for a number of clocks.
+ghost use Rattle.std.specs.Prelude.{◌≡◌, ℕ, List, IfErr, IfOk, Ok, string_bytes};
 ghost use Rattle.board_plain.specs.Plain.{clock_of};
 ghost use Rattle.assembler.specs.Gives.{Gives};
+ghost use Rattle.loader.specs.declared.run_file.RunFile.{RunFile};
+ghost use Rattle.loader.specs.RunFile.{Answers, run_of_text};
+ghost use Rattle.pcboard_program.specs.Answer.{GivesImage, IsReport, IsTrueRefusal};
 ghost use Rattle.pcboard_program.specs.Ready.{IsAtPowerOn};
 ghost use Rattle.pcboard_program.specs.Report.{FitsBoard, ReportsImage, ReportsSource};
 ghost use Rattle.pcboard_program.specs.Faults.{IsTrueOfImage, IsTrueOfSource, IsWantOfMemory};
 
 use crate::fault::Fault;
 use crate::report::Report;
+use crate::texts::read_texts;
 use assembler::assembly::assemble;
 use board::board::Board;
 use board_plain::config::Config;
-use board_plain::fault::BoardFault;
 use board_report::text::report_text;
 use board_types::image::Image;
 use loader::run_file::RunFile;
@@ -28,10 +31,22 @@ pub fn run_source(alloc: Global, source: &[u8], run: &RunFile) -> Result<Report,
     ensures accepted { (image : List (ℕ × ℕ)) → Gives source.now image → FitsBoard image run.now
         → IfErr result IsWantOfMemory }
 {
-    match assemble(alloc, source) {
-        Ok(listing) => run_image(alloc, listing.image(), run),
-        Err(fault) => Err(Fault::Source(fault)),
-    }
+    let listing = assemble(alloc, source)?;
+    run_image(alloc, listing.image(), run)
+}
+
+/// Runs a HEX text, if `hex`, else a source, under the text of a run file, as `run_image` runs its image. The program's
+/// fault is told before the run file's, and both before the board's.
+pub fn run_texts(alloc: Global, hex: bool, bytes: &[u8], run: &[u8]) -> Result<Report, Fault>
+    ensures report { IfOk result (λ report. IsReport hex bytes.now run.now (string_bytes report.text)) }
+    ensures fault { IfErr result (IsTrueRefusal hex bytes.now run.now) }
+
+    // Where the bytes give an image and the run file a board that can have it, only the want of memory refuses them.
+    ensures accepted { (image : List (ℕ × ℕ)) → GivesImage hex bytes.now image → (run_file : RunFile)
+        → Answers (Ok run_file) (run_of_text run.now) → FitsBoard image run_file → IfErr result IsWantOfMemory }
+{
+    let (image, run) = read_texts(alloc, hex, bytes, run)?;
+    run_image(alloc, &image, &run)
 }
 
 /// Runs an image on the board that the run file describes, with the file's stamped key codes, for the file's budget,
@@ -44,8 +59,10 @@ pub fn run_image(alloc: Global, image: &Image, run: &RunFile) -> Result<Report, 
     // Where the image fits the board, only the want of memory refuses it.
     ensures accepted { FitsBoard image.now run.now → IfErr result IsWantOfMemory }
 {
-    let board = new_board(alloc, image, run)?;
-    report_at_budget(alloc, board, run)
+    let mut board = new_board(alloc, image, run)?;
+    board.run(run.budget.get())?;
+    let text = report_text(alloc, &board)?;
+    Ok(Report { board, text })
 }
 
 /// The board of an image at power-on, as the run file says.
@@ -62,21 +79,5 @@ pub(crate) fn new_board(alloc: Global, image: &Image, run: &RunFile) -> Result<B
         clocks: run.clocks,
     };
     let keys = run.keys.copy()?;
-    Board::new(alloc, image, config, keys).map_err(Fault::Board)
-}
-
-/// Runs a board at power-on for the run file's budget, and reports it.
-pub(crate) fn report_at_budget(
-    alloc: Global,
-    mut board: Board,
-    run: &RunFile,
-) -> Result<Report, Fault>
-    requires { clock_of board.plain ≡ 0 }
-    ensures report { IfOk result (λ report. (image : List (ℕ × ℕ)) → IsAtPowerOn image run.now board
-        → ReportsImage image run.now report) }
-    ensures fault { IfErr result (λ fault. fault ≡ Fault.Board BoardFault.Memory) }
-{
-    board.run(run.budget.get()).map_err(Fault::Board)?;
-    let text = report_text(alloc, &board)?;
-    Ok(Report { board, text })
+    Ok(Board::new(alloc, image, config, keys)?)
 }

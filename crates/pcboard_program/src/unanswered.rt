@@ -1,11 +1,13 @@
 //! Why the program ends without an answer.
 ghost use Rattle.std.specs.Prelude.{◌≡◌};
 ghost use Rattle.board_plain.specs.declared.fault.BoardFault.TheVariants.{Memory};
-ghost use Rattle.pcboard_program.specs.declared.fault.Fault.TheVariants.{Board};
+ghost use Rattle.pcboard_program.specs.declared.fault.Fault.TheVariants.{Board, Session, Source};
 ghost use Rattle.pcboard_program.specs.declared.unanswered.Unanswered.TheVariants.{Failed, Refused};
 
 use crate::fault::Fault;
+use assembler::fault::AsmFault;
 use board_plain::fault::BoardFault;
+use debugger::fault::DebugFault;
 use loader::byte_input;
 use std::alloc::AllocFailed;
 use std::io;
@@ -23,6 +25,22 @@ impl From<Fault> for Unanswered {
 
     fn from(fault: Fault) -> Self {
         Unanswered::Refused(fault)
+    }
+}
+
+impl From<AsmFault> for Unanswered {
+    ghost from_gives = { λ fault end. end ≡ Refused (Source fault) };
+
+    fn from(fault: AsmFault) -> Self {
+        Unanswered::Refused(Fault::Source(fault))
+    }
+}
+
+impl From<DebugFault> for Unanswered {
+    ghost from_gives = { λ fault end. end ≡ Refused (Session fault) };
+
+    fn from(fault: DebugFault) -> Self {
+        Unanswered::Refused(Fault::Session(fault))
     }
 }
 

@@ -1,19 +1,12 @@
 //! Runs of sources and of HEX texts.
-ghost use Rattle.std.specs.Prelude.{◌≡◌, ℕ, Bool, true, false, List, length, Ok, IfOk, IfErr, MatchResult, string_bytes};
-ghost use Rattle.loader.specs.declared.run_file.RunFile.{RunFile};
-ghost use Rattle.loader.specs.RunFile.{Answers, run_of_text};
-ghost use Rattle.pcboard_program.specs.Answer.{GivesImage, IsReport, IsTrueRefusal};
+ghost use Rattle.std.specs.Prelude.{◌≡◌, true, false, length, MatchResult, string_bytes};
+ghost use Rattle.pcboard_program.specs.Answer.{IsReport, IsTrueRefusal};
 ghost use Rattle.pcboard_program.specs.Faults.{IsWantOfMemory};
-ghost use Rattle.pcboard_program.specs.Report.{FitsBoard};
 ghost use Rattle.zebludor_run.specs.Outcomes.{Accepts, Tells, buffer_after, fault_outcome, text_outcome};
 
-use assembler::assembly::assemble;
-use board_types::image::Image;
-use loader::hex_reader::read_hex;
-use loader::run_reader::read_run_text;
 use pcboard_program::fault::Fault;
 use pcboard_program::report::Report;
-use pcboard_program::run::run_image;
+use pcboard_program::run::run_texts;
 use std::alloc::Global;
 
 /// The report is written.
@@ -50,7 +43,7 @@ pub extern "C" fn zebludor_run(alloc: Global, source: &[u8], run: &[u8], out: &m
     ensures accepted { Accepts false source.now run.now → Tells (IsReport false source.now run.now) IsWantOfMemory
         out.old out.new result }
 {
-    tell(report_of_source(alloc, source, run), out)
+    tell(run_texts(alloc, false, source, run), out)
 }
 
 /// Runs a text of Intel HEX under the text of a run file, and writes the report into `out`.
@@ -67,41 +60,7 @@ pub extern "C" fn zebludor_run_hex(
     ensures accepted { Accepts true text.now run.now → Tells (IsReport true text.now run.now) IsWantOfMemory
         out.old out.new result }
 {
-    tell(report_of_hex(alloc, text, run), out)
-}
-
-fn report_of_source(alloc: Global, source: &[u8], run: &[u8]) -> Result<Report, Fault>
-    ensures report { IfOk result (λ report. IsReport false source.now run.now (string_bytes report.text)) }
-    ensures fault { IfErr result (IsTrueRefusal false source.now run.now) }
-    ensures accepted { Accepts false source.now run.now → IfErr result IsWantOfMemory }
-{
-    match assemble(alloc, source) {
-        Ok(listing) => report_of_image(alloc, listing.image(), run),
-        Err(fault) => Err(Fault::Source(fault)),
-    }
-}
-
-fn report_of_hex(alloc: Global, text: &[u8], run: &[u8]) -> Result<Report, Fault>
-    ensures report { IfOk result (λ report. IsReport true text.now run.now (string_bytes report.text)) }
-    ensures fault { IfErr result (IsTrueRefusal true text.now run.now) }
-    ensures accepted { Accepts true text.now run.now → IfErr result IsWantOfMemory }
-{
-    match read_hex(alloc, text) {
-        Ok(image) => report_of_image(alloc, &image, run),
-        Err(fault) => Err(Fault::Hex(fault)),
-    }
-}
-
-fn report_of_image(alloc: Global, image: &Image, run: &[u8]) -> Result<Report, Fault>
-    ensures report { (hex : Bool) (bytes : List ℕ) → GivesImage hex bytes image.now
-        → IfOk result (λ report. IsReport hex bytes run.now (string_bytes report.text)) }
-    ensures fault { (hex : Bool) (bytes : List ℕ) → GivesImage hex bytes image.now
-        → IfErr result (IsTrueRefusal hex bytes run.now) }
-    ensures accepted { (run_file : RunFile) → Answers (Ok run_file) (run_of_text run.now)
-        → FitsBoard image.now run_file → IfErr result IsWantOfMemory }
-{
-    let run = read_run_text(alloc, run).map_err(Fault::Run)?;
-    run_image(alloc, image, &run)
+    tell(run_texts(alloc, true, text, run), out)
 }
 
 fn tell(report: Result<Report, Fault>, out: &mut [u8]) -> Outcome

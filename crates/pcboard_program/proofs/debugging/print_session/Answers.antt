@@ -13,15 +13,15 @@ or_nothing A B (Ok value) is = tt
 or_nothing A B (Err Failed) is = tt
 or_nothing A B (Err (Refused fault)) is = inr is
 
-pub returns-in-Ok-clause-transcript : goal.returns-in-Ok-clause-transcript
-returns-in-Ok-clause-transcript g c =
+pub returns-clause-transcript : goal.returns-clause-transcript
+returns-clause-transcript g c =
     subst
     (λ (session : SessionState). OnOk c.answer_lines.result (IfSome (g.I.ByteInput.remaining c.args.input.now)
-    (λ typed. AppendsA (Transcript session (input_lines typed)) (g.O.Write.contents c.args.out.now) (g.O.Write.contents c.answer_lines.new.out)))) c.in-Ok.ensures.session c.answer_lines.ensures.transcript
+    (λ typed. AppendsA (Transcript session (input_lines typed)) (g.O.Write.contents c.args.out.now) (g.O.Write.contents c.answer_lines.new.out)))) c.in_ok-session.ensures.session c.answer_lines.ensures.transcript
 
-pub returns-in-Ok-clause-cut : goal.returns-in-Ok-clause-cut
-returns-in-Ok-clause-cut g c =
+pub returns-clause-cut : goal.returns-clause-cut
+returns-clause-cut g c =
     or_nothing (g.O.Write.contents c.answer_lines.new.out ≡ g.O.Write.contents c.args.out.now) _ c.answer_lines.result
     (subst
     (λ (session : SessionState). IfErr c.answer_lines.result (WhereRefused (IfSome (g.I.ByteInput.remaining c.args.input.now)
-    (λ typed. AppendsA (BeginsTranscript session (input_lines typed)) (g.O.Write.contents c.args.out.now) (g.O.Write.contents c.answer_lines.new.out))))) c.in-Ok.ensures.session c.answer_lines.ensures.cut)
+    (λ typed. AppendsA (BeginsTranscript session (input_lines typed)) (g.O.Write.contents c.args.out.now) (g.O.Write.contents c.answer_lines.new.out))))) c.in_ok-session.ensures.session c.answer_lines.ensures.cut)

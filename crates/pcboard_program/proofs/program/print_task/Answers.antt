@@ -1,4 +1,4 @@
-use Rattle.std.proofs.Common.{subst, sym}
+use Rattle.std.proofs.Common.{string_bytes, subst, sym}
 use Rattle.std.specs.Prelude.{◌≡◌, ◌⊎◌, IfErr, OnOk}
 use Rattle.std.proofs.lemmas.Result.{on_ok_weaker}
 use Rattle.pcboard_program.specs.Answer.{PrintsTask}
@@ -7,38 +7,40 @@ use Rattle.pcboard_program.specs.Unanswered.{WhereRefused}
 use Rattle.pcboard_program.proofs.Tasks.{printed_run, printed_session, printed_stored, replies_withheld}
 use Rattle.pcboard_program.proofs.program.print_task.Goals as goal
 
-pub returns-in_ok-board-in-Stored-clause-printed : goal.returns-in_ok-board-in-Stored-clause-printed
-returns-in_ok-board-in-Stored-clause-printed g c =
+pub returns-in_ok-report-in-Stored-clause-printed : goal.returns-in_ok-report-in-Stored-clause-printed
+returns-in_ok-report-in-Stored-clause-printed g c =
     let input = g.I.ByteInput.remaining c.args.input.now in
     let old = g.O.Write.contents c.args.out.now in
     let new = g.O.Write.contents c.print_report.new.out in
     subst (λ task. OnOk c.print_report.result (PrintsTask task (g.F.Opener.file_bytes c.args.files.now) input old new)) (sym c.in-Stored.is)
-    (on_ok_weaker c.print_report.result (printed_stored input old new c.in_ok-board-in-Stored.board c.in_ok-board-in-Stored.run' c.in_ok-board-in-Stored.ensures.ready) c.print_report.ensures.printed)
+    (on_ok_weaker c.print_report.result (printed_stored input old new (string_bytes c.in_ok-report-in-Stored.report.text) c.in_ok-report-in-Stored.ensures.report)
+    c.print_report.ensures.printed)
 
-pub returns-in_ok-board-in-Run-clause-printed : goal.returns-in_ok-board-in-Run-clause-printed
-returns-in_ok-board-in-Run-clause-printed g c =
-    subst (λ task. OnOk c.print_report-in-Run.result (PrintsTask task (g.F.Opener.file_bytes c.args.files.now) (g.I.ByteInput.remaining c.args.input.now)
-    (g.O.Write.contents c.args.out.now) (g.O.Write.contents c.print_report-in-Run.new.out))) (sym c.in-Run.is)
-    (on_ok_weaker c.print_report-in-Run.result (printed_run (g.F.Opener.file_bytes c.args.files.now c.in-Run.file.now) (g.F.Opener.file_bytes c.args.files.now c.in-Run.run'.now)
-    (g.O.Write.contents c.args.out.now) (g.O.Write.contents c.print_report-in-Run.new.out) c.in-Run.hex c.in_ok-board-in-Run.board c.in_ok-board-in-Run.run'
-    c.in_ok-board-in-Run.ensures.ready) c.print_report-in-Run.ensures.printed)
+pub returns-in_ok-report-in-Run-clause-printed : goal.returns-in_ok-report-in-Run-clause-printed
+returns-in_ok-report-in-Run-clause-printed g c =
+    let files = g.F.Opener.file_bytes c.args.files.now in
+    let old = g.O.Write.contents c.args.out.now in
+    let new = g.O.Write.contents c.print_report-in-Run.new.out in
+    subst (λ task. OnOk c.print_report-in-Run.result (PrintsTask task files (g.I.ByteInput.remaining c.args.input.now) old new)) (sym c.in-Run.is)
+    (on_ok_weaker c.print_report-in-Run.result (printed_run (files c.in-Run.file.now) (files c.in-Run.run'.now) old new c.in-Run.hex
+    (string_bytes c.in_ok-report-in-Run.report.text) c.in_ok-report-in-Run.ensures.report) c.print_report-in-Run.ensures.printed)
 
-pub returns-in_ok-board-in-Debug-clause-withheld : goal.returns-in_ok-board-in-Debug-clause-withheld
-returns-in_ok-board-in-Debug-clause-withheld g c =
+pub returns-in_ok-board-clause-withheld : goal.returns-in_ok-board-clause-withheld
+returns-in_ok-board-clause-withheld g c =
     let files = g.F.Opener.file_bytes c.args.files.now in
     let input = g.I.ByteInput.remaining c.args.input.now in
     let old = g.O.Write.contents c.args.out.now in
     let new = g.O.Write.contents c.print_session.new.out in
     subst (λ task. IfErr c.print_session.result (WhereRefused (new ≡ old ⊎ PrintsReplies task files input old new))) (sym c.in-Debug.is)
-    (replies_withheld c.print_session.result (files c.in-Debug.file.now) (files c.in-Debug.run'.now) input old new c.in-Debug.hex c.in_ok-board-in-Debug.board c.in_ok-board-in-Debug.field-0-1
-    c.in_ok-board-in-Debug.ensures.ready c.print_session.ensures.cut)
+    (replies_withheld c.print_session.result (files c.in-Debug.file.now) (files c.in-Debug.run'.now) input old new c.in-Debug.hex c.in_ok-board.board
+    c.in_ok-board.ensures.board c.print_session.ensures.cut)
 
-pub returns-in_ok-board-in-Debug-clause-printed : goal.returns-in_ok-board-in-Debug-clause-printed
-returns-in_ok-board-in-Debug-clause-printed g c =
+pub returns-in_ok-board-clause-printed : goal.returns-in_ok-board-clause-printed
+returns-in_ok-board-clause-printed g c =
     let files = g.F.Opener.file_bytes c.args.files.now in
     let input = g.I.ByteInput.remaining c.args.input.now in
     let old = g.O.Write.contents c.args.out.now in
     let new = g.O.Write.contents c.print_session.new.out in
     subst (λ task. OnOk c.print_session.result (PrintsTask task files input old new)) (sym c.in-Debug.is)
-    (on_ok_weaker c.print_session.result (printed_session (files c.in-Debug.file.now) (files c.in-Debug.run'.now) input old new c.in-Debug.hex c.in_ok-board-in-Debug.board c.in_ok-board-in-Debug.field-0-1
-    c.in_ok-board-in-Debug.ensures.ready) c.print_session.ensures.transcript)
+    (on_ok_weaker c.print_session.result (printed_session (files c.in-Debug.file.now) (files c.in-Debug.run'.now) input old new c.in-Debug.hex c.in_ok-board.board
+    c.in_ok-board.ensures.board) c.print_session.ensures.transcript)
