@@ -10,3 +10,4 @@ pub mod Writable
 pub mod Requests
 pub mod Wires
 pub mod Joining
+pub mod Working

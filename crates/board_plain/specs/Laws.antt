@@ -18,13 +18,14 @@ use Rattle.wiring.specs.Speaker.{is_speaker_high_after}
 use Rattle.wiring.specs.Wires as wires
 use Rattle.wiring.specs.Wires.{after_settling, is_requested}
 use Rattle.board_plain.specs.declared.act.Act.{Act}
-use Rattle.board_plain.specs.declared.act.Act.TheVariants.{Request, Instruction}
+use Rattle.board_plain.specs.declared.act.Act.TheVariants.{Nothing, Request, Instruction}
 use Rattle.board_plain.specs.declared.config.Config.{Config}
 use Rattle.board_plain.specs.declared.stop.Condition.{Condition}
 use Rattle.board_plain.specs.declared.stop.Stop.{Stop}
 use Rattle.board_plain.specs.Board.{BoardState, Ran}
 use Rattle.board_plain.specs.Stops.{holding, holds, IsStopOf, NoStop}
 use Rattle.board_plain.specs.Plain.{Plain, after_clock, after_clocks, board_after, clock_of, next_act, speaker_level}
+use Rattle.board_plain.specs.Work.{edges_next, jams_of, steps_next, work_next}
 
 -- the port writes of what the processor does: an instruction alone writes to ports
 abbrev pub writes_of : CpuState → Act → List (ℕ × ℕ)
@@ -177,3 +178,22 @@ abbrev pub SearchesJoin : Type 0
 SearchesJoin =
     (stops : List Condition) (a b : ℕ) (s t : BoardState) (stopped : Option Stop) → Ran a s t → NoStop stops a s.plain
     → IsStopOf stops b t.plain stopped → IsStopOf stops (a + b) s.plain stopped
+
+-- a clock adds at most one step, and where it adds one, nothing jams in it
+abbrev pub AtMostOneStep : Type 0
+AtMostOneStep = (s : Plain) → steps_next s + jams_of (next_act s) ≤ 1
+
+-- and at most two edges
+abbrev pub AtMostTwoEdges : Type 0
+AtMostTwoEdges = (s : Plain) → edges_next s ≤ 2
+
+-- in the next clock the processor does nothing, neither OUT0 nor OUT2 turns, and no key comes
+pub record IsIdle (s : Plain) : Type 0 where
+  pub nothing_done : next_act s ≡ Nothing
+  pub out_0 : (after_clock s).chips.pit.counter_0.out ≡ s.chips.pit.counter_0.out
+  pub out_2 : (after_clock s).chips.pit.counter_2.out ≡ s.chips.pit.counter_2.out
+  pub no_key : All (λ k. k.stamp ≢ clock_of s + 1) s.keys
+
+-- a clock has no work exactly where nothing acts, turns or comes
+abbrev pub IdleHasNoWork : Type 0
+IdleHasNoWork = (s : Plain) → (work_next s ≡ 0) ↔ IsIdle s

@@ -4,5 +4,5 @@ pub mod Trail
 pub mod Board
 pub mod Stops
 pub mod Lasts
-pub mod Laws
 pub mod Work
+pub mod Laws

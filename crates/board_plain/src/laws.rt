@@ -1,5 +1,5 @@
 //! What holds of every plain board, over the definitions alone.
-ghost use Rattle.board_plain.specs.Laws.{HaltIsQuiet, JamIsQuiet, LeastNumberIsTold, LevelIsForeseen, MemoryTakesBytes, NoRequestWithoutIf, RequestIsTaken, RunsHaveOneEnd, RunsJoin, SearchesJoin, StayingRequestIsTaken, WiresAlwaysHold};
+ghost use Rattle.board_plain.specs.Laws.{AtMostOneStep, AtMostTwoEdges, HaltIsQuiet, IdleHasNoWork, JamIsQuiet, LeastNumberIsTold, LevelIsForeseen, MemoryTakesBytes, NoRequestWithoutIf, RequestIsTaken, RunsHaveOneEnd, RunsJoin, SearchesJoin, StayingRequestIsTaken, WiresAlwaysHold};
 
 /// Where the wires hold, the speaker's level at the next clock is known from the port writes that the processor is
 /// about to make: no read, entry, iteration or key touches it.
@@ -60,4 +60,13 @@ pub fn runs_join()
 /// A search that finds nothing and the next one are one search of both their clocks.
 pub fn searches_join()
     ensures { SearchesJoin }
+{}
+
+/// A clock adds to the work at most one step or jam, and at most two edges. It adds nothing exactly where nothing acts,
+/// turns or comes: the processor does nothing, neither OUT0 nor OUT2 changes, and no key is stamped with the clock that
+/// is reached.
+pub fn idle_has_no_work()
+    ensures step { AtMostOneStep }
+    ensures edges { AtMostTwoEdges }
+    ensures idle { IdleHasNoWork }
 {}
