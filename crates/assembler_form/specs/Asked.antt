@@ -1,6 +1,6 @@
 -- What a line asks of the encoding table: an operation, and operands in the table's order, each place in memory with
 -- its size (8086 Family User's Manual, "Instruction Set"; the order and the sizes are this board's assembler dialect).
--- To be believed: public contracts say what they say by these definitions.
+-- To be believed: the headline rests on it.
 use Rattle.std.specs.Prelude.{Bool, true, false, if◌then◌else◌, Option, Some, None, unwrap_or}
 use Rattle.isa.specs.declared.operation.Operation.{Operation}
 use Rattle.isa.specs.declared.operation.Operation.TheVariants.{Arithmetic, Shift, Transfer, Control}

@@ -1,5 +1,5 @@
 -- Which row of the encoding table a line takes: the first in the table's order that takes what it asks.
--- To be believed: public contracts say what they say by these definitions.
+-- To be believed: the headline rests on it.
 use Rattle.std.specs.Prelude.{ℕ, ◌≡◌, ◌<◌, Some, List, Contains, slice_get}
 use Rattle.isa.specs.declared.row.Row.{Row}
 use Rattle.isa.specs.declared.form.Form.{Form}

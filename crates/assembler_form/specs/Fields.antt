@@ -1,5 +1,5 @@
 -- The numbers in a form's fields, once the operands' numbers are known. They are whole numbers: none is cut.
--- To be believed: public contracts say what they say by these definitions.
+-- To be believed: the headline rests on it.
 use Rattle.std.specs.Prelude.{ℕ, ℤ, pos, negsuc, ◌-◌, ◌%◌, ◌-ℤ◌, if◌then◌else◌, Option, Some, None}
 use Rattle.isa.specs.declared.layout.Field.{Field}
 use Rattle.isa.specs.declared.layout.Field.TheVariants.{Absent, Byte}

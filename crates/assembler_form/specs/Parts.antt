@@ -1,6 +1,6 @@
 -- What operands put into the parts of a row's bytes (8086 Family User's Manual, "Machine Instruction Encoding and
 -- Decoding").
--- To be believed: public contracts say what they say by these definitions.
+-- To be believed: the headline rests on it.
 use Rattle.std.specs.Prelude.{ℕ, ℤ, pos, negsuc, ◌+◌, ◌/◌, ◌%◌, Bool, false, nat_lt, if◌then◌else◌, Option, Some, None}
 use Rattle.isa.specs.declared.form.Base.{Base as BaseType}
 use Rattle.isa.specs.declared.form.Base.TheVariants.{Bp}

@@ -1,6 +1,6 @@
 -- When a row of the encoding table takes what a line asks: its operation is the line's, and so are the kinds of its
 -- operands.
--- To be believed: public contracts say what they say by these definitions.
+-- To be believed: the headline rests on it.
 use Rattle.std.specs.Prelude.{ℤ, pos, negsuc, ◌≡◌, Bool, true, false, ◌&&◌, ◌||◌, IsTrue, Option, Some, None, int_le}
 use Rattle.isa.specs.declared.operation.Operation.{Operation}
 use Rattle.isa.specs.declared.operation.Operation.TheVariants.{Control}

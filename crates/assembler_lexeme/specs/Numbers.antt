@@ -1,5 +1,5 @@
 -- Numbers as they are spelled.
--- To be believed: public contracts say what they say by these definitions.
+-- To be believed: the headline rests on it.
 use Rattle.std.specs.Prelude.{ℕ, ◌-◌, ◌==◌, ◌||◌, nat_lt, if◌then◌else◌, List, length, take, slice_index, Option, None, Some, option_and_then}
 use Rattle.board_types.specs.Digits.{spelled}
 

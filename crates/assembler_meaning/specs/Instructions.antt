@@ -1,5 +1,5 @@
 -- Instructions: what they ask of the encoding table, their prefixes, and the numbers in their fields.
--- To be believed: public contracts say what they say by these definitions.
+-- To be believed: the headline rests on it.
 use Rattle.std.specs.Prelude.{ℕ, ℤ, pos, ◌≡◌, ◌+◌, nat_le, if◌then◌else◌, List, [], ◌∷◌, ◌++◌, length, map, Option, None, Some}
 use Rattle.std.specs.Option.{option_map}
 use Rattle.isa.specs.declared.register.SegmentRegister.{SegmentRegister}

@@ -1,5 +1,5 @@
 -- Expressions: terms joined by signs.
--- To be believed: public contracts say what they say by these definitions.
+-- To be believed: the headline rests on it.
 use Rattle.std.specs.Prelude.{Bool, true, false, List, [], ◌∷◌, if◌then◌else◌, Result, Ok, Err}
 use Rattle.std.specs.List.{list_all}
 use Rattle.dialect.specs.declared.meaning.Meaning.TheVariants.{Keyword}

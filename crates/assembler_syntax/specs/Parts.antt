@@ -1,5 +1,5 @@
 -- The parts of a list of tokens: between commas, between signs, and around a token.
--- To be believed: public contracts say what they say by these definitions.
+-- To be believed: the headline rests on it.
 use Rattle.std.specs.Prelude.{ℕ, ◌+◌, Bool, true, false, not, ◌&&◌, if◌then◌else◌, List, [], ◌∷◌, take, drop, position, Option, None, Some, Result, Ok, Err}
 use Rattle.std.specs.Borrow.{Bor}
 use Rattle.dialect.specs.declared.meaning.Meaning.TheVariants.{Keyword}

@@ -1,5 +1,5 @@
 -- How much a statement holds: no more than its line has bytes.
--- To be believed: public contracts say what they say by these definitions.
+-- To be believed by callers of this crate: the headline does not rest on it.
 use Rattle.std.specs.Prelude.{ℕ, ◌≡◌, ◌≤◌, nat_le, Bool, true, ◌&&◌, List, length, sum_by, Option, None, Some}
 use Rattle.std.specs.List.{list_all}
 use Rattle.assembler_syntax.specs.declared.expression.Term.{Term}

@@ -1,6 +1,6 @@
 -- What a board shows: the plain board at its clock, the speaker's changes so far, the room that is kept for further
 -- ones, the last entries of the trail, and the turns that it has made.
--- To be believed: public contracts say what they say by these definitions.
+-- To be believed: the headline rests on it.
 use Rattle.std.specs.Prelude.{ℕ, ◌+◌, ◌<◌, ◌≤◌, ◌≡◌, ◌≢◌, List, ◌++◌, codes, length}
 use Rattle.board_plain.specs.declared.fault.BoardFault.{BoardFault}
 use Rattle.board_plain.specs.declared.fault.BoardFault.TheVariants.{RamSize, Memory, ClockLimit}

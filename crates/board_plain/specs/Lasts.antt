@@ -1,5 +1,5 @@
 -- The last clock at which a condition held: where a search that goes back ends.
--- To be believed: public contracts say what they say by these definitions.
+-- To be believed: the headline rests on it.
 use Rattle.std.specs.Prelude.{ℕ, ◌≡◌, ◌+◌, ◌<◌, List, Option, None, Some}
 use Rattle.board_plain.specs.declared.stop.Condition.{Condition}
 use Rattle.board_plain.specs.Plain.{Plain, after_clocks, clock_of}

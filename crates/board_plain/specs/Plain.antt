@@ -1,5 +1,5 @@
 -- The plain board: what stands at a clock, what one clock makes of it, and what it makes of n clocks.
--- To be believed: public contracts say what they say by these definitions.
+-- To be believed: the headline rests on it.
 use Rattle.std.specs.Prelude.{ℕ, ◌+◌, ◌-◌, ◌*◌, ◌==◌, Bool, if◌then◌else◌, List, [], ◌∷◌, map, filter}
 use Rattle.std.specs.Bool.{beq}
 use Rattle.board_types.specs.declared.choice.ClockTable.{ClockTable}

@@ -1,6 +1,6 @@
 -- the registers at power-on (8086 Family User's Manual, "Processor Reset and Initialization"; that the
 -- general registers are 0 is this board's choice)
--- To be believed: public contracts say what they say by these definitions.
+-- To be believed: the headline rests on it.
 use Rattle.std.specs.Prelude.{false}
 use Rattle.board_types.specs.declared.regs.Flags.{Flags}
 use Rattle.board_types.specs.declared.regs.Regs.{Regs}

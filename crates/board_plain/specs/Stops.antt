@@ -1,5 +1,5 @@
 -- Stops: what a condition says of a plain board, and the first clock of a run at which one holds.
--- To be believed: public contracts say what they say by these definitions.
+-- To be believed: the headline rests on it.
 use Rattle.std.specs.Prelude.{ℕ, ◌≡◌, ◌+◌, ◌-◌, ◌<◌, ◌≤◌, ◌^◌, ◌==◌, Bool, ◌&&◌, List, Option, None, Some, length}
 use Rattle.std.specs.List.{position_from}
 use Rattle.board_types.specs.Lines.{is_high}

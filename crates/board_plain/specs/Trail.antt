@@ -1,5 +1,5 @@
 -- The trail: each instruction that is begun and each interrupt that is entered at a free boundary.
--- To be believed: public contracts say what they say by these definitions.
+-- To be believed: the headline rests on it.
 use Rattle.std.specs.Prelude.{ℕ, ◌-◌, List, [], ◌∷◌, length, map, drop, Option, Some, None}
 use Rattle.std.specs.List.{range_with_len}
 use Rattle.board_types.specs.Address.{physical, offset_after}

@@ -1,5 +1,5 @@
 -- What a board has to do in some clocks: what its turns are held against.
--- To be believed: public contracts say what they say by these definitions.
+-- To be believed by callers of this crate: the headline does not rest on it.
 use Rattle.std.specs.Prelude.{ℕ, ◌+◌, if◌then◌else◌, length}
 use Rattle.std.specs.Bool.{beq}
 use Rattle.board_types.specs.Iterate.{total}

@@ -1,5 +1,5 @@
 -- Addresses of the 8086 (8086 Family User's Manual, "Physical Address Generation").
--- To be believed: public contracts say what they say by these definitions.
+-- To be believed: the headline rests on it.
 use Rattle.std.specs.Prelude.{ℕ, ◌+◌, ◌*◌, ◌%◌, ◌^◌}
 
 -- the address of an offset in a segment

@@ -1,5 +1,5 @@
 -- The bits of a word, by their numbers.
--- To be believed: public contracts say what they say by these definitions.
+-- To be believed: the headline rests on it.
 use Rattle.std.specs.Prelude.{ℕ, ◌==◌, Bool}
 use Rattle.std.specs.Int.{bit_at}
 

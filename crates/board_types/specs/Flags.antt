@@ -1,7 +1,7 @@
 -- The flags word (8086 Family User's Manual, "Flags"): CF is bit 0, PF 2, AF 4, ZF 6, SF 7, TF 8, IF 9,
 -- DF 10 and OF 11. Of the other bits 15 to 12 and 1 read 1, 5 and 3
 -- read 0 (this board's choice).
--- To be believed: public contracts say what they say by these definitions.
+-- To be believed: the headline rests on it.
 use Rattle.std.specs.Prelude.{ℕ, ◌+◌, ◌^◌, Bool, if◌then◌else◌}
 use Rattle.board_types.specs.declared.regs.Flags.{Flags}
 

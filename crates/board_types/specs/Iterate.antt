@@ -1,5 +1,5 @@
 -- A state that steps: what n steps make of it, what is seen on the way, and what they cost together.
--- To be believed: public contracts say what they say by these definitions.
+-- To be believed: the headline rests on it.
 use Rattle.std.specs.Prelude.{ℕ, ◌+◌, List, [], ◌++◌}
 use Rattle.std.proofs.Common.{zero, suc}
 

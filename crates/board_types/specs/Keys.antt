@@ -1,5 +1,5 @@
 -- Key codes with their clocks (IBM PC Technical Reference, "Keyboard Scan Codes").
--- To be believed: public contracts say what they say by these definitions.
+-- To be believed: the headline rests on it.
 use Rattle.std.specs.Prelude.{ℕ, ◌≤◌, ◌-◌, Bool, ◌&&◌, ◌||◌, if◌then◌else◌, nat_le, nat_lt, IsTrue, List, length, All, AllPairs, Option, None, Some, unwrap_or, slice_get}
 use Rattle.std.specs.Option.{option_map}
 use Rattle.board_types.specs.declared.keys.StampedKey.{StampedKey}

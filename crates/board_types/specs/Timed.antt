@@ -1,5 +1,5 @@
 -- A part that goes on by itself as time passes, and how long its output stays as it is.
--- To be believed: public contracts say what they say by these definitions.
+-- To be believed by callers of this crate: the headline does not rest on it.
 use Rattle.std.specs.Prelude.{◌≡◌, ◌≢◌, ℕ, ◌<◌, ◌≤◌, Option, MatchOption}
 use Rattle.board_types.specs.declared.line.Line.{Line}
 

@@ -1,6 +1,6 @@
 -- What the processor reaches over the bus: bytes of memory and ports. An instruction is given a meaning over any
 -- such thing, which keeps a state of its own.
--- To be believed: public contracts say what they say by these definitions.
+-- To be believed: the headline rests on it.
 use Rattle.std.specs.Prelude.{ℕ, ◌/◌, ◌%◌, Bool}
 use Rattle.board_types.specs.Address.{physical, offset_after}
 

@@ -1,5 +1,5 @@
 -- Port writes as such: a bus that notes them, and what they make of something when they are made in order.
--- To be believed: public contracts say what they say by these definitions.
+-- To be believed: the headline rests on it.
 use Rattle.std.specs.Prelude.{ℕ, false, List, [], ◌∷◌, ◌++◌, fold}
 use Rattle.bus.specs.Bus.{BusMeaning}
 

@@ -1,5 +1,5 @@
 -- Where a session stands, seen from the board with which it began.
--- To be believed: public contracts say what they say by these definitions.
+-- To be believed: the headline rests on it.
 use Rattle.std.specs.Prelude.{ℕ, ◌≡◌, ◌+◌, ◌-◌, List, [], ◌++◌}
 use Rattle.board_plain.specs.declared.speaker.SpeakerChange.{SpeakerChange}
 use Rattle.board_plain.specs.declared.stop.Condition.{Condition}

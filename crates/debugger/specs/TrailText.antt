@@ -1,5 +1,5 @@
 -- The trail as text.
--- To be believed: public contracts say what they say by these definitions.
+-- To be believed: the headline rests on it.
 use Rattle.std.specs.Prelude.{ℕ, List, ◌++◌, codes}
 use Rattle.std.specs.List.{flat_map}
 use Rattle.std.specs.Fmt.{decimal}

@@ -1,5 +1,5 @@
 -- The words of a line, and the numbers that words spell.
--- To be believed: public contracts say what they say by these definitions.
+-- To be believed: the headline rests on it.
 use Rattle.std.specs.Prelude.{ℕ, ◌-◌, ◌^◌, min, Bool, false, ◌==◌, ◌&&◌, nat_le, not, if◌then◌else◌, List, [], ◌∷◌, length, Option, None, Some}
 use Rattle.board_types.specs.TextLines.{onto_first}
 use Rattle.board_types.specs.Digits.{spelled}

@@ -1,6 +1,6 @@
 -- What mnemonics stand for (8086 Family User's Manual, "Instruction Set"; that JMP, CALL and NOP stand for several rows
 -- is every assembler's custom).
--- To be believed: public contracts say what they say by these definitions.
+-- To be believed: the headline rests on it.
 use Rattle.std.specs.Prelude.{Option, Some, None}
 use Rattle.isa.specs.declared.operation.Operation.{Operation}
 use Rattle.isa.specs.declared.operation.Operation.TheVariants.{Transfer, Control}

@@ -1,7 +1,7 @@
 -- The words of the dialect: mnemonics with their aliases (8086 Family User's Manual, "Instruction Set"), registers,
 -- prefixes, and the words of statements and operands. Of several words for one thing the first is the one that is
 -- written.
--- To be believed: public contracts say what they say by these definitions.
+-- To be believed: the headline rests on it.
 use Rattle.std.specs.Prelude.{ℕ, Bool, List, [], ◌∷◌, codes, map, find, Option, is_some}
 use Rattle.std.specs.Option.{option_map}
 use Rattle.std.specs.Char.{to_ascii_lowercase}

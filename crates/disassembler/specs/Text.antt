@@ -1,6 +1,6 @@
 -- The text of an instruction, in the assembler's dialect: prefix words in their order, the operation's first mnemonic,
 -- and the operands. Numbers are a `0`, two or four hexadecimal digits and `h` (this board's choice).
--- To be believed: public contracts say what they say by these definitions.
+-- To be believed: the headline rests on it.
 use Rattle.std.specs.Prelude.{ℕ, ◌+◌, ◌/◌, ◌%◌, ◌==◌, Bool, true, false, ◌&&◌, if◌then◌else◌, Option, Some, None, List, [], ◌∷◌, ◌++◌, codes}
 use Rattle.std.specs.List.{flat_map}
 use Rattle.std.specs.Fmt.{digit_glyph}

@@ -1,6 +1,6 @@
 -- What is written for the operands of an instruction (8086 Family User's Manual, "Machine Instruction Encoding and
 -- Decoding"; the size words and SHORT are this board's assembler dialect).
--- To be believed: public contracts say what they say by these definitions.
+-- To be believed: the headline rests on it.
 use Rattle.std.specs.Prelude.{ℕ, ◌+◌, ◌*◌, ◌%◌, Bool, true, false, if◌then◌else◌, Option, Some, None}
 use Rattle.isa.specs.declared.operation.Operation.{Operation}
 use Rattle.isa.specs.declared.operation.Operation.TheVariants.{Control}

@@ -1,6 +1,6 @@
 -- Products and quotients of a byte or a word (8086 Family User's Manual, "Multiplication Instructions", "Division
 -- Instructions"). A signed number is read as a sign and a magnitude; from half of its values on it is negative.
--- To be believed: public contracts say what they say by these definitions.
+-- To be believed: the headline rests on it.
 use Rattle.std.specs.Prelude.{ℕ, ◌*◌, ◌/◌, ◌%◌, ◌-◌, ◌==◌, nat_le, Bool, true, false, not, if◌then◌else◌, Option, Some, None}
 use Rattle.execute_machine.specs.declared.width.Width.{Width}
 use Rattle.execute_machine.specs.declared.width.Width.TheVariants.{Byte, Word}

@@ -1,6 +1,6 @@
 -- One shift by one place (8086 Family User's Manual, "Shift Instructions", "Rotate Instructions"), on an operand, CF
 -- and OF.
--- To be believed: public contracts say what they say by these definitions.
+-- To be believed: the headline rests on it.
 use Rattle.std.specs.Prelude.{ℕ, ◌+◌, ◌*◌, ◌/◌, ◌%◌, ◌==◌, nat_le, Bool, true, false, not}
 use Rattle.board_types.specs.Flags.{flag_bit}
 use Rattle.isa.specs.declared.operation.Shift.{Shift}

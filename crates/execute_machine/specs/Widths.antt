@@ -1,5 +1,5 @@
 -- The two widths of an operand (8086 Family User's Manual, "Machine Instruction Encoding and Decoding": W).
--- To be believed: public contracts say what they say by these definitions.
+-- To be believed: the headline rests on it.
 use Rattle.std.specs.Prelude.{ℕ, Bool, nat_le}
 use Rattle.execute_machine.specs.declared.width.Width.{Width}
 use Rattle.execute_machine.specs.declared.width.Width.TheVariants.{Byte, Word}

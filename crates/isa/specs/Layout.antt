@@ -1,6 +1,6 @@
 -- What each part of an instruction's bytes is, by the operands of its row (8086 Family User's Manual, "Machine
 -- Instruction Encoding and Decoding"). An operand stands in at most one part, but an ESC's number in two.
--- To be believed: public contracts say what they say by these definitions.
+-- To be believed: the headline rests on it.
 use Rattle.std.specs.Prelude.{ℕ, Option, Some, None}
 use Rattle.isa.specs.declared.row.Kind.{Kind}
 use Rattle.isa.specs.declared.row.Kind.TheVariants.{Ten, Code8, Code16, CodeSegment, CodeSegmentNotCs, EscNumber, Reg8, Reg16, Segment as SegmentKind, SegmentNotCs as SegmentNotCsKind, Memory as MemoryKind, Imm8, Imm16, Signed8, Rel8, Rel16, At8, At16, Far as FarKind}

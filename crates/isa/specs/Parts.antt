@@ -1,5 +1,5 @@
 -- Whether the opcode and the byte after it are a row's.
--- To be believed: public contracts say what they say by these definitions.
+-- To be believed: the headline rests on it.
 use Rattle.std.specs.Prelude.{ℕ, ◌+◌, ◌-◌, ◌/◌, ◌%◌, ◌==◌, Bool, true, not, ◌&&◌, nat_le, nat_lt, Option, find}
 use Rattle.isa.specs.declared.layout.CodePart.{CodePart}
 use Rattle.isa.specs.declared.layout.CodePart.TheVariants as code_parts

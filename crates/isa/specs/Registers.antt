@@ -1,5 +1,5 @@
 -- The numbers of the registers in an instruction (8086 Family User's Manual, "REG field encoding").
--- To be believed: public contracts say what they say by these definitions.
+-- To be believed: the headline rests on it.
 use Rattle.std.specs.Prelude.{ℕ, ◌==◌, cond}
 use Rattle.isa.specs.declared.register.ByteRegister.{ByteRegister}
 use Rattle.isa.specs.declared.register.ByteRegister.TheVariants.{Al, Cl, Dl, Bl, Ah, Ch, Dh, Bh}

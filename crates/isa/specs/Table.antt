@@ -2,7 +2,7 @@
 -- the clocks "Instruction Set Reference Data"; the clocks are this board's own where the manual's depend on the bus).
 -- `row OPERATION OPCODE OPERAND OPERAND CLOCKS`, and with a digit in reg `row/ OPERATION OPCODE DIGIT ..`. Where two
 -- rows can hold one instruction, the assembler takes the first.
--- To be believed: public contracts say what they say by these definitions.
+-- To be believed: the headline rests on it.
 use Rattle.std.specs.Prelude.{ℕ, ◌+◌, ◌*◌, List, [], ◌∷◌, ◌++◌, Some, None}
 use Rattle.isa.specs.declared.operation.Operation.{Operation}
 use Rattle.isa.specs.declared.operation.Operation.TheVariants.{Arithmetic, Shift, Product, Unary, Jump, Looping, Strings, Adjust, Transfer, Control, Processor}

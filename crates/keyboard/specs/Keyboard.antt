@@ -2,7 +2,7 @@
 -- count of codes that were lost (IBM PC Technical Reference, "Keyboard", and "System Board I/O": bit 7 of port B
 -- clears the latch, bit 6 lets the keyboard send). That sixteen codes can wait, and when one moves into the
 -- latch, are this board's choice.
--- To be believed: public contracts say what they say by these definitions.
+-- To be believed: the headline rests on it.
 use Rattle.std.specs.Prelude.{ℕ, ◌+◌, ◌-◌, ◌^◌, ◌&&◌, nat_lt, min, if◌then◌else◌, List, [], ◌∷◌, ◌++◌, length, drop, Option, None, slice_get, is_none, Bool}
 use Rattle.board_types.specs.Bits.{has_bit}
 

@@ -1,5 +1,5 @@
 -- Inputs that may fail, and count how often they did.
--- To be believed: public contracts say what they say by these definitions.
+-- To be believed: the headline rests on it.
 use Rattle.std.specs.Prelude.{◌≡◌, ℕ, ◌+◌, List, length, ⊤, ◌⊎◌, Option, None, Some, Result, MatchResult}
 use Rattle.std.specs.Io.KnownBytes.{IsAtEnd}
 

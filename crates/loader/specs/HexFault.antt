@@ -1,5 +1,5 @@
 -- The numbers, names and lines of the faults of a HEX text.
--- To be believed: public contracts say what they say by these definitions.
+-- To be believed: the headline rests on it.
 use Rattle.std.specs.Prelude.{ℕ, List, codes, Option, None, Some}
 use Rattle.loader.specs.declared.hex_fault.RecordFault.{RecordFault}
 use Rattle.loader.specs.declared.hex_fault.RecordFault.TheVariants.{BadRecord, BadSum, BadType, AfterEnd, NotLoadable}

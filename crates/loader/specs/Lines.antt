@@ -1,5 +1,5 @@
 -- What a line of a text holds.
--- To be believed: public contracts say what they say by these definitions.
+-- To be believed: the headline rests on it.
 use Rattle.std.specs.Prelude.{ℕ, ◌==◌, if◌then◌else◌, List, [], ◌∷◌}
 
 abbrev pub unless_last : ℕ → List ℕ → List ℕ

@@ -1,5 +1,5 @@
 -- What a HEX text says, line by line.
--- To be believed: public contracts say what they say by these definitions.
+-- To be believed: the headline rests on it.
 use Rattle.std.specs.Prelude.{ℕ, ◌+◌, ◌==◌, Bool, if◌then◌else◌, length, List, [], ◌∷◌, ◌≡◌, Option, None, Some, Result, Ok, Err}
 use Rattle.loader.specs.declared.hex_fault.RecordFault.{RecordFault}
 use Rattle.loader.specs.declared.hex_fault.RecordFault.TheVariants.{AfterEnd, NotLoadable}

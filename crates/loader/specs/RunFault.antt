@@ -1,5 +1,5 @@
 -- The numbers and names of the faults of a run file.
--- To be believed: public contracts say what they say by these definitions.
+-- To be believed: the headline rests on it.
 use Rattle.std.specs.Prelude.{ℕ, List, codes}
 use Rattle.loader.specs.declared.run_fault.RunFault.{RunFault}
 use Rattle.loader.specs.declared.run_fault.RunFault.TheVariants.{NotJson, BadField, BadScan, StampsFall, BudgetTooLarge, Memory}

@@ -1,6 +1,6 @@
 -- A run file is a JSON object (RFC 8259) with the fields version, ram, sw1, sw2, budget and keys, and in version 2 timer
 -- and clocks; all of them and no others. Its rules are this board's choice.
--- To be believed: public contracts say what they say by these definitions.
+-- To be believed: the headline rests on it.
 use Rattle.std.specs.Prelude.{◌≡◌, ℕ, ◌^◌, Bool, true, ◌&&◌, false, ◌||◌, ◌==◌, if◌then◌else◌, nat_le, nat_lt, List, [], ◌∷◌, map, codes, Option, None, Some, option_and_then, Result, Ok, Err}
 use Rattle.std.specs.Option.{option_map_or}
 use Rattle.std.specs.Str.{bytes_eq, is_utf8}

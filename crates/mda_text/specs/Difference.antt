@@ -1,5 +1,5 @@
 -- Where two lists of bytes differ.
--- To be believed: public contracts say what they say by these definitions.
+-- To be believed by callers of this crate: the headline does not rest on it.
 use Rattle.std.specs.Prelude.{ℕ, ◌≡◌, ◌≢◌, ◌<◌, List, length, slice_index}
 
 -- the least place where two lists of one length differ

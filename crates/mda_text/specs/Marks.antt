@@ -1,6 +1,6 @@
 -- Marks: a mark keeps the characters that are shown, and later the cells are named whose character has changed since.
 -- All of it is this board's choice.
--- To be believed: public contracts say what they say by these definitions.
+-- To be believed by callers of this crate: the headline does not rest on it.
 use Rattle.std.specs.Prelude.{ℕ, ◌+◌, ◌%◌, ◌^◌, ◌==◌, Bool, not, ◌&&◌, ◌||◌, if◌then◌else◌, List, map, slice_index}
 use Rattle.std.specs.List.{range_with_len, filter}
 use Rattle.mda_text.specs.Mda.{MdaState, cell_count}

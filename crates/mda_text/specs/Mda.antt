@@ -2,7 +2,7 @@
 -- register and the status port (Motorola MC6845 data sheet, "Address Register", "Start Address Register (R12-H,
 -- R13-L)" and "Cursor Register (R14-H, R15-L)"; IBM PC Technical Reference, "IBM Monochrome Display and Parallel
 -- Printer Adapter": the ports 3B4h, 3B5h, 3B8h and 3BAh).
--- To be believed: public contracts say what they say by these definitions.
+-- To be believed: the headline rests on it.
 use Rattle.std.specs.Prelude.{ℕ, ◌+◌, ◌*◌, ◌/◌, ◌%◌, ◌==◌, Bool, false, if◌then◌else◌, nat_le, List, replicate, slice_index, slice_set}
 use Rattle.board_types.specs.Bits.{has_bit}
 use Rattle.board_types.specs.Iterate.{iterate}

@@ -1,6 +1,6 @@
 -- The memory map: one byte for each of 1,048,576 addresses. What stands at the text adapter's addresses is
 -- its own, and not said here.
--- To be believed: public contracts say what they say by these definitions.
+-- To be believed: the headline rests on it.
 use Rattle.std.specs.Prelude.{ℕ, ◌≡◌, ◌%◌, ◌<◌, ◌≤◌, ◌&&◌, Bool, true, false, if◌then◌else◌, nat_lt, List, map, length, slice_index, slice_set, unwrap_or, Option, IsSome}
 use Rattle.std.specs.List.{range_with_len}
 use Rattle.board_types.specs.Image.{image_byte}

@@ -1,6 +1,6 @@
 -- What answers at each address (IBM PC Technical Reference, "System Memory Map";
 -- that nothing answers elsewhere is this board's choice).
--- To be believed: public contracts say what they say by these definitions.
+-- To be believed: the headline rests on it.
 use Rattle.std.specs.Prelude.{ℕ, Bool, ◌&&◌, if◌then◌else◌, nat_le, nat_lt, IsTrue}
 use Rattle.memory.specs.declared.region.Region.{Region}
 use Rattle.memory.specs.declared.region.Region.TheVariants.{Ram, Text, Rom, Nothing}

@@ -1,5 +1,5 @@
 -- Why a run is refused, and the line that says so.
--- To be believed: public contracts say what they say by these definitions.
+-- To be believed: the headline rests on it.
 use Rattle.std.specs.Prelude.{ℕ, List, ◌++◌, codes, Option, None, Some}
 use Rattle.std.specs.Fmt.{decimal}
 use Rattle.assembler.specs.Gives.{Gives}

@@ -1,5 +1,5 @@
 -- What the program tells where it gives no answer.
--- To be believed: public contracts say what they say by these definitions.
+-- To be believed: the headline rests on it.
 use Rattle.std.specs.Prelude.{ℕ, ◌≡◌, ◌⊎◌, ◌++◌, Bool, false, List, codes, Option, IfSome, Ok, Err, string_bytes}
 use Rattle.std.specs.Io.KnownBytes.{Appends}
 use Rattle.assembler.specs.FirstFault.{IsFirst}

@@ -1,6 +1,6 @@
 -- What a run reports: the plain board of the image that the encoding table gives the source, after the
 -- budget's clocks.
--- To be believed: public contracts say what they say by these definitions.
+-- To be believed: the headline rests on it.
 use Rattle.std.specs.Prelude.{ℕ, ◌≡◌, ◌*◌, ◌<◌, ◌^◌, List}
 use Rattle.std.specs.String.{string_bytes}
 use Rattle.memory.specs.Map.{IsRamSize, FitsRam}

@@ -1,6 +1,6 @@
 -- A controller as plain numbers, for callers that know no enums: what each number stands for. All numbers stand for
 -- something, so any bytes are some controller.
--- To be believed: public contracts say what they say by these definitions.
+-- To be believed by callers of this crate: the headline does not rest on it.
 use Rattle.std.specs.Prelude.{ℕ, ◌%◌, ◌==◌, Bool, true, false, if◌then◌else◌, nat_lt}
 use Rattle.pic8259.specs.declared.controller.Expected.{Expected}
 use Rattle.pic8259.specs.declared.controller.Expected.TheVariants.{Icw2, Icw3, Icw4, Operation}

@@ -1,7 +1,7 @@
 -- One counter of the timer: its state, what a tick makes of it, and what the processor and the gate do to it
 -- (Intel 8253 data sheet, "Mode Definition" and "Programming the 8253"; Intel 8254 data sheet, "Read-Back Command" with
 -- "Status Byte" and "Null Count Operation", and "Mode 3: Square Wave Mode").
--- To be believed: public contracts say what they say by these definitions.
+-- To be believed: the headline rests on it.
 use Rattle.std.specs.Prelude.{ℕ, ◌+◌, ◌-◌, ◌*◌, ◌/◌, ◌%◌, ◌==◌, Bool, true, false, not, ◌&&◌, ◌||◌, if◌then◌else◌, Option, None, Some, unwrap_or, is_none, is_some}
 use Rattle.board_types.specs.Iterate.{iterate}
 use Rattle.board_types.specs.declared.choice.TimerKind.{TimerKind}

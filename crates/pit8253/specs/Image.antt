@@ -1,6 +1,6 @@
 -- A timer as plain numbers, for callers that know no enums: what each number stands for. All numbers stand for
 -- something, so any bytes are some timer.
--- To be believed: public contracts say what they say by these definitions.
+-- To be believed by callers of this crate: the headline does not rest on it.
 use Rattle.std.specs.Prelude.{ℕ, ◌%◌, ◌==◌, ◌<◌, Bool, true, false, if◌then◌else◌, Option, None, Some}
 use Rattle.board_types.specs.declared.choice.TimerKind.{TimerKind}
 use Rattle.board_types.specs.declared.choice.TimerKind.TheVariants.{I8253, I8254}

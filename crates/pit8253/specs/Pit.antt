@@ -1,6 +1,6 @@
 -- The timer: three counters behind four ports (Intel 8253 data sheet, "Block Diagram" and "Programming the 8253"; Intel
 -- 8254 data sheet, "Read-Back Command").
--- To be believed: public contracts say what they say by these definitions.
+-- To be believed: the headline rests on it.
 use Rattle.std.specs.Prelude.{ℕ, ◌/◌, ◌%◌, ◌==◌, if◌then◌else◌}
 use Rattle.board_types.specs.Iterate.{iterate}
 use Rattle.board_types.specs.declared.choice.TimerKind.{TimerKind}

@@ -1,6 +1,6 @@
 -- What the control word and the bytes of a count mean (Intel 8253 data sheet, "Control Word Format" and
 -- "Programming the 8253"), and how the control word's fields are spelled in a status (Intel 8254 data sheet, "Status Byte").
--- To be believed: public contracts say what they say by these definitions.
+-- To be believed: the headline rests on it.
 use Rattle.std.specs.Prelude.{ℕ, ◌+◌, ◌*◌, ◌/◌, ◌%◌, ◌-◌, ◌==◌, if◌then◌else◌, nat_lt}
 use Rattle.pit8253.specs.declared.program.Mode.{Mode}
 use Rattle.pit8253.specs.declared.program.Mode.TheVariants.{TerminalCount, OneShot, RateGenerator, SquareWave, SoftwareStrobe, HardwareStrobe}

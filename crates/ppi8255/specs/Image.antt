@@ -1,6 +1,6 @@
 -- A parallel port as plain numbers, for callers that know no enums: what each number stands for. All numbers stand for
 -- something, so any bytes are some parallel port.
--- To be believed: public contracts say what they say by these definitions.
+-- To be believed by callers of this crate: the headline does not rest on it.
 use Rattle.std.specs.Prelude.{ℕ, ◌==◌, if◌then◌else◌}
 use Rattle.ppi8255.specs.declared.ppi.Direction.{Direction}
 use Rattle.ppi8255.specs.declared.ppi.Direction.TheVariants.{Input, Output}

@@ -1,7 +1,7 @@
 -- The 8255A Programmable Peripheral Interface as the board wires it, in mode 0 (Intel 8255A data sheet, "Mode
 -- Selection", "Single Bit Set/Reset Feature", "Operating Modes: Mode 0"; IBM PC Technical Reference, "System
 -- Board I/O": the bits of ports 60h to 63h).
--- To be believed: public contracts say what they say by these definitions.
+-- To be believed: the headline rests on it.
 use Rattle.std.specs.Prelude.{ℕ, ◌+◌, ◌-◌, ◌*◌, ◌/◌, ◌%◌, ◌^◌, ◌==◌, Bool, if◌then◌else◌, unwrap_or}
 use Rattle.std.specs.Int.{bit_at}
 use Rattle.std.specs.Int.Bits.{bit_and, bit_or}

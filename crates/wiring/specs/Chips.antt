@@ -1,7 +1,7 @@
 -- What the system board holds beside the processor: its memory, its chips, the text adapter in its
 -- slot, and the clock that they stand at (IBM PC Technical Reference, "System Board"). Each is as its own definition
 -- says.
--- To be believed: public contracts say what they say by these definitions.
+-- To be believed: the headline rests on it.
 use Rattle.std.specs.Prelude.{ℕ, List}
 use Rattle.memory.specs.Map as map
 use Rattle.memory.specs.Map.{MemoryMap}

@@ -1,5 +1,5 @@
 -- When an output of the timer changes next, as long as nothing is written and no gate changes.
--- To be believed: public contracts say what they say by these definitions.
+-- To be believed by callers of this crate: the headline does not rest on it.
 use Rattle.std.specs.Prelude.{◌≡◌, ℕ, ◌-◌, ◌/◌, ◌%◌, ◌^◌, ◌<◌, Option, MatchOption}
 use Rattle.board_types.specs.Timed.{IsSteady, TurnsFirst}
 use Rattle.pit8253.specs.Counter.{CounterState, after_ticks, out_of}

@@ -1,6 +1,6 @@
 -- The addresses and the ports of the chips (IBM PC Technical Reference, "System Memory Map" and "I/O Address Map").
 -- That FFh is read and a write is lost where nothing answers is this board's choice.
--- To be believed: public contracts say what they say by these definitions.
+-- To be believed: the headline rests on it.
 use Rattle.std.specs.Prelude.{ℕ, ◌-◌, ◌==◌, Bool, true, false, ◌&&◌, ◌||◌, if◌then◌else◌, nat_le, nat_lt, length}
 use Rattle.bus.specs.Bus.{BusMeaning}
 use Rattle.memory.specs.Regions.{is_text_address}

@@ -1,5 +1,5 @@
 -- The speaker (IBM PC Technical Reference, "Speaker Interface"): port B bit 1 and the timer's OUT2 together.
--- To be believed: public contracts say what they say by these definitions.
+-- To be believed: the headline rests on it.
 use Rattle.std.specs.Prelude.{ℕ, ◌&&◌, Bool, List}
 use Rattle.board_types.specs.Bits.{has_bit}
 use Rattle.board_types.specs.Lines.{is_high}

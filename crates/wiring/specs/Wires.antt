@@ -1,7 +1,7 @@
 -- The wires between the chips, and a clock of theirs (IBM PC Technical Reference, "System Board": IR0 is OUT0, IR1
 -- the full keyboard latch, the other request lines are low; gates 0 and 1 are high and gate 2 is port B bit 0; port
 -- B bit 7 clears the latch). When they settle is this board's choice.
--- To be believed: public contracts say what they say by these definitions.
+-- To be believed: the headline rests on it.
 use Rattle.std.specs.Prelude.{ℕ, Bool, ◌+◌, ◌%◌, ◌==◌, if◌then◌else◌, List, fold, is_some}
 use Rattle.board_types.specs.Bits.{has_bit}
 use Rattle.board_types.specs.Iterate.{iterate}

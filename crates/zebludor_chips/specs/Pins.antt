@@ -1,5 +1,5 @@
 -- What numbers bring to the parallel port's pins.
--- To be believed: public contracts say what they say by these definitions.
+-- To be believed by callers of this crate: the headline does not rest on it.
 use Rattle.std.specs.Prelude.{ℕ, Some}
 use Rattle.ppi8255.specs.declared.ppi.Inputs.{Inputs}
 use Rattle.pit8253.specs.Image.{line_of}

@@ -1,5 +1,5 @@
 -- How a run tells its end to a caller in C.
--- To be believed: public contracts say what they say by these definitions.
+-- To be believed by callers of this crate: the headline does not rest on it.
 use Rattle.std.specs.Prelude.{◌≡◌, ◌⊎◌, ℕ, Bool, List, ◌++◌, length, drop, if◌then◌else◌, nat_lt, unwrap_or, Ok}
 use Rattle.loader.specs.declared.run_file.RunFile.{RunFile}
 use Rattle.loader.specs.RunFile.{Answers, run_of_text}
