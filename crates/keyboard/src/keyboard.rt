@@ -1,5 +1,5 @@
 //! The keyboard and its latch (IBM PC Technical Reference, "Keyboard"; "System Board I/O", ports 60h and 61h).
-ghost use Rattle.std.specs.Prelude.{◌≡◌, IfOk, IsTrue};
+ghost use Rattle.std.specs.Prelude.{◌≡◌, ◌↔◌, IfOk, IsTrue};
 ghost use Rattle.keyboard.specs.Keyboard.{power_on, after_arrival, after_settling};
 
 use board_types::bits::bit;
@@ -87,10 +87,10 @@ impl Keyboard {
         }
     }
 
-    /// Whether nothing is left to do for these levels of port B's lines, so that settling to them changes nothing.
+    /// Whether nothing is left to do for these levels of port B's lines: settling to them changes nothing.
     #[tactic(auto, unfolding(crate::specs::Keyboard::after_settling))]
     pub fn has_settled(&self, port_b: u8) -> bool
-        ensures { IsTrue result → after_settling self.now port_b ≡ self.now }
+        ensures { IsTrue result ↔ after_settling self.now port_b ≡ self.now }
     {
         if bit(port_b, 7) {
             return self.latch.is_none();

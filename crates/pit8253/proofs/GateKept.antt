@@ -18,3 +18,12 @@ gate_kept c line same still =
     ap (λ l. record c { gate = l; load_due = c.load_due || (rises c.gate l && is_triggered c.mode && not (is_awaited c.progress)); out = out_at_gate c.mode line c.out }) (sym same)
     ∙ ap (λ b. record c { load_due = b; out = out_at_gate c.mode line c.out }) (no_rise c.gate c.load_due (is_triggered c.mode) (not (is_awaited c.progress)))
     ∙ ap (λ out. record c { out = out }) still
+
+-- and what stays as it is had the level before
+pub gate_was : (c : CounterState) (line : Line) → after_gate c line ≡ c → c.gate ≡ line
+unfolding after_gate
+gate_was c line same = sym (ap (λ (x : CounterState). x.gate) same)
+
+pub out_was : (c : CounterState) (line : Line) → after_gate c line ≡ c → out_at_gate c.mode line c.out ≡ c.out
+unfolding after_gate
+out_was c line same = ap (λ (x : CounterState). x.out) same

@@ -1,5 +1,5 @@
 //! One counter of the timer (Intel 8253 data sheet, "Mode Definition"; Intel 8254 data sheet, "Read-Back Command").
-ghost use Rattle.std.specs.Prelude.{◌≡◌, ◌≤◌, ◌<◌, ◌/◌, ◌%◌, ◌+◌, ◌*◌, IfSome, IsTrue};
+ghost use Rattle.std.specs.Prelude.{◌≡◌, ◌≤◌, ◌<◌, ◌/◌, ◌%◌, ◌+◌, ◌*◌, ◌↔◌, IfSome, IsTrue};
 ghost use Rattle.board_types.specs.declared.choice.TimerKind.{TimerKind};
 ghost use Rattle.board_types.specs.declared.line.Line.{Line};
 ghost use Rattle.pit8253.specs.Program.{mode_of, access_of, radix_of, modulus, count_of, digits_of};
@@ -290,10 +290,10 @@ impl Counter {
         self.gate = line;
     }
 
-    /// Whether the gate has the level `line` already, so that to give it to the gate changes nothing.
-    #[tactic(auto, using(crate::proofs::GateKept::gate_kept))]
+    /// Whether to give the level `line` to the gate changes nothing: the gate has it already, and OUT its level there.
+    #[tactic(auto, using(crate::proofs::GateKept::gate_kept, crate::proofs::GateKept::gate_was, crate::proofs::GateKept::out_was))]
     pub fn keeps_gate(&self, line: Line) -> bool
-        ensures { IsTrue result → after_gate self.now line ≡ self.now }
+        ensures { IsTrue result ↔ after_gate self.now line ≡ self.now }
     {
         self.gate == line && out_at_gate(self.mode, line, self.out) == self.out
     }

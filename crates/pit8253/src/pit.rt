@@ -1,6 +1,6 @@
 //! The timer: three counters behind four ports (Intel 8253 data sheet, "Block Diagram"; Intel 8254 data sheet, "Read-Back
 //! Command").
-ghost use Rattle.std.specs.Prelude.{◌≡◌, ◌≤◌, ◌<◌, IfSome, IsTrue};
+ghost use Rattle.std.specs.Prelude.{◌≡◌, ◌≤◌, ◌<◌, ◌↔◌, IfSome, IsTrue};
 ghost use Rattle.board_types.specs.Timed.{IsUntilTurn};
 ghost use Rattle.board_types.specs.declared.choice.TimerKind.{TimerKind};
 ghost use Rattle.board_types.specs.declared.choice.TimerKind.TheVariants.{I8253};
@@ -122,10 +122,10 @@ impl Pit {
         }
     }
 
-    /// Whether gate 2 has the level `line` already, so that to give it to the gate changes nothing.
+    /// Whether to give the level `line` to gate 2 changes nothing: the gate has it already, and OUT 2 its level there.
     #[tactic(auto, unfolding(crate::specs::Pit::after_gate))]
     pub fn keeps_gate_2(&self, line: Line) -> bool
-        ensures { IsTrue result → after_gate self.now 2 line ≡ self.now }
+        ensures { IsTrue result ↔ after_gate self.now 2 line ≡ self.now }
     {
         self.counter_2.keeps_gate(line)
     }
