@@ -11,3 +11,4 @@ pub mod Requests
 pub mod Wires
 pub mod Joining
 pub mod Working
+mod Rows
