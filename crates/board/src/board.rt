@@ -559,8 +559,8 @@ impl<A: Allocator> Board<A> {
         self.engine.chips.lost()
     }
 
-    /// How many turns the board has made since power-on, at most one a clock: each leap of time is one, and each clock
-    /// that was made by itself.
+    /// How many turns the board has made since power-on, at most one a clock: each clock that was made by itself is one,
+    /// each leap of time, and each step's first clock together with the leap over its others.
     pub fn turns(&self) -> u64
         ensures { result ≡ self.now.turns }
     {

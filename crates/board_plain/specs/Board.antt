@@ -14,7 +14,7 @@ pub record BoardState : Type 0 where
   pub changes : List SpeakerChange
   pub room : ℕ
   pub trail : List TrailEntry
-  -- how often time went on since power-on: by a leap, or by a clock
+  -- how often time went on since power-on: by a clock, by a leap, or by a clock with a leap behind it
   pub turns : ℕ
 
 -- n clocks have gone by, with the changes that they bring and what they add to the trail; no more room has gone than
