@@ -1,6 +1,5 @@
 """dev/build and the launcher, over a repository of two crates and an `rt` that only writes what a build leaves."""
 import contextlib
-import hashlib
 import io
 import os
 import pty
@@ -10,22 +9,11 @@ import shutil
 import signal
 import subprocess
 import unittest
-from collections.abc import Callable
 
-from tests.support import TOP, ToolCase
-from toolbox import building
+from tests.repository import Repository
+from tests.support import TOP
+from toolbox import building, sources
 from toolbox.crates import Crates
-
-# It leaves what was to be built; a program, which the linker makes, is a script that tells how it was called.
-RATTLE = r"""#!/bin/sh
-echo "${PWD##*/}" >> "$(dirname "$0")/proved"
-while [ "$1" != -o ]; do shift; done
-mkdir -p "$2"
-"""
-LINK = r"""#!/bin/sh
-printf '#!/bin/sh\necho "it runs $*"\n' > out/pcboard; chmod +x out/pcboard
-"""
-
 
 def kit_of_readme() -> tuple[str, str]:
     """The kit and the logic with which it was proved, by README's end."""
@@ -61,50 +49,8 @@ class Version(unittest.TestCase):
             print(f'README was proved with {kit}, and {here} of the same logic is here')
 
 
-class Build(ToolCase):
+class Build(Repository):
     """The program's way from nothing to its run."""
-
-    def setUp(self) -> None:
-        super().setUp()
-        for folder in ('dev', 'tools/toolbox'):
-            os.makedirs(f'{self.room}/top/{folder}')
-        shared = (f'tools/toolbox/{it}.py' for it in ('__init__', 'building', 'command', 'crates'))
-        for name in ('pcboard', 'VERSION', 'README.md', 'dev/build', *shared):
-            shutil.copy(f'{TOP}/{name}', f'{self.room}/top/{name}')
-        for name in ('low', 'pcboard', 'other'):
-            os.makedirs(f'{self.room}/top/crates/{name}/src')
-            self.file(f'top/crates/{name}/src/{"main" if name == "pcboard" else "lib"}.rt', '// nothing\n')
-        self.file('top/crates.txt', 'low:\npcboard: low\nother:\n')
-        os.mkdir(f'{self.room}/bin')
-        self.file('WHAT', 'a kit')
-        for name, text in (('rt', ''), ('rattle', RATTLE), ('rattle-link', LINK)):
-            os.chmod(self.file(f'bin/{name}', text), 0o755)
-
-    def launch(self, *words: str, has_rt: bool = True, top: str = '') -> subprocess.CompletedProcess[str]:
-        path = f'{self.room}/bin:/usr/bin:/bin' if has_rt else '/usr/bin:/bin'
-        return subprocess.run([f'{top or f"{self.room}/top"}/pcboard', *(words or ['run'])], capture_output=True, text=True, check=False,
-                              env={'PATH': path, 'XDG_CACHE_HOME': f'{self.room}/cache'})
-
-    def change_text(self, path: str) -> Callable[[], None]:
-        """Adds a byte to a file of the repository, or makes it, and returns what takes that back."""
-        full = f'{self.room}/top/{path}'
-        os.makedirs(os.path.dirname(full), exist_ok=True)
-        with open(full, 'a+', encoding='utf-8') as file:
-            file.seek(0)
-            was = file.read()
-            file.write('\n')
-
-        def put_back() -> None:
-            if was:
-                self.file(f'top/{path}', was)
-            else:
-                os.remove(full)
-        return put_back
-
-    def touch(self, path: str) -> None:
-        """Makes a file or a folder of the repository newer than the program."""
-        program = os.stat(f'{self.room}/top/crates/pcboard/out/pcboard').st_mtime
-        os.utime(f'{self.room}/top/{path}', (program + 5, program + 5))
 
     def test_it_is_built_at_first_use_and_then_runs_at_once(self) -> None:
         first, then = self.launch(), self.launch()
@@ -163,15 +109,12 @@ class Build(ToolCase):
         for has_rt in (True, False):
             self.assertEqual(self.launch(has_rt=has_rt).stderr, '')
 
-    def test_launcher_and_build_list_the_same(self) -> None:
+    def test_launcher_and_build_have_the_same_sum(self) -> None:
         """Over the repository's own sources, whose names and folders are many."""
-        program = self.file('top/pcboard.built', '')
-        building.list_sources(program, Crates(TOP).below('pcboard'), TOP)
-        with open(f'{program}.sources', encoding='utf-8') as listed:
-            lines = listed.read().splitlines(keepends=True)[1:]
-        self.assertGreater(len(lines), 1000)
+        names = Crates(TOP).below('pcboard')
+        self.assertGreater(len(sources.files(names)), 1000)
         told = subprocess.run([f'{TOP}/pcboard', '--version'], capture_output=True, text=True, check=True).stdout
-        self.assertIn(f'\nsources {hashlib.sha256("".join(lines).encode()).hexdigest()}\n', told)
+        self.assertIn(f'\nsources {sources.sum_of_sources(names)}\n', told)
 
     def test_a_program_that_was_built_otherwise_is_judged_by_times(self) -> None:
         """As one that `rt ci` left, which takes the place of that to which the list belongs."""
@@ -208,7 +151,7 @@ class Build(ToolCase):
         def told() -> list[str]:
             ran = self.launch('--version', has_rt=False)
             self.assertEqual((ran.returncode, ran.stderr), (0, ''))
-            self.assertRegex(ran.stdout, r'\Apcboard \d+\.\d+\.\d+\nkit \S+\nlogic [0-9a-f]{16}\nsources [0-9a-f]{64}\n\Z')
+            self.assertRegex(ran.stdout, r'\Apcboard \d+\.\d+\.\d+\nkit \S+\nlogic [0-9a-f]{16}\nsources [0-9a-f]{64}\nprogram none\n\Z')
             return ran.stdout.splitlines()
         first = told()
         self.assertEqual(tuple(it.split()[-1] for it in first[1:3]), kit_of_readme())
@@ -229,11 +172,6 @@ class Build(ToolCase):
         for words in (['--nonsense'], ['run', '--', '--help'], ['run', 'a', '--help'], ['--version', 'a']):
             ran = self.launch(*words)
             self.assertEqual((ran.returncode, ran.stdout, ran.stderr), (2, '', f'the help of {" ".join(words)}\n'))
-
-    def stand_in(self, lines: str) -> None:
-        """Puts a script in the place of the program that was built."""
-        self.launch()
-        self.file('top/crates/pcboard/out/pcboard', f'#!/bin/sh\n{lines}\n')
 
     def test_what_a_program_leaves_unsaid(self) -> None:
         self.stand_in('echo out; echo err >&2; exit 3')

@@ -14,9 +14,10 @@ import sys
 import threading
 import time
 
-from toolbox.crates import KIT, TOP, Crates
+from toolbox import proved
+from toolbox.crates import CACHE, TOP, Crates
+from toolbox.sources import size, stamp
 
-CACHE = os.environ.get('XDG_CACHE_HOME') or os.path.expanduser('~/.cache')
 STAGE = f'{CACHE}/zebludor/{hashlib.sha256(TOP.encode()).hexdigest()[:12]}'
 LOG = f'{STAGE}/build.log'
 MEMORY_OF_A_PROOF = 3 << 30
@@ -25,7 +26,6 @@ TIMES = f'{STAGE}/times'  # the seconds of the last build from nothing, and its 
 QUIET_SECONDS = 8
 # Of a build from nothing on four processors: what a lane proves in a second, and what the compilation takes behind it.
 BYTES_A_SECOND, COMPILATION_SECONDS = 800, 110
-PARTS = ('src', 'specs', 'proofs')  # of a crate: what its library is made of
 
 
 def copy_new(source, target):
@@ -59,21 +59,6 @@ def lanes():
     with open('/proc/meminfo', encoding='ascii') as lines:
         free = next(int(line.split()[1]) << 10 for line in lines if line.startswith('MemAvailable:'))
     return max(1, min(len(os.sched_getaffinity(0)), free // MEMORY_OF_A_PROOF))
-
-
-def folders(names, top=TOP):
-    """The folders of these crates' sources, definitions and proofs."""
-    return [folder for name in names for part in PARTS for folder, _, _ in os.walk(f'{top}/crates/{name}/{part}')]
-
-
-def files(names, top=TOP):
-    """The files in them."""
-    inside = [f'{folder}/{name}' for folder in folders(names, top) for name in os.listdir(folder)]
-    return [path for path in inside if path.endswith(('.rt', '.antt'))]
-
-
-def size(names):
-    return sum(map(os.path.getsize, files(names)))
 
 
 def estimate(names):
@@ -121,7 +106,7 @@ class Work:
         self.log, self.lock, self.running = log, threading.Lock(), set()
 
     def run(self, words, folder):
-        """Runs a command to its end. What it prints goes to the log. Returns its status."""
+        """Runs a command to its end. What it prints goes to the log. Returns its status and what it printed."""
         process = subprocess.Popen(words, cwd=folder, stdin=subprocess.DEVNULL, stdout=subprocess.PIPE,
                                    stderr=subprocess.STDOUT, text=True, errors='replace', start_new_session=True)
         self.running.add(process)
@@ -130,7 +115,13 @@ class Work:
         with self.lock:
             self.log.write(f'== {os.path.basename(folder)}: {" ".join(words)}\n{printed}')
             self.log.flush()
-        return process.returncode
+        return process.returncode, printed
+
+    def fail(self, folder, why):
+        """Tells the log why a command that ended well failed, and returns the status."""
+        with self.lock:
+            self.log.write(f'{os.path.basename(folder)}: {why}\n')
+        return 1
 
     def stop(self):
         for process in list(self.running):
@@ -150,25 +141,11 @@ def ways(below):
     return {name: way(name) for name in below}
 
 
-def stamp(crates, name, known):
-    """A sum of all that a crate is made of: the kit, its line, its files, and those below it."""
-    if name not in known:
-        made_of = hashlib.sha256(crates.lines[name].encode())
-        with open(f'{KIT}/WHAT', 'rb') as kit:
-            made_of.update(kit.read())
-        for path in sorted(files([name], crates.top)):
-            with open(path, 'rb') as text:
-                made_of.update(f'{os.path.relpath(path, crates.top)}\0'.encode() + text.read())
-        for below in sorted(crates.below(name) - {name}):
-            made_of.update(stamp(crates, below, known).encode())
-        known[name] = made_of.hexdigest()
-    return known[name]
-
-
 def is_kept(path, made_of):
+    """Whether a crate was proved of just this, and its verdict is known."""
     try:
         with open(path, encoding='ascii') as text:
-            return text.read() == made_of
+            return text.read() == made_of and proved.recall(made_of) is not None
     except OSError:
         return False
 
@@ -181,12 +158,16 @@ def prove(crates, name, jobs, made_of, work):
         return 0
     shutil.rmtree(f'{folder}/out', ignore_errors=True)
     os.makedirs(f'{folder}/out/rlib')
-    status = work.run(crates.command(name, jobs), folder)
+    status, printed = work.run(crates.command(name, jobs), folder)
     if status == -signal.SIGKILL and jobs > 1:  # most likely for memory
-        status = work.run(crates.command(name, 1), folder)
+        status, printed = work.run(crates.command(name, 1), folder)
+    verdict = proved.verdict_in(printed)
+    if status == 0 and verdict is None:
+        status = work.fail(folder, 'it ended well and told no verdict')
     if status == 0 and crates.is_program(name):
-        status = work.run(crates.link(name), folder)
+        status, _ = work.run(crates.link(name), folder)
     if status == 0:
+        proved.remember(made_of, verdict)
         with open(kept, 'w', encoding='ascii') as to:
             to.write(made_of)
     return status
@@ -222,28 +203,14 @@ def build_all(crates, names, work, progress):
 
 
 def hand_out(crates, target):
-    """Puts what was built into the repository, and beside a program what it was made of."""
+    """Puts what was built into the repository, and beside a program the text PROVED."""
     made = os.path.basename(crates.made(target)).removesuffix('.o')
     to = f'{TOP}/crates/{target}/out/{made}'
     os.makedirs(os.path.dirname(to), exist_ok=True)
     shutil.copy(f'{crates.folder(target)}/out/{made}', f'{to}.new')
     os.replace(f'{to}.new', to)
     if crates.is_program(target):
-        list_sources(to, crates.below(target), crates.top)
-
-
-def list_sources(program, names, top):
-    """Lists beside a program, for the launcher, what it was made of, by what was proved below `top`: first the program's own
-    sum, then as `sha256sum` does a line for each file, in the order of their paths."""
-    paths = sorted(os.path.relpath(it, top) for it in [f'{top}/crates.txt', *files(names, top)])
-    with open(f'{program}.sources.new', 'w', encoding='utf-8') as text:
-        text.write(f'{sum_of(program)}\n' + ''.join(f'{sum_of(f"{top}/{it}")}  {it}\n' for it in paths))
-    os.replace(f'{program}.sources.new', f'{program}.sources')
-
-
-def sum_of(path):
-    with open(path, 'rb') as file:
-        return hashlib.sha256(file.read()).hexdigest()
+        proved.note(to, crates, crates.below(target))
 
 
 def lock(log, progress):

@@ -7,6 +7,7 @@ import shutil
 TOP = os.path.dirname(os.path.dirname(os.path.dirname(os.path.realpath(__file__))))
 KIT = os.path.dirname(os.path.dirname(os.path.realpath(shutil.which('rt') or '/')))
 RATTLE = f'{KIT}/bin/rattle'
+CACHE = os.environ.get('XDG_CACHE_HOME') or os.path.expanduser('~/.cache')  # what is kept there may be removed at any time
 
 
 class Crates:

@@ -1,6 +1,7 @@
 """The program itself: where it stands, runs of it, and sessions of `debug` on a pipe."""
 from __future__ import annotations
 
+import functools
 import os
 import re
 import subprocess
@@ -17,11 +18,23 @@ CLOCKS_OF_A_TRAIL = 60
 
 
 def path() -> str:
-    """The built program: $PCBOARD, else where the build puts it."""
-    found = os.environ.get('PCBOARD') or f'{TOP}/crates/pcboard/out/pcboard'
+    """The program: $PCBOARD, else the one that the launcher takes, or one that was built of other sources."""
+    found = os.environ.get('PCBOARD') or taken()
     if not os.access(found, os.X_OK):
-        raise Sorry(f"the program {found} isn't there; build it by a first run of ./pcboard, or name it in PCBOARD")
+        raise Sorry(f"the program {found} isn't there; a first run of ./pcboard builds one, or name it in PCBOARD")
     return found
+
+
+@functools.lru_cache
+def taken() -> str:
+    """The program that the launcher takes, as its `--version` tells, which says once to each user where that is the stored one."""
+    told = subprocess.run([f'{TOP}/pcboard', '--version'], stdin=subprocess.DEVNULL, stdout=subprocess.PIPE, text=True, check=False).stdout
+    name = re.search(r'^program (\w+/[\w/]+)', told, re.M)
+    if not name:
+        why = re.search(r"^stored/pcboard isn't taken: .*$", told, re.M)
+        more = f' ({why[0]})' if why else ''
+        raise Sorry(f'no program is built here; a first run of ./pcboard builds one, or name one in PCBOARD{more}')
+    return f'{TOP}/{name[1]}'
 
 
 @dataclass(frozen=True)

@@ -1,0 +1,396 @@
+"""The program that is stored in the repository: how it gets there, when the launcher takes it, and that it is what is built."""
+from __future__ import annotations
+
+import os
+import re
+import resource
+import shutil
+import subprocess
+import unittest
+
+from tests.repository import KIT, LOGIC, Repository
+from tests.support import TOP, ToolCase
+from toolbox import program, proved
+from toolbox.crates import Crates
+from toolbox.sources import sum_of, sum_of_sources
+
+VERDICT = 'logic=proved functions=1 sum=0123456789abcdef native=nat'
+AT_ONCE = (0, 'it runs run\n')
+# What `rt ci` prints and leaves, where it proves two crates and keeps one.
+CI = rf"""#!/bin/sh
+[ "$1" != version ] || {{ echo "{KIT} logic {LOGIC}"; exit; }}
+printf '== low\nfn it: proved\n{VERDICT}\nrt: low proved\nrt: other is kept: as before\n'
+printf '== low: its tests\nlogic=proved tests=1 functions=9\nrt: low: its tests are proved\n== pcboard\n{VERDICT}\nrt: pcboard proved\n'
+mkdir -p crates/pcboard/out
+printf '#!/bin/sh\n[ "$1" != --help ] || exit 2\necho "it runs $*"\n' > crates/pcboard/out/pcboard
+chmod +x crates/pcboard/out/pcboard
+echo '3 passed, 0 failed'
+"""
+
+
+class Stored(Repository):
+    """A stored program in a repository of two crates."""
+
+    def setUp(self) -> None:
+        super().setUp()
+        self.top, self.out, self.stored = f'{self.room}/top', f'{self.room}/top/crates/pcboard/out', f'{self.room}/top/stored'
+
+    def build(self, *words: str) -> str:
+        """What dev/build tells, on both streams, where it ends well."""
+        ran = self.start(f'{self.top}/dev/build', *words)
+        self.assertEqual(ran.returncode, 0, ran.stderr)
+        return ran.stdout + ran.stderr
+
+    def store(self) -> None:
+        """Builds a program and stores it, and leaves a clone as it is made from a repository."""
+        self.build('pcboard')
+        self.build('--store')
+        shutil.rmtree(self.out)
+        shutil.rmtree(f'{self.room}/cache')
+
+    def at_once(self, top: str = '') -> str:
+        """What standard error has where it runs at once, with Rattle and without."""
+        told = [self.launch(has_rt=has_rt, top=top) for has_rt in (False, True)]
+        for ran in told:
+            self.assertEqual((ran.returncode, ran.stdout), AT_ONCE)
+        self.assertFalse(os.path.exists(f'{top or self.top}/crates/pcboard/out'))
+        return ''.join(it.stderr for it in told)
+
+    def put(self, text: str) -> None:
+        """Makes this the stored program, of which PROVED tells."""
+        path = self.file('top/stored/pcboard', text)
+        os.chmod(path, 0o755)
+        told = proved.read(self.stored)
+        assert told
+        self.file('top/stored/PROVED', told.text().replace(told.program, sum_of(path)))
+
+    def test_it_answers_at_once_and_says_once_where_it_was_proved(self) -> None:
+        self.store()
+        told = self.launch(has_rt=False).stderr
+        self.assertEqual(told.count('\n'), 1)
+        for words in ('was proved elsewhere', KIT, 'dev/build pcboard proves it here'):
+            self.assertIn(words, told)
+        self.assertEqual(self.at_once(), '')
+
+    def test_where_nothing_can_be_kept_it_is_said_again(self) -> None:
+        self.store()
+        launcher, nowhere = f'{self.top}/pcboard', self.file('a file', '')
+        for more in ({'XDG_CACHE_HOME': f'{nowhere}/cache'}, {'HOME': nowhere}, {}):
+            for _ in range(2):
+                ran = subprocess.run([launcher, 'run'], capture_output=True, text=True, check=False, env={'PATH': '/usr/bin:/bin', **more})
+                self.assertEqual((ran.returncode, ran.stdout), AT_ONCE)
+                self.assertRegex(ran.stderr, r'\Apcboard: this program, [^\n]*proved elsewhere[^\n]*\n\Z')
+
+    def test_a_clone_that_is_copied_moved_touched_or_only_read(self) -> None:
+        self.store()
+        self.launch()
+        places = [f'{self.room}/a copy of it', f'{self.room}/moved', f'{self.room}/a link']
+        shutil.copytree(self.top, places[0], copy_function=shutil.copy)
+        os.rename(self.top, places[1])
+        os.symlink(places[1], places[2])
+        for place in places:
+            self.assertEqual(self.at_once(place), '', place)
+        for path in ('crates/low/src/lib.rt', 'crates.txt', 'stored/pcboard', 'stored/PROVED'):
+            os.utime(f'{places[0]}/{path}')
+        for folder, _, files in os.walk(places[0], topdown=False):
+            for path in (*(f'{folder}/{it}' for it in files), folder):
+                os.chmod(path, 0o555)
+                self.addCleanup(os.chmod, path, 0o755)
+        self.assertEqual(self.at_once(places[0]), '')
+
+    def test_a_byte_that_is_changed_and_changed_back(self) -> None:
+        self.store()
+        self.launch()
+        put_back = self.change_text('crates/low/src/lib.rt')
+        ran = self.launch(has_rt=False)
+        self.assertEqual((ran.returncode, ran.stdout), (127, ''))
+        self.assertIn("stored/pcboard isn't taken: it was made of other sources than are here\n", ran.stderr)
+        put_back()
+        self.assertEqual(self.at_once(), '')
+        self.change_text('crates/low/src/lib.rt')
+        ran = self.launch()
+        self.assertIn('proving 2 crates', ran.stderr)
+        self.assertIn('stored/pcboard was made of other sources, so its bytes are not compared', ran.stderr)
+        self.assertEqual(self.launch(has_rt=False).stderr, '')
+        put_back()
+        self.assertEqual((self.launch(has_rt=False).stderr, self.launch().stderr), ('', ''))
+        self.assertIn('program stored/pcboard, proved elsewhere\n', self.launch('--version').stdout)
+
+    def test_one_that_is_damaged_is_told_and_not_taken(self) -> None:
+        self.store()
+        path, text = f'{self.stored}/pcboard', f'{self.stored}/PROVED'
+        for damage, why in ((lambda: os.remove(path), "isn't there"), (lambda: os.remove(text), "isn't there"),
+                            (lambda: os.truncate(path, 9), 'its SHA-256 is another'), (lambda: os.truncate(text, 9), 'its SHA-256 is another'),
+                            (lambda: self.file('top/stored/pcboard', '#!/bin/sh\necho another\n'), 'its SHA-256 is another'),
+                            (lambda: os.chmod(path, 0o644), 'it may not be executed')):
+            shutil.copytree(self.stored, f'{self.room}/whole')
+            damage()
+            self.not_taken(why)
+            shutil.rmtree(self.stored)
+            os.rename(f'{self.room}/whole', self.stored)
+        self.assertIn('proved elsewhere', self.at_once())
+        os.truncate(path, 9)
+        self.is_built_instead('its SHA-256 is another')
+        shutil.rmtree(self.out)
+        shutil.rmtree(self.stored)
+        self.assertNotIn('stored', self.launch(has_rt=False).stderr)
+
+    def not_taken(self, why: str) -> None:
+        """Without Rattle nothing runs, and it is told why."""
+        ran = self.launch(has_rt=False)
+        self.assertEqual((ran.returncode, ran.stdout), (127, ''), why)
+        self.assertRegex(ran.stderr, rf"\Apcboard: stored/pcboard isn't taken: .*{why}\n")
+
+    def is_built_instead(self, why: str) -> None:
+        """With Rattle one is built then, and it is told why."""
+        ran = self.launch()
+        self.assertEqual((ran.returncode, ran.stdout), AT_ONCE)
+        self.assertRegex(ran.stderr, rf"\Apcboard: stored/pcboard isn't taken: .*{why}\npcboard: proving 2 crates")
+
+    def test_one_that_does_not_start_here(self) -> None:
+        """As on a machine of another kind, without the loader, with an older C library or processor."""
+        self.store()
+        for text in ('\x7fELF of another machine', '#!/no/such/loader\n', '#!/bin/sh\necho "GLIBC_2.99 not found" >&2\nexit 1\n',
+                     '#!/bin/sh\nkill -ILL $$\n'):
+            self.put(text)
+            self.not_taken("it doesn't start on this machine")
+        self.is_built_instead("it doesn't start on this machine")
+
+    def test_one_that_was_built_here_goes_first(self) -> None:
+        self.store()
+        self.put('#!/bin/sh\n[ "$1" != --help ] || exit 2\necho stored\n')
+        self.assertEqual(self.launch(has_rt=False).stdout, 'stored\n')
+        self.build('pcboard')
+        self.assertEqual(self.launch(has_rt=False).stdout, 'it runs run\n')
+        self.file('top/crates/pcboard/out/pcboard', '#!/bin/sh\necho another\n')
+        os.utime(f'{self.out}/pcboard', (1, 1))
+        self.assertEqual(self.launch(has_rt=False).stdout, 'stored\n')
+
+    def test_the_version_tells_which_program_answers(self) -> None:
+        def told() -> list[str]:
+            ran = self.launch('--version', has_rt=False)
+            self.assertEqual((ran.returncode, ran.stderr), (0, ''))
+            return ran.stdout.splitlines()[1:]
+        self.store()
+        self.launch()
+        facts = [f'kit {KIT}', f'logic {LOGIC}', f'sources {sum_of_sources(["low", "pcboard"], self.top)}']
+        self.assertEqual(told(), [*facts, 'program stored/pcboard, proved elsewhere'])
+        os.truncate(f'{self.stored}/pcboard', 9)
+        self.assertEqual(told()[3:], ['program none', "stored/pcboard isn't taken: it isn't the one of which stored/PROVED tells: its SHA-256 is another"])
+        self.build('pcboard')
+        self.assertEqual(told(), [*facts, 'program crates/pcboard/out/pcboard, built here'])
+        self.change_text('crates/low/src/lib.rt')
+        self.assertEqual(told()[3], 'program crates/pcboard/out/pcboard, made of other sources')
+        self.stand_in('echo another')
+        self.assertNotIn(f'kit {KIT}', told())
+        self.assertEqual(told()[3], 'program crates/pcboard/out/pcboard, built here (no source is newer)')
+        self.touch('crates/low/src/lib.rt')
+        self.assertEqual(told()[3], 'program crates/pcboard/out/pcboard, perhaps made of other sources')
+
+    def test_the_tools_take_the_same(self) -> None:
+        shutil.copy(f'{TOP}/tools/toolbox/program.py', f'{self.top}/tools/toolbox')
+        ask = ['/usr/bin/env', 'python3', '-B', '-c', f'import sys; sys.path.insert(0, "{self.top}/tools"); from toolbox import program; print(program.path())']
+        self.assertIn('no program is built here; a first run of ./pcboard builds one', self.start(*ask).stderr)
+        self.store()
+        first, then = self.start(*ask), self.start(*ask)
+        self.assertEqual((first.stdout, then.stdout, then.stderr), (*[f'{self.stored}/pcboard\n'] * 2, ''))
+        self.assertIn('proved elsewhere', first.stderr)
+        os.truncate(f'{self.stored}/pcboard', 9)
+        self.assertIn("stored/pcboard isn't taken", self.start(*ask).stderr)
+        self.build('pcboard')
+        self.change_text('crates/low/src/lib.rt')
+        self.assertEqual(self.start(*ask).stdout, f'{self.out}/pcboard\n')
+
+    def test_a_proof_here_is_compared(self) -> None:
+        self.store()
+        self.assertIn('pcboard: its bytes are those of stored/pcboard, and the verdicts are the same\n', self.build('pcboard'))
+        told = proved.read(self.stored)
+        assert told
+        self.file('top/stored/PROVED', told.text().replace(f'low: {VERDICT}', 'low: logic=proved functions=2').replace(KIT, 'rattle-kit-0'))
+        self.assertIn(f'its bytes are those of stored/pcboard, by {KIT} as by rattle-kit-0, but the verdicts of low are others\n', self.build('pcboard'))
+        self.file('top/stored/PROVED', told.text())
+        self.put('#!/bin/sh\necho another\n')
+        self.assertIn('its bytes are NOT those of stored/pcboard, which the same kit made of the same sources\n', self.build('pcboard'))
+        os.truncate(f'{self.stored}/pcboard', 9)
+        self.assertIn("stored/pcboard isn't the one that stored/PROVED tells of\n", self.build('pcboard'))
+
+    def refused(self) -> str:
+        """What is told where nothing is stored."""
+        before = proved.read(self.stored)
+        ran = self.start(f'{self.top}/dev/build', '--store')
+        self.assertEqual((ran.returncode, ran.stdout, proved.read(self.stored)), (2, '', before))
+        return ran.stderr
+
+    def test_what_is_stored(self) -> None:
+        self.assertIn('crates/pcboard/out has no program', self.refused())
+        self.build('pcboard')
+        self.assertIn(f'{KIT}, 2 verdicts', self.build('--store'))
+        self.assertEqual(os.stat(f'{self.stored}/pcboard').st_mode & 0o777, 0o755)
+        with open(f'{self.stored}/PROVED', encoding='utf-8') as file:
+            told = file.read()
+        self.assertEqual(told.splitlines(), [
+            f'program {sum_of(f"{self.out}/pcboard")}', f'sources {sum_of_sources(["low", "pcboard"], self.top)}',
+            f'kit {KIT}', f'logic {LOGIC}', f'low: {VERDICT}', f'pcboard: {VERDICT}'])
+        self.assertEqual(sum_of(f'{self.stored}/pcboard'), sum_of(f'{self.out}/pcboard'))
+        self.change_text('crates/low/src/lib.rt')
+        self.assertIn('crates/pcboard/out/pcboard is not made of the present sources', self.refused())
+        self.file('bin/rt', '#!/bin/sh\necho "rattle-kit-2 logic 0"\n')
+        self.build('pcboard')
+        self.build('--store')
+        self.file('bin/rt', f'#!/bin/sh\necho "{KIT} logic {LOGIC}"\n')
+        self.assertIn("was built by rattle-kit-2, which isn't the kit that is here", self.refused())
+
+    def test_a_crate_whose_verdict_is_lost_is_proved_again(self) -> None:
+        self.build('pcboard')
+        shutil.rmtree(f'{self.room}/cache/zebludor/verdicts')
+        self.assertIn('2 of 2: pcboard', self.build('pcboard'))
+        self.build('--store')
+
+    def test_a_proof_without_a_verdict_is_none(self) -> None:
+        with open(f'{self.room}/bin/rattle', encoding='ascii') as file:
+            text = file.read()
+        self.file('bin/rattle', text.replace('echo "logic=proved', 'echo "logic=unproved'))
+        ran = self.start(f'{self.top}/dev/build', 'pcboard')
+        self.assertEqual(ran.returncode, 1)
+        self.assertIn('low: it ended well and told no verdict\n', ran.stderr)
+
+    def by_gate(self, ci: str = CI, counts: str = '(3, 0)') -> None:
+        """The gate's first part, over an `rt ci` that proves the program's crates."""
+        self.file('bin/rt', ci)
+        shutil.copy(f'{TOP}/tools/test', f'{self.top}/tools/test')
+        ran = self.start('/bin/sh', '-c', 'cd "$1" && PYTHONPATH=tools python3 -B -c \'import runpy; print(runpy.run_path("tools/test")["gate"]())\'', '', self.top)
+        self.assertEqual((ran.stdout.splitlines()[-1:], ran.stderr), ([counts], ''))
+
+    def test_one_that_the_gate_built_is_stored(self) -> None:
+        self.by_gate()
+        told = proved.read(self.out)
+        assert told
+        self.assertEqual(told.verdicts, {'low': VERDICT, 'pcboard': VERDICT})
+        self.assertEqual(self.launch('--version').stdout.splitlines()[-1], 'program crates/pcboard/out/pcboard, built here')
+        self.build('--store')
+        self.assertEqual(proved.read(self.stored), told)
+
+    def test_a_gate_that_failed_or_whose_sources_changed_meanwhile_tells_nothing_of_the_program(self) -> None:
+        self.by_gate(CI.replace('3 passed, 0', '2 passed, 1'), '(2, 1)')
+        self.assertIsNone(proved.read(self.out))
+        shutil.rmtree(f'{self.room}/cache')
+        self.by_gate(CI.replace('mkdir', 'echo "// more" >> crates/low/src/lib.rt\nmkdir'))
+        self.assertIsNone(proved.read(self.out))
+        self.assertIn('nothing here has seen the verdicts of low, pcboard', self.refused())
+
+    def test_one_that_rt_ci_left_is_stored_by_its_time_once_its_verdicts_are_known(self) -> None:
+        self.file('bin/rt', CI)
+        printed = self.start('/bin/sh', '-c', 'cd "$1" && rt ci', '', self.top).stdout
+        self.assertIn("nothing here has seen the verdicts of low, pcboard; 'dev/build --seen LOG CLONE' reads them", self.refused())
+        self.assertEqual(self.build('--seen', self.file('log', printed), self.top), '2 verdicts: low pcboard\n')
+        os.remove(f'{self.out}/PROVED')
+        self.touch('crates/low/src/lib.rt')
+        self.assertIn('crates/low/src/lib.rt is newer than crates/pcboard/out/pcboard', self.refused())
+        ran = self.start(f'{self.top}/dev/build', '--seen', f'{self.room}/log', self.top)
+        self.assertEqual(ran.returncode, 2)
+        self.assertIn(f'is newer than {self.room}/log', ran.stderr)
+        os.utime(f'{self.top}/crates/low/src/lib.rt', (1, 1))
+        self.build('--store')
+        shutil.rmtree(self.out)
+        self.assertIn('proved elsewhere', self.at_once())
+
+    def test_verdicts_are_read_from_what_rt_ci_prints(self) -> None:
+        lines = ['== one', 'logic=proved functions=3 sum=1', 'rt: one proved', 'rt: two is kept: as before', 'rt: two proved', '== three', 'rt: three proved',
+                 '== four: its tests', 'logic=proved tests=1 functions=3', 'rt: four: its tests are proved', '== four', 'logic=proved functions=4', 'rt: four NOT PROVED']
+        self.assertEqual(proved.verdicts_in(lines[:4] + lines[5:]), {'one': 'logic=proved functions=3 sum=1'})
+
+
+class Checkout(ToolCase):
+    """What git makes of it."""
+
+    def test_git_changes_no_byte(self) -> None:
+        """Nor of sources, whose sum is of their bytes, where git is told to change the ends of lines."""
+        if not shutil.which('git'):
+            return
+        top, text = f'{self.room}/top', b'one\r\ntwo\nthree\0\n'
+        git = ['git', '-c', 'core.autocrlf=true', '-c', 'user.name=it', '-c', 'user.email=it', '-c', 'commit.gpgsign=false']
+        paths = ('stored/pcboard', 'stored/PROVED', 'crates.txt', 'crates/isa/src/lib.rt', 'crates/isa/specs/Lib.antt')
+        for path in paths:
+            os.makedirs(f'{top}/{os.path.dirname(path)}', exist_ok=True)
+            with open(f'{top}/{path}', 'wb') as file:
+                file.write(text)
+        os.chmod(f'{top}/stored/pcboard', 0o755)
+        shutil.copy(f'{TOP}/.gitattributes', top)
+        for words in (['init', '-q'], ['add', '.'], ['commit', '-q', '-m', 'it'], ['clone', '-q', '.', f'{self.room}/clone']):
+            subprocess.run([*git, *words], cwd=top, check=True, stdin=subprocess.DEVNULL, stderr=subprocess.DEVNULL)
+        for path in paths:
+            with open(f'{self.room}/clone/{path}', 'rb') as file:
+                self.assertEqual(file.read(), text, path)
+        self.assertTrue(os.access(f'{self.room}/clone/stored/pcboard', os.X_OK))
+
+
+class Gate(ToolCase):
+    """The stored program against the one that is tested, which the gate built."""
+
+    def test_what_was_built_has_the_stored_bytes(self) -> None:
+        """By the same kit of the same sources. A stored program that is older than the sources is told, and no failure."""
+        stored, built = proved.read(f'{TOP}/stored'), proved.read(os.path.dirname(os.path.realpath(program.path())))
+        if stored is None:
+            self.assertFalse(os.path.exists(f'{TOP}/stored/pcboard'))
+            print('not run: no program is stored')
+            return
+        self.assertTrue(stored.is_of(f'{TOP}/stored/pcboard'), "the stored program isn't the one that stored/PROVED tells of")
+        names = Crates(TOP).below('pcboard')
+        self.assertEqual(stored.verdicts.keys(), names if stored.sources == sum_of_sources(names, TOP) else stored.verdicts.keys())
+        why = ('the stored program was made of older sources; dev/build --store renews it' if stored.sources != sum_of_sources(names, TOP)
+               else 'nothing tells what the program that is tested was made of' if built is None or not built.is_of(program.path())
+               else 'the program that is tested was made of other sources' if built.sources != stored.sources
+               else f'{stored.kit} made the stored program, and {built.kit} the one that is tested' if built.kit != stored.kit else '')
+        if why or built is None:
+            print(f'not run: {why}')
+            return
+        self.assertEqual(built.program, stored.program)
+        self.assertEqual({it: stored.verdicts[it] for it in built.verdicts}, built.verdicts)
+
+    def clone(self) -> str:
+        """A copy of the repository, in which the program that is tested is the stored one."""
+        top = f'{self.room}/a clone'
+        ignored = shutil.ignore_patterns('out', '.git', '__pycache__', 'must-fail', 'refused', 'docs')
+        shutil.copytree(TOP, top, ignore=ignored, symlinks=True)
+        shutil.rmtree(f'{top}/stored', ignore_errors=True)
+        os.makedirs(f'{top}/stored')
+        shutil.copy(program.path(), f'{top}/stored/pcboard')
+        names = Crates(top).below('pcboard')
+        told = proved.Proved(sum_of(f'{top}/stored/pcboard'), sum_of_sources(names, top), 'rattle-kit-0', '0', dict.fromkeys(names, VERDICT))
+        proved.write(f'{top}/stored/PROVED', told.text())
+        return top
+
+    def launch(self, top: str, line: str) -> subprocess.CompletedProcess[str]:
+        """Runs a line of the shell at its top, where nothing of Rattle is on the path."""
+        return subprocess.run(['/bin/sh', '-c', line], cwd=top, capture_output=True, text=True, check=False, stdin=subprocess.DEVNULL,
+                              env={'PATH': '/usr/bin:/bin', 'HOME': self.room})
+
+    def test_a_clean_clone_answers_within_a_second(self) -> None:
+        """README's first command, where nothing was proved."""
+        with open(f'{TOP}/README.md', encoding='utf-8') as page:
+            line, printed = re.findall(r'^```\n(\./pcboard run .*)\n```\n\nprints\n\n```\n(.*?)^```', page.read(), re.M | re.S)[0]
+        top, before = self.clone(), resource.getrusage(resource.RUSAGE_CHILDREN)
+        ran = self.launch(top, line)
+        after = resource.getrusage(resource.RUSAGE_CHILDREN)
+        self.assertEqual((ran.returncode, ran.stdout[:len(printed) - 1]), (0, printed.rstrip()))
+        self.assertIn('proved elsewhere', ran.stderr)
+        self.assertLess(after.ru_utime + after.ru_stime - before.ru_utime - before.ru_stime, 1)  # of a processor, however busy it is
+        self.assertEqual(self.launch(top, line).stderr, '')
+        ran = self.launch(top, 'tools/try examples/hello.asm')
+        self.assertEqual((ran.returncode, ran.stdout.partition('\n')[0].rstrip()), (0, 'HI'))
+
+    def test_what_the_launcher_adds_to_the_program(self) -> None:
+        top, run = self.clone(), './pcboard run examples/hello.asm'
+        self.assertIn('proved elsewhere', self.launch(top, './pcboard --version').stderr)
+        for line, status, told in (
+                (f'{run} none', 3, "pcboard: none can't be opened: it isn't there\n"), (f'{run} docs', 3, "pcboard: docs can't be opened: it isn't there\n"),
+                (f'{run} examples', 3, "pcboard: examples can't be read: it is a folder\n"),
+                (f'{run} examples/hello.json >/dev/full', 3, "pcboard: the answer couldn't be written, or what it is made from couldn't be read\n"),
+                ('./pcboard asm README.md', 1, 'fault 2 BadCharacter line 3\n'), ('./pcboard --help | head -1 >/dev/null', 0, ''), ('./pcboard -h', 0, '')):
+            ran = self.launch(top, line)
+            self.assertEqual((ran.returncode, ran.stderr), (status, told), line)
+            self.assertEqual(ran.stdout != '', line.endswith('-h'), line)
+
+
+if __name__ == '__main__':
+    unittest.main()
