@@ -336,10 +336,12 @@ class Gate(ToolCase):
             return
         self.assertTrue(stored.is_of(f'{TOP}/stored/pcboard'), "the stored program isn't the one that stored/PROVED tells of")
         names = Crates(TOP).below('pcboard')
-        self.assertEqual(stored.verdicts.keys(), names if stored.sources == sum_of_sources(names, TOP) else stored.verdicts.keys())
-        why = ('the stored program was made of older sources; dev/build --store renews it' if stored.sources != sum_of_sources(names, TOP)
+        present = sum_of_sources(names, TOP)
+        if stored.sources == present:
+            self.assertEqual(stored.verdicts.keys(), names)
+        why = ('the stored program was made of older sources; dev/build --store renews it' if stored.sources != present
                else 'nothing tells what the program that is tested was made of' if built is None or not built.is_of(program.path())
-               else 'the program that is tested was made of other sources' if built.sources != stored.sources
+               else 'the program that is tested was made of other sources' if built.sources != present
                else f'{stored.kit} made the stored program, and {built.kit} the one that is tested' if built.kit != stored.kit else '')
         if why or built is None:
             print(f'not run: {why}')

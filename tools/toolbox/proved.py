@@ -105,14 +105,14 @@ def recall(made_of: str) -> str | None:
 
 def seen(log: str, top: str) -> list[str]:
     """Remembers the verdicts in a file that has the output of an `rt ci` of a clone, and returns of which crates. Nothing that it
-    proved may have changed since."""
+    proved may have changed since it began; what is newer than the file is refused."""
     crates = Crates(top)
-    newer = newer_than(log, crates.named, top)
+    with open(log, encoding='utf-8', errors='replace') as lines:
+        verdicts = {name: verdict for name, verdict in verdicts_in(lines).items() if name in crates.named}
+    newer = newer_than(log, set().union(*map(crates.below, verdicts)), top)
     if newer:
         raise Sorry(f'{newer} is newer than {log}, so what it tells may be of another text')
-    with open(log, encoding='utf-8', errors='replace') as lines:
-        verdicts = verdicts_in(lines)
-    for name, made_of in stamps(crates, verdicts.keys() & crates.named.keys()).items():
+    for name, made_of in stamps(crates, verdicts).items():
         remember(made_of, verdicts[name])
     return sorted(verdicts)
 
