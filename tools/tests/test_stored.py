@@ -246,6 +246,16 @@ class Stored(Repository):
         self.assertIn('2 of 2: pcboard', self.build('pcboard'))
         self.build('--store')
 
+    def test_verdicts_that_are_unknown_can_be_proved_alone(self) -> None:
+        """Nothing that stands there is changed by it."""
+        self.file('bin/rt', CI)
+        self.start('/bin/sh', '-c', 'cd "$1" && rt ci', '', self.top)
+        before = sorted(os.walk(self.out))
+        self.assertEqual(re.findall(r'proving (\w+) again', self.build('--verdicts')), ['low', 'pcboard'])
+        self.assertEqual(sorted(os.walk(self.out)), before)
+        self.assertEqual(self.build('--verdicts'), '')
+        self.build('--store')
+
     def test_a_proof_without_a_verdict_is_none(self) -> None:
         with open(f'{self.room}/bin/rattle', encoding='ascii') as file:
             text = file.read()
@@ -281,7 +291,7 @@ class Stored(Repository):
     def test_one_that_rt_ci_left_is_stored_by_its_time_once_its_verdicts_are_known(self) -> None:
         self.file('bin/rt', CI)
         printed = self.start('/bin/sh', '-c', 'cd "$1" && rt ci', '', self.top).stdout
-        self.assertIn("nothing here has seen the verdicts of low, pcboard; 'dev/build --seen LOG CLONE' reads them", self.refused())
+        self.assertIn('nothing here has seen the verdicts of low, pcboard; ', self.refused())
         self.assertEqual(self.build('--seen', self.file('log', printed), self.top), '2 verdicts: low pcboard\n')
         os.remove(f'{self.out}/PROVED')
         self.touch('crates/low/src/lib.rt')

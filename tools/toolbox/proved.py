@@ -169,8 +169,8 @@ def built_here() -> Proved:
     assert told
     lacking = sorted(names - told.verdicts.keys())
     if lacking:
-        raise Sorry(f"nothing here has seen the verdicts of {', '.join(lacking)}; 'dev/build --seen LOG CLONE' reads them in the output of "
-                    f"an rt ci, and 'dev/build {TARGET}' proves these crates here")
+        raise Sorry(f"nothing here has seen the verdicts of {', '.join(lacking)}; 'dev/build --verdicts' proves these crates again, and "
+                    "'dev/build --seen LOG CLONE' reads the output of an rt ci that proved them")
     return told
 
 
