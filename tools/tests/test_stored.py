@@ -7,6 +7,7 @@ import resource
 import shutil
 import subprocess
 import unittest
+from dataclasses import replace
 
 from tests.repository import KIT, LOGIC, Repository
 from tests.support import TOP, ToolCase
@@ -349,15 +350,24 @@ class Gate(ToolCase):
         present = sum_of_sources(names, TOP)
         if stored.sources == present:
             self.assertEqual(stored.verdicts.keys(), names)
-        why = ('the stored program was made of older sources; dev/build --store renews it' if stored.sources != present
-               else 'nothing tells what the program that is tested was made of' if built is None or not built.is_of(program.path())
-               else 'the program that is tested was made of other sources' if built.sources != present
-               else f'{stored.kit} made the stored program, and {built.kit} the one that is tested' if built.kit != stored.kit else '')
+        if built and not built.is_of(program.path()):
+            built = None
+        why = proved.incomparable(stored, built, present)
         if why or built is None:
             print(f'not run: {why}')
             return
         self.assertEqual(built.program, stored.program)
         self.assertEqual({it: stored.verdicts[it] for it in built.verdicts}, built.verdicts)
+
+    def test_when_they_are_compared(self) -> None:
+        stored = proved.Proved('program', 'sources', 'kit', 'logic', {})
+        for built, present, why in (
+                (stored, 'sources', None), (replace(stored, program='other', logic='other'), 'sources', None), (None, 'sources', 'nothing tells'),
+                (stored, 'newer', 'dev/build --store renews it'), (None, 'newer', 'dev/build --store renews it'),
+                (replace(stored, sources='other'), 'sources', 'that is tested was made of other sources'),
+                (replace(stored, kit='other'), 'sources', 'kit made the stored program, other the one that is tested')):
+            told = proved.incomparable(stored, built, present)
+            self.assertTrue(told is None if why is None else told and why in told, told)
 
     def clone(self) -> str:
         """A copy of the repository, in which the program that is tested is the stored one."""

@@ -148,6 +148,18 @@ def compared(built: Proved) -> str | None:
     return f'its bytes are those of {program}{by}, {told}'
 
 
+def incomparable(stored: Proved, built: Proved | None, present: str) -> str | None:
+    """Why a stored program and one that the gate built need not have the same bytes, where the present sources have this sum;
+    None where they need."""
+    if stored.sources != present:
+        return 'the stored program was made of other sources than the present ones; dev/build --store renews it'
+    if built is None:
+        return 'nothing tells what the program that is tested was made of'
+    if built.sources != present:
+        return 'the program that is tested was made of other sources than the present ones'
+    return None if built.kit == stored.kit else f'{stored.kit} made the stored program, {built.kit} the one that is tested'
+
+
 def built_here() -> Proved:
     """What is known of the program in crates/pcboard/out, which has to be made of the present sources. One that `rt ci` left
     tells nothing of itself; then none of them may be newer."""
