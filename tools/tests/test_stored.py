@@ -237,8 +237,12 @@ class Stored(Repository):
         self.assertIn('crates/pcboard/out/pcboard is not made of the present sources', self.refused())
         self.file('bin/rt', '#!/bin/sh\necho "rattle-kit-2 logic 0"\n')
         self.build('pcboard')
-        self.build('--store')
+        shutil.rmtree(f'{self.room}/cache')
         self.file('bin/rt', f'#!/bin/sh\necho "{KIT} logic {LOGIC}"\n')
+        self.assertIn('rattle-kit-2, 2 verdicts', self.build('--store'))
+        told = proved.read(self.out)
+        assert told
+        self.file('top/crates/pcboard/out/PROVED', told.text().replace(f'low: {VERDICT}\n', ''))
         self.assertIn("was built by rattle-kit-2, which isn't the kit that is here", self.refused())
 
     def test_a_crate_whose_verdict_is_lost_is_proved_again(self) -> None:

@@ -76,7 +76,8 @@ def verdict_in(printed: str) -> str | None:
 
 def verdicts_in(lines: Iterable[str]) -> dict[str, str]:
     """The verdicts in the output of `rt ci`, of the crates that it proved: none of their tests', and none of crates that it keeps."""
-    found, last = {}, ''
+    found: dict[str, str] = {}
+    last = ''
     for line in lines:
         is_proved = re.fullmatch(r'rt: (\w+) proved', line.strip())
         if is_proved and last:
@@ -109,7 +110,7 @@ def seen(log: str, top: str) -> list[str]:
     crates = Crates(top)
     with open(log, encoding='utf-8', errors='replace') as lines:
         verdicts = {name: verdict for name, verdict in verdicts_in(lines).items() if name in crates.named}
-    newer = newer_than(log, set().union(*map(crates.below, verdicts)), top)
+    newer = newer_than(log, {it for name in verdicts for it in crates.below(name)}, top)
     if newer:
         raise Sorry(f'{newer} is newer than {log}, so what it tells may be of another text')
     for name, made_of in stamps(crates, verdicts).items():
@@ -167,15 +168,16 @@ def built_here() -> Proved:
     names = crates.below(TARGET)
     if not os.access(program, os.X_OK):
         raise Sorry(f'crates/{TARGET}/out has no program; tools/test makes one, and so do rt ci and dev/build {TARGET}')
-    told = read(OUT)
-    if told is None or told.program != sum_of(program):
-        newer = newer_than(program, names)
-        if newer:
-            raise Sorry(f'{os.path.relpath(newer, TOP)} is newer than crates/{TARGET}/out/{TARGET}, which may be made of other sources')
-    elif told.sources != sum_of_sources(names):
-        raise Sorry(f'crates/{TARGET}/out/{TARGET} is not made of the present sources')
-    elif told.kit != version()[0]:
-        raise Sorry(f"crates/{TARGET}/out/{TARGET} was built by {told.kit}, which isn't the kit that is here")
+    told, newer = read(OUT), newer_than(program, names)
+    if told and told.program == sum_of(program):
+        if told.sources != sum_of_sources(names):
+            raise Sorry(f'crates/{TARGET}/out/{TARGET} is not made of the present sources')
+        if names <= told.verdicts.keys():
+            return told
+        if told.kit != version()[0]:
+            raise Sorry(f"verdicts are unknown, and crates/{TARGET}/out/{TARGET} was built by {told.kit}, which isn't the kit that is here")
+    elif newer:
+        raise Sorry(f'{os.path.relpath(newer, TOP)} is newer than crates/{TARGET}/out/{TARGET}, which may be made of other sources')
     note(program, crates, names)
     told = read(OUT)
     assert told
