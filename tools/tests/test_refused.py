@@ -18,7 +18,7 @@ def must_fail(crate, edit, flags, kept):
 def checked(crate, texts, flags, kept):
     return types.SimpleNamespace(returncode=crate.name == 'broken')
 """
-RATTLE = '#!/bin/sh\nwhile [ "$1" != -o ]; do shift; done\nmkdir -p "$2"\n'
+RATTLE = '#!/bin/sh\nwhile [ "$1" != -o ]; do shift; done\nmkdir -p "$2"\necho logic=proved functions=1\n'
 
 
 class Edits(ToolCase):
@@ -47,7 +47,7 @@ class Refused(ToolCase):
         super().setUp()
         for folder in ('bin', 'top/dev', 'top/tools/toolbox'):
             os.makedirs(f'{self.room}/{folder}')
-        shared = (f'tools/toolbox/{it}.py' for it in ('__init__', 'building', 'command', 'crates', 'edits'))
+        shared = (f'tools/toolbox/{it}.py' for it in ('__init__', 'building', 'command', 'crates', 'edits', 'proved', 'sources'))
         for file in ('dev/refused', *shared):
             shutil.copy(f'{TOP}/{file}', f'{self.room}/top/{file}')
         for name in ('low', 'high', 'broken'):
