@@ -25,6 +25,7 @@ printf '== low: its tests\nlogic=proved tests=1 functions=9\nrt: low: its tests 
 mkdir -p crates/pcboard/out
 printf '#!/bin/sh\n[ "$1" != --help ] || exit 2\necho "it runs $*"\n' > crates/pcboard/out/pcboard
 chmod +x crates/pcboard/out/pcboard
+echo HI > crates/pcboard/out/stdout
 echo '3 passed, 0 failed'
 """
 
@@ -298,13 +299,16 @@ class Stored(Repository):
         printed = self.start('/bin/sh', '-c', 'cd "$1" && rt ci', '', self.top).stdout
         self.assertIn('nothing here has seen the verdicts of low, pcboard; ', self.refused())
         self.assertEqual(self.build('--seen', self.file('log', printed), self.top), '2 verdicts: low pcboard\n')
-        os.remove(f'{self.out}/PROVED')
+        self.assertFalse(os.path.exists(f'{self.out}/PROVED'))
         self.touch('crates/low/src/lib.rt')
         self.assertIn('crates/low/src/lib.rt is newer than crates/pcboard/out/pcboard', self.refused())
         ran = self.start(f'{self.top}/dev/build', '--seen', f'{self.room}/log', self.top)
         self.assertEqual(ran.returncode, 2)
         self.assertIn(f'is newer than {self.room}/log', ran.stderr)
         os.utime(f'{self.top}/crates/low/src/lib.rt', (1, 1))
+        os.rename(f'{self.out}/stdout', f'{self.room}/stdout')
+        self.assertIn('nothing tells what crates/pcboard/out/pcboard was made of', self.refused())  # as of one that was copied there
+        os.rename(f'{self.room}/stdout', f'{self.out}/stdout')
         self.build('--store')
         shutil.rmtree(self.out)
         self.assertIn('proved elsewhere', self.at_once())

@@ -124,12 +124,16 @@ def newer_than(path: str, names: Iterable[str], top: str = TOP) -> str | None:
     return next((it for it in [f'{top}/crates.txt', *files(names, top)] if os.stat(it).st_mtime > limit), None)
 
 
-def note(program: str, crates: Crates, names: set[str]) -> None:
-    """Writes PROVED beside a program that was made just now of these crates, as they stand, with the verdicts that are known."""
+def told_of(program: str, crates: Crates, names: set[str]) -> Proved:
+    """What there is to tell of a program that the present kit made of these crates, as they stand, with the verdicts that are known."""
     known = {name: recall(made_of) for name, made_of in stamps(crates, names).items()}
     verdicts = {name: verdict for name, verdict in known.items() if verdict}
-    told = Proved(sum_of(program), sum_of_sources(names, crates.top), *version(), verdicts=verdicts)
-    write(f'{os.path.dirname(program)}/PROVED', told.text())
+    return Proved(sum_of(program), sum_of_sources(names, crates.top), *version(), verdicts=verdicts)
+
+
+def note(program: str, crates: Crates, names: set[str]) -> None:
+    """Writes PROVED beside a program that was made just now."""
+    write(f'{os.path.dirname(program)}/PROVED', told_of(program, crates, names).text())
 
 
 def compared(built: Proved) -> str | None:
@@ -163,12 +167,12 @@ def incomparable(stored: Proved, built: Proved | None, present: str) -> str | No
 
 def built_here() -> Proved:
     """What is known of the program in crates/pcboard/out, which has to be made of the present sources. One that `rt ci` left
-    tells nothing of itself; then none of them may be newer."""
+    tells nothing of itself; then none of them may be newer, and what it printed for `rt ci` stands beside it."""
     program, crates = f'{OUT}/{TARGET}', Crates()
     names = crates.below(TARGET)
     if not os.access(program, os.X_OK):
         raise Sorry(f'crates/{TARGET}/out has no program; tools/test makes one, and so do rt ci and dev/build {TARGET}')
-    told, newer = read(OUT), newer_than(program, names)
+    told = read(OUT)
     if told and told.program == sum_of(program):
         if told.sources != sum_of_sources(names):
             raise Sorry(f'crates/{TARGET}/out/{TARGET} is not made of the present sources')
@@ -176,16 +180,22 @@ def built_here() -> Proved:
             return told
         if told.kit != version()[0]:
             raise Sorry(f"verdicts are unknown, and crates/{TARGET}/out/{TARGET} was built by {told.kit}, which isn't the kit that is here")
-    elif newer:
+    elif not was_left_by_ci(program):
+        raise Sorry(f'nothing tells what crates/{TARGET}/out/{TARGET} was made of; build it by tools/test, rt ci or dev/build {TARGET}')
+    elif newer := newer_than(program, names):
         raise Sorry(f'{os.path.relpath(newer, TOP)} is newer than crates/{TARGET}/out/{TARGET}, which may be made of other sources')
-    note(program, crates, names)
-    told = read(OUT)
-    assert told
+    told = told_of(program, crates, names)
     lacking = sorted(names - told.verdicts.keys())
     if lacking:
         raise Sorry(f"nothing here has seen the verdicts of {', '.join(lacking)}; 'dev/build --verdicts' proves these crates again, and "
                     "'dev/build --seen LOG CLONE' reads the output of an rt ci that proved them")
     return told
+
+
+def was_left_by_ci(program: str) -> bool:
+    """Whether `rt ci` left this program, which it runs, and keeps what it printed. One that was copied there has nothing beside it."""
+    printed = f'{os.path.dirname(program)}/stdout'
+    return os.path.isfile(printed) and os.stat(printed).st_mtime >= os.stat(program).st_mtime
 
 
 def store() -> Proved:
