@@ -50,7 +50,7 @@ class Count(ToolCase):
     def count(self, *words: str, status: int = 0) -> tuple[str, str]:
         """What bench/count prints, where the only commands are those of the case's folder and the shell's."""
         with patch.dict(os.environ, {'PATH': self.room}):
-            return self.tool('../bench/count', *words, status=status)
+            return self.tool('bench/count', *words, status=status)
 
     def with_valgrind(self) -> None:
         """Puts the script in valgrind's place."""
@@ -191,8 +191,8 @@ class Race(ToolCase):
     def test_refusals(self) -> None:
         for words, told in ((['--rounds', '0'], '0 is no number of rounds'), (['--rounds', 'x'], 'x is no number'),
                             ([f'{TOP}/pcboard'], 'is no built program'), (['--nonsense'], 'unrecognized')):
-            self.assertIn(told, self.tool('../bench/race', *words, status=2)[1])
-        self.assertIn('--rounds', self.tool('../bench/race', '--help')[0])
+            self.assertIn(told, self.tool('bench/race', *words, status=2)[1])
+        self.assertIn('--rounds', self.tool('bench/race', '--help')[0])
 
 
 class Runner:
