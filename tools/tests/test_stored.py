@@ -33,6 +33,8 @@ echo '3 passed, 0 failed'
 class Stored(Repository):
     """A stored program in a repository of two crates."""
 
+    made: dict[str, str] = {}
+
     def setUp(self) -> None:
         super().setUp()
         self.top, self.out, self.stored = f'{self.room}/top', f'{self.room}/top/crates/pcboard/out', f'{self.room}/top/stored'
@@ -44,11 +46,18 @@ class Stored(Repository):
         return ran.stdout + ran.stderr
 
     def store(self) -> None:
-        """Builds a program and stores it, and leaves a clone as it is made from a repository."""
-        self.build('pcboard')
-        self.build('--store')
-        shutil.rmtree(self.out)
-        shutil.rmtree(f'{self.room}/cache')
+        """Leaves a clone as it is made from a repository in which a program was built and stored, which is done once for all cases."""
+        if not Stored.made:
+            self.build('pcboard')
+            self.build('--store')
+            shutil.rmtree(self.out)
+            shutil.rmtree(f'{self.room}/cache')
+            for name in ('pcboard', 'PROVED'):
+                with open(f'{self.stored}/{name}', encoding='utf-8') as file:
+                    Stored.made[name] = file.read()
+        os.makedirs(self.stored, exist_ok=True)
+        for name, text in Stored.made.items():
+            os.chmod(self.file(f'top/stored/{name}', text), 0o755)
 
     def at_once(self, top: str = '') -> str:
         """What standard error has where it runs at once, with Rattle and without."""
