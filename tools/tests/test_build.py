@@ -8,6 +8,7 @@ import shlex
 import shutil
 import signal
 import subprocess
+import time
 import unittest
 
 from tests.repository import Repository
@@ -220,6 +221,9 @@ class Build(Repository):
                 process.send_signal(number)
                 self.assertEqual(process.wait(timeout=60), -number)
                 self.assertEqual(process.stdout.read(), '')  # no one has it open any more, so the program has ended too
+            until = time.monotonic() + 60
+            while is_running(program) and time.monotonic() < until:  # it closes its files a little before its end
+                time.sleep(0.01)
             self.assertFalse(is_running(program))
 
     def test_a_crate_that_fails_is_told(self) -> None:
