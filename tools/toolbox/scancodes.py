@@ -26,6 +26,12 @@ class Stroke:
     pause: int = 0
 
 
+def names() -> dict[int, str]:
+    """Each key's name: its sign without shift, or its name."""
+    found = {code: name for name, code in NAMED.items()}
+    return found | {code: sign for sign, (code, shifted) in SIGNS.items() if not shifted and sign > ' '}
+
+
 def stroke_of(sign: str, is_plain: bool) -> Stroke:
     """A typed character; where it is plain, without the shift that it needs."""
     if sign not in SIGNS:

@@ -1,0 +1,536 @@
+"""tools/desk by its own protocol: what is hostile is refused, and what a page is told is what the program answers."""
+from __future__ import annotations
+
+import concurrent.futures as futures
+import gc
+import http.client
+import json
+import os
+import re
+import signal
+import socket
+import subprocess
+import sys
+import tempfile
+import threading
+import time
+import unittest
+from typing import Any
+
+from tests.support import EXAMPLES, TOOLS, TOP, ToolCase, example
+
+from toolbox.desk_http import LONGEST_BODY, MOST_CONNECTIONS, Server, policy_of
+from toolbox.desk_pages import as_html, examples, page_of
+from toolbox.desk_words import MOST_BOARDS, Desk, Given
+from toolbox.program import Files, Session, path
+from toolbox.report import registers_of, report_of
+from toolbox.runfile import report_at
+
+Fields = dict[str, Any]
+RUN = {'version': 1, 'ram': 64, 'sw1': 0, 'sw2': 0, 'budget': 1000, 'keys': []}
+FOREVER = 'SEGMENT MAIN AT 0F000h\nstart:  CALL deep\nstay:   JMP SHORT stay\ndeep:   INC AX\n        JMP SHORT deep\nENDS\nSEGMENT RESET AT 0FFFFh\n        JMP FAR start\nENDS\n'
+
+
+def text_of_screen(rows: list[list[list[Any]]]) -> list[str]:
+    """The page's screen as a report has it."""
+    return [''.join(text for text, _ in row) for row in rows]
+
+
+class Client:
+    """A page, as far as the protocol goes."""
+
+    def __init__(self, address: str) -> None:
+        found = re.fullmatch(r'http://(127\.0\.0\.1:(\d+))/([\w-]+)/', address)
+        assert found, address
+        self.host, self.port, self.token = found[1], int(found[2]), found[3]
+
+    def request(self, method: str, path: str, body: bytes | None = None, **headers: str | None) -> tuple[int, str, http.client.HTTPResponse]:
+        """A request with the headers of the page's own, as far as none is given: status, body, response."""
+        own: dict[str, str | None] = {'Host': self.host}
+        if method == 'POST':
+            own |= {'Origin': f'http://{self.host}', 'Content-Type': 'application/json'}
+        own |= {name.replace('_', '-'): it for name, it in headers.items()}
+        connection = http.client.HTTPConnection('127.0.0.1', self.port, timeout=30)
+        try:
+            connection.putrequest(method, path, skip_host=True, skip_accept_encoding=True)
+            for name, value in own.items():
+                if value is not None:
+                    connection.putheader(name, value)
+            if body is not None and 'Content-Length' not in own and 'Transfer-Encoding' not in own:
+                connection.putheader('Content-Length', str(len(body)))
+            connection.endheaders(body)
+            answer = connection.getresponse()
+            return answer.status, answer.read().decode(), answer
+        finally:
+            connection.close()
+
+    def ask(self, word: str, **fields: Any) -> Fields:
+        """A question, followed to its end."""
+        status, text, _ = self.request('POST', f'/{self.token}/do', json.dumps({'do': word, **fields}).encode())
+        assert status == 200, (word, status, text)
+        answer = json.loads(text)
+        while answer.get('working') and word not in ('wait', 'run now'):
+            answer = self.ask('wait', board=fields['board'])
+        return answer
+
+    def raw(self, octets: bytes) -> bytes:
+        """What bytes are answered by, up to the connection's end."""
+        with socket.create_connection(('127.0.0.1', self.port), timeout=30) as line:
+            line.sendall(octets)
+            found = b''
+            try:
+                while part := line.recv(1 << 16):
+                    found += part
+            except ConnectionError:
+                pass
+            return found
+
+    def open(self, name: str, **fields: Any) -> Fields:
+        """A board of an example."""
+        given = self.ask('example', name=name)
+        answer = self.ask('open', source=given['source'], run=given['run'] | fields)
+        assert 'board' in answer, answer
+        return answer
+
+
+def children(of: int) -> list[int]:
+    """The processes that a process has started, and those that these have."""
+    found = list[int]()
+    for name in os.listdir('/proc'):
+        if name.isdecimal():
+            try:
+                with open(f'/proc/{name}/stat', encoding='utf-8') as file:
+                    fields = file.read().rpartition(')')[2].split()
+            except OSError:
+                continue
+            if int(fields[1]) == of and fields[0] != 'Z':
+                found += [int(name), *children(int(name))]
+    return found
+
+
+class Served(ToolCase):
+    """A desk within the tests' own process."""
+
+    def setUp(self) -> None:
+        super().setUp()
+        self.desk = Desk(self.room, Given())
+        self.server = Server('<style>x</style><script>y</script>', self.desk.answer)
+        self.thread = threading.Thread(target=self.server.serve_forever, args=(0.02,), daemon=True)
+        self.thread.start()
+        self.addCleanup(self.end)
+        self.client = Client(self.server.address)
+
+    def end(self) -> None:
+        """Ends it."""
+        self.server.shutdown()
+        self.server.server_close()
+        self.desk.close()
+        self.thread.join()
+
+
+class Hostile(Served):
+    """Requests that no page of its own sends."""
+
+    def status(self, method: str, path: str, body: bytes | None = None, **headers: str | None) -> int:
+        """A request's status."""
+        return self.client.request(method, path, body, **headers)[0]
+
+    def test_the_page_itself(self) -> None:
+        status, text, answer = self.client.request('GET', f'/{self.client.token}/')
+        self.assertEqual((status, text), (200, '<style>x</style><script>y</script>'))
+        policy = answer.getheader('Content-Security-Policy') or ''
+        self.assertEqual(policy, policy_of(text))
+        self.assertTrue(policy.startswith("default-src 'none'; script-src 'sha256-") and 'unsafe' not in policy)
+        self.assertEqual((answer.getheader('Cache-Control'), answer.getheader('Referrer-Policy')), ('no-store', 'no-referrer'))
+        self.assertIn('examples', self.client.ask('hello'))
+
+    def test_another_host(self) -> None:
+        page, port = f'/{self.client.token}/', self.client.port
+        for host in ('evil.example', f'evil.example:{port}', f'localhost:{port}', '127.0.0.1', f'127.0.0.1:{port + 1}', '', None):
+            self.assertEqual(self.status('GET', page, Host=host), 403, host)
+            self.assertEqual(self.status('POST', f'{page}do', b'{"do":"hello"}', Host=host), 403, host)
+        twice = self.client.raw(f'GET {page} HTTP/1.1\r\nHost: {self.client.host}\r\nHost: evil.example\r\n\r\n'.encode())
+        self.assertTrue(twice.startswith(b'HTTP/1.1 403'), twice)
+
+    def test_another_origin(self) -> None:
+        for origin in ('http://evil.example', 'null', f'https://{self.client.host}', f'http://localhost:{self.client.port}', ''):
+            self.assertEqual(self.status('POST', f'/{self.client.token}/do', b'{"do":"hello"}', Origin=origin), 403, origin)
+            self.assertEqual(self.status('GET', f'/{self.client.token}/', Origin=origin), 403, origin)
+        self.assertEqual(self.status('POST', f'/{self.client.token}/do', b'{"do":"hello"}', Origin=None), 403)
+
+    def test_no_token_or_another(self) -> None:
+        token = self.client.token
+        for path in ('/', '/do', '//', f'/{token[:-1]}/', f'/{token}x/', f'/{token.swapcase()}/', '/favicon.ico', f'/x/{token}/', f'/?{token}', '*', 'x'):
+            self.assertEqual(self.status('GET', path), 403, path)
+            self.assertEqual(self.status('POST', path, b'{"do":"hello"}'), 403, path)
+
+    def test_a_path_outside(self) -> None:
+        token = self.client.token
+        for rest in ('../../etc/passwd', '..', './', '%2e%2e/', '..%2f..%2fetc/passwd', 'do/', 'do/../', '/etc/passwd', 'desk.html', '\\..\\', 'do?x'):
+            for method in ('GET', 'POST'):
+                self.assertEqual(self.status(method, f'/{token}/{rest}', b'{}' if method == 'POST' else None), 404, rest)
+        self.assertEqual(self.status('GET', f'/{token}'), 404)
+        for name in ('../README.md', '/etc/passwd', '..', 'CONTRACTS', 'pictures/fibonacci.svg'):
+            self.assertIn('no page', self.client.ask('page', name=name)['sorry'])
+            self.assertIn('no example', self.client.ask('example', name=name)['sorry'])
+
+    def test_other_methods(self) -> None:
+        for method in ('PUT', 'DELETE', 'HEAD', 'OPTIONS', 'CONNECT', 'TRACE', 'get'):
+            self.assertEqual(self.status(method, f'/{self.client.token}/'), 501, method)
+
+    def test_bodies(self) -> None:
+        path, good = f'/{self.client.token}/do', b'{"do":"hello"}'
+        for wanted, body, headers in ((415, good, {'Content_Type': 'text/plain'}), (415, good, {'Content_Type': None}), (411, None, {}),
+                                      (411, b'e\r\n' + good + b'\r\n0\r\n\r\n', {'Transfer_Encoding': 'chunked'}), (411, good, {'Content_Length': '-1'}),
+                                      (411, good, {'Content_Length': '1e9'}), (400, b'[]', {}), (400, b'{', {}), (400, b'\xff', {}), (400, b'[' * 100000, {}),
+                                      (400, b'{}', {}), (400, b'{"do":1}', {}), (404, b'{"do":"x"}', {}), (400, b'{"do":"example"}', {}),
+                                      (400, b'{"do":"open","source":1}', {}), (400, b'{"do":"open","source":"","run":[]}', {}), (400, b'{"do":"run"}', {})):
+            self.assertEqual(self.client.request('POST', path, body, **{name.replace('_', '-'): it for name, it in headers.items()})[0], wanted, (body or b'')[:40])
+        for length in (LONGEST_BODY + 1, 10 << 20, 10 ** 11):
+            self.assertEqual(self.status('POST', path, b' ' * 100, **{'Content-Length': str(length)}), 413)
+        self.assertEqual(self.status('POST', path, b' ' * (10 << 20)), 413)
+        self.assertEqual(self.status('POST', path, good + b' ' * (LONGEST_BODY - len(good))), 200)
+
+    def test_long_heads(self) -> None:
+        self.assertIn(self.status('GET', '/' + 'x' * 70_000), (414,))
+        self.assertEqual(self.status('GET', '/', X=('y' * 70_000)), 431)
+        self.assertEqual(self.client.raw(b'\0' * 1000 + b'\r\n\r\n')[:12], b'HTTP/1.1 400')
+        self.assertIn('examples', self.client.ask('hello'))
+
+    def test_half_a_request(self) -> None:
+        """It is cut off, and so is one that comes byte by byte; others are answered meanwhile."""
+        self.server.seconds_of_a_request = self.server.seconds_of_silence = 0.3
+        head = f'POST /{self.client.token}/do HTTP/1.1\r\nHost: {self.client.host}\r\n'.encode()
+        lines = [socket.create_connection(('127.0.0.1', self.client.port)) for _ in range(10)]
+        for line in lines:
+            line.sendall(head)
+        self.assertIn('examples', self.client.ask('hello'))
+        begun = time.monotonic()
+        dropped = set[socket.socket]()
+        while len(dropped) < len(lines) and time.monotonic() < begun + 20:
+            self.server.cut_off()
+            for line in set(lines) - dropped:
+                line.settimeout(0.01)
+                try:
+                    line.sendall(b'X')
+                    if line.recv(1000) == b'':
+                        dropped.add(line)
+                except TimeoutError:
+                    pass
+                except OSError:
+                    dropped.add(line)
+        self.assertEqual(len(dropped), len(lines))
+        for line in lines:
+            line.close()
+        self.assertIn('examples', self.client.ask('hello'))
+
+    def test_a_hundred_at_once(self) -> None:
+        """Those for whom there is no room are told so."""
+        lines = [socket.create_connection(('127.0.0.1', self.client.port), timeout=20) for _ in range(100)]
+        request = f'GET /{self.client.token}/ HTTP/1.1\r\nHost: {self.client.host}\r\n\r\n'.encode()
+        seen = list[bytes]()
+        for line in lines:
+            try:
+                line.sendall(request)
+                seen.append(line.recv(1000)[:12])
+            except ConnectionError:
+                seen.append(b'')
+        self.assertEqual(seen.count(b'HTTP/1.1 200'), MOST_CONNECTIONS)
+        self.assertGreater(seen.count(b'HTTP/1.1 503'), 0)
+        for line in lines:
+            line.close()
+        until = time.monotonic() + 20
+        while time.monotonic() < until:
+            try:
+                self.assertIn('examples', self.client.ask('hello'))
+                break
+            except (AssertionError, OSError):
+                time.sleep(0.02)
+        with futures.ThreadPoolExecutor(20) as pool:
+            self.assertEqual({len(it['examples']) for it in pool.map(lambda _: self.client.ask('hello'), range(100))}, {len(examples())})
+
+    def test_it_listens_here_alone(self) -> None:
+        self.assertEqual(self.server.server_address[0], '127.0.0.1')
+        with self.assertRaises(OSError):
+            socket.create_connection(('127.0.0.2', self.client.port), timeout=2).close()
+
+    def test_what_is_asked_of_a_board(self) -> None:
+        board = self.client.open('hello')['board']
+        path = f'/{self.client.token}/do'
+        for fields in ({'do': 'go to', 'clock': '1'}, {'do': 'go to', 'clock': True}, {'do': 'type', 'codes': [0]}, {'do': 'type', 'codes': [128]}, {'do': 'type', 'codes': [212]},
+                       {'do': 'type', 'codes': ['a']}, {'do': 'type', 'codes': [1] * 20_000}, {'do': 'stops', 'places': 'x'}, {'do': 'stops', 'places': [1]},
+                       {'do': 'drop keys', 'keys': [-1]}, {'do': 'memory', 'place': 5}, {'do': 'run', 'ms': None}, {'do': 'step', 'seen': []}):
+            self.assertEqual(self.status('POST', path, json.dumps(fields | {'board': board}).encode()), 400, fields)
+        for fields in ({'do': 'go to', 'clock': -1}, {'do': 'go to', 'clock': 1 << 41}, {'do': 'memory', 'place': 'nowhere'}, {'do': 'stops', 'places': ['F000:0\nquit']},
+                       {'do': 'type', 'text': '{no such key}'}, {'do': 'type', 'text': '{wait 9999999999999}a'}, {'do': 'last'}):
+            rest = {name: it for name, it in fields.items() if name != 'do'}
+            self.assertIn('sorry', self.client.ask(str(fields['do']), board=board, **rest), fields)
+        self.assertIn('gone', self.client.ask('step', board='x'))
+        self.assertEqual(self.client.ask('step', board=board)['clock'], 15)
+
+
+class Boards(Served):
+    """What the page is told."""
+
+    def test_every_example(self) -> None:
+        """Its screen at its end is the report's, and so are the registers; what is saved repeats it."""
+        for it in examples():
+            answer = self.client.open(it.name)
+            board = answer['board']
+            shown = self.client.ask('run', board=board, to=answer['budget'], past=True, ms=200)
+            report = report_of(self.pcboard('run', *example(it.name)).stdout)
+            self.assertEqual((shown['clock'], text_of_screen(shown['screen']), shown['registers']), (report.clock, report.screen, report.registers), it.name)
+            marks = self.client.ask('marks', board=board)
+            self.assertEqual((marks['state'], marks['lost'], [tuple(change) for change in marks['changes']]), (report.state, report.lost, report.changes), it.name)
+            self.assertTrue(shown['state'].startswith(report.state), it.name)
+            self.client.ask('close', board=board)
+
+    def test_forth_and_back(self) -> None:
+        answer = self.client.open('fibonacci')
+        board = answer['board']
+        with Session(Files(*example('fibonacci'))) as session:
+            for _ in range(5):
+                session.one('step')
+                shown = self.client.ask('step', board=board)
+                self.assertEqual((shown['clock'], shown['registers']), (session.clock, registers_of(session.many('regs'))))
+            self.assertEqual([it[0] for it in shown['trail']], [int(it.split()[0]) for it in session.many('trail')])
+            session.one('back step')
+            shown = self.client.ask('back', board=board)
+            self.assertEqual((shown['clock'], shown['registers']), (session.clock, registers_of(session.many('regs'))))
+            for clock in (5000, 123, 0, 9999):
+                session.go_to(clock)
+                shown = self.client.ask('go to', board=board, clock=clock)
+                self.assertEqual((shown['clock'], shown['registers'], text_of_screen(shown['screen'])), (clock, registers_of(session.many('regs')), session.many('screen')))
+            self.assertEqual(self.client.ask('memory', board=board, place='0FFE0', count=32)['bytes'], session.dump(0xFFE0, 32).hex())
+        self.assertEqual(self.client.ask('stops', board=board, places=[':28'])['stops'][0][2], 28)
+        self.client.ask('go to', board=board, clock=0)
+        met = self.client.ask('run', board=board, ms=200)
+        self.assertEqual((met['why'], met['line']), ('stop', 28))
+        again = self.client.ask('run', board=board, ms=200)
+        self.assertEqual((again['why'], again['line']), ('stop', 28))
+        self.assertEqual(self.client.ask('last', board=board)['clock'], met['clock'])
+        self.assertIn('no stop held', self.client.ask('last', board=board)['sorry'])
+        self.assertEqual(self.client.ask('look', board=board)['clock'], met['clock'])
+        self.assertNotIn('screen', self.client.ask('look', board=board, seen=met['screen number']) if met['screen number'] == again['screen number'] else {})
+
+    def test_attributes(self) -> None:
+        with open(f'{TOOLS}/tests/attributes.asm', encoding='utf-8') as file:
+            answer = self.client.ask('open', source=file.read(), run=RUN)
+        shown = self.client.ask('run', board=answer['board'], to=1000, past=True, ms=200)
+        self.assertEqual(shown['screen'][0][:5], [['A', 0], ['B', 1], ['C', 2], ['D', 3], ['E', 4]])
+
+    def test_refusals(self) -> None:
+        source = 'SEGMENT MAIN AT 0F000h\n        MOV AX,0xB000\n        MVO AX,BX\nENDS\n'
+        self.assertEqual([(it['line'], it['text'].partition(':')[0]) for it in self.client.ask('open', source=source, run=RUN)['refused']],
+                         [(2, 'BadLine'), (3, 'UnknownName')])
+        self.assertIn('0B800h for 0xB800', self.client.ask('open', source=source, run=RUN)['refused'][0]['text'])
+        self.assertIn('BadRecord', self.client.ask('open', source=':0', run=RUN, hex=True)['refused'][0]['text'])
+        for fields, name in (({'ram': 'x'}, 'BadField'), ({'ram': 17}, 'RamSize'), ({'keys': [[0, 0]]}, 'BadScan'), ({'keys': 5}, 'BadField'), ({'budget': 1 << 41}, 'BudgetTooLarge'), ({'more': 1}, 'BadField')):
+            answer = self.client.ask('open', source=FOREVER, run=RUN | fields)
+            self.assertIn(name, answer['refused'][0]['text'], fields)
+        self.assertEqual(os.listdir(self.room), [])
+
+    def test_hex(self) -> None:
+        with open(f'{EXAMPLES}/monitor.hex', encoding='utf-8') as file, open(f'{EXAMPLES}/monitor.json', encoding='utf-8') as run_file:
+            answer = self.client.ask('open', source=file.read(), run=json.load(run_file), hex=True)
+        shown = self.client.ask('run', board=answer['board'], to=answer['budget'], past=True, ms=200)
+        self.assertEqual((answer['lines'], text_of_screen(shown['screen'])), ({}, report_of(self.pcboard('run', *example('monitor')).stdout).screen))
+        saved = self.client.ask('save', board=answer['board'])
+        self.assertEqual(saved['hex'], True)
+
+    def test_keys_typed_while_it_runs(self) -> None:
+        """The run goes on as it would have gone with the keys from the start, and what is saved repeats it to the byte."""
+        board = self.client.open('keys', keys=[], budget=0)['board']
+        for codes in ([35], [163], [23, 151]):
+            now = self.client.ask('run', board=board, to=self.client.ask('look', board=board)['clock'] + 4000, past=True, ms=200)
+            typed = self.client.ask('type', board=board, codes=codes)
+            self.assertEqual((typed['clock'], typed['registers']), (now['clock'], now['registers']))
+            self.assertGreater(typed['keys'][-1][0], now['clock'])
+        shown = self.client.ask('run', board=board, to=30_000, past=True, ms=200)
+        self.assertEqual(text_of_screen(shown['screen'])[0].rstrip(), 'HI')
+        self.repeated(board, shown)
+        self.client.ask('go to', board=board, clock=9000)
+        self.assertEqual(self.client.ask('type', board=board, codes=[30]), {'later': 2})
+        dropped = self.client.ask('type', board=board, codes=[30], drop=True)
+        self.assertEqual([it[3] for it in dropped['keys']], [35, 163, 30])
+        self.assertEqual(dropped['furthest'], 9000)
+        shown = self.client.ask('run', board=board, to=30_000, past=True, ms=200)
+        self.assertEqual(text_of_screen(shown['screen'])[0].rstrip(), 'HA')
+        self.repeated(board, shown)
+        self.client.ask('type', board=board, text='no{enter}')
+        shown = self.client.ask('run', board=board, to=60_000, past=True, ms=200)
+        self.assertEqual(text_of_screen(shown['screen'])[0].rstrip(), 'HANO.')
+        self.assertEqual(self.client.ask('drop keys', board=board, keys=[0, 1, 2])['keys'][0][1], 'n')
+        self.repeated(board, self.client.ask('look', board=board))
+
+    def repeated(self, board: str, shown: Fields) -> None:
+        """Whether a run of what is saved gives what is shown."""
+        saved = self.client.ask('save', board=board)
+        report = report_of(self.pcboard('run', self.file('it.asm', saved['source']), self.file('it.json', saved['run'])).stdout)
+        self.assertEqual((report.clock, report.registers, report.screen), (shown['clock'], shown['registers'], text_of_screen(self.client.ask('look', board=board)['screen'])))
+
+    def test_a_long_run_is_paused(self) -> None:
+        board = self.client.ask('open', source=FOREVER, run=RUN)['board']
+        shown = self.client.ask('run', board=board, ms=30)
+        self.assertEqual((shown['why'], shown['state']), ('paused', 'running'))
+        self.client.ask('go to', board=board, clock=15)
+        path = f'/{self.client.token}/do'
+        answer = json.loads(self.client.request('POST', path, json.dumps({'do': 'out', 'board': board}).encode())[1])
+        if answer.get('working'):
+            self.assertIn('at work', self.client.ask('step', board=board)['sorry'])
+            self.client.ask('pause', board=board)
+            answer = self.client.ask('wait', board=board)
+            while answer.get('working'):
+                answer = self.client.ask('wait', board=board)
+        self.assertIn(answer['why'], ('paused', 'far'))
+        self.assertEqual(self.client.ask('go to', board=board, clock=0)['clock'], 0)
+
+    def test_a_program_that_dies(self) -> None:
+        board, other = self.client.open('hello')['board'], self.client.open('tone')['board']
+        process = self.desk._boards[board].machine._session._process  # type: ignore[union-attr]
+        process.kill()
+        self.assertIn('has ended', self.client.ask('step', board=board)['gone'])
+        self.assertIn('gone', self.client.ask('step', board=board))
+        self.assertEqual(self.client.ask('step', board=other)['clock'], 15)
+        self.assertEqual(self.client.ask('step', board=self.client.open('hello')['board'])['clock'], 15)
+
+    def test_two_pages_and_eight(self) -> None:
+        boards = [self.client.open('hello')['board'] for _ in range(MOST_BOARDS)]
+        self.client.ask('go to', board=boards[0], clock=100)
+        self.assertEqual([self.client.ask('look', board=it)['clock'] for it in boards], [100] + [0] * 7)
+        given = self.client.ask('example', name='hello')
+        self.assertIn('8 boards are in use', self.client.ask('open', source=given['source'], run=given['run'])['sorry'])
+        self.assertIn('board', self.client.ask('open', source=given['source'], run=given['run'], instead=boards[0]))
+        self.assertIn('gone', self.client.ask('look', board=boards[0]))
+        self.client.ask('close', board=boards[1])
+        self.assertIn('board', self.client.ask('open', source=given['source'], run=given['run']))
+
+    def test_idle_boards_end(self) -> None:
+        board, other = self.client.open('hello')['board'], self.client.open('hello')['board']
+        self.desk.idle_seconds = 0.2
+        time.sleep(0.3)
+        self.client.ask('look', board=other)
+        self.desk.end_idle()
+        self.assertIn('left alone', self.client.ask('look', board=board)['gone'])
+        self.assertEqual(self.client.ask('look', board=other)['clock'], 0)
+        self.assertEqual(len(os.listdir(self.room)), 1)
+
+    def test_a_hundred_runs_leave_nothing(self) -> None:
+        def count() -> tuple[int, int, int, int]:
+            gc.collect()
+            return len(children(os.getpid())), len(os.listdir('/proc/self/fd')), threading.active_count(), len(os.listdir(self.room))
+
+        def memory() -> int:
+            with open('/proc/self/statm', encoding='utf-8') as file:
+                return int(file.read().split()[1]) * 4
+
+        given = self.client.ask('example', name='hello')
+        board, before, used = '', (0, 0, 0, 0), 0
+        for turn in range(105):
+            board = self.client.ask('open', source=given['source'], run=given['run'], instead=board)['board']
+            self.client.ask('run', board=board, to=100, past=True, ms=200)
+            if turn % 10 == 0:
+                self.client.ask('type', board=board, codes=[30, 158])
+                self.client.ask('marks', board=board)
+            if turn == 4:
+                before, used = count(), memory()
+        self.assertEqual(before[0], 1)
+        until = time.monotonic() + 5
+        while count() != before and time.monotonic() < until:
+            time.sleep(0.05)
+        self.assertEqual(count(), before)
+        self.assertLess(memory() - used, 8000, 'kilobytes')
+
+    def test_how_fast_it_is(self) -> None:
+        """On a run of ten million clocks a step is shown within 50 ms, and one back within 150: the best of some, since others work here."""
+        with open(f'{TOP}/bench/loops/a.asm', encoding='utf-8') as file:
+            board = self.client.ask('open', source=file.read(), run=RUN | {'budget': 10 ** 7})['board']
+        self.client.ask('go to', board=board, clock=10 ** 7)
+        for word, most in (('step', 0.05), ('back', 0.15)):
+            took = list[float]()
+            for _ in range(8):
+                begun = time.monotonic()
+                self.client.ask(word, board=board, seen=1)
+                took.append(time.monotonic() - begun)
+            self.assertLess(min(took), most, word)
+
+
+class Started(ToolCase):
+    """The tool as it is started."""
+
+    def begin(self, *words: str) -> tuple[subprocess.Popen[str], Client]:
+        """Starts it."""
+        process = subprocess.Popen([sys.executable, '-S', f'{TOOLS}/desk', '--no-open', *words], stdout=subprocess.PIPE, stderr=subprocess.PIPE, text=True,
+                                   cwd=self.room, env=os.environ | {'TMPDIR': self.room})
+        self.addCleanup(process.kill)
+        assert process.stdout
+        return process, Client(process.stdout.readline().split()[1])
+
+    def ended(self, process: subprocess.Popen[str], number: int) -> None:
+        """A signal ends it and all that it has started."""
+        started = children(process.pid)
+        self.assertGreater(len(started), 0)
+        process.send_signal(number)
+        _, err = process.communicate(timeout=20)
+        self.assertNotIn('Traceback', err)
+        for one in started:
+            with self.assertRaises(ProcessLookupError):
+                os.kill(one, 0)
+        self.assertEqual([it for it in os.listdir(self.room) if it.startswith('desk')], [])
+
+    def test_control_c_ends_it_all(self) -> None:
+        for number in (signal.SIGINT, signal.SIGTERM):
+            process, client = self.begin()
+            client.open('hello')
+            board = client.ask('open', source=FOREVER, run=RUN)['board']
+            path = f'/{client.token}/do'
+            client.request('POST', path, json.dumps({'do': 'go to', 'clock': 1 << 40, 'board': board}).encode())
+            self.ended(process, number)
+
+    def test_files_are_written_where_the_words_say(self) -> None:
+        source = self.file('mine.asm', FOREVER)
+        process, client = self.begin(source, f'{self.room}/mine.json')
+        given = client.ask('hello')['given']
+        self.assertEqual((given['source'], given['name'], given['run']['budget']), (FOREVER, 'mine.asm', 100000))
+        board = client.ask('open', source=FOREVER.replace('INC', 'DEC'), run=given['run'])['board']
+        client.ask('go to', board=board, clock=500)
+        self.assertEqual(client.ask('keep', board=board), {'kept': [source, f'{self.room}/mine.json']})
+        report = report_of(self.pcboard('run', source, f'{self.room}/mine.json').stdout)
+        self.assertEqual((report.clock, report.registers), (500, client.ask('look', board=board)['registers']))
+        self.assertEqual({it for it in os.listdir(self.room) if not it.startswith('desk')}, {'mine.asm', 'mine.json'})
+        self.ended(process, signal.SIGINT)
+
+    def test_words(self) -> None:
+        self.assertIn("can't be read", self.tool('desk', 'none.asm', status=2)[1])
+        self.assertIn('no such folder', self.tool('desk', self.file('a.asm', FOREVER), 'none/a.json', status=2)[1])
+        self.assertIn('is no JSON', self.tool('desk', self.file('a.asm', FOREVER), self.file('a.json', '{'), status=2)[1])
+        self.assertIn('a port is', self.tool('desk', '--port', '70000', status=2)[1])
+
+
+class Pages(unittest.TestCase):
+    """The page's own text, and the project's pages in it."""
+
+    def test_the_page_has_no_address_outside(self) -> None:
+        with open(f'{TOOLS}/toolbox/desk.html', encoding='utf-8') as file:
+            page = file.read()
+        self.assertNotRegex(page, r'https?:|//\w+\.|@import|url\(')
+        self.assertEqual((page.count('<script>'), page.count('<style>'), page.count('<script'), page.count(' style="'), page.count(' onclick=')), (1, 1, 1, 0, 0))
+
+    def test_all_pages_can_be_shown(self) -> None:
+        for name in sorted(os.listdir(f'{TOP}/docs')):
+            if name.endswith('.md'):
+                self.assertNotRegex(page_of(name), r'<(script|img|iframe|a href="[^#])', name)
+
+    def test_text_is_text(self) -> None:
+        self.assertEqual(as_html('<b>`<i>` [x](javascript:y) [z](http://a) **w**'), '<p>&lt;b&gt;<code>&lt;i&gt;</code> x z <b>w</b></p>')
+        self.assertIn('data-page="MACHINE.md" data-anchor="memory-map"', as_html('[m](MACHINE.md#memory-map)'))
+        self.assertNotIn('<x', as_html('# <x\n- <x\n|<x|\n|-|\n```\n<x\n```'))
+
+    def test_each_example_has_its_page(self) -> None:
+        for it in examples():
+            html = page_of(it.page)
+            self.assertTrue(not it.anchor or f'data-name="{it.anchor}"' in html, it)
+
+
+if __name__ == '__main__':
+    unittest.main()

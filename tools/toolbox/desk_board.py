@@ -1,0 +1,484 @@
+"""The board that a page of tools/desk shows. It is moved in jobs, each of which can be ended, and keys may be typed while it
+runs. It decides nothing: what it shows is a session's answer, or a report of the same files."""
+from __future__ import annotations
+
+import contextlib
+import os
+import subprocess
+import threading
+import time
+from dataclasses import dataclass
+from typing import Any, Callable, Iterator
+
+from toolbox.command import Sorry
+from toolbox.dap_board import MOST_BREAKPOINTS, Far, Machine, Paused, is_repeated
+from toolbox.listing import listing_of, physical
+from toolbox.places import address_of, event_of, line_at
+from toolbox.program import CLOCKS_OF_A_TRAIL, LAST_CLOCK, Files, Session, path, refusal
+from toolbox.report import REGISTERS, Report, registers_of, report_of
+from toolbox.runfile import text_of, with_budget
+from toolbox.scancodes import names
+from toolbox.text_memory import TEXT_MEMORY, WORDS, Cell, cells_at, plain_cells, starts
+
+Fields = dict[str, Any]
+# A typed key reaches the keyboard so many clocks on, and lies so many behind the one before: a handler takes some hundred.
+AHEAD, GAP = 1000, 1000
+# A halted processor steps to the interrupt that ends its halt, at most so far on: ten of the board's seconds.
+LONGEST_HALT = 50_000_000
+STACK_BYTES, MEMORY_BYTES = 32, 256
+IF = 0x200
+# No instruction takes so many clocks without a repeat, so a processor that began none for so long has jammed.
+LONGEST_STEP = 1000
+# Up to so many clocks all trails are read for the interrupts; in a longer run only handlers' first instructions are looked for.
+SHORT_RUN, MARKS_SECONDS, REPORT_SECONDS, MOST_MARKS, MOST_CHANGES = 60_000, 0.5, 5, 1000, 100_000
+
+
+@dataclass(frozen=True)
+class Key:
+    """A stamped key code, and the clock at which it was typed; of one from a run file, its stamp."""
+    stamp: int
+    code: int
+    typed: int
+
+
+class Job:
+    """Work under way, in a thread of its own."""
+
+    def __init__(self, work: Callable[[], Fields]) -> None:
+        self._work, self._result = work, Fields()
+        self._error: BaseException | None = None
+        self.over = threading.Event()
+        threading.Thread(target=self._do, daemon=True).start()
+
+    def _do(self) -> None:
+        try:
+            self._result = self._work()
+        except BaseException as error:  # pylint: disable=broad-exception-caught
+            self._error = error
+        self.over.set()
+
+    def result(self) -> Fields:
+        """What it came to."""
+        if self._error:
+            raise self._error
+        return self._result
+
+
+class Helpers:
+    """Processes beside the session that is shown, which end with it."""
+
+    def __init__(self) -> None:
+        self._lock, self._all, self._is_over = threading.Lock(), list[Any](), False
+
+    def add(self, one: Any) -> None:
+        """Notes what is to be ended: a session, or a process."""
+        with self._lock:
+            if not self._is_over:
+                self._all.append(one)
+                return
+        end(one)
+        raise Sorry('the board has ended')
+
+    def drop(self, one: Any) -> None:
+        """Ends one of them."""
+        with self._lock:
+            if one in self._all:
+                self._all.remove(one)
+        end(one)
+
+    def close(self) -> None:
+        """Ends them all, and any that comes later."""
+        with self._lock:
+            self._is_over, them = True, self._all
+            self._all = []
+        for one in them:
+            end(one)
+
+    def answer(self, words: list[str]) -> str | None:
+        """What a run of the program prints; None where it takes too long."""
+        process = subprocess.Popen([path(), *words], stdin=subprocess.DEVNULL, stdout=subprocess.PIPE, stderr=subprocess.PIPE,
+                                   start_new_session=True)
+        self.add(process)
+        try:
+            out, err = process.communicate(timeout=REPORT_SECONDS)
+        except subprocess.TimeoutExpired:
+            return None
+        finally:
+            self.drop(process)
+        if process.returncode:
+            raise Sorry(refusal(process.returncode, err.decode('utf-8', 'replace')))
+        return out.decode('utf-8', 'replace')
+
+    @contextlib.contextmanager
+    def session(self, files: Files) -> Iterator[Session]:
+        """A session of debug."""
+        session = Session(files)
+        self.add(session)
+        try:
+            yield session
+        finally:
+            self.drop(session)
+
+
+def end(one: Any) -> None:
+    """Ends a process, or a session's or machine's."""
+    if not isinstance(one, subprocess.Popen):
+        with contextlib.suppress(OSError, ValueError):
+            one.close()
+        return
+    one.kill()
+    one.wait()
+    for stream in (one.stdout, one.stderr):
+        if stream:
+            with contextlib.suppress(OSError, ValueError):
+                stream.close()
+
+
+def rows_of(screen: list[str], memory: bytes) -> list[list[tuple[str, int]]]:
+    """The screen's lines as stretches of one look: 1 is bright, 2 underlined, 4 reverse, and their sums. The adapter's start
+    address can't be read: it is one with which text memory shows this screen."""
+    found = starts(screen, memory)
+    cells = cells_at(screen, memory, 0 if 0 in found else found[0]) if found else plain_cells(screen)
+    return [stretches(line) for line in cells]
+
+
+def stretches(line: list[Cell]) -> list[tuple[str, int]]:
+    """A line's stretches of one look."""
+    found = list[tuple[str, int]]()
+    for cell in line:
+        look = cell.is_bright + 2 * cell.is_underlined + 4 * cell.is_reverse
+        if found and found[-1][1] == look:
+            found[-1] = (found[-1][0] + cell.sign, look)
+        else:
+            found.append((cell.sign, look))
+    return found
+
+
+class Board:
+    """The board of one page, at a clock."""
+
+    def __init__(self, room: str, source: str, fields: Fields, is_hex: bool) -> None:
+        self.room, self.is_hex, self.used = room, is_hex, time.monotonic()
+        self.source, self._fields = source, {name: it for name, it in fields.items() if name != 'keys'}
+        given = fields.get('keys')
+        self._raw_keys: Any = given
+        self.keys = [Key(stamp, code, stamp) for stamp, code in given] if is_key_list(given) else []
+        self._lock, self._marking = threading.Lock(), threading.Lock()
+        self._job: Job | None = None
+        self._is_ended, self._until, self._count = False, float('inf'), 0
+        self._screen, self._screen_number, self._rows = (list[str](), b''), 0, list[list[tuple[str, int]]]()
+        self._vectors, self._helpers = b'', Helpers()
+        self._beside: Machine | None = None
+        self.stops, self.furthest = list[Far](), 0
+        self.files = self._written(self.keys if is_key_list(given) else None)
+        self.listing = listing_of(self.files)
+        self.machine = self._machine(self.files)
+
+    def _written(self, keys: list[Key] | None) -> Files:
+        """The files, with these keys; without, as the page gave them, for the program to judge."""
+        self._count += 1
+        file = os.path.join(self.room, 'it.hex' if self.is_hex else 'it.asm')
+        run_file = os.path.join(self.room, f'run{self._count}.json')
+        if self._count == 1:
+            with open(file, 'w', encoding='utf-8', errors='surrogatepass', newline='') as to:
+                to.write(self.source)
+        listed = [[it.stamp, it.code] for it in keys] if keys is not None else self._raw_keys
+        with open(run_file, 'w', encoding='utf-8') as to:
+            to.write(text_of(self._fields | ({} if listed is None else {'keys': listed})))
+        return Files(file, run_file, self.is_hex)
+
+    def _machine(self, files: Files) -> Machine:
+        """A session on these files, at clock 0."""
+        machine = Machine(files, self.listing, 0, self._poll)
+        self._helpers.add(machine)
+        return machine
+
+    @property
+    def clock(self) -> int:
+        """Where the board stands."""
+        return self.machine.clock
+
+    @property
+    def budget(self) -> int:
+        """The run file's budget."""
+        budget = self._fields.get('budget')
+        return budget if isinstance(budget, int) else 0
+
+    def close(self) -> None:
+        """Ends all of it."""
+        self._is_ended = True
+        self._helpers.close()
+
+    # Jobs
+
+    def _poll(self) -> None:
+        """Called between the pieces of a run."""
+        if self._is_ended or time.monotonic() > self._until:
+            raise Paused
+
+    def begin(self, work: Callable[[], Fields], seconds: float = float('inf')) -> None:
+        """Begins a job, which may run for so long."""
+        with self._lock:
+            if self._job and not self._job.over.is_set():
+                raise Sorry('the board is at work; pause it first')
+            self._is_ended, self._until = False, time.monotonic() + seconds
+            self._job = Job(work)
+
+    def outcome(self, seconds: float) -> Fields:
+        """What the job came to; where it goes on, how far it is."""
+        job = self._job
+        if job is None:
+            raise Sorry('nothing is under way')
+        if not job.over.wait(seconds):
+            beside = self._beside
+            return {'working': True, 'clock': beside.clock if beside else self.clock, 'catches up': beside is not None,
+                    'to': self.clock if beside else None}
+        return job.result()
+
+    def pause(self) -> None:
+        """Ends the job where it is."""
+        self._is_ended = True
+
+    # Moves; each gives what is seen then
+
+    def run(self, to: int, is_past: bool, seen: int, is_light: bool) -> Fields:
+        """Goes on to a clock, past all stops or to the first one."""
+        why = 'there'
+        try:
+            met = self.machine.run(set() if is_past else set(self.stops), min(to, LAST_CLOCK))
+            why = 'stop' if met else why
+        except Paused:
+            why = 'paused'
+        return self.view(why, seen, is_light)
+
+    def step(self, seen: int) -> Fields:
+        """Makes one instruction, iteration or entry."""
+        return self._moved(self.machine.step, seen)
+
+    def over(self, seen: int) -> Fields:
+        """Makes one instruction with all that it calls."""
+        return self._moved(lambda: self.machine.next(set(self.stops)), seen)
+
+    def out(self, seen: int) -> Fields:
+        """Runs to where the routine has returned."""
+        return self._moved(lambda: self.machine.out(set(self.stops)), seen)
+
+    def _moved(self, move: Callable[[], Any], seen: int) -> Fields:
+        """What is seen behind a move; one that would never end, ends."""
+        here, why = self.clock, 'there'
+        self.machine.budget = min(here + LONGEST_HALT, LAST_CLOCK)
+        try:
+            if isinstance(move(), tuple):
+                why = 'stop'
+            elif self.clock == self.machine.budget:
+                why = 'far'
+        except Paused:
+            why = 'paused'
+        return self.view(why, seen)
+
+    def back(self, seen: int) -> Fields:
+        """To where the processor was free before."""
+        self.machine.back()
+        return self.view('there', seen)
+
+    def last(self, seen: int) -> Fields:
+        """To the last earlier clock at which a stop held."""
+        if not self.stops:
+            raise Sorry('there is no stop; click beside a line, or type a place under Stops')
+        here = self.clock
+        try:
+            if self.machine.back_to(set(self.stops)) is None:
+                self.machine.go_to(here)
+                raise Sorry('no stop held at any earlier clock')
+        except Paused:
+            return self.view('paused', seen)
+        return self.view('stop', seen)
+
+    def go_to(self, clock: int, seen: int) -> Fields:
+        """To any clock."""
+        if clock > self.clock:
+            return self.run(clock, True, seen, False)
+        self.machine.go_to(clock)
+        return self.view('there', seen)
+
+    # What is seen
+
+    def view(self, why: str, seen: int, is_light: bool = False) -> Fields:
+        """What the page shows. The screen comes where it isn't the one that the page has; a light view leaves out what is
+        looked at while nothing runs."""
+        self.furthest = max(self.furthest, self.clock)
+        registers, trail = self.machine.registers(), self.machine.trail()
+        place = registers['CS'], registers['IP']
+        line = self.listing.at.get(physical(*place))
+        found: Fields = {'why': why, 'clock': self.clock, 'furthest': self.furthest, 'registers': registers,
+                         'state': self._state(registers, trail), 'place': '%04X:%04X' % place, 'line': line.number if line else None,
+                         'label': self.listing.label_before(*place), 'screen number': self._look_at_screen()}
+        if seen != self._screen_number:
+            found['screen'] = self._rows
+        if not is_light:
+            found |= {'trail': [self._event(it) for it in trail], 'stack': self._stack(registers), 'keys': self._keys()}
+            self._vectors = self.machine.dump(0, 4 * 256)
+        return found
+
+    def _state(self, registers: dict[str, int], trail: list[Any]) -> str:
+        """Running, halted, halted for good, or jammed, as the trail tells it: a report tells it of each clock."""
+        last = trail[-1] if trail else None
+        if last and last.entry is None and last.text.split()[-1:] == ['HLT'] and self.clock > last.clock + 1 \
+                and (last.segment, (last.offset + len(last.octets)) % 0x10000) == (registers['CS'], registers['IP']):
+            return 'halted' if registers['FL'] & IF else 'halted for good'
+        quiet = self.clock - (last.clock if last else 0)
+        return 'jammed' if quiet > LONGEST_STEP and not (last and is_repeated(last.text)) else 'running'
+
+    def _look_at_screen(self) -> int:
+        """The screen's number, which rises where it changes."""
+        now = self.machine.many('screen'), self.machine.dump(TEXT_MEMORY, 2 * WORDS)
+        if now != self._screen or not self._rows:
+            self._screen, self._rows = now, rows_of(*now)
+            self._screen_number += 1
+        return self._screen_number
+
+    def _event(self, event: Any) -> list[Any]:
+        """A line of the trail: clock, address, label, text, source line."""
+        line = line_at(self.listing, event)
+        text = f'interrupt {event.entry:02X}' if event.entry is not None else event.text
+        return [event.clock, f'{event.segment:04X}:{event.offset:04X}', self.listing.label_before(event.segment, event.offset), text,
+                line.number if line and event.entry is None else None]
+
+    def _stack(self, registers: dict[str, int]) -> list[list[Any]]:
+        """The words from SS:SP on."""
+        segment, top = registers['SS'], registers['SP']
+        octets = self.machine.dump(physical(segment, top), STACK_BYTES)
+        words = [int.from_bytes(octets[at:at + 2], 'little') for at in range(0, len(octets) - 1, 2)]
+        return [[f'{(top + 2 * at) % 0x10000:04X}', f'{word:04X}', self.listing.label_before(registers['CS'], word)]
+                for at, word in enumerate(words) if top + 2 * at < 0x10000]
+
+    def _keys(self) -> list[list[Any]]:
+        """The keys: stamp, name, whether it goes down, code."""
+        known = names()
+        return [[it.stamp, known.get(it.code % 0x80, '?'), it.code < 0x80, it.code] for it in self.keys]
+
+    def memory(self, place: str, count: int) -> Fields:
+        """Bytes from a place on: a label, SEGMENT:OFFSET, an address, or two registers, as SS:SP."""
+        text = place.strip()
+        if all(it.upper() in REGISTERS for it in text.split(':')) and text.count(':') == 1:
+            registers = registers_of(self.machine.many('regs'))
+            address = physical(*(registers[it.upper()] for it in text.split(':')))
+        else:
+            address = address_of(self.listing, text)
+        return {'address': address, 'bytes': self.machine.dump(address, min(max(count, 16), 4096)).hex()}
+
+    # Stops and keys
+
+    def set_stops(self, places: list[Far]) -> Fields:
+        """These places are the stops."""
+        if len(set(places)) > MOST_BREAKPOINTS:
+            raise Sorry(f'{MOST_BREAKPOINTS} stops are the most')
+        self.stops = list(dict.fromkeys(places))
+        return {'stops': [self._stop(it) for it in self.stops]}
+
+    def _stop(self, place: Far) -> list[Any]:
+        """A stop: its address, label and source line."""
+        line = self.listing.at.get(physical(*place))
+        return ['%04X:%04X' % place, self.listing.label_before(*place), line.number if line else None]
+
+    def later_keys(self) -> int:
+        """How many keys were typed at a later clock than the present one."""
+        return sum(it.typed > self.clock for it in self.keys)
+
+    def type(self, codes: list[int], pauses: list[int], seen: int) -> Fields:
+        """Codes typed now, each so many clocks behind the one before. Keys typed later are dropped."""
+        kept = [it for it in self.keys if it.typed <= self.clock]
+        stamp = max(self.clock + AHEAD, kept[-1].stamp + GAP if kept else 0)
+        added = list[Key]()
+        for code, pause in zip(codes, pauses):
+            stamp += pause
+            added.append(Key(stamp, code, self.clock))
+        return self.with_keys(kept + added, seen)
+
+    def with_keys(self, keys: list[Key], seen: int) -> Fields:
+        """The board at the same clock with other keys, of which none may have come yet or they are to count from now on: a
+        session's keys are fixed, so that one is begun anew beside the one that is shown, which stays until it has caught up."""
+        if keys and keys[-1].stamp > LAST_CLOCK:
+            raise Sorry('the last key would lie past clock 2^40')
+        begun, files, clock = time.monotonic(), self._written(keys), self.clock
+        beside = self._machine(files)
+        self._beside = beside
+        try:
+            beside.run(set(), clock)
+        except BaseException as error:
+            self._beside = None
+            self._helpers.drop(beside)
+            os.remove(files.run_file)
+            if isinstance(error, Paused):
+                return self.view('paused', seen)
+            raise
+        old, gone = self.machine, self.files.run_file
+        self.machine, self.files, self.keys, self._beside, self.furthest = beside, files, keys, None, clock
+        self._helpers.drop(old)
+        os.remove(gone)
+        return self.view('there', seen) | {'caught up': round(time.monotonic() - begun, 3)}
+
+    # Of the whole run
+
+    def saved(self) -> Fields:
+        """Source and run file of what is shown: `pcboard run` on them reports the board at this clock."""
+        keys = [[it.stamp, it.code] for it in self.keys]
+        return {'source': self.source, 'hex': self.is_hex, 'run': text_of(self._fields | {'budget': self.clock, 'keys': keys})}
+
+    def report(self, clock: int) -> Report | None:
+        """The report at a clock, or None where it takes too long."""
+        with with_budget(self.files, clock) as files:
+            text = self._helpers.answer(files.words('run'))
+        return report_of(text, 'the answer') if text is not None else None
+
+    def marks(self) -> Fields:
+        """What the time line shows beside the stops: the speaker's changes and the interrupts; and what only a report tells."""
+        if not self._marking.acquire(blocking=False):  # pylint: disable=consider-using-with
+            return {'busy': True}
+        try:
+            clock, until = self.clock, max(self.furthest, self.clock)
+            now = self.report(clock)
+            whole = now if now is None or until == clock else self.report(until)
+            changes = whole.changes if whole else []
+            interrupts, first = self._interrupts(until) if whole else ([], until)
+        finally:
+            self._marking.release()
+        return {'clock': clock, 'until': until, 'state': now.state if now else None, 'lost': now.lost if now else None,
+                'changes': changes[:MOST_CHANGES], 'all changes': len(changes), 'interrupts': interrupts, 'interrupts up to': first}
+
+    def changes(self, until: int) -> Fields:
+        """The speaker's changes up to a clock, which may lie ahead: with the keys that there are, what comes is determined."""
+        report = self.report(min(until, LAST_CLOCK))
+        if report is None:
+            return {'until': 0, 'changes': []}
+        return {'until': until, 'changes': report.changes[-MOST_CHANGES:], 'all changes': len(report.changes)}
+
+    def _interrupts(self, until: int) -> tuple[list[tuple[int, int]], int]:
+        """The interrupts of the run, and up to which clock they were looked for."""
+        deadline, found = time.monotonic() + MARKS_SECONDS, dict[int, int]()
+        with self._helpers.session(self.files) as session:
+            length = CLOCKS_OF_A_TRAIL if until <= SHORT_RUN else until
+            if until > SHORT_RUN:
+                for place in self._handlers():
+                    session.stop('break {:X}:{:X}'.format(*place))
+            while session.clock < until and time.monotonic() < deadline and len(found) < MOST_MARKS:
+                session.go(min(length, until - session.clock))
+                for line in session.many('trail')[0 if until <= SHORT_RUN else -1:]:
+                    if ' entry ' in line:
+                        event = event_of(line)
+                        found[event.clock] = event.entry or 0
+            return sorted(found.items()), session.clock
+
+    def _handlers(self) -> list[Far]:
+        """The places to which the vectors lead, those of requests first, at most sixteen."""
+        at, octets = dict[Far, None](), self._vectors
+        for number in (*range(8, 16), 0, 1, *range(2, 8), *range(16, 256)):
+            offset, segment = (int.from_bytes(octets[4 * number + it:4 * number + it + 2], 'little') for it in (0, 2))
+            if offset or segment:
+                at[segment, offset] = None
+        return list(at)[:16]
+
+
+def is_key_list(given: Any) -> bool:
+    """Whether a field `keys` is a list of pairs of numbers, which may be shown."""
+    return isinstance(given, list) and all(isinstance(it, list) and len(it) == 2 and all(type(n) is int for n in it) for it in given)

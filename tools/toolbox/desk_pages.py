@@ -1,0 +1,126 @@
+"""What the desk shows of the repository: the examples, and the project's pages as HTML."""
+from __future__ import annotations
+
+import html
+import os
+import re
+from dataclasses import dataclass
+
+from toolbox.command import Sorry, read_text
+from toolbox.program import TOP
+
+NAME = re.compile(r'[a-z0-9_-]+')
+
+
+@dataclass(frozen=True)
+class Example:
+    """An example: its name, what it shows, and where the pages speak of it."""
+    name: str
+    shows: str
+    page: str
+    anchor: str
+
+
+def examples() -> list[Example]:
+    """The examples that have a source and a run file, in the order of docs/EXAMPLES.md. Their first comment says what they are."""
+    page = read_text(f'{TOP}/docs/EXAMPLES.md')
+    there = sorted(it[:-4] for it in os.listdir(f'{TOP}/examples') if it.endswith('.asm'))
+    rows = [it.split('|')[1:4] for it in page.splitlines() if re.match(r'\|[a-z, ]+\|.*\|.*\|$', it)]
+    told = {name.strip(): cells for cells in rows for name in cells[0].split(',')}
+    order = [it for it in told if it in there] + [it for it in there if it not in told]
+    return [example_of(it, told.get(it, ['', '', '']), page) for it in order]
+
+
+def example_of(name: str, cells: list[str], page: str) -> Example:
+    """An example, and the place of the pages that its row of the table names, or that is headed by its name."""
+    first = read_text(f'{TOP}/examples/{name}.asm').partition('\n')[0].lstrip('; ')
+    link = re.search(r'\]\((\w[\w.-]*\.md)(?:#([\w-]+))?\)', cells[2])
+    if link:
+        return Example(name, first, link[1], link[2] or '')
+    heads = [it for it in re.findall(r'^# (.*)$', page, re.M) if name[:6] in it.lower() or name == 'readback' and 'read back' in it]
+    return Example(name, first, 'EXAMPLES.md', anchor_of(heads[0]) if heads else '')
+
+
+def files_of(name: str) -> tuple[str, str]:
+    """An example's source and run file."""
+    if name not in {it.name for it in examples()}:
+        raise Sorry(f'there is no example {name}')
+    return read_text(f'{TOP}/examples/{name}.asm'), read_text(f'{TOP}/examples/{name}.json')
+
+
+def page_of(name: str) -> str:
+    """A page of docs/ as HTML."""
+    there = [it for it in os.listdir(f'{TOP}/docs') if it.endswith('.md')]
+    if name not in there:
+        raise Sorry(f'there is no page {name}')
+    return as_html(read_text(f'{TOP}/docs/{name}'))
+
+
+def anchor_of(title: str) -> str:
+    """A heading's anchor."""
+    return re.sub(r'[^\w -]', '', re.sub(r'\[(.*?)\]\(.*?\)', r'\1', title).lower()).replace(' ', '-')
+
+
+def inline(text: str) -> str:
+    """A stretch of text: code, links, bold. Links lead to other pages of docs/ alone; what others name stays as text."""
+    kept = list[str]()
+
+    def keep(found: re.Match[str]) -> str:
+        kept.append(f'<code>{html.escape(found[1])}</code>')
+        return f'\0{len(kept) - 1}\0'
+
+    def link(found: re.Match[str]) -> str:
+        target = re.fullmatch(r'(\w[\w.-]*\.md)?(?:#([\w-]+))?', html.unescape(found[2]))
+        if not target:
+            return found[1]
+        return f'<a href="#" data-page="{target[1] or ""}" data-anchor="{target[2] or ""}">{found[1]}</a>'
+
+    text = html.escape(re.sub(r'`([^`]+)`', keep, text.replace('\0', '')))
+    text = re.sub(r'!?\[([^\]]*)\]\(([^)\s]*)\)', link, text)
+    text = re.sub(r'\*\*(.+?)\*\*', r'<b>\1</b>', text)
+    return re.sub('\0(\\d+)\0', lambda it: kept[int(it[1])], text)
+
+
+def row(line: str, tag: str) -> str:
+    """A row of a table."""
+    cells = re.split(r'(?<!\\)\|', line.strip()[1:-1])
+    return '<tr>' + ''.join(f'<{tag}>{inline(it.replace(chr(92) + "|", "|").strip())}</{tag}>' for it in cells) + '</tr>'
+
+
+def as_html(text: str) -> str:
+    """The few forms that the project's pages have: headings, paragraphs, lists, tables and blocks of code."""
+    out, lines = list[str](), text.split('\n')
+    while lines:
+        line = lines.pop(0)
+        if line.startswith('```'):
+            block = list[str]()
+            while lines and not lines[0].startswith('```'):
+                block.append(lines.pop(0))
+            lines[:1] = []
+            out.append(f'<pre>{html.escape(chr(10).join(block))}</pre>')
+        elif found := re.match(r'(#+) (.*)', line):
+            level = min(len(found[1]) + 1, 4)
+            out.append(f'<h{level} data-name="{html.escape(anchor_of(found[2]))}">{inline(found[2])}</h{level}>')
+        elif line.startswith('|'):
+            out.append(table([line, *taken(lines, '|')]))
+        elif line.startswith('- '):
+            items = [line, *taken(lines, '- ')]
+            out.append('<ul>' + ''.join(f'<li>{inline(it[2:])}</li>' for it in items) + '</ul>')
+        elif line.strip():
+            out.append(f'<p>{inline(line)}</p>')
+    return '\n'.join(out)
+
+
+def taken(lines: list[str], start: str) -> list[str]:
+    """The next lines that begin so, taken away."""
+    found = list[str]()
+    while lines and lines[0].startswith(start):
+        found.append(lines.pop(0))
+    return found
+
+
+def table(lines: list[str]) -> str:
+    """A table, whose second line parts its head."""
+    head, body = lines[0], lines[2:]
+    first = row(head, 'th') if head.strip('| ') else ''
+    return f'<div class="wide"><table>{first}{"".join(row(it, "td") for it in body)}</table></div>'

@@ -1,0 +1,298 @@
+"""What the page may ask, and what it is answered: at most eight boards, each ended where it is left alone."""
+from __future__ import annotations
+
+import itertools
+import os
+import secrets
+import shutil
+import threading
+import time
+from dataclasses import asdict, dataclass
+from typing import Any, Callable
+
+from toolbox.command import Sorry, read_text, write_text
+from toolbox.dap_board import Gone
+from toolbox.desk_board import Board, Fields
+from toolbox.desk_http import Refused
+from toolbox.desk_pages import examples, files_of, page_of
+from toolbox.faults import fault_in
+from toolbox.messages import messages
+from toolbox.places import far_of
+from toolbox.program import LAST_CLOCK, TOP, Files
+from toolbox.runfile import DEFAULTS, read_run_file, text_of
+from toolbox.scancodes import stamped, strokes_of
+
+MOST_BOARDS, IDLE_SECONDS = 8, 900
+LONGEST_SOURCE, MOST_MESSAGES, MESSAGES_SECONDS = 1 << 20, 20, 2.0
+# So long an answer is waited for; what takes longer is told of, and asked for again.
+PATIENCE = 0.25
+HOLD, PAUSE = 500, 1500
+
+
+@dataclass(frozen=True)
+class Given:
+    """The files that the command's words name."""
+    file: str | None = None
+    run_file: str | None = None
+    is_hex: bool = False
+
+
+def want(fields: Fields, name: str, kind: type, default: Any = None) -> Any:
+    """A field of a question, of this type."""
+    value = fields.get(name, default)
+    if type(value) is not kind:
+        raise Refused(400, f'{name} is missing, or of another type')
+    return value
+
+
+def numbers(given: list[Any], least: int, most: int) -> list[int]:
+    """A list of numbers within bounds."""
+    if len(given) > 10_000 or not all(type(it) is int and least <= it <= most for it in given):
+        raise Refused(400, f'a list of numbers from {least} to {most} is wanted')
+    return given
+
+
+class Desk:
+    """The boards, and what is asked of them."""
+
+    def __init__(self, room: str, given: Given) -> None:
+        self.room, self.given, self.idle_seconds = room, given, float(IDLE_SECONDS)
+        self._lock, self._boards = threading.Lock(), dict[str, Board | None]()
+
+    def close(self) -> None:
+        """Ends all boards."""
+        with self._lock:
+            them, self._boards = self._boards, {}
+        for name, board in them.items():
+            self._end(name, board)
+
+    def end_idle(self) -> None:
+        """Ends the boards that nobody has asked for a while."""
+        before = time.monotonic() - self.idle_seconds
+        with self._lock:
+            gone = {name: it for name, it in self._boards.items() if it and it.used < before}
+            for name in gone:
+                del self._boards[name]
+        for name, board in gone.items():
+            self._end(name, board)
+
+    def _end(self, name: str, board: Board | None) -> None:
+        if board:
+            board.close()
+        shutil.rmtree(os.path.join(self.room, name), ignore_errors=True)
+
+    def answer(self, fields: Fields) -> Fields:
+        """Answers a question. What is refused to the user, and not to the page, is a sentence."""
+        word = want(fields, 'do', str)
+        try:
+            if word in self.GENERAL:
+                return self.GENERAL[word](self, fields)
+            if word in self.OF_A_BOARD:
+                return self.OF_A_BOARD[word](self, self._board(fields), fields)
+        except Gone as gone:
+            self._drop(fields)
+            return {'gone': str(gone)}
+        except Sorry as sorry:
+            return {'sorry': str(sorry)}
+        raise Refused(404, 'no such question')
+
+    def _board(self, fields: Fields) -> Board:
+        """The board that a question names."""
+        with self._lock:
+            board = self._boards.get(want(fields, 'board', str))
+        if board is None:
+            raise Gone('it was left alone for long, or ended')
+        board.used = time.monotonic()
+        return board
+
+    def _drop(self, fields: Fields) -> None:
+        """Ends the board that a question names, if there is one."""
+        name = fields.get('board')
+        with self._lock:
+            board = self._boards.pop(name, None) if isinstance(name, str) else None
+        if board and isinstance(name, str):
+            self._end(name, board)
+
+    # Without a board
+
+    def _hello(self, _: Fields) -> Fields:
+        """What the page begins with."""
+        found: Fields = {'examples': [asdict(it) for it in examples()], 'defaults': DEFAULTS,
+                         'chips': os.access(f'{TOP}/crates/pcprobe/out/pcprobe', os.X_OK), 'given': None}
+        if self.given.file:
+            run_file = self.given.run_file
+            fields = read_run_file(run_file) if run_file and os.path.exists(run_file) else dict(DEFAULTS)
+            found['given'] = {'name': os.path.basename(self.given.file), 'source': read_text(self.given.file), 'run': fields,
+                              'hex': self.given.is_hex, 'file': self.given.file, 'run file': run_file}
+        return found
+
+    def _example(self, fields: Fields) -> Fields:
+        """An example's files."""
+        name = want(fields, 'name', str)
+        source, _ = files_of(name)
+        return {'name': f'{name}.asm', 'source': source, 'run': read_run_file(f'{TOP}/examples/{name}.json'), 'hex': False}
+
+    def _page(self, fields: Fields) -> Fields:
+        """A page of docs/."""
+        return {'html': page_of(want(fields, 'name', str))}
+
+    def _open(self, fields: Fields) -> Fields:
+        """A board of a source and a run file, at clock 0; or why it is refused."""
+        source, run, is_hex = want(fields, 'source', str), want(fields, 'run', dict), want(fields, 'hex', bool, False)
+        if len(source) > 2 * LONGEST_SOURCE:
+            raise Sorry('the source has more than 1,048,576 bytes')
+        self._drop({'board': fields.get('instead')})
+        name = secrets.token_urlsafe(16)
+        with self._lock:
+            if len(self._boards) >= MOST_BOARDS:
+                raise Sorry(f'{MOST_BOARDS} boards are in use: close a page that you need no longer')
+            self._boards[name] = None
+        room = os.path.join(self.room, name)
+        board = None
+        try:
+            os.mkdir(room)
+            board = Board(room, source, run, is_hex)
+        except Gone as gone:
+            return {'refused': refusals(Files(self._file(room, is_hex), '', is_hex), str(gone))}
+        except Sorry as sorry:
+            return {'refused': refusals(Files(self._file(room, is_hex), '', is_hex), str(sorry))}
+        finally:
+            with self._lock:
+                if board:
+                    self._boards[name] = board
+                else:
+                    self._boards.pop(name, None)
+            if not board:
+                self._end(name, None)
+        lines = {str(it.number): '%04X:%04X' % it.address for it in board.listing.lines if it.address}
+        return {'board': name, 'lines': lines, 'budget': board.budget} | board.view('there', 0)
+
+    def _file(self, room: str, is_hex: bool) -> str:
+        """Where a board has its source."""
+        return os.path.join(room, 'it.hex' if is_hex else 'it.asm')
+
+    def _close(self, fields: Fields) -> Fields:
+        """Ends a board."""
+        self._drop(fields)
+        return {}
+
+    def _keep(self, fields: Fields) -> Fields:
+        """Writes what is shown to the files that the command's words name."""
+        saved = self._board(fields).saved()
+        if not self.given.file:
+            raise Sorry('desk was started without FILE: save the files from the page')
+        write_text(self.given.file, saved['source'])
+        if self.given.run_file:
+            write_text(self.given.run_file, saved['run'])
+        return {'kept': [it for it in (self.given.file, self.given.run_file) if it]}
+
+    # Of a board
+
+    def _do(self, board: Board, work: Callable[[], Fields], seconds: float = float('inf')) -> Fields:
+        """Begins a job and waits for its end, but not for long."""
+        board.begin(work, seconds)
+        return board.outcome(PATIENCE)
+
+    def _run(self, board: Board, fields: Fields) -> Fields:
+        """Goes on, for so many milliseconds at most."""
+        to, seen = want(fields, 'to', int, LAST_CLOCK), want(fields, 'seen', int, 0)
+        is_past, is_light = want(fields, 'past', bool, False), want(fields, 'light', bool, False)
+        seconds = min(max(want(fields, 'ms', int, 100), 1), 200) / 1000
+        return self._do(board, lambda: board.run(to, is_past, seen, is_light), seconds)
+
+    def _move(self, board: Board, fields: Fields) -> Fields:
+        """A step, forth or back."""
+        seen, move = want(fields, 'seen', int, 0), want(fields, 'do', str)
+        moves: dict[str, Callable[[int], Fields]] = {'step': board.step, 'over': board.over, 'out': board.out, 'back': board.back,
+                                                     'last': board.last}
+        return self._do(board, lambda: moves[move](seen))
+
+    def _go_to(self, board: Board, fields: Fields) -> Fields:
+        """To any clock."""
+        clock, seen = want(fields, 'clock', int), want(fields, 'seen', int, 0)
+        if not 0 <= clock <= LAST_CLOCK:
+            raise Sorry(f'a clock lies from 0 to {LAST_CLOCK:,}')
+        return self._do(board, lambda: board.go_to(clock, seen))
+
+    def _wait(self, board: Board, _: Fields) -> Fields:
+        """What the job under way came to."""
+        return board.outcome(PATIENCE)
+
+    def _pause(self, board: Board, _: Fields) -> Fields:
+        """Ends the job under way where it is."""
+        board.pause()
+        return {}
+
+    def _look(self, board: Board, fields: Fields) -> Fields:
+        """What is seen now."""
+        seen = want(fields, 'seen', int, 0)
+        return self._do(board, lambda: board.view('there', seen))
+
+    def _memory(self, board: Board, fields: Fields) -> Fields:
+        """Bytes of memory."""
+        place, count = want(fields, 'place', str), want(fields, 'count', int, 256)
+        return self._do(board, lambda: board.memory(place, count))
+
+    def _stops(self, board: Board, fields: Fields) -> Fields:
+        """Sets the stops: places as tools/dbg takes them."""
+        places = want(fields, 'places', list)
+        if len(places) > 1000 or not all(isinstance(it, str) for it in places):
+            raise Refused(400, 'places are wanted')
+        return board.set_stops([far_of(board.listing, it.strip()) for it in places])
+
+    def _type(self, board: Board, fields: Fields) -> Fields:
+        """Keys typed now: codes, or a text as tools/keys takes it."""
+        seen = want(fields, 'seen', int, 0)
+        if (later := board.later_keys()) and not want(fields, 'drop', bool, False):
+            return {'later': later}
+        if 'text' in fields:
+            keys = stamped(strokes_of(want(fields, 'text', str)[:1000], want(fields, 'plain', bool, False)), 0, HOLD, PAUSE)
+            clocks, codes = [clock for clock, _ in keys], [code for _, code in keys]
+            pauses = [b - a for a, b in zip([0, *clocks], clocks)]
+        else:
+            codes = numbers(want(fields, 'codes', list), 1, 211)
+            pauses = [0] + [1000] * (len(codes) - 1)
+        if not codes or any(not 1 <= it % 128 <= 83 for it in codes):
+            raise Refused(400, 'scan codes are wanted')
+        return self._do(board, lambda: board.type(codes, pauses, seen))
+
+    def _drop_keys(self, board: Board, fields: Fields) -> Fields:
+        """Takes keys out of the list, by their places in it."""
+        gone, seen = set(numbers(want(fields, 'keys', list), 0, 1 << 20)), want(fields, 'seen', int, 0)
+        kept = [it for at, it in enumerate(board.keys) if at not in gone]
+        return self._do(board, lambda: board.with_keys(kept, seen))
+
+    def _changes(self, board: Board, fields: Fields) -> Fields:
+        """The speaker's changes up to a clock."""
+        return board.changes(max(want(fields, 'until', int), 0))
+
+    GENERAL = {'hello': _hello, 'example': _example, 'page': _page, 'open': _open, 'close': _close, 'keep': _keep}
+    OF_A_BOARD = {'run': _run, 'step': _move, 'over': _move, 'out': _move, 'back': _move, 'last': _move, 'go to': _go_to, 'wait': _wait,
+                  'pause': _pause, 'look': _look, 'memory': _memory, 'stops': _stops, 'type': _type, 'drop keys': _drop_keys,
+                  'changes': _changes, 'marks': lambda _, board, __: board.marks(), 'save': lambda _, board, __: board.saved()}
+
+
+def refusals(files: Files, told: str) -> list[Fields]:
+    """The refused lines of a source, the first twenty, with hints; else what was told, with its line if it has one."""
+    fault = fault_in(told.replace('the program refuses: ', '').replace("the board's process has ended: ", '').partition(' (')[0])
+    if fault and fault.kind.of == 'source' and not files.is_hex:
+        until, found = time.monotonic() + MESSAGES_SECONDS, list[Fields]()
+        for line, text in itertools.islice(messages(files.file), MOST_MESSAGES):
+            found.append({'line': line, 'text': text})
+            if time.monotonic() > until:
+                break
+        return found
+    text = f'{fault.kind.name}: {fault.kind.meaning}' if fault else told
+    return [{'line': fault.line if fault else None, 'text': text, 'of': fault.kind.of if fault else ''}]
+
+
+def tidy(desk: Desk, cut_off: Callable[[], None], ended: threading.Event, pause: float = 1.0) -> None:
+    """Until the end: ends idle boards and slow requests."""
+    while not ended.wait(pause):
+        desk.end_idle()
+        cut_off()
+
+
+def run_text(fields: Fields) -> str:
+    """A run file's text."""
+    return text_of(fields)
