@@ -5,6 +5,7 @@ from __future__ import annotations
 import contextlib
 import os
 import subprocess
+import tempfile
 import threading
 import time
 from dataclasses import dataclass
@@ -31,6 +32,7 @@ IF = 0x200
 LONGEST_STEP = 1000
 # Up to so many clocks all trails are read for the interrupts; in a longer run only handlers' first instructions are looked for.
 SHORT_RUN, MARKS_SECONDS, REPORT_SECONDS, MOST_MARKS, MOST_CHANGES = 60_000, 0.5, 5, 1000, 100_000
+LONGEST_REPORT = 8 << 20
 
 
 @dataclass(frozen=True)
@@ -95,19 +97,23 @@ class Helpers:
             end(one)
 
     def answer(self, words: list[str]) -> str | None:
-        """What a run of the program prints; None where it takes too long."""
-        process = subprocess.Popen([path(), *words], stdin=subprocess.DEVNULL, stdout=subprocess.PIPE, stderr=subprocess.PIPE,
-                                   start_new_session=True)
-        self.add(process)
-        try:
-            out, err = process.communicate(timeout=REPORT_SECONDS)
-        except subprocess.TimeoutExpired:
-            return None
-        finally:
-            self.drop(process)
-        if process.returncode:
-            raise Sorry(refusal(process.returncode, err.decode('utf-8', 'replace')))
-        return out.decode('utf-8', 'replace')
+        """What a run of the program prints; None where it takes too long, or is too long."""
+        with tempfile.TemporaryFile() as err:
+            process = subprocess.Popen([path(), *words], stdin=subprocess.DEVNULL, stdout=subprocess.PIPE, stderr=err, start_new_session=True)
+            self.add(process)
+            watch = threading.Timer(REPORT_SECONDS, process.kill)
+            watch.start()
+            try:
+                assert process.stdout
+                out = process.stdout.read(LONGEST_REPORT + 1)
+                status = process.wait() if len(out) <= LONGEST_REPORT else -1
+            finally:
+                watch.cancel()
+                self.drop(process)
+            if status > 0:
+                err.seek(0)
+                raise Sorry(refusal(status, err.read().decode('utf-8', 'replace')))
+        return out.decode('utf-8', 'replace') if status == 0 else None
 
     @contextlib.contextmanager
     def session(self, files: Files) -> Iterator[Session]:
@@ -128,10 +134,9 @@ def end(one: Any) -> None:
         return
     one.kill()
     one.wait()
-    for stream in (one.stdout, one.stderr):
-        if stream:
-            with contextlib.suppress(OSError, ValueError):
-                stream.close()
+    if one.stdout:
+        with contextlib.suppress(OSError, ValueError):
+            one.stdout.close()
 
 
 def rows_of(screen: list[str], memory: bytes) -> list[list[tuple[str, int]]]:

@@ -19,7 +19,7 @@ from toolbox.faults import fault_in
 from toolbox.messages import messages
 from toolbox.places import far_of
 from toolbox.program import LAST_CLOCK, TOP, Files
-from toolbox.runfile import DEFAULTS, read_run_file, text_of
+from toolbox.runfile import DEFAULTS, read_run_file
 from toolbox.scancodes import stamped, strokes_of
 
 MOST_BOARDS, IDLE_SECONDS = 8, 900
@@ -94,6 +94,9 @@ class Desk:
             return {'gone': str(gone)}
         except Sorry as sorry:
             return {'sorry': str(sorry)}
+        except (OSError, ValueError, AssertionError) as error:  # as of a pipe whose board is ended meanwhile
+            self._drop(fields)
+            return {'gone': str(error)}
         raise Refused(404, 'no such question')
 
     def _board(self, fields: Fields) -> Board:
@@ -292,7 +295,3 @@ def tidy(desk: Desk, cut_off: Callable[[], None], ended: threading.Event, pause:
         desk.end_idle()
         cut_off()
 
-
-def run_text(fields: Fields) -> str:
-    """A run file's text."""
-    return text_of(fields)
