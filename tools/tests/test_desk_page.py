@@ -39,7 +39,9 @@ class Page:
 
     def open(self, *window: Any) -> None:
         """Opens the page, and waits for its first run."""
+        self.browser.run('window.old=true')
         self.browser.open(self.address, *window)
+        self.browser.until("window.old!==true&&document.readyState==='complete'")
         self.settled('view.clock>0')
 
     def settled(self, more: str = 'true') -> None:
@@ -73,16 +75,25 @@ class Page:
 
 
 class OnePage(ToolCase):
-    """The page in a browser."""
+    """The page in a browser, which the tests share."""
+    page: Page | None = None
 
-    def page_or_none(self, *words: str) -> Page | None:
-        """A page; without a browser none, which is told."""
+    @classmethod
+    def setUpClass(cls) -> None:
+        room = tempfile.TemporaryDirectory()
+        cls.addClassCleanup(room.cleanup)
         if path() is None:
-            print('not run: the page of tools/desk, since Chromium is not installed')
-            return None
-        page = Page(self.room, *words)
-        self.addCleanup(page.close)
-        return page
+            print("not run: the page of tools/desk in a browser, since Chromium isn't installed")
+            return
+        cls.page = Page(room.name)
+        cls.addClassCleanup(cls.page.close)
+
+    def opened(self) -> Page | None:
+        """The page, opened anew; without a browser none."""
+        if self.page:
+            self.page.browser.told.clear()
+            self.page.open()
+        return self.page
 
     def report(self, name: str) -> Report:
         """An example's report."""
@@ -97,11 +108,10 @@ class OnePage(ToolCase):
 
     def test_as_a_student(self) -> None:
         """Example, mistake, run, keys, step, back."""
-        page = self.page_or_none()
+        page = self.opened()
         if page is None:
             return
         browser = page.browser
-        page.open()
         begun = time.monotonic()
         page.example('fibonacci')
         self.assertLess(time.monotonic() - begun, 10)  # a second on an idle machine
@@ -139,11 +149,10 @@ class OnePage(ToolCase):
 
     def test_keys_and_files(self) -> None:
         """Keys typed while it runs; what is saved repeats what is shown."""
-        page = self.page_or_none()
+        page = self.opened()
         if page is None:
             return
         browser = page.browser
-        page.open()
         page.example('keys')
         self.assertEqual(page.screen(), self.report('keys').screen)
         page.click('#tab-keys')
@@ -181,11 +190,10 @@ class OnePage(ToolCase):
 
     def test_by_keyboard_alone(self) -> None:
         """Everything that is pressed can be reached by Tab, and the function keys do what Help says."""
-        page = self.page_or_none()
+        page = self.opened()
         if page is None:
             return
         browser = page.browser
-        page.open()
         browser.run('document.body.focus()')
         reached = set[str]()
         for _ in range(60):
@@ -208,7 +216,7 @@ class OnePage(ToolCase):
         page.settled(f'view.clock==={here}')
         browser.press('F4')
         page.settled(f'view.line==={at + 1}')
-        self.assertIn('Hello from RAM!', page.screen()[0])
+        self.assertIn('Hello from RAM', page.screen()[0])
         browser.press('F8', SHIFT)
         page.settled(f'view.clock==={here}')
         browser.press('F8')
@@ -226,11 +234,10 @@ class OnePage(ToolCase):
 
     def test_what_is_seen(self) -> None:
         """Attributes, selection, sound, pages, and both windows without a scroll bar across."""
-        page = self.page_or_none()
+        page = self.opened()
         if page is None:
             return
         browser = page.browser
-        page.open()
         with open(f'{TOOLS}/tests/attributes.asm', encoding='utf-8') as file:
             page.write(file.read())
         page.click('#assemble', 'assembled.includes("attrib")||view.clock>0')
@@ -257,10 +264,9 @@ class OnePage(ToolCase):
 
     def test_a_board_that_was_left_alone(self) -> None:
         """It is begun anew, at the clock where it was."""
-        page = self.page_or_none()
+        page = self.opened()
         if page is None:
             return
-        page.open()
         page.example('fibonacci')
         page.browser.run('acts(()=>go_to(4321))')
         page.settled('view.clock===4321')

@@ -2,37 +2,32 @@
 runs. It decides nothing: what it shows is a session's answer, or a report of the same files."""
 from __future__ import annotations
 
-import contextlib
 import os
-import subprocess
-import tempfile
 import threading
 import time
 from dataclasses import dataclass
-from typing import Any, Callable, Iterator
+from typing import Any, Callable
 
 from toolbox.command import Sorry
 from toolbox.dap_board import MOST_BREAKPOINTS, Far, Machine, Paused, is_repeated
+from toolbox.desk_work import Fields, Helpers, Job
 from toolbox.listing import listing_of, physical
 from toolbox.places import address_of, event_of, line_at
-from toolbox.program import CLOCKS_OF_A_TRAIL, LAST_CLOCK, Files, Session, path, refusal
+from toolbox.program import CLOCKS_OF_A_TRAIL, LAST_CLOCK, Files
 from toolbox.report import REGISTERS, Report, registers_of, report_of
 from toolbox.runfile import text_of, with_budget
 from toolbox.scancodes import names
 from toolbox.text_memory import TEXT_MEMORY, WORDS, Cell, cells_at, plain_cells, starts
 
-Fields = dict[str, Any]
 # A typed key reaches the keyboard so many clocks on, and lies so many behind the one before: a handler takes some hundred.
 AHEAD, GAP = 1000, 1000
 # A halted processor steps to the interrupt that ends its halt, at most so far on: ten of the board's seconds.
 LONGEST_HALT = 50_000_000
-STACK_BYTES, MEMORY_BYTES = 32, 256
-IF = 0x200
+STACK_BYTES, IF, CLOCKS_OF_HLT = 32, 0x200, 2
 # No instruction takes so many clocks without a repeat, so a processor that began none for so long has jammed.
 LONGEST_STEP = 1000
 # Up to so many clocks all trails are read for the interrupts; in a longer run only handlers' first instructions are looked for.
-SHORT_RUN, MARKS_SECONDS, REPORT_SECONDS, MOST_MARKS, MOST_CHANGES = 60_000, 0.5, 5, 1000, 100_000
-LONGEST_REPORT = 8 << 20
+SHORT_RUN, MARKS_SECONDS, MOST_MARKS, MOST_CHANGES = 60_000, 0.5, 1000, 100_000
 
 
 @dataclass(frozen=True)
@@ -41,102 +36,6 @@ class Key:
     stamp: int
     code: int
     typed: int
-
-
-class Job:
-    """Work under way, in a thread of its own."""
-
-    def __init__(self, work: Callable[[], Fields]) -> None:
-        self._work, self._result = work, Fields()
-        self._error: BaseException | None = None
-        self.over = threading.Event()
-        threading.Thread(target=self._do, daemon=True).start()
-
-    def _do(self) -> None:
-        try:
-            self._result = self._work()
-        except BaseException as error:  # pylint: disable=broad-exception-caught
-            self._error = error
-        self.over.set()
-
-    def result(self) -> Fields:
-        """What it came to."""
-        if self._error:
-            raise self._error
-        return self._result
-
-
-class Helpers:
-    """Processes beside the session that is shown, which end with it."""
-
-    def __init__(self) -> None:
-        self._lock, self._all, self._is_over = threading.Lock(), list[Any](), False
-
-    def add(self, one: Any) -> None:
-        """Notes what is to be ended: a session, or a process."""
-        with self._lock:
-            if not self._is_over:
-                self._all.append(one)
-                return
-        end(one)
-        raise Sorry('the board has ended')
-
-    def drop(self, one: Any) -> None:
-        """Ends one of them."""
-        with self._lock:
-            if one in self._all:
-                self._all.remove(one)
-        end(one)
-
-    def close(self) -> None:
-        """Ends them all, and any that comes later."""
-        with self._lock:
-            self._is_over, them = True, self._all
-            self._all = []
-        for one in them:
-            end(one)
-
-    def answer(self, words: list[str]) -> str | None:
-        """What a run of the program prints; None where it takes too long, or is too long."""
-        with tempfile.TemporaryFile() as err:
-            process = subprocess.Popen([path(), *words], stdin=subprocess.DEVNULL, stdout=subprocess.PIPE, stderr=err, start_new_session=True)
-            self.add(process)
-            watch = threading.Timer(REPORT_SECONDS, process.kill)
-            watch.start()
-            try:
-                assert process.stdout
-                out = process.stdout.read(LONGEST_REPORT + 1)
-                status = process.wait() if len(out) <= LONGEST_REPORT else -1
-            finally:
-                watch.cancel()
-                self.drop(process)
-            if status > 0:
-                err.seek(0)
-                raise Sorry(refusal(status, err.read().decode('utf-8', 'replace')))
-        return out.decode('utf-8', 'replace') if status == 0 else None
-
-    @contextlib.contextmanager
-    def session(self, files: Files) -> Iterator[Session]:
-        """A session of debug."""
-        session = Session(files)
-        self.add(session)
-        try:
-            yield session
-        finally:
-            self.drop(session)
-
-
-def end(one: Any) -> None:
-    """Ends a process, or a session's or machine's."""
-    if not isinstance(one, subprocess.Popen):
-        with contextlib.suppress(OSError, ValueError):
-            one.close()
-        return
-    one.kill()
-    one.wait()
-    if one.stdout:
-        with contextlib.suppress(OSError, ValueError):
-            one.stdout.close()
 
 
 def rows_of(screen: list[str], memory: bytes) -> list[list[tuple[str, int]]]:
@@ -248,25 +147,47 @@ class Board:
 
     def run(self, to: int, is_past: bool, seen: int, is_light: bool) -> Fields:
         """Goes on to a clock, past all stops or to the first one."""
-        why = 'there'
+        here, why = self.clock, 'there'
         try:
             met = self.machine.run(set() if is_past else set(self.stops), min(to, LAST_CLOCK))
             why = 'stop' if met else why
         except Paused:
             why = 'paused'
+        if not is_past and why != 'stop':
+            self._back_to_the_end(here)
         return self.view(why, seen, is_light)
+
+    def _back_to_the_end(self, here: int) -> None:
+        """Where the processor has halted for good since a clock: back to where it did, so that the run isn't full of nothing."""
+        trail = self.machine.trail()
+        if self._state(self.machine.registers(), trail) == 'halted for good':
+            self.machine.go_to(min(max(here, trail[-1].clock + CLOCKS_OF_HLT + 1), self.clock))
 
     def step(self, seen: int) -> Fields:
         """Makes one instruction, iteration or entry."""
-        return self._moved(self.machine.step, seen)
+        return self._from_a_halt(seen) or self._moved(self.machine.step, seen)
 
     def over(self, seen: int) -> Fields:
         """Makes one instruction with all that it calls."""
-        return self._moved(lambda: self.machine.next(set(self.stops)), seen)
+        return self._from_a_halt(seen) or self._moved(lambda: self.machine.next(set(self.stops)), seen)
 
     def out(self, seen: int) -> Fields:
         """Runs to where the routine has returned."""
         return self._moved(lambda: self.machine.out(set(self.stops)), seen)
+
+    def _from_a_halt(self, seen: int) -> Fields | None:
+        """A step of a halted processor: into the interrupt that ends the halt; where none can, a clock. None of one that runs."""
+        here, state = self.clock, self._state(self.machine.registers(), self.machine.trail())
+        if state == 'running':
+            return None
+        if state != 'halted':
+            return self._moved(lambda: self.machine.one('step'), seen)
+        found = self._moved(self.machine.step, seen)
+        if found['why'] == 'far':
+            self.machine.go_to(here)
+            self.furthest = max(here, min(self.furthest, found['clock'] - 1))
+            raise Sorry(f'no interrupt ends this halt within {LONGEST_HALT:,} clocks; type a key, or run on')
+        return found
 
     def _moved(self, move: Callable[[], Any], seen: int) -> Fields:
         """What is seen behind a move; one that would never end, ends."""

@@ -12,9 +12,10 @@ from typing import Any, Callable
 
 from toolbox.command import Sorry, read_text, write_text
 from toolbox.dap_board import Gone
-from toolbox.desk_board import Board, Fields
+from toolbox.desk_board import Board
 from toolbox.desk_http import Refused
 from toolbox.desk_pages import examples, files_of, page_of
+from toolbox.desk_work import Fields
 from toolbox.faults import fault_in
 from toolbox.messages import messages
 from toolbox.places import far_of

@@ -1,0 +1,110 @@
+"""What a board of tools/desk has under way: a job in a thread of its own, and processes beside the session that is shown."""
+from __future__ import annotations
+
+import contextlib
+import subprocess
+import tempfile
+import threading
+from typing import Any, Callable, Iterator
+
+from toolbox.command import Sorry
+from toolbox.program import Files, Session, path, refusal
+
+Fields = dict[str, Any]
+REPORT_SECONDS, LONGEST_REPORT = 5, 8 << 20
+
+
+class Job:
+    """Work under way, in a thread of its own."""
+
+    def __init__(self, work: Callable[[], Fields]) -> None:
+        self._work, self._result = work, Fields()
+        self._error: BaseException | None = None
+        self.over = threading.Event()
+        threading.Thread(target=self._do, daemon=True).start()
+
+    def _do(self) -> None:
+        try:
+            self._result = self._work()
+        except BaseException as error:  # pylint: disable=broad-exception-caught
+            self._error = error
+        self.over.set()
+
+    def result(self) -> Fields:
+        """What it came to."""
+        if self._error:
+            raise self._error
+        return self._result
+
+
+class Helpers:
+    """Processes beside the session that is shown, which end with it."""
+
+    def __init__(self) -> None:
+        self._lock, self._all, self._is_over = threading.Lock(), list[Any](), False
+
+    def add(self, one: Any) -> None:
+        """Notes what is to be ended: a session, or a process."""
+        with self._lock:
+            if not self._is_over:
+                self._all.append(one)
+                return
+        end(one)
+        raise Sorry('the board has ended')
+
+    def drop(self, one: Any) -> None:
+        """Ends one of them."""
+        with self._lock:
+            if one in self._all:
+                self._all.remove(one)
+        end(one)
+
+    def close(self) -> None:
+        """Ends them all, and any that comes later."""
+        with self._lock:
+            self._is_over, them = True, self._all
+            self._all = []
+        for one in them:
+            end(one)
+
+    def answer(self, words: list[str]) -> str | None:
+        """What a run of the program prints; None where it takes too long, or is too long."""
+        with tempfile.TemporaryFile() as err:
+            process = subprocess.Popen([path(), *words], stdin=subprocess.DEVNULL, stdout=subprocess.PIPE, stderr=err, start_new_session=True)
+            self.add(process)
+            watch = threading.Timer(REPORT_SECONDS, process.kill)
+            watch.start()
+            try:
+                assert process.stdout
+                out = process.stdout.read(LONGEST_REPORT + 1)
+                status = process.wait() if len(out) <= LONGEST_REPORT else -1
+            finally:
+                watch.cancel()
+                self.drop(process)
+            if status > 0:
+                err.seek(0)
+                raise Sorry(refusal(status, err.read().decode('utf-8', 'replace')))
+        return out.decode('utf-8', 'replace') if status == 0 else None
+
+    @contextlib.contextmanager
+    def session(self, files: Files) -> Iterator[Session]:
+        """A session of debug."""
+        session = Session(files)
+        self.add(session)
+        try:
+            yield session
+        finally:
+            self.drop(session)
+
+
+def end(one: Any) -> None:
+    """Ends a process, or a session's or machine's."""
+    if not isinstance(one, subprocess.Popen):
+        with contextlib.suppress(OSError, ValueError):
+            one.close()
+        return
+    one.kill()
+    one.wait()
+    if one.stdout:
+        with contextlib.suppress(OSError, ValueError):
+            one.stdout.close()
