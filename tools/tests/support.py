@@ -25,6 +25,21 @@ def example(name: str) -> tuple[str, str]:
     return f'{EXAMPLES}/{name}.asm', f'{EXAMPLES}/{name}.json'
 
 
+def children(of: int) -> list[int]:
+    """The processes that a process has started, and those that these have."""
+    found = list[int]()
+    for name in os.listdir('/proc'):
+        if name.isdecimal():
+            try:
+                with open(f'/proc/{name}/stat', encoding='utf-8') as file:
+                    fields = file.read().rpartition(')')[2].split()
+            except OSError:
+                continue
+            if int(fields[1]) == of and fields[0] != 'Z':
+                found += [int(name), *children(int(name))]
+    return found
+
+
 class ToolCase(unittest.TestCase):
     """A case with a folder of its own, and tools run in it."""
 

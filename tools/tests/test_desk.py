@@ -17,7 +17,7 @@ import time
 import unittest
 from typing import Any
 
-from tests.support import EXAMPLES, TOOLS, TOP, ToolCase, example
+from tests.support import EXAMPLES, TOOLS, TOP, ToolCase, children, example
 
 from toolbox.desk_http import LONGEST_BODY, MOST_CONNECTIONS, Server, policy_of
 from toolbox.desk_pages import as_html, examples, page_of
@@ -93,21 +93,6 @@ class Client:
         return answer
 
 
-def children(of: int) -> list[int]:
-    """The processes that a process has started, and those that these have."""
-    found = list[int]()
-    for name in os.listdir('/proc'):
-        if name.isdecimal():
-            try:
-                with open(f'/proc/{name}/stat', encoding='utf-8') as file:
-                    fields = file.read().rpartition(')')[2].split()
-            except OSError:
-                continue
-            if int(fields[1]) == of and fields[0] != 'Z':
-                found += [int(name), *children(int(name))]
-    return found
-
-
 class Served(ToolCase):
     """A desk within the tests' own process."""
 
@@ -141,7 +126,7 @@ class Hostile(Served):
         policy = answer.getheader('Content-Security-Policy') or ''
         self.assertEqual(policy, policy_of(text))
         self.assertTrue(policy.startswith("default-src 'none'; script-src 'sha256-") and 'unsafe' not in policy)
-        self.assertEqual((answer.getheader('Cache-Control'), answer.getheader('Referrer-Policy')), ('no-store', 'no-referrer'))
+        self.assertEqual((answer.getheader('Cache-Control'), answer.getheader('Referrer-Policy')), ('no-store', 'same-origin'))
         self.assertIn('examples', self.client.ask('hello'))
 
     def test_another_host(self) -> None:

@@ -13,7 +13,7 @@ import unittest
 from typing import Any
 
 from tests.browser import CONTROL, SHIFT, Browser, path
-from tests.support import TOOLS, ToolCase, example
+from tests.support import TOOLS, ToolCase, children, example
 
 from toolbox.report import Report, report_of
 
@@ -276,6 +276,12 @@ class OnePage(ToolCase):
         page.settled("$('said').textContent.startsWith('The board had ended')&&view.clock===4321")
         self.assertEqual(page.screen(), before)
         self.fine(page)
+        # Who leaves the page ends its board.
+        page.browser.open('about:blank')
+        until = time.monotonic() + 20
+        while children(page.desk.pid) and time.monotonic() < until:
+            time.sleep(0.05)
+        self.assertEqual(children(page.desk.pid), [])
 
 
 def pictures(folder: str) -> None:

@@ -19,7 +19,7 @@ HOST = '127.0.0.1'
 # A source of 1,048,576 bytes, written as JSON, fits twice.
 LONGEST_BODY, MOST_CONNECTIONS = 4 << 20, 32
 SECONDS_OF_A_REQUEST, SECONDS_OF_SILENCE = 10, 60
-HEADERS = (('X-Content-Type-Options', 'nosniff'), ('Cache-Control', 'no-store'), ('Referrer-Policy', 'no-referrer'),
+HEADERS = (('X-Content-Type-Options', 'nosniff'), ('Cache-Control', 'no-store'), ('Referrer-Policy', 'same-origin'),
            ('X-Frame-Options', 'DENY'), ('Cross-Origin-Resource-Policy', 'same-origin'), ('Cross-Origin-Opener-Policy', 'same-origin'))
 
 
