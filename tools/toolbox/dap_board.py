@@ -58,7 +58,11 @@ class Machine:
         self.known: dict[int, Event] = {}
         self._piece, self._stops = FIRST_PIECE, list[Far]()
         self._session = Session(files)
-        self.many('regs')
+        try:
+            self.many('regs')
+        except BaseException:
+            self._session.close()
+            raise
 
     @property
     def clock(self) -> int:

@@ -32,10 +32,10 @@ SHORT_RUN, MARKS_SECONDS, MOST_MARKS, MOST_CHANGES = 60_000, 0.5, 1000, 100_000
 
 @dataclass(frozen=True)
 class Key:
-    """A stamped key code, and the clock at which it was typed; of one from a run file, its stamp."""
+    """A stamped key code, and how often the board had gone back when it was typed; of one from a run file less than none."""
     stamp: int
     code: int
-    typed: int
+    turn: int = -1
 
 
 def rows_of(screen: list[str], memory: bytes) -> list[list[tuple[str, int]]]:
@@ -66,14 +66,15 @@ class Board:
         self.source, self._fields = source, {name: it for name, it in fields.items() if name != 'keys'}
         given = fields.get('keys')
         self._raw_keys: Any = given
-        self.keys = [Key(stamp, code, stamp) for stamp, code in given] if is_key_list(given) else []
+        self.keys = [Key(stamp, code) for stamp, code in given] if is_key_list(given) else []
         self._lock, self._marking = threading.Lock(), threading.Lock()
         self._job: Job | None = None
         self._is_ended, self._until, self._count = False, float('inf'), 0
         self._screen, self._screen_number, self._rows = (list[str](), b''), 0, list[list[tuple[str, int]]]()
         self._vectors, self._helpers = b'', Helpers()
+        self._of_the_run: tuple[tuple[str, int], Fields] = (('', 0), {})
         self._beside: Machine | None = None
-        self.stops, self.furthest = list[Far](), 0
+        self.stops, self.furthest, self._was_at, self._turn = list[Far](), 0, 0, 0
         self.files = self._written(self.keys if is_key_list(given) else None)
         self.listing = listing_of(self.files)
         self.machine = self._machine(self.files)
@@ -203,8 +204,13 @@ class Board:
         return self.view(why, seen)
 
     def back(self, seen: int) -> Fields:
-        """To where the processor was free before."""
-        self.machine.back()
+        """To where the last instruction or interrupt began; of a repeat, the last iteration. The trail tells the clock, to which
+        a session goes back sooner than it finds the last boundary."""
+        trail = self.machine.trail()
+        if not trail or trail[-1].entry is None and is_repeated(trail[-1].text):
+            self.machine.back()
+        else:
+            self.machine.go_to(trail[-1].clock)
         return self.view('there', seen)
 
     def last(self, seen: int) -> Fields:
@@ -232,7 +238,8 @@ class Board:
     def view(self, why: str, seen: int, is_light: bool = False) -> Fields:
         """What the page shows. The screen comes where it isn't the one that the page has; a light view leaves out what is
         looked at while nothing runs."""
-        self.furthest = max(self.furthest, self.clock)
+        self._turn += self.clock < self._was_at
+        self._was_at, self.furthest = self.clock, max(self.furthest, self.clock)
         registers, trail = self.machine.registers(), self.machine.trail()
         place = registers['CS'], registers['IP']
         line = self.listing.at.get(physical(*place))
@@ -307,18 +314,22 @@ class Board:
         line = self.listing.at.get(physical(*place))
         return ['%04X:%04X' % place, self.listing.label_before(*place), line.number if line else None]
 
+    def _comes_later(self, key: Key) -> bool:
+        """Whether a key's clock lies ahead, and it wasn't typed since the board last went back."""
+        return key.stamp > self.clock and key.turn != self._turn
+
     def later_keys(self) -> int:
-        """How many keys were typed at a later clock than the present one."""
-        return sum(it.typed > self.clock for it in self.keys)
+        """How many keys are dropped where one is typed now."""
+        return sum(map(self._comes_later, self.keys))
 
     def type(self, codes: list[int], pauses: list[int], seen: int) -> Fields:
-        """Codes typed now, each so many clocks behind the one before. Keys typed later are dropped."""
-        kept = [it for it in self.keys if it.typed <= self.clock]
+        """Codes typed now, each so many clocks behind the one before. Keys that come later are dropped."""
+        kept = [it for it in self.keys if not self._comes_later(it)]
         stamp = max(self.clock + AHEAD, kept[-1].stamp + GAP if kept else 0)
         added = list[Key]()
         for code, pause in zip(codes, pauses):
             stamp += pause
-            added.append(Key(stamp, code, self.clock))
+            added.append(Key(stamp, code, self._turn))
         return self.with_keys(kept + added, seen)
 
     def with_keys(self, keys: list[Key], seen: int) -> Fields:
@@ -363,14 +374,16 @@ class Board:
             return {'busy': True}
         try:
             clock, until = self.clock, max(self.furthest, self.clock)
-            now = self.report(clock)
-            whole = now if now is None or until == clock else self.report(until)
-            changes = whole.changes if whole else []
-            interrupts, first = self._interrupts(until) if whole else ([], until)
+            now, run = self.report(clock), (self.files.run_file, until)
+            if self._of_the_run[0] != run:
+                whole = now if now is None or until == clock else self.report(until)
+                changes = whole.changes if whole else []
+                interrupts, first = self._interrupts(until) if whole else ([], until)
+                self._of_the_run = run, {'told': whole is not None, 'changes': changes[:MOST_CHANGES], 'all changes': len(changes),
+                                         'interrupts': interrupts, 'interrupts up to': first}
         finally:
             self._marking.release()
-        return {'clock': clock, 'until': until, 'state': now.state if now else None, 'lost': now.lost if now else None,
-                'changes': changes[:MOST_CHANGES], 'all changes': len(changes), 'interrupts': interrupts, 'interrupts up to': first}
+        return {'clock': clock, 'until': until, 'state': now.state if now else None, 'lost': now.lost if now else None} | self._of_the_run[1]
 
     def changes(self, until: int) -> Fields:
         """The speaker's changes up to a clock, which may lie ahead: with the keys that there are, what comes is determined."""
