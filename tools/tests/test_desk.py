@@ -28,6 +28,7 @@ from toolbox.runfile import report_at
 
 Fields = dict[str, Any]
 RUN = {'version': 1, 'ram': 64, 'sw1': 0, 'sw2': 0, 'budget': 1000, 'keys': []}
+SHORT = 'SEGMENT RESET AT 0FFFFh\n        HLT\nENDS\n'
 FOREVER = 'SEGMENT MAIN AT 0F000h\nstart:  CALL deep\nstay:   JMP SHORT stay\ndeep:   INC AX\n        JMP SHORT deep\nENDS\nSEGMENT RESET AT 0FFFFh\n        JMP FAR start\nENDS\n'
 
 
@@ -409,12 +410,11 @@ class Boards(Served):
             with open('/proc/self/statm', encoding='utf-8') as file:
                 return int(file.read().split()[1]) * 4
 
-        given = self.client.ask('example', name='hello')
         board, before, used = '', (0, 0, 0, 0), 0
         for turn in range(105):
-            board = self.client.ask('open', source=given['source'], run=given['run'], instead=board)['board']
+            board = self.client.ask('open', source=SHORT, run=RUN, instead=board)['board']
             self.client.ask('run', board=board, to=100, past=True, ms=200)
-            if turn % 10 == 0:
+            if turn % 20 == 0:
                 self.client.ask('type', board=board, codes=[30, 158])
                 self.client.ask('marks', board=board)
             if turn == 4:

@@ -278,12 +278,14 @@ class Board:
                 line.number if line and event.entry is None else None]
 
     def _stack(self, registers: dict[str, int]) -> list[list[Any]]:
-        """The words from SS:SP on."""
+        """The words from SS:SP on, with the label of one that leads to a line of the source."""
         segment, top = registers['SS'], registers['SP']
         octets = self.machine.dump(physical(segment, top), STACK_BYTES)
         words = [int.from_bytes(octets[at:at + 2], 'little') for at in range(0, len(octets) - 1, 2)]
-        return [[f'{(top + 2 * at) % 0x10000:04X}', f'{word:04X}', self.listing.label_before(registers['CS'], word)]
-                for at, word in enumerate(words) if top + 2 * at < 0x10000]
+        def label(word: int) -> str:
+            return self.listing.label_before(registers['CS'], word) if physical(registers['CS'], word) in self.listing.at else ''
+
+        return [[f'{top + 2 * at:04X}', f'{word:04X}', label(word)] for at, word in enumerate(words) if top + 2 * at < 0x10000]
 
     def _keys(self) -> list[list[Any]]:
         """The keys: stamp, name, whether it goes down, code."""
