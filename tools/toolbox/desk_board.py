@@ -283,7 +283,7 @@ class Board:
         octets = self.machine.dump(physical(segment, top), STACK_BYTES)
         words = [int.from_bytes(octets[at:at + 2], 'little') for at in range(0, len(octets) - 1, 2)]
         def label(word: int) -> str:
-            return self.listing.label_before(registers['CS'], word) if physical(registers['CS'], word) in self.listing.at else ''
+            return self.listing.label_before(registers['CS'], word) if word and physical(registers['CS'], word) in self.listing.at else ''
 
         return [[f'{top + 2 * at:04X}', f'{word:04X}', label(word)] for at, word in enumerate(words) if top + 2 * at < 0x10000]
 
