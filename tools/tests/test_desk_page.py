@@ -13,7 +13,7 @@ import unittest
 from typing import Any
 
 from tests.browser import CONTROL, SHIFT, Browser, path
-from tests.support import TOOLS, ToolCase, children, example
+from tests.support import EXAMPLES, TOOLS, ToolCase, children, example
 
 from toolbox.report import Report, report_of
 
@@ -253,6 +253,17 @@ class OnePage(ToolCase):
         page.click('#start', 'view.clock===0')
         browser.until("marks&&marks.clock===0")
         page.click('#play', "$('said').textContent==='played from clock 0 on, 1.257 s'")
+        # While a run goes on in real time, what the speaker does is played behind it, piece by piece.
+        with open(example('tone')[0], encoding='utf-8') as file:
+            page.write(file.read().replace('MOV AX,10 ', 'MOV AX,2711').replace('LOOP pause', 'JMP SHORT pause'))
+        page.click('#assemble', "assembled.includes('2711')")
+        browser.run('window.played=[];{const was=play;play=(...it)=>{window.played.push([it[1],it[2]]);return was(...it)}}')
+        browser.click('#run')
+        browser.until('window.played.length>5')
+        page.click('#run')
+        self.assertEqual(browser.run('window.played.slice(1).every((it,at)=>it[0]===window.played[at][1])'), True)
+        page.click('#tab-page')
+        page.example('melody')
         page.click('#tab-page', "$('page-text').textContent.includes('A melody, note by note')")
         for window in ((1280, 720), (390, 800)):
             for is_dark in (False, True):
@@ -261,6 +272,36 @@ class OnePage(ToolCase):
                 self.assertEqual(browser.run('[document.documentElement.scrollWidth, $("screen").getBoundingClientRect().right<=innerWidth]'), [window[0], True])
                 self.assertEqual(browser.run("getComputedStyle(document.body).backgroundColor"), 'rgb(18, 21, 24)' if is_dark else 'rgb(239, 236, 228)')
         self.assertTrue(browser.run("$('tab-chips').hidden===!pages.chips"))
+        self.fine(page)
+
+    def test_long_runs_and_files(self) -> None:
+        """Long runs show how far they are and can be ended; another file is taken meanwhile, Intel HEX too."""
+        page = self.opened()
+        if page is None:
+            return
+        browser = page.browser
+        page.write('SEGMENT RESET AT 0FFFFh\n        CALL deep\n        HLT\ndeep:   JMP SHORT deep\nENDS\n')
+        page.click('#assemble', "assembled.includes('deep')")
+        browser.run("$('to').value='1,099,511,627,776'")
+        browser.click('#go')
+        browser.until("$('said').textContent.includes('of 1,099,511,627,776')&&$('run').textContent==='Pause'")
+        begun = time.monotonic()
+        browser.click('#run')
+        page.settled("$('run').textContent==='Run'&&view.clock<2**40")
+        self.assertLess(time.monotonic() - begun, 10)
+        page.click('#start', 'view.clock===0')
+        page.click('#over', "view.clock===50000000&&$('said').textContent.startsWith('not over')")
+        browser.run("$('pace').value='fast'")
+        here = page.clock
+        browser.click('#run')
+        browser.until(f'running&&view.clock>{here + 10 ** 7}')
+        browser.call('DOM.enable')
+        root = browser.call('DOM.getDocument')['root']['nodeId']
+        node = browser.call('DOM.querySelector', nodeId=root, selector='#file')['nodeId']
+        browser.call('DOM.setFileInputFiles', nodeId=node, files=[f'{EXAMPLES}/monitor.hex', f'{EXAMPLES}/monitor.json'])
+        browser.until("$('name').textContent==='monitor.hex'")
+        page.settled('isHex&&view.clock===40000')
+        self.assertEqual(page.screen(), self.report('monitor').screen)
         self.fine(page)
 
     def test_a_board_that_was_left_alone(self) -> None:

@@ -21,9 +21,9 @@ from toolbox.text_memory import TEXT_MEMORY, WORDS, Cell, cells_at, plain_cells,
 
 # A typed key reaches the keyboard so many clocks on, and lies so many behind the one before: a handler takes some hundred.
 AHEAD, GAP = 1000, 1000
-# A halted processor steps to the interrupt that ends its halt, at most so far on: ten of the board's seconds.
-LONGEST_HALT = 50_000_000
-STACK_BYTES, IF, CLOCKS_OF_HLT = 32, 0x200, 2
+# A step goes at most so far on, to the interrupt that ends a halt or over a call: ten of the board's seconds.
+FARTHEST = 50_000_000
+STACK_BYTES, IF, CLOCKS_OF_HLT, LOOKS_WITHOUT_ATTRIBUTES = 32, 0x200, 2, 4
 # No instruction takes so many clocks without a repeat, so a processor that began none for so long has jammed.
 LONGEST_STEP = 1000
 # Up to so many clocks all trails are read for the interrupts; in a longer run only handlers' first instructions are looked for.
@@ -75,6 +75,7 @@ class Board:
         self._of_the_run: tuple[tuple[str, int], Fields] = (('', 0), {})
         self._beside: Machine | None = None
         self.stops, self.furthest, self._was_at, self._turn = list[Far](), 0, 0, 0
+        self._looks = 0
         self.files = self._written(self.keys if is_key_list(given) else None)
         self.listing = listing_of(self.files)
         self.machine = self._machine(self.files)
@@ -187,13 +188,13 @@ class Board:
         if found['why'] == 'far':
             self.machine.go_to(here)
             self.furthest = max(here, min(self.furthest, found['clock'] - 1))
-            raise Sorry(f'no interrupt ends this halt within {LONGEST_HALT:,} clocks; type a key, or run on')
+            raise Sorry(f'no interrupt ends this halt within {FARTHEST:,} clocks; type a key, or run on')
         return found
 
     def _moved(self, move: Callable[[], Any], seen: int) -> Fields:
         """What is seen behind a move; one that would never end, ends."""
         here, why = self.clock, 'there'
-        self.machine.budget = min(here + LONGEST_HALT, LAST_CLOCK)
+        self.machine.budget = min(here + FARTHEST, LAST_CLOCK)
         try:
             if isinstance(move(), tuple):
                 why = 'stop'
@@ -245,7 +246,7 @@ class Board:
         line = self.listing.at.get(physical(*place))
         found: Fields = {'why': why, 'clock': self.clock, 'furthest': self.furthest, 'registers': registers,
                          'state': self._state(registers, trail), 'place': '%04X:%04X' % place, 'line': line.number if line else None,
-                         'label': self.listing.label_before(*place), 'screen number': self._look_at_screen()}
+                         'label': self.listing.label_before(*place), 'screen number': self._look_at_screen(is_light)}
         if seen != self._screen_number:
             found['screen'] = self._rows
         if not is_light:
@@ -262,9 +263,14 @@ class Board:
         quiet = self.clock - (last.clock if last else 0)
         return 'jammed' if quiet > LONGEST_STEP and not (last and is_repeated(last.text)) else 'running'
 
-    def _look_at_screen(self) -> int:
-        """The screen's number, which rises where it changes."""
-        now = self.machine.many('screen'), self.machine.dump(TEXT_MEMORY, 2 * WORDS)
+    def _look_at_screen(self, is_light: bool) -> int:
+        """The screen's number, which rises where it changes. A light look at the same characters looks for other attributes
+        now and then alone."""
+        lines = self.machine.many('screen')
+        self._looks += 1
+        if is_light and lines == self._screen[0] and self._looks % LOOKS_WITHOUT_ATTRIBUTES:
+            return self._screen_number
+        now = lines, self.machine.dump(TEXT_MEMORY, 2 * WORDS)
         if now != self._screen or not self._rows:
             self._screen, self._rows = now, rows_of(*now)
             self._screen_number += 1
