@@ -176,6 +176,17 @@ class OnePage(ToolCase):
         self.assertEqual(browser.run("$('asked-text').textContent")[:22], '5 key codes were typed')
         browser.press('Enter')
         page.settled('view.keys.length===3')
+        # Keys that a browser keeps for itself, and a text.
+        browser.click('#keys-open')
+        for name in ('Ctrl', 'F1'):
+            browser.run(f"[...document.querySelectorAll('#board-keys button')].find(it=>it.textContent==='{name}').click()")
+        page.settled('view.keys.length===7&&codes.length===0')
+        self.assertEqual(browser.run("$('key-list').textContent.split('\\n').slice(3).map(it=>it.split(/ +/).slice(2,4).join(' '))"),
+                         ['ctrl down', 'f1 down', 'f1 up', 'ctrl up'])
+        page.click('#keys-drop-later')
+        page.settled("view.keys.every(it=>it[0]<=view.clock)")
+        browser.run("$('text').value='o';$('type').click();queue")
+        page.settled("view.keys.length>0&&view.keys[view.keys.length-1][1]==='o'")
         browser.call('Page.setDownloadBehavior', behavior='allow', downloadPath=self.room)
         browser.run("acts(()=>go_to(view.clock+20000))")
         page.settled(f"{SHOWN}[0].startsWith('BO ')")

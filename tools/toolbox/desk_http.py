@@ -121,10 +121,17 @@ class Handler(http.server.BaseHTTPRequestHandler):
         self.timeout = self.server.seconds_of_silence
         super().setup()
 
-    def parse_request(self) -> bool:
-        """The request's first line has come: now the rest has its time."""
+    def handle_one_request(self) -> None:
+        """Waits for a request's first byte; then the rest has its time."""
+        try:
+            if not self.rfile.peek(1):  # type: ignore[attr-defined]
+                self.close_connection = True
+                return
+        except OSError:
+            self.close_connection = True
+            return
         self.server.reads(self.connection, True)
-        return super().parse_request()
+        super().handle_one_request()
 
     def finish(self) -> None:
         self.server.reads(self.connection, False)
