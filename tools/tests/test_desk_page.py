@@ -39,7 +39,7 @@ class Page:
 
     def open(self, *window: Any) -> None:
         """Opens the page, and waits for its first run."""
-        self.browser.run('window.old=true')
+        self.browser.run('window.old=true;onbeforeunload=null')
         self.browser.open(self.address, *window)
         self.browser.until("window.old!==true&&document.readyState==='complete'")
         self.settled('view.clock>0')
@@ -51,7 +51,7 @@ class Page:
 
     def example(self, name: str) -> None:
         """Chooses an example, as a hand does."""
-        self.browser.run(f"$('example').value='{name}';$('example').dispatchEvent(new Event('change'));queue")
+        self.browser.run(f"loaded=$('source').value;$('example').value='{name}';$('example').dispatchEvent(new Event('change'));queue")
         self.settled(f"$('name').textContent==='{name}.asm'&&view.clock===runFile.budget")
 
     def screen(self) -> list[str]:
@@ -126,7 +126,7 @@ class OnePage(ToolCase):
         self.assertEqual(browser.run("[$('hint').textContent, refused[0].line, document.querySelector('#gutter .bad').textContent]"),
                          ['28: UnknownName: is DIV meant?', 28, '28'])
         page.write(source)
-        browser.press('Enter', CONTROL)
+        browser.press('F8')
         page.settled(f"view.clock===runFile.budget&&$('hint').hidden&&refused.length===0")
         # To the start, step, a stop by the margin, run to it, back to it.
         page.click('#start', 'view.clock===0')
@@ -143,6 +143,20 @@ class OnePage(ToolCase):
         page.click('#last', f'view.clock==={first}')
         page.click('#back', f'view.clock<{first}')
         page.click('#over', f'view.clock==={first}')
+        # What was written isn't lost by another example, but once asked; a new line is indented.
+        browser.run("$('source').focus();$('source').setSelectionRange(0,0)")
+        browser.press('Enter')
+        browser.run("to_line(6)")
+        browser.press('End')
+        browser.press('Enter')
+        self.assertEqual(browser.run("$('source').value.split('\\n').slice(4,8).map(it=>/^ */.exec(it)[0].length)"), [0, 0, 8, 8])
+        browser.run("$('example').value='hello';$('example').dispatchEvent(new Event('change'))")
+        browser.until("$('asked').open")
+        browser.press('Tab')
+        browser.press('Enter')
+        page.settled("!$('asked').open")
+        self.assertEqual(browser.run("$('name').textContent"), 'fibonacci.asm')
+        page.write(source)
         # The time line, dragged backwards.
         browser.run("$('time').value=500;$('time').dispatchEvent(new Event('input'));$('time').dispatchEvent(new Event('change'));queue")
         page.settled('view.clock===500')
@@ -310,6 +324,8 @@ class OnePage(ToolCase):
         root = browser.call('DOM.getDocument')['root']['nodeId']
         node = browser.call('DOM.querySelector', nodeId=root, selector='#file')['nodeId']
         browser.call('DOM.setFileInputFiles', nodeId=node, files=[f'{EXAMPLES}/monitor.hex', f'{EXAMPLES}/monitor.json'])
+        browser.until("$('asked').open")
+        browser.press('Enter')
         browser.until("$('name').textContent==='monitor.hex'")
         page.settled('isHex&&view.clock===40000')
         self.assertEqual(page.screen(), self.report('monitor').screen)
