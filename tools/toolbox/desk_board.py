@@ -11,9 +11,10 @@ from typing import Any, Callable
 from toolbox.command import Sorry
 from toolbox.dap_board import MOST_BREAKPOINTS, Far, Machine, Paused, is_repeated
 from toolbox.desk_work import Fields, Helpers, Job
+from toolbox.events import commands
 from toolbox.listing import listing_of, physical
 from toolbox.places import address_of, event_of, line_at
-from toolbox.program import CLOCKS_OF_A_TRAIL, LAST_CLOCK, Files
+from toolbox.program import LAST_CLOCK, Files
 from toolbox.report import REGISTERS, Report, registers_of, report_of
 from toolbox.runfile import text_of, with_budget
 from toolbox.scancodes import names
@@ -27,7 +28,7 @@ STACK_BYTES, IF, CLOCKS_OF_HLT, LOOKS_WITHOUT_ATTRIBUTES = 32, 0x200, 2, 4
 # No instruction takes so many clocks without a repeat, so a processor that began none for so long has jammed.
 LONGEST_STEP = 1000
 # Up to so many clocks all trails are read for the interrupts; in a longer run only handlers' first instructions are looked for.
-SHORT_RUN, MARKS_SECONDS, MOST_MARKS, MOST_CHANGES = 60_000, 0.5, 1000, 100_000
+SHORT_RUN, MARKS_SECONDS, MOST_MARKS, MOST_CHANGES = 60_000, 2, 1000, 100_000
 
 
 @dataclass(frozen=True)
@@ -402,15 +403,16 @@ class Board:
 
     def _interrupts(self, until: int) -> tuple[list[tuple[int, int]], int]:
         """The interrupts of the run, and up to which clock they were looked for."""
+        if until <= SHORT_RUN:
+            told = self._helpers.lines(self.files, commands(0, until))
+            return sorted({it.clock: it.entry or 0 for it in map(event_of, (line for line in told if ' entry ' in line))}.items()), until
         deadline, found = time.monotonic() + MARKS_SECONDS, dict[int, int]()
         with self._helpers.session(self.files) as session:
-            length = CLOCKS_OF_A_TRAIL if until <= SHORT_RUN else until
-            if until > SHORT_RUN:
-                for place in self._handlers():
-                    session.stop('break {:X}:{:X}'.format(*place))
+            for place in self._handlers():
+                session.stop('break {:X}:{:X}'.format(*place))
             while session.clock < until and time.monotonic() < deadline and len(found) < MOST_MARKS:
-                session.go(min(length, until - session.clock))
-                for line in session.many('trail')[0 if until <= SHORT_RUN else -1:]:
+                session.go(until - session.clock)
+                for line in session.many('trail')[-1:]:
                     if ' entry ' in line:
                         event = event_of(line)
                         found[event.clock] = event.entry or 0

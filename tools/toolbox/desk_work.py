@@ -5,7 +5,7 @@ import contextlib
 import subprocess
 import tempfile
 import threading
-from typing import Any, Callable, Iterator
+from typing import Any, Callable, Iterable, Iterator
 
 from toolbox.command import Sorry
 from toolbox.program import Files, Session, path, refusal
@@ -85,6 +85,21 @@ class Helpers:
                 err.seek(0)
                 raise Sorry(refusal(status, err.read().decode('utf-8', 'replace')))
         return out.decode('utf-8', 'replace') if status == 0 else None
+
+    def lines(self, files: Files, commands: Iterable[str]) -> Iterator[str]:
+        """The answers to commands of debug, which are handed over all at once."""
+        with tempfile.TemporaryFile() as given:
+            given.writelines(f'{it}\n'.encode() for it in commands)
+            given.seek(0)
+            process = subprocess.Popen([path(), *files.words('debug')], stdin=given, stdout=subprocess.PIPE, stderr=subprocess.DEVNULL,
+                                       start_new_session=True)
+            self.add(process)
+            try:
+                assert process.stdout
+                for line in process.stdout:
+                    yield line.decode('ascii', 'replace').rstrip('\n')
+            finally:
+                self.drop(process)
 
     @contextlib.contextmanager
     def session(self, files: Files) -> Iterator[Session]:
