@@ -102,9 +102,10 @@ impl Bench {
 
     /// `at R TYPE | TAKEN | ..`
     fn pass_boundary(&mut self, alloc: Global, fields: &[&str]) -> Result<()> {
-        let [place, taken, after, written, ports, cost, due, ..] = *fields else {
+        let [place, taken, rest @ ..] = fields else {
             bail!("no such line");
         };
+        let wanted = Wanted::read(rest)?;
         let (request, kind) = place.split_once(' ').context("no type")?;
         let boundary = match request {
             "0" => self.cpu.may_take(false),
@@ -118,22 +119,16 @@ impl Bench {
             Boundary::Request => u8::from_str_radix(kind.trim(), 16)?,
             _ => SINGLE_STEP,
         };
-        let wanted = Wanted {
-            after,
-            written,
-            ports,
-            cost,
-            due,
-        };
         let done = self.make(boundary, kind);
         judge(alloc, self, &done, &wanted)
     }
 
     /// `OP REGS | CODE | READ | ..`
     fn make_step(&mut self, alloc: Global, name: &str, fields: &[&str]) -> Result<()> {
-        let [regs, code, read, after, written, ports, cost, due, ..] = *fields else {
+        let [regs, code, read, rest @ ..] = fields else {
             bail!("no such line");
         };
+        let wanted = Wanted::read(rest)?;
         let regs = read_regs(regs)?;
         let code = read_bytes(alloc, code)?;
         let boundary = boundary_named(name)?;
@@ -145,13 +140,6 @@ impl Bench {
         }
         self.put_cells(alloc, read)?;
         let kind = code.first().copied().unwrap_or(SINGLE_STEP);
-        let wanted = Wanted {
-            after,
-            written,
-            ports,
-            cost,
-            due,
-        };
         let done = self.make(boundary, kind);
         judge(alloc, self, &done, &wanted)
     }

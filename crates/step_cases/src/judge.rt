@@ -11,11 +11,27 @@ use std::alloc::Global;
 /// The fields of a line that tell what is found after a step.
 #[derive(Clone, Copy)]
 pub struct Wanted<'a> {
-    pub after: &'a str,
-    pub written: &'a str,
-    pub ports: &'a str,
-    pub cost: &'a str,
-    pub due: &'a str,
+    after: &'a str,
+    written: &'a str,
+    ports: &'a str,
+    cost: &'a str,
+    due: &'a str,
+}
+
+impl<'a> Wanted<'a> {
+    /// The first of these fields.
+    pub fn read(fields: &[&'a str]) -> Result<Wanted<'a>> {
+        let [after, written, ports, cost, due, ..] = *fields else {
+            bail!("no such line");
+        };
+        Ok(Wanted {
+            after,
+            written,
+            ports,
+            cost,
+            due,
+        })
+    }
 }
 
 /// Fails with what differs, or with why a field can't be read.
