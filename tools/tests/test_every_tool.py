@@ -17,6 +17,7 @@ FOLDERS = ('tools', 'dev', 'bench')
 SECONDS = 60  # so long nothing takes, on a busy machine too; a proof takes longer
 # Words with a path, `{}`, beyond those that are tried of each tool: one path, two and three.
 WORDS = ('tools/judge --same all {} {}', 'tools/judge --class {} {}', 'tools/judge {} - --run {}', 'tools/keys a --run {}',
+         'tools/moments {} hello.asm hello.json --key 1E --at 1..9', 'tools/moments {} {} {} --key 1E --at 1..9',
          'tools/keys --read {}', 'tools/picture it.svg --of {} {}', 'tools/runfile --from {}', 'tools/sound {}',
          'tools/trace --vcd {} hello.asm hello.json', 'tools/trace --hex {} hello.json', 'tools/try hello.asm --run {}',
          'tools/try hello.asm --write {}', 'tools/why run {} hello.json', 'tools/why run hello.asm {}', 'tools/why --all {}',

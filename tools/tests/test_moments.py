@@ -1,0 +1,125 @@
+"""tools/moments: over a program that stands in for the board, and the worked example over the built program."""
+import json
+import os
+import signal
+import subprocess
+import sys
+import time
+import unittest
+from unittest import mock
+
+from tests.support import EXAMPLES, TOOLS, ToolCase
+
+# It shows T, but where a key comes in the first three clocks of ten, and keeps a list of the keys that it was run with.
+STAND_IN = """#!/bin/sh
+run=$(cat "$4")
+keys=${run##*keys\\":}
+case $keys in *[0-9][0-2],*) line=a;; *) line=T;; esac
+sleep SECONDS
+printf 'clock 900\\nAX=0708 BX=0000 CX=0000 DX=03B8 SP=0000 BP=0000 SI=0000 DI=0004\\nCS=F000 DS=0000 ES=B000 SS=0000 IP=0017 FL=F002\\n'
+printf 'state halted\\nlost 0\\nsound 0\\nscreen\\n%-80s\\n' $line
+for _ in 2 3 4 5 6 7 8 9 10 11 12 13 14 15 16 17 18 19 20 21 22 23 24 25; do printf '%-80s\\n' ''; done
+printf '%s\\n' "$keys" >> LIST
+"""
+TURNS = f'{EXAMPLES}/moments/turns'
+
+
+class StandIn(ToolCase):
+    """Over a program that stands in."""
+
+    def begin(self, seconds: str, keys: str = '[]') -> list[str]:
+        """Puts it in the board's place, and returns the files' names."""
+        program = self.file('program', STAND_IN.replace('SECONDS', seconds).replace('LIST', f'{self.room}/list'))
+        os.chmod(program, 0o755)
+        self.enterContext(mock.patch.dict(os.environ, {'PCBOARD': program}))
+        run = f'{{"version":1,"ram":64,"sw1":0,"sw2":0,"budget":900,"keys":{keys}}}'
+        return [self.file('page', 'line 1 = T\n'), self.file('it.asm', 'x'), self.file('it.json', run)]
+
+    def enterContext(self, context: 'mock._patch_dict') -> None:  # of Python 3.11
+        context.start()
+        self.addCleanup(context.stop)
+
+    def listed(self) -> list[list[list[int]]]:
+        """The keys of all runs, in their order."""
+        with open(f'{self.room}/list', encoding='ascii') as lines:
+            return sorted(json.loads(it.rstrip('}\n')) for it in lines)
+
+    def test_ranges_and_the_first_run_file(self) -> None:
+        out, _ = self.tool('moments', *self.begin('0', '[[105,2],[115,3]]'), '--key', '1e', '--at', '105..125', status=1)
+        self.assertEqual(out.splitlines(), ['20 of 20 moments tried, 6 failed', "first 110: line 1 = T: came 'a'", "last 122: line 1 = T: came 'a'",
+                                            'failing 110 to 112', 'failing 120 to 122', 'it.failing.json is the run file of the first: pcboard run, debug and tools/dbg show it'])
+        with open(f'{self.room}/it.failing.json', encoding='utf-8') as file:
+            self.assertEqual(json.load(file)['keys'], [[105, 2], [110, 30], [115, 3]])
+        self.assertEqual(self.listed()[1], [[105, 2], [105, 30], [115, 3]])
+
+    def test_pairs_and_samples(self) -> None:
+        files, pairs = self.begin('0'), ('--key', '1E', '--at', '103..106', '--key', '9E', '--at', '207..211')
+        out, _ = self.tool('moments', *files, *pairs, status=1)
+        self.assertEqual([it for it in out.splitlines() if it.startswith(('12 of', 'failing'))],
+                         ['12 of 12 moments tried, 3 failed', 'failing 103 210', 'failing 104 210', 'failing 105 210'])
+        runs = self.listed()
+        self.assertEqual(len(runs), 13)  # one of them without the keys
+        self.assertEqual(runs[1], [[103, 0x1E], [207, 0x9E]])
+        told = [self.tool('moments', *files, *pairs, '--sample', '5', '--seed', it, status=None)[0] for it in ('7', '7', '8')]
+        self.assertIn('5 of 5 moments tried, picked by seed 7, ', told[0])
+        self.assertEqual(told[0], told[1])
+        self.assertNotEqual(self.listed()[-6:], self.listed()[:6])
+
+    def test_a_page_with_its_own_runs(self) -> None:
+        page, source, _ = self.begin('0')
+        self.file('page', 'run = one\nbudget = 900\nline 1 = T\nrun = two\nbudget = 900\nlost = 1\n')
+        out, _ = self.tool('moments', page, source, '--key', '1E', '--at', '113', status=1)
+        self.assertEqual(out.splitlines()[:3], ['without the key too: two: lost = 1: came 0', '1 of 1 moments tried, 1 failed', 'first 113: two: lost = 1: came 0'])
+
+    def test_what_cant_be_tried(self) -> None:
+        files = self.begin('0')
+        for words, wanted in (([], 'has its --at'), (['--key', 'EE', '--at', '1..9'], 'no scan code'), (['--key', '1E', '--at', '9..9'], 'no clock'),
+                              (['--key', '1E', '--at', 'soon'], '1000..9000'), (['--key', '1E', '--at', '890..901'], 'never comes'),
+                              (['--key', '1E', '--at', '1..9', '--sample', '9'], 'there are 8 moments')):
+            self.assertIn(wanted, self.tool('moments', *files, *words, status=2)[1])
+        self.file('it.moments', '{}')
+        self.assertIn('remove it', self.tool('moments', *files, '--key', '1E', '--at', '1..9', status=2)[1])
+
+    def test_goes_on_behind_an_interrupt(self) -> None:
+        words = [*self.begin('0.05'), '--key', '1E', '--at', '103..163', '--jobs', '2']
+        with subprocess.Popen([sys.executable, '-S', f'{TOOLS}/moments', *words], stdout=subprocess.PIPE, stderr=subprocess.PIPE, text=True,
+                              cwd=self.room, start_new_session=True) as process:
+            until = time.monotonic() + 60
+            while process.poll() is None and time.monotonic() < until and not (os.path.exists(f'{self.room}/list') and len(self.listed()) > 8):
+                time.sleep(0.02)
+            os.killpg(process.pid, signal.SIGINT)
+            out, err = process.communicate(timeout=60)
+        self.assertEqual(process.returncode, 130, err)
+        self.assertRegex(out, r'^\d+ of 60 moments tried')
+        self.assertEqual(err, 'moments: it.moments keeps what was tried; the same command goes on from there\n')
+        tried, before = int(out.split()[0]), len(self.listed())
+        out, _ = self.tool('moments', *words, status=1)
+        self.assertEqual(out.splitlines()[0], '60 of 60 moments tried, 18 failed')
+        runs = self.listed()
+        self.assertEqual(len(runs), before + 60 - tried + 1)
+        self.assertEqual({it[0][0] for it in runs if it}, set(range(103, 163)))
+        self.assertFalse(os.path.exists(f'{self.room}/it.moments'))
+
+    def test_what_was_kept_of_others_isnt_taken(self) -> None:
+        files = self.begin('0')
+        self.file('it.moments', '{"of":"others","tried":[[0,8]],"failed":[]}')
+        out, err = self.tool('moments', *files, '--key', '1E', '--at', '103..107')
+        self.assertEqual((out.splitlines()[0], err.count('begins anew')), ('4 of 4 moments tried, 0 failed', 1))
+
+
+class Board(ToolCase):
+    """The worked example of docs/for-firmware.md, at some of its moments."""
+
+    def test_the_worked_example(self) -> None:
+        words = (f'{TURNS}.json', '--key', '1E', '--at')
+        out, _ = self.tool('moments', f'{TURNS}.page', f'{TURNS}.asm', *words, '1000..1100', status=1)
+        told = out.splitlines()
+        self.assertRegex(told[0], r'100 of 100 moments tried, [1-9]\d* failed')
+        self.tool('judge', f'{TURNS}.page', f'{TURNS}.asm', f'{TURNS}.json')
+        self.tool('judge', f'{TURNS}.page', f'{TURNS}.asm', f'{self.room}/turns.failing.json', status=1)
+        out, _ = self.tool('moments', f'{TURNS}.page', f'{EXAMPLES}/moments/mended.asm', *words, '1000..1100')
+        self.assertEqual(out, '100 of 100 moments tried, 0 failed\n')
+
+
+if __name__ == '__main__':
+    unittest.main()
