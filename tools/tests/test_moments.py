@@ -50,7 +50,7 @@ class StandIn(ToolCase):
                                             'failing 110 to 112', 'failing 120 to 122', 'it.failing.json is the run file of the first: pcboard run, debug and tools/dbg show it'])
         with open(f'{self.room}/it.failing.json', encoding='utf-8') as file:
             self.assertEqual(json.load(file)['keys'], [[105, 2], [110, 30], [115, 3]])
-        self.assertEqual(self.listed()[1], [[105, 2], [105, 30], [115, 3]])
+        self.assertIn([[105, 2], [105, 30], [115, 3]], self.listed())
 
     def test_pairs_and_samples(self) -> None:
         files, pairs = self.begin('0'), ('--key', '1E', '--at', '103..106', '--key', '9E', '--at', '207..211')

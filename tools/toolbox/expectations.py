@@ -5,6 +5,8 @@ import re
 from dataclasses import dataclass, field
 from typing import Any, Callable
 
+from zebludor import FLAGS
+
 from toolbox.command import Sorry, read_text
 from toolbox.events import events
 from toolbox.listing import Listing, listing_of
@@ -13,7 +15,6 @@ from toolbox.program import LAST_CLOCK, Files, Session
 from toolbox.report import REGISTERS, ROWS, Report
 from toolbox.scancodes import stamped, strokes_of
 
-FLAGS = {'CF': 0, 'PF': 2, 'AF': 4, 'ZF': 6, 'SF': 7, 'TF': 8, 'IF': 9, 'DF': 10, 'OF': 11}
 HALVES = [it + half for it in 'ABCD' for half in 'LH']
 
 

@@ -2,36 +2,13 @@
 from __future__ import annotations
 
 import re
-from dataclasses import dataclass
+
+from zebludor import Event, event_of
 
 from toolbox.command import Sorry
 from toolbox.listing import Line, Listing, code_of, physical
 
-
-@dataclass(frozen=True)
-class Event:
-    """A line of the trail: an instruction's start, or the entry of an interrupt (then its type, and no bytes)."""
-    clock: int
-    segment: int
-    offset: int
-    octets: bytes
-    text: str
-    entry: int | None
-
-    @property
-    def address(self) -> int:
-        """The physical address."""
-        return physical(self.segment, self.offset)
-
-
-def event_of(line: str) -> Event:
-    """A line of the trail, as docs/DEBUGGER.md tells it."""
-    clock, place, rest = line.split(' ', 2)
-    segment, offset = (int(it, 16) for it in place.split(':'))
-    if rest.startswith('entry '):
-        return Event(int(clock), segment, offset, b'', rest, int(rest.split()[1], 16))
-    octets, _, text = rest.partition(' ')
-    return Event(int(clock), segment, offset, bytes.fromhex(octets), text, None)
+__all__ = ['Event', 'address_of', 'event_of', 'event_text', 'far_of', 'line_at', 'number_of', 'of_line']
 
 
 def line_at(listing: Listing, event: Event) -> Line | None:

@@ -8,15 +8,13 @@ import os
 import tempfile
 from typing import Any, Iterator
 
+from zebludor import CHOICES, DEFAULTS, FIRST_CHOICES, run_file as text_of
+
 from toolbox.command import Sorry, read_text
 from toolbox.program import Files, answer_of
 from toolbox.report import Report, report_of
 
-DEFAULTS: dict[str, Any] = {'version': 1, 'ram': 64, 'sw1': 0, 'sw2': 0, 'budget': 100000, 'keys': []}
-# What version 2 has besides: which chip the timer is, and which table the clocks. Of version 1 they are the first ones.
-CHOICES: dict[str, tuple[str, ...]] = {'timer': ('8253', '8254'), 'clocks': ('C1', 'C2')}
-FIRST_CHOICES = {name: them[0] for name, them in CHOICES.items()}
-
+__all__ = ['CHOICES', 'DEFAULTS', 'FIRST_CHOICES', 'budget_of', 'chosen', 'read_run_file', 'report_at', 'text_of', 'with_budget']
 
 def read_run_file(path: str) -> dict[str, Any]:
     """A run file's fields. What the values may be is judged by the program."""
@@ -27,12 +25,6 @@ def read_run_file(path: str) -> dict[str, Any]:
     if not isinstance(fields, dict):
         raise Sorry(f'{path} is no run file: it is no JSON object')
     return fields
-
-
-def text_of(fields: dict[str, Any]) -> str:
-    """A run file in one line, the fields in the order of docs/FORMATS.md."""
-    ordered = {name: fields[name] for name in (*DEFAULTS, *CHOICES) if name in fields}
-    return json.dumps(ordered | fields, separators=(',', ':')) + '\n'
 
 
 def chosen(fields: dict[str, Any], choices: dict[str, str]) -> dict[str, Any]:

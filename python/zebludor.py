@@ -1,0 +1,627 @@
+"""The IBM PC board from Python, with nothing but the standard library (3.10 or later).
+
+    import zebludor
+    report = zebludor.run(source, keys=[(5000, 0x1E), (5100, 0x9E)], budget=100_000)
+    print(report.registers['AX'], report.screen[0])
+
+    with zebludor.Session(source) as session:
+        session.stop_at(0xF000, 0x1B)
+        session.go(1000)
+
+Runs, sessions and the assembler are the built program's, which PCBOARD names, else the one that the launcher
+of the repository takes that this file stands in. Pit, Pic and Ppi are the chips by themselves: timer, interrupt controller and parallel port. They are calls of
+the static library, laid out as c/zebludor.h says. Nothing here decides a fact. A refusal is raised as Fault, with the number
+and the name that docs/FORMATS.md explains; what isn't there, or isn't such a thing, as Unfit."""
+from __future__ import annotations
+
+import contextlib
+import functools
+import json
+import os
+import re
+import subprocess
+import tempfile
+from dataclasses import dataclass
+from typing import IO, TYPE_CHECKING, Any, Iterator, NoReturn
+
+if TYPE_CHECKING:
+    import ctypes  # else imported where the chips are loaded: what only runs programs begins sooner without it
+
+TOP = os.path.dirname(os.path.dirname(os.path.realpath(__file__)))
+LAST_CLOCK = 1 << 40
+MEMORY = 1 << 20
+ROWS, COLUMNS = 25, 80
+REGISTER_LINES = (('AX', 'BX', 'CX', 'DX', 'SP', 'BP', 'SI', 'DI'), ('CS', 'DS', 'ES', 'SS', 'IP', 'FL'))
+REGISTERS = REGISTER_LINES[0] + REGISTER_LINES[1]
+FLAGS = {'CF': 0, 'PF': 2, 'AF': 4, 'ZF': 6, 'SF': 7, 'TF': 8, 'IF': 9, 'DF': 10, 'OF': 11}
+DEFAULTS: dict[str, Any] = {'version': 1, 'ram': 64, 'sw1': 0, 'sw2': 0, 'budget': 100000, 'keys': []}
+# What version 2 of run files has besides: which chip the timer is, and which table the clocks. Of version 1 they are the first.
+CHOICES: dict[str, tuple[str, ...]] = {'timer': ('8253', '8254'), 'clocks': ('C1', 'C2')}
+FIRST_CHOICES = {name: them[0] for name, them in CHOICES.items()}
+
+Source = str | bytes | os.PathLike
+
+
+class Unfit(Exception):
+    """What is asked for isn't there, or a text isn't what it is taken for; its text is a sentence."""
+
+
+class Fault(Exception):
+    """A refusal by the program: its number and name, and its line and clock, where it tells them."""
+
+    def __init__(self, number: int, name: str, line: int | None = None, clock: int | None = None) -> None:
+        self.number, self.name, self.line, self.clock = number, name, line, clock
+        super().__init__(f'fault {number} {name}' + ('' if line is None else f' line {line}') + ('' if clock is None else f' clock {clock}'))
+
+
+def fault_in(text: str) -> Fault | None:
+    """The first fault that a text tells, or None."""
+    found = re.search(r'^fault (\d+) (\w+)(?: line (\d+))?(?: clock (\d+))?\s*$', text, re.M)
+    return found and Fault(int(found[1]), found[2], *(int(it) if it else None for it in found.group(3, 4)))
+
+
+# Reports.
+
+@dataclass(frozen=True)
+class Report:
+    """A report: what a run came to."""
+    clock: int
+    registers: dict[str, int]
+    state: str
+    lost: int
+    changes: list[tuple[int, int]]
+    screen: list[str]
+
+    def flag(self, name: str) -> int:
+        """A flag: CF PF AF ZF SF TF IF DF OF."""
+        return self.registers['FL'] >> FLAGS[name] & 1
+
+    @property
+    def text(self) -> str:
+        """The screen, without the blanks at the ends of lines and of the screen."""
+        return '\n'.join(it.rstrip() for it in self.screen).rstrip()
+
+    def _repr_html_(self) -> str:
+        """The screen, as a notebook shows it."""
+        import html
+        style = 'background:#101810;color:#50e070;padding:8px;line-height:1.1;display:inline-block'
+        return f'<pre style="{style}">{html.escape(chr(10).join(self.screen))}</pre>'
+
+
+def registers_of(lines: list[str]) -> dict[str, int]:
+    """The registers of a report's two lines, or of a session's answer to `regs`."""
+    found: dict[str, int] = {}
+    for line, names in zip(lines, REGISTER_LINES, strict=True):
+        pairs = re.findall(r'(\w\w)=([0-9A-F]{4})(?: |$)', line)
+        if [name for name, _ in pairs] != list(names):
+            raise ValueError(line)
+        found.update((name, int(value, 16)) for name, value in pairs)
+    return found
+
+
+def _value(line: str, name: str) -> str:
+    """What stands behind a line's name."""
+    found, _, value = line.partition(' ')
+    if found != name or not value:
+        raise ValueError(line)
+    return value
+
+
+def read_report(text: str) -> Report:
+    """A report's text, as docs/FORMATS.md tells it, as a report. A refusal's is raised."""
+    lines = text.split('\n')
+    fault = fault_in(lines[0])
+    if fault:
+        raise fault
+    try:
+        clock, registers = int(_value(lines[0], 'clock')), registers_of(lines[1:3])
+        state, lost = _value(lines[3], 'state'), int(_value(lines[4], 'lost'))
+        count = int(_value(lines[5], 'sound'))
+        changes: list[tuple[int, int]] = []
+        for at in range(6, 6 + count):
+            when, level = lines[at].split()
+            changes.append((int(when), int(level)))
+        screen = lines[7 + count:7 + count + ROWS]
+        if lines[6 + count] != 'screen' or [len(it) for it in screen] != [COLUMNS] * ROWS:
+            raise ValueError
+    except (ValueError, IndexError):
+        raise Unfit('the text is no report of pcboard run (docs/FORMATS.md, "Report")') from None
+    return Report(clock, registers, state, lost, changes, screen)
+
+
+# Run files.
+
+def run_file(fields: dict[str, Any]) -> str:
+    """A run file's text in one line, the fields in the order of docs/FORMATS.md."""
+    ordered = {name: fields[name] for name in (*DEFAULTS, *CHOICES) if name in fields}
+    return json.dumps(ordered | fields, separators=(',', ':')) + '\n'
+
+
+def _fields(given: dict[str, Any]) -> dict[str, Any]:
+    """The fields of a run: what is given, else the usual ones. `timer` or `clocks` make it one of version 2 with both."""
+    unknown = given.keys() - {*DEFAULTS, *CHOICES}
+    if unknown:
+        raise TypeError(f'{sorted(unknown)[0]} is no field of a run file: {", ".join((*DEFAULTS, *CHOICES))}')
+    fields = DEFAULTS | {name: [list(key) for key in it] if name == 'keys' else it for name, it in given.items()}
+    return fields | {'version': 2} | FIRST_CHOICES | given if given.keys() & CHOICES.keys() else fields
+
+
+# The program.
+
+@dataclass(frozen=True)
+class Ran:
+    """What a run of the program came to."""
+    status: int
+    out: str
+    err: str
+
+
+def program() -> str:
+    """The program: $PCBOARD, else the one that the repository's launcher takes, or one that was built of other sources."""
+    found = os.environ.get('PCBOARD') or taken()
+    if not os.access(found, os.X_OK):
+        raise Unfit(f"the program {found} isn't there; a first run of ./pcboard builds one, or name it in PCBOARD")
+    return found
+
+
+@functools.cache
+def taken() -> str:
+    """The program that the launcher takes, as its `--version` tells, which says once to each user where that is the stored one."""
+    try:
+        told = subprocess.run([f'{TOP}/pcboard', '--version'], stdin=subprocess.DEVNULL, stdout=subprocess.PIPE, text=True, check=False).stdout
+    except OSError:
+        raise Unfit(f"no launcher is in {TOP}, to which this copy of zebludor.py belongs: name the program in PCBOARD") from None
+    name = re.search(r'^program (\w+/[\w/]+)', told, re.M)
+    if not name:
+        why = re.search(r"^stored/pcboard isn't taken: .*$", told, re.M)
+        more = f' ({why[0]})' if why else ''
+        raise Unfit(f'no program is built here; a first run of ./pcboard builds one, or name one in PCBOARD{more}')
+    return f'{TOP}/{name[1]}'
+
+
+def ran(words: list[str], given: bytes = b'') -> Ran:
+    """Runs the program to its end."""
+    done = subprocess.run([program(), *words], input=given, capture_output=True, check=False)
+    return Ran(done.returncode, done.stdout.decode('utf-8', 'replace'), done.stderr.decode('utf-8', 'replace'))
+
+
+def _refuse(status: int, err: str) -> NoReturn:
+    """Raises why the program gave no answer."""
+    raise fault_in(err) or Unfit(err.strip() or f'the program ended with status {status}')
+
+
+def _answer(words: list[str]) -> str:
+    """What the program prints."""
+    done = ran(words)
+    if done.status:
+        _refuse(done.status, done.err)
+    return done.out
+
+
+@contextlib.contextmanager
+def _files(source: Source, fields: dict[str, Any] | None = None) -> Iterator[list[str]]:
+    """The names of files with a source's text and a run file's fields; a path stays what it is."""
+    with tempfile.TemporaryDirectory() as room:
+        if isinstance(source, (str, bytes)):
+            path = f'{room}/source'
+            with open(path, 'wb') as file:
+                file.write(source if isinstance(source, bytes) else source.encode('utf-8', 'surrogateescape'))
+        else:
+            path = os.fspath(source)
+        names = [path]
+        if fields is not None:
+            names.append(f'{room}/run.json')
+            with open(names[1], 'w', encoding='utf-8') as to:
+                to.write(run_file(fields))
+        yield ['--', *names]
+
+
+def run(source: Source, *, is_hex: bool = False, **fields: Any) -> Report:
+    """Runs a source, or Intel HEX: a text, or a path to one. The fields are a run file's: `keys`, pairs of a clock and a scan
+    code; `budget`, `ram`, `sw1`, `sw2`, `timer`, `clocks`; what isn't said is as tools/runfile has it."""
+    with _files(source, _fields(fields)) as names:
+        return read_report(_answer(['run', *['--hex'] * is_hex, *names]))
+
+
+def assemble(source: Source) -> str:
+    """A source's bytes as Intel HEX."""
+    with _files(source) as names:
+        return _answer(['asm', *names])
+
+
+def listing(source: Source) -> str:
+    """A source's listing."""
+    with _files(source) as names:
+        return _answer(['asm', '--list', *names])
+
+
+# Sessions.
+
+@dataclass(frozen=True)
+class Event:
+    """A line of the trail: an instruction's start, or the entry of an interrupt (then its type, and no bytes)."""
+    clock: int
+    segment: int
+    offset: int
+    octets: bytes
+    text: str
+    entry: int | None
+
+    @property
+    def address(self) -> int:
+        """The physical address."""
+        return (16 * self.segment + self.offset) % MEMORY
+
+
+def event_of(line: str) -> Event:
+    """A line of the trail, as docs/DEBUGGER.md tells it."""
+    clock, place, rest = line.split(' ', 2)
+    segment, offset = int(place[:4], 16), int(place[5:], 16)
+    if rest.startswith('entry '):
+        return Event(int(clock), segment, offset, b'', rest, int(rest.split()[1], 16))
+    octets, _, text = rest.partition(' ')
+    return Event(int(clock), segment, offset, bytes.fromhex(octets), text, None)
+
+
+class Dialogue:
+    """A session of `pcboard debug` by its texts: one command at a time, and its answer. The terminal's interrupt doesn't reach
+    it, so that what talks with it can end a long run and go on."""
+
+    def __init__(self, words: list[str]) -> None:
+        self._process = subprocess.Popen([program(), *words], stdin=subprocess.PIPE, stdout=subprocess.PIPE,
+                                         stderr=subprocess.PIPE, bufsize=0, start_new_session=True)
+        assert self._process.stdout
+        self._out = os.fdopen(os.dup(self._process.stdout.fileno()), 'rb')
+        self.clock, self.is_idle = 0, True
+
+    def close(self) -> None:
+        """Ends the session's process, also in the midst of a run: it has nothing to keep."""
+        self._process.kill()
+        streams: list[IO[bytes] | None] = [self._process.stdin, self._out, self._process.stdout, self._process.stderr]
+        for stream in streams:
+            assert stream
+            with contextlib.suppress(BrokenPipeError):
+                stream.close()
+        self._process.wait()
+
+    def refused(self, status: int, err: str) -> NoReturn:
+        """The program has ended without an answer, so it has refused the files, or found no memory."""
+        _refuse(status, err)
+
+    def _send(self, text: str) -> None:
+        """Hands the program commands; where it has ended, it has told why. Until all is answered, it isn't idle."""
+        assert self._process.stdin
+        self.is_idle = False
+        try:
+            self._process.stdin.write(text.encode())
+        except BrokenPipeError:
+            self._ended()
+
+    def _ended(self) -> NoReturn:
+        assert self._process.stderr
+        err = self._process.stderr.read().decode('utf-8', 'replace')
+        self.refused(self._process.wait(), err)
+
+    def _line(self) -> str:
+        """The next line of an answer."""
+        line = self._out.readline()
+        if not line:
+            self._ended()
+        return line.decode('ascii', 'replace').rstrip('\n')
+
+    def one(self, command: str) -> str:
+        """The answer of a command that has a single line."""
+        self._send(command + '\n')
+        line = self._line()
+        told = re.search(r'\bclock (\d+)$', line)
+        if told:
+            self.clock = int(told[1])
+        self.is_idle = True
+        return line
+
+    def many(self, command: str) -> list[str]:
+        """The answer of any other command. `go 0` behind it changes nothing, and its answer marks the end."""
+        self._send(command + '\ngo 0\n')
+        lines: list[str] = []
+        while True:
+            line = self._line()
+            if re.fullmatch(r'clock \d+', line):
+                self.clock, self.is_idle = int(line.split()[1]), True
+                return lines
+            lines.append(line)
+
+    def dump(self, address: int, count: int) -> bytes:
+        """Bytes from a physical address on, as many as there are below 100000h."""
+        found = b''
+        count = min(count, MEMORY - address)
+        while len(found) < count:
+            part = min(4096, count - len(found))
+            for line in self.many(f'dump {address + len(found):X} {part}'):
+                found += bytes.fromhex(line.partition(':')[2])
+        return found
+
+
+class Session:
+    """A session of the debugger, as a context manager: a board at clock 0 that goes forth and back. Stops are numbered from 1,
+    and stay for the whole session; what goes to a stop answers the number of the one that holds, or None. Its commands are
+    those of docs/DEBUGGER.md; a refused one is raised as Fault."""
+
+    def __init__(self, source: Source, *, is_hex: bool = False, **fields: Any) -> None:
+        with _files(source, _fields(fields)) as names:
+            self._dialogue = Dialogue(['debug', *['--hex'] * is_hex, *names])
+            try:
+                self._dialogue.many('regs')  # behind its answer the files are read, and may go
+            except BaseException:
+                self._dialogue.close()
+                raise
+
+    def __enter__(self) -> Session:
+        return self
+
+    def __exit__(self, *_: object) -> None:
+        self.close()
+
+    def close(self) -> None:
+        """Ends it."""
+        self._dialogue.close()
+
+    @property
+    def clock(self) -> int:
+        """Where the board stands."""
+        return self._dialogue.clock
+
+    def _one(self, command: str) -> int | None:
+        """The stop that the answer of a command tells, or None; a refusal is raised."""
+        answer = self._dialogue.one(command)
+        fault = fault_in(answer)
+        if fault:
+            raise fault
+        words = answer.split()
+        return int(words[1]) if words[0] == 'stop' else None
+
+    def _many(self, command: str) -> list[str]:
+        """The lines of any other answer."""
+        lines = self._dialogue.many(command)
+        fault = fault_in('\n'.join(lines[:1]))
+        if fault:
+            raise fault
+        return lines
+
+    def _stop(self, condition: str) -> int:
+        number = self._one(condition)
+        assert number
+        return number
+
+    def stop_at(self, segment: int, offset: int) -> int:
+        """A stop: the processor is free at this CS:IP (`break`)."""
+        return self._stop(f'break {segment:X}:{offset:X}')
+
+    def stop_at_byte(self, address: int, value: int) -> int:
+        """A stop: the byte at a physical address has a value (`byte`)."""
+        return self._stop(f'byte {address:X} {value:X}')
+
+    def stop_at_sound(self) -> int:
+        """A stop: the speaker is high (`sound`)."""
+        return self._stop('sound')
+
+    def stop_at_halt(self) -> int:
+        """A stop: the processor is halted (`halted`)."""
+        return self._stop('halted')
+
+    def go(self, clocks: int) -> int | None:
+        """To the next stop, at most so many clocks on."""
+        return self._one(f'go {clocks}')
+
+    def step(self) -> None:
+        """To the next clock at which the processor is free."""
+        self._one('step')
+
+    def back(self, clocks: int) -> None:
+        """Back by so many clocks."""
+        self._one(f'back {clocks}')
+
+    def back_step(self) -> None:
+        """Back to the last earlier clock at which the processor was free."""
+        self._one('back step')
+
+    def back_to_stop(self) -> int | None:
+        """Back to the last earlier clock at which a stop held (`back stop`)."""
+        return self._one('back stop')
+
+    def registers(self) -> dict[str, int]:
+        """The registers (`regs`)."""
+        return registers_of(self._many('regs'))
+
+    def screen(self) -> list[str]:
+        """The screen's 25 lines."""
+        return self._many('screen')
+
+    def dump(self, address: int, count: int) -> bytes:
+        """Bytes from a physical address on, as many as there are below 100000h."""
+        return self._dialogue.dump(address, count)
+
+    def trail(self) -> list[Event]:
+        """The last 32 instruction starts and interrupt entries, the oldest first."""
+        return [event_of(it) for it in self._many('trail')]
+
+
+# The chips.
+
+class Header:
+    """The structs and calls that a header declares, as ctypes has them."""
+
+    def __init__(self, text: str) -> None:
+        import ctypes
+        self._numbers = {'void': None, 'uint8_t': ctypes.c_uint8, 'uint16_t': ctypes.c_uint16, 'uint64_t': ctypes.c_uint64,
+                         'size_t': ctypes.c_size_t}
+        text = re.sub(r'/\*.*?\*/', '', text, flags=re.S)
+        self.structs: dict[str, type[ctypes.Structure]] = {}
+        for body, name in re.findall(r'typedef struct \w+ \{(.*?)\} (\w+);', text, re.S):
+            fields = [(field.strip(), self._type(kind)) for kind, names in re.findall(r'(\w+) ([^;]+);', body) for field in names.split(',')]
+            self.structs[name] = type(name, (ctypes.Structure,), {'_fields_': fields})
+        self.calls = {name: (self._type(answer), [self._type(re.sub(r'\w+$', '', it.strip())) for it in words.split(',')])
+                      for answer, name, words in re.findall(r'^(\w+) (zebludor_\w+)\(([^)]*)\);', text, re.M)}
+
+    def _type(self, text: str) -> Any:
+        """A type as C writes it."""
+        import ctypes
+        name = text.replace('const', '').replace('*', '').strip()
+        kind = self._numbers[name] if name in self._numbers else self.structs[name]
+        return ctypes.POINTER(kind) if '*' in text else kind
+
+
+def _shared(archive: str) -> ctypes.CDLL:
+    """A static library as a shared one, which the C compiler makes of it."""
+    import ctypes
+    with tempfile.TemporaryDirectory() as room:
+        path = f'{room}/chips.so'
+        words = ['cc', '-shared', '-o', path, '-Wl,--whole-archive', archive, '-Wl,--no-whole-archive', '-Wl,--no-undefined']
+        try:
+            done = subprocess.run(words, capture_output=True, text=True, check=False)
+        except OSError as error:
+            raise Unfit(f'cc makes a shared library of {archive}, and it can\'t be started: {error.strerror}') from None
+        if done.returncode:
+            raise Unfit(f'cc makes no shared library of {archive}: {done.stderr.strip()[-500:]}')
+        return ctypes.CDLL(path)
+
+
+class Chips:
+    """The static library's chips, by the header's declarations. ZEBLUDOR_CHIPS names another archive, or a shared library."""
+
+    def __init__(self) -> None:
+        import ctypes
+        with open(f'{TOP}/c/zebludor.h', encoding='utf-8') as file:
+            header = Header(file.read())
+        path = os.environ.get('ZEBLUDOR_CHIPS') or f'{TOP}/crates/zebludor_chips/out/libzebludor_chips.a'
+        if not os.path.exists(path):
+            raise Unfit(f"the chips' library {path} isn't there; dev/build zebludor_chips builds it, or ZEBLUDOR_CHIPS names another")
+        self.structs, self._library = header.structs, _shared(path) if path.endswith('.a') else ctypes.CDLL(path)
+        for name, (answer, parameters) in header.calls.items():
+            if hasattr(self._library, name):
+                call = getattr(self._library, name)
+                call.restype, call.argtypes = answer, parameters
+
+    def call(self, name: str) -> Any:
+        """A call of the library."""
+        return getattr(self._library, f'zebludor_{name}')
+
+
+@functools.cache
+def chips() -> Chips:
+    """The library, loaded once."""
+    return Chips()
+
+
+class Chip:
+    """A chip by itself. `state` has its fields, which the header explains: they may be read, written, compared, kept as `bytes`.
+    Any bytes are some chip, so no call can fail; a number of a port, a counter or a level counts modulo how many there are."""
+    name = ''
+
+    def __init__(self, state: bytes | None = None) -> None:
+        kind = chips().structs[f'zebludor_{self.name}']
+        self.state: Any = kind() if state is None else kind.from_buffer_copy(state)
+
+    def _call(self, call: str, *values: int) -> Any:
+        return chips().call(f'{self.name}_{call}')(self.state, *values)
+
+    def __bytes__(self) -> bytes:
+        return bytes(self.state)
+
+    def __eq__(self, other: object) -> bool:
+        return type(other) is type(self) and bytes(self) == bytes(other)
+
+    def copy(self) -> Any:
+        """Another chip, in the same state."""
+        return type(self).of(bytes(self))
+
+    @classmethod
+    def of(cls, state: bytes) -> Any:
+        """The chip whose state has these bytes."""
+        chip = cls.__new__(cls)
+        Chip.__init__(chip, state)
+        return chip
+
+
+class Pit(Chip):
+    """A timer, Intel 8253 or 8254, from power-on."""
+    name = 'pit'
+
+    def __init__(self, kind: str = '8253') -> None:
+        super().__init__()
+        if kind not in CHOICES['timer']:
+            raise ValueError(f'{kind} is no timer: {" or ".join(CHOICES["timer"])}')
+        self._call('power_on_as', CHOICES['timer'].index(kind))
+
+    def read(self, port: int) -> int:
+        """A byte of a counter, by its access and latches."""
+        return self._call('read', port)
+
+    def write(self, port: int, value: int) -> None:
+        """A byte of a count, or to port 3 a control word."""
+        self._call('write', port, value)
+
+    def set_gate(self, counter: int, level: int) -> None:
+        """A gate takes a level."""
+        self._call('set_gate', counter, level)
+
+    def out(self, counter: int) -> int:
+        """The level of an OUT."""
+        return self._call('out', counter)
+
+    def advance(self, ticks: int) -> None:
+        """Ticks of the three counters; any number takes as long."""
+        self._call('advance', ticks)
+
+    def until_change(self, counter: int) -> int:
+        """After how many ticks an OUT first changes, as long as nothing is written; 0: never."""
+        return self._call('until_change', counter)
+
+
+class Pic(Chip):
+    """An interrupt controller, Intel 8259A, from power-on."""
+    name = 'pic'
+
+    def __init__(self) -> None:
+        super().__init__()
+        self._call('power_on')
+
+    def set_line(self, level: int, is_high: int) -> None:
+        """A request line takes a level."""
+        self._call('set_line', level, is_high)
+
+    def read(self, a0: int) -> int:
+        """A read at an address line A0."""
+        return self._call('read', a0)
+
+    def write(self, a0: int, value: int) -> None:
+        """A command word at an address line A0."""
+        self._call('write', a0, value)
+
+    def request(self) -> int:
+        """The interrupt output."""
+        return self._call('request')
+
+    def acknowledge(self) -> int:
+        """The interrupt acknowledge: the vector of the level that is taken, or of level 7."""
+        return self._call('acknowledge')
+
+
+class Ppi(Chip):
+    """A parallel port, Intel 8255A in mode 0, from reset, with the switches on its pins."""
+    name = 'ppi'
+
+    def __init__(self, sw1: int = 0, sw2: int = 0) -> None:
+        super().__init__()
+        self._call('power_on', sw1, sw2)
+
+    def read(self, port: int, latch: int = 0, out2: int = 0) -> int:
+        """A port, with the keyboard's latch and the timer's OUT 2 on the pins."""
+        return self._call('read', port, latch, out2)
+
+    def write(self, port: int, value: int) -> None:
+        """To a port's latch, or to port 3 a control word."""
+        self._call('write', port, value)
+
+    def port_b(self) -> int:
+        """The levels of port B's lines."""
+        return self._call('port_b')

@@ -1,0 +1,115 @@
+"""python/zebludor.py: the header's layouts, stored reports, and runs, sessions and the assembler over the built program."""
+import ctypes
+import os
+import re
+import subprocess
+import sys
+import unittest
+
+from tests.support import STORED, TOP, ToolCase, example
+
+import toolbox  # where zebludor is found
+import zebludor
+from zebludor import Fault, Header, Session, Unfit
+
+assert toolbox
+
+
+def read(path: str) -> str:
+    """A file's text."""
+    with open(path, encoding='utf-8') as file:
+        return file.read()
+
+
+class Texts(unittest.TestCase):
+    """Over texts alone."""
+
+    def test_layouts_are_the_headers(self) -> None:
+        text = read(f'{TOP}/c/zebludor.h')
+        header = Header(text)
+        sizes = re.findall(r'sizeof\((\w+)\) == (\d+)', text)
+        offsets = re.findall(r'offsetof\((\w+), (\w+)\) == (\d+)', text)
+        self.assertEqual({it for it, _ in sizes}, set(header.structs))
+        for name, size in sizes:
+            self.assertEqual(ctypes.sizeof(header.structs[name]), int(size), name)
+        for name, field, offset in offsets:
+            self.assertEqual(getattr(header.structs[name], field).offset, int(offset), field)
+        self.assertEqual(set(header.calls), set(re.findall(r'\b(zebludor_\w+)\(', re.sub(r'/\*.*?\*/', '', text, flags=re.S))))
+
+    def test_each_call_of_a_chip_is_the_headers(self) -> None:
+        header = Header(read(f'{TOP}/c/zebludor.h'))
+        for chip in (zebludor.Pit, zebludor.Pic, zebludor.Ppi):
+            calls = {it.removeprefix(f'zebludor_{chip.name}_') for it in header.calls if it.startswith(f'zebludor_{chip.name}_')}
+            self.assertEqual(calls - set(vars(chip)) - {'power_on', 'power_on_as'}, set())
+
+    def test_reports(self) -> None:
+        report = zebludor.read_report(read(f'{STORED}/tone.report'))
+        self.assertEqual((report.clock, report.state, report.changes[0], report.text), (500, 'running' if report.state == 'running' else 'halted', (74, 1), ''))
+        self.assertEqual(zebludor.read_report(read(f'{STORED}/hello.report')).flag('ZF'), 0)
+        with self.assertRaises(Unfit):
+            zebludor.read_report('clock 5\n')
+        with self.assertRaises(Fault) as caught:
+            zebludor.read_report('fault 3 BadLine line 2\n')
+        self.assertEqual((caught.exception.number, caught.exception.name, caught.exception.line), (3, 'BadLine', 2))
+        self.assertIn('&lt;', zebludor.Report(0, {}, '', 0, [], ['<'])._repr_html_())
+
+    def test_no_such_thing(self) -> None:
+        with self.assertRaisesRegex(TypeError, 'budgt is no field'):
+            zebludor.run('', budgt=5)
+        words = [sys.executable, '-c', 'import zebludor; zebludor.run("")']
+        for changed, wanted in (({'PCBOARD': '/none'}, "the program /none isn't there"), ({'ZEBLUDOR_CHIPS': '/none.a'}, '')):
+            environment = os.environ | {'PYTHONPATH': f'{TOP}/python', 'PYTHONDONTWRITEBYTECODE': '1'} | changed
+            if not wanted:
+                words[2], wanted = 'import zebludor; zebludor.Pit()', "the chips' library /none.a isn't there"
+            told = subprocess.run(words, env=environment, capture_output=True, text=True, check=False).stderr
+            self.assertIn(wanted, told)
+
+
+class Runs(ToolCase):
+    """Over the built program."""
+
+    def test_runs(self) -> None:
+        source = read(example('keys')[0])
+        report = zebludor.run(source, keys=[(2000, 0x23), (2100, 0xA3)], budget=5000)
+        self.assertEqual((report.text, report.clock, report.state), ('H', 5000, 'halted'))
+        two = zebludor.run(read(example('hello')[0]), budget=71, clocks='C2')
+        self.assertEqual((two.text, zebludor.run(read(example('hello')[0]), budget=71).text), ('', 'HI'))
+        with self.assertRaises(Fault) as caught:
+            zebludor.run('SEGMENT A AT 0\n FROB\n')
+        self.assertEqual((caught.exception.number, caught.exception.name, caught.exception.line), (4, 'UnknownName', 2))
+        with self.assertRaisesRegex(Fault, 'fault 36 RamSize'):
+            zebludor.run(source, ram=17)
+
+    def test_the_assembler(self) -> None:
+        source = example('monitor')[0]
+        text = zebludor.assemble(read(source))
+        self.assertEqual(text, self.pcboard('asm', source).stdout)
+        self.assertEqual(zebludor.listing(read(source)), self.pcboard('asm', '--list', source).stdout)
+        self.assertEqual(zebludor.run(text, is_hex=True, budget=900), zebludor.run(read(source), budget=900))
+
+    def test_a_session_forth_and_back(self) -> None:
+        """That of docs/DEBUGGER.md."""
+        with Session(read(example('ticks')[0])) as session:
+            self.assertEqual(session.stop_at_byte(0xB0000, 0x31), 1)
+            self.assertEqual((session.go(1000), session.clock), (1, 205))
+            last = session.trail()[-1]
+            self.assertEqual((last.clock, last.text, last.octets.hex()), (204, 'ES: INC BYTE [00000h]', '26fe060000'))
+            self.assertEqual(session.trail()[-2].entry, 8)
+            session.back_step()
+            self.assertEqual((session.clock, session.registers()['IP']), (204, 0x2E))
+            self.assertEqual((session.stop_at(0xF000, 0x2B), session.back_to_stop(), session.clock), (2, 2, 142))
+            session.back(42)
+            session.step()
+            self.assertEqual(session.clock, 101)
+            self.assertEqual(session.dump(0xF002E, 5).hex(), '26fe060000')
+            self.assertEqual((len(session.screen()), session.stop_at_sound(), session.stop_at_halt()), (25, 3, 4))
+            for refused, number in ((lambda: session.back(1 << 30), 54), (lambda: session.go(1 << 41), 42), (lambda: session.back(0), 51)):
+                with self.assertRaises(Fault) as caught:
+                    refused()
+                self.assertEqual(caught.exception.number, number)
+        with self.assertRaisesRegex(Fault, 'fault 4 UnknownName line 2'):
+            Session('SEGMENT A AT 0\n FROB\n')
+
+
+if __name__ == '__main__':
+    unittest.main()
