@@ -495,15 +495,17 @@ class Chips:
         path = os.environ.get('ZEBLUDOR_CHIPS') or f'{TOP}/crates/zebludor_chips/out/libzebludor_chips.a'
         if not os.path.exists(path):
             raise Unfit(f"the chips' library {path} isn't there; dev/build zebludor_chips builds it, or ZEBLUDOR_CHIPS names another")
-        self.structs, self._library = header.structs, _shared(path) if path.endswith('.a') else ctypes.CDLL(path)
+        library = _shared(path) if path.endswith('.a') else ctypes.CDLL(path)
+        self.structs, self.calls, self.at = header.structs, dict[str, Any](), ctypes.byref
         for name, (answer, parameters) in header.calls.items():
-            if hasattr(self._library, name):
-                call = getattr(self._library, name)
+            if hasattr(library, name):
+                self.calls[name] = call = getattr(library, name)
                 call.restype, call.argtypes = answer, parameters
 
-    def call(self, name: str) -> Any:
-        """A call of the library."""
-        return getattr(self._library, f'zebludor_{name}')
+    def calls_of(self, chip: str) -> dict[str, Any]:
+        """The library's calls of a chip, by the names behind its own."""
+        begin = f'zebludor_{chip}_'
+        return {name.removeprefix(begin): it for name, it in self.calls.items() if name.startswith(begin)}
 
 
 @functools.cache
@@ -520,9 +522,10 @@ class Chip:
     def __init__(self, state: bytes | None = None) -> None:
         kind = chips().structs[f'zebludor_{self.name}']
         self.state: Any = kind() if state is None else kind.from_buffer_copy(state)
+        self._calls, self._at = chips().calls_of(self.name), chips().at(self.state)
 
     def _call(self, call: str, *values: int) -> Any:
-        return chips().call(f'{self.name}_{call}')(self.state, *values)
+        return self._calls[call](self._at, *values)
 
     def __bytes__(self) -> bytes:
         return bytes(self.state)
