@@ -22,7 +22,7 @@ import re
 import subprocess
 import tempfile
 from dataclasses import dataclass
-from typing import IO, TYPE_CHECKING, Any, Iterator, NoReturn
+from typing import IO, TYPE_CHECKING, Any, Iterator, NamedTuple, NoReturn
 
 if TYPE_CHECKING:
     import ctypes  # else imported where the chips are loaded: what only runs programs begins sooner without it
@@ -237,8 +237,7 @@ def listing(source: Source) -> str:
 
 # Sessions.
 
-@dataclass(frozen=True)
-class Event:
+class Event(NamedTuple):
     """A line of the trail: an instruction's start, or the entry of an interrupt (then its type, and no bytes)."""
     clock: int
     segment: int
@@ -255,12 +254,18 @@ class Event:
 
 def event_of(line: str) -> Event:
     """A line of the trail, as docs/DEBUGGER.md tells it."""
-    clock, place, rest = line.split(' ', 2)
-    segment, offset = int(place[:4], 16), int(place[5:], 16)
-    if rest.startswith('entry '):
-        return Event(int(clock), segment, offset, b'', rest, int(rest.split()[1], 16))
-    octets, _, text = rest.partition(' ')
-    return Event(int(clock), segment, offset, bytes.fromhex(octets), text, None)
+    clock, _, rest = line.partition(' ')
+    return Event(int(clock), *_place_of(rest))
+
+
+@functools.lru_cache(1 << 16)
+def _place_of(rest: str) -> tuple[int, int, bytes, str, int | None]:
+    """All of a trail's line but the clock: loops have the same ones again and again."""
+    segment, offset, what = int(rest[:4], 16), int(rest[5:9], 16), rest[10:]
+    if what.startswith('entry '):
+        return segment, offset, b'', what, int(what.split()[1], 16)
+    octets, _, text = what.partition(' ')
+    return segment, offset, bytes.fromhex(octets), text, None
 
 
 class Dialogue:
@@ -329,6 +334,24 @@ class Dialogue:
                 self.clock, self.is_idle = int(line.split()[1]), True
                 return lines
             lines.append(line)
+
+    def trails(self, clocks: list[int]) -> list[list[str]]:
+        """The trails behind runs of so many clocks each, one behind the other, in a session without stops. All are asked for at
+        once, so that neither side waits for the other: at most some thirty, whose answers fit in the pipe."""
+        self._send(''.join(f'go {it}\ntrail\n' for it in clocks) + 'go 0\n')
+        found: list[list[str]] = []
+        while True:
+            line = self._line()
+            if line.startswith('fault '):
+                raise fault_in(line) or Unfit(line)
+            if not line.startswith('clock '):
+                found[-1].append(line)
+                continue
+            self.clock = int(line[6:])
+            if len(found) == len(clocks):
+                self.is_idle = True
+                return found
+            found.append([])
 
     def dump(self, address: int, count: int) -> bytes:
         """Bytes from a physical address on, as many as there are below 100000h."""

@@ -1,45 +1,94 @@
 """tools/trace: tables over stored events, and the examples over the built program."""
+import io
+import itertools
+import os
+import random
+import signal
+import subprocess
+import sys
+import time
 import unittest
+from bisect import bisect_left
+from collections.abc import Iterable
 from unittest import mock
 
-from tests.support import ToolCase, example
+from tests.support import TOOLS, ToolCase, example
 
 from toolbox import events
 from toolbox.command import Sorry
 from toolbox.places import event_of
 from toolbox.program import Files
 from toolbox.runfile import budget_of
-from toolbox.vcd import Signal, waveform
+from toolbox.vcd import Wave
+
+
+class StandIn:
+    """A session that stands in: its events are given."""
+    told: list[str] = []
+    asked, went_back = 0, 0
+
+    def __init__(self, _: Files) -> None:
+        self.clock = 0
+
+    def __enter__(self) -> 'StandIn':
+        return self
+
+    def __exit__(self, *_: object) -> None:
+        pass
+
+    def go_to(self, clock: int) -> None:
+        StandIn.went_back += clock < self.clock
+        self.clock = clock
+
+    def trails(self, clocks: list[int]) -> list[list[str]]:
+        found = []
+        for it in clocks:
+            self.clock += it
+            last = bisect_left(self.told, self.clock, key=lambda line: int(line.split()[0]))
+            found.append(self.told[max(0, last - events.TRAIL):last])
+        StandIn.asked += len(clocks)
+        return found
 
 
 class Stored(unittest.TestCase):
     """Over stored trails."""
 
-    def of(self, *lines: str, first: int = 0) -> list[int]:
-        """The clocks of the events that these answers give."""
-        with mock.patch.object(events, 'transcript', lambda files, commands: iter(lines)):
-            return [it.clock for it in events.events(Files('', ''), first, 200)]
+    def of(self, clocks: Iterable[int], first: int = 0, end: int = 200) -> list[int]:
+        """The clocks of the events of a run in which events begin at these."""
+        StandIn.told, StandIn.asked, StandIn.went_back = [f'{it} F000:0000 90 NOP' for it in clocks], 0, 0
+        with mock.patch.object(events, 'Session', StandIn):
+            return [it.clock for it in events.events(Files('', ''), first, end)]
 
     def test_trails_overlap(self) -> None:
-        told = self.of('clock 0', 'clock 60', '0 FFFF:0000 90 NOP', '15 F000:0000 90 NOP', 'clock 120', '15 F000:0000 90 NOP',
-                       '70 F000:0001 F4 HLT')
-        self.assertEqual(told, [0, 15, 70])
-        self.assertEqual(self.of('clock 15', 'clock 60', '0 FFFF:0000 90 NOP', '15 F000:0000 90 NOP', first=15), [15])
+        self.assertEqual(self.of([0, 15, 70]), [0, 15, 70])
+        self.assertEqual(self.of([0, 15, 70], first=15), [15, 70])
+        self.assertEqual(self.of([0, 15, 70], end=70), [0, 15])
 
     def test_missing_events_are_told(self) -> None:
-        with self.assertRaises(Sorry):
-            self.of('clock 60', '0 FFFF:0000 90 NOP', 'clock 120', '70 F000:0001 F4 HLT')
-        with self.assertRaises(Sorry):
-            self.of('fault 42 ClockLimit')
+        with self.assertRaisesRegex(Sorry, 'more than 32 events between'):
+            self.of(range(0, 60), end=60)
+
+    def test_each_event_is_found_once_at_any_pace(self) -> None:
+        chance = random.Random(1)
+        for name, steps in (('dense', [2] * 5000), ('even', [12] * 5000), ('halts', ([40000] + [3] * 60) * 40),
+                            ('mixed', [chance.choice((2, 3, 4, 15, 90, 700)) for _ in range(9000)]), ('late', [900000] + [2] * 900 + [10 ** 9, 2])):
+            clocks = list(itertools.accumulate(steps))
+            self.assertEqual(self.of(clocks, end=clocks[-1] + 1), clocks, name)
+            self.assertLess(StandIn.went_back, 150, name)
+            self.assertLess(StandIn.asked, len(clocks) // 8 + (2500 if name == 'halts' else 300), name)
 
     def test_costs(self) -> None:
         found = [event_of('0 FFFF:0000 90 NOP'), event_of('15 F000:0000 F4 HLT')]
-        self.assertEqual(events.costs(found, 100), [15, 85])
+        self.assertEqual([clocks for _, clocks in events.with_costs(found, 100)], [15, 85])
 
     def test_waveform(self) -> None:
-        text = waveform(10, [Signal('cs', 16, [(0, 0xF000), (4, 0xF000)]), Signal('speaker', 1, [(5, 1)])])
-        self.assertIn('$var wire 16 ! cs $end\n$var wire 1 " speaker $end', text)
-        self.assertTrue(text.endswith('$end\n#0\nb1111000000000000 !\n#1050\n1"\n#2100\n'))
+        text = io.StringIO()
+        wave = Wave(text, [('cs', 16), ('speaker', 1)])
+        for change in ((0, 0, 0xF000), (4, 0, 0xF000), (5, 1, 1)):
+            wave.write(*change)
+        wave.end(10)
+        self.assertIn('$var wire 16 ! cs $end\n$var wire 1 " speaker $end', text.getvalue())
+        self.assertTrue(text.getvalue().endswith('b0 !\n0"\n$end\n#0\nb1111000000000000 !\n#1050\n1"\n#2100\n'))
 
 
 class Runs(ToolCase):
@@ -84,6 +133,28 @@ class Runs(ToolCase):
         self.assertIn(f'#{143 * 210}\nb101100 "\n0#\n1$\nb1000 %\n', text)
         sound, _ = self.tool('trace', '--vcd', '-', *example('tone'))
         self.assertIn(f'#{74 * 210}\n1&\n', sound)
+
+    def test_an_interrupt_keeps_what_was_written(self) -> None:
+        files = self.program('over:   INC AX\n        JMP SHORT over', 1 << 38)
+        path = f'{self.room}/it.vcd'
+        for words, keeps in ((['--vcd', path], f'{path} has the waveform'), (['--profile'], 'the table is of the run'), ([], 'is printed')):
+            with subprocess.Popen([sys.executable, '-S', f'{TOOLS}/trace', *words, *files], stdout=subprocess.PIPE, stderr=subprocess.PIPE,
+                                  text=True, start_new_session=True) as process:
+                assert process.stdout
+                printed = process.stdout.readline() if not words else ''
+                while not printed and not (os.path.exists(path) and os.path.getsize(path) > 1 << 16):
+                    time.sleep(0.05)
+                if words == ['--profile']:
+                    time.sleep(1)
+                os.killpg(process.pid, signal.SIGINT)
+                out, err = process.communicate(timeout=60)
+            self.assertEqual(process.returncode, 130, err)
+            self.assertRegex(err, r'^trace: ended at clock [1-9]\d* of 274877906944; .*' + keeps)
+            self.assertEqual(err.count('\n'), 1)
+            if words == ['--profile']:
+                self.assertIn('INC AX', out)
+        with open(path, encoding='utf-8') as file:
+            self.assertRegex(file.read().splitlines()[-1], r'^#\d+$')
 
     def test_keeps_the_clock_table(self) -> None:
         out, _ = self.tool('trace', *self.hello_by_c2())

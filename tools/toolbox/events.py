@@ -1,43 +1,107 @@
-"""All that a run did, from a session's trails: each has the last 32 events, and one is asked for before a 33rd can come."""
+"""All that a run did, from a session's trails. Each has the last 32 events, so the next one is asked for before a 33rd can
+come, or where that was too late, once more from there on."""
 from __future__ import annotations
 
-from typing import Iterator
+from typing import Iterable, Iterator
+
+from zebludor import Fault
 
 from toolbox.command import Sorry
 from toolbox.places import Event, event_of
-from toolbox.program import CLOCKS_OF_A_TRAIL, Files, transcript
+from toolbox.program import CLOCKS_OF_A_TRAIL, Files, Session
 
 TRAIL = 32
+WANTED = 24  # events that a trail brings, as far as those before tell
+AT_ONCE, AT_FIRST = 16, 4  # trails that are asked for together, fewer where their distance is new
+LONGEST = 1 << 30
+PATIENCE = 4  # how often trails are asked for before their distance grows again, where it was too long
+
+
+def events(files: Files, first: int, end: int) -> Iterator[Event]:
+    """The events of the clocks from the first on and before the end, the oldest first."""
+    with Session(files) as session:
+        session.go_to(first)
+        pace, newest = Pace(), first - 1
+        while session.clock < end:
+            begun = session.clock
+            ends = [min(begun + pace.clocks * place, end) for place in range(1, pace.together + 1)]
+            for at, trail in zip(ends, trails(session, begun, ends)):
+                found = newer(trail, newest)
+                if found is None:
+                    pace.is_missed(newest, at, trail)
+                    session.go_to(begun)
+                    break
+                pace.has_brought(len(found))
+                begun, newest = at, found[0].clock if found else newest
+                yield from reversed(found)
+            pace.renew()
+
+
+def trails(session: Session, begun: int, ends: list[int]) -> list[list[str]]:
+    """The trails at these clocks."""
+    steps = [b - a for a, b in zip([begun, *ends], ends) if b > a]
+    try:
+        return session.trails(steps)
+    except Fault as fault:
+        raise Sorry(f'the program refuses: {fault}') from None
+
+
+def newer(trail: list[str], newest: int) -> list[Event] | None:
+    """The events of a trail that are newer than this clock, the newest first; None where some may be missing."""
+    found: list[Event] = []
+    for line in reversed(trail):
+        event = event_of(line)
+        if event.clock <= newest:
+            return found
+        found.append(event)
+    return found if len(trail) < TRAIL else None
+
+
+class Pace:
+    """How many clocks lie between two trails: as many as bring about WANTED events, by what the last ones brought."""
+
+    def __init__(self) -> None:
+        self.clocks, self.together = CLOCKS_OF_A_TRAIL, AT_FIRST
+        self._most, self._patience = 0, 0
+
+    def has_brought(self, count: int) -> None:
+        """A trail brought so many events."""
+        self._most = max(self._most, count)
+
+    def is_missed(self, newest: int, at: int, trail: list[str]) -> None:
+        """A trail may have missed some: they lie as near to each other as those that it has."""
+        if self.clocks <= CLOCKS_OF_A_TRAIL:
+            raise Sorry(f'more than {TRAIL} events between the clocks {newest} and {at}: some are missing')
+        near = (event_of(trail[-1]).clock - event_of(trail[0]).clock) * WANTED // TRAIL
+        self.clocks = max(CLOCKS_OF_A_TRAIL, min(self.clocks * 3 // 4, near))
+        self._most, self._patience, self.together = TRAIL, PATIENCE, AT_FIRST
+
+    def renew(self) -> None:
+        """Behind trails that were asked for together: the distance of the next ones."""
+        most, self._most = self._most, 0
+        self._patience -= 1
+        if self._patience > 0:
+            return
+        self.together = AT_ONCE
+        if most < WANTED * 3 // 4:
+            self.clocks = min(self.clocks * min(WANTED, 4 * max(most, 1)) // max(most, 1), LONGEST)
+            self.together = AT_FIRST
 
 
 def commands(first: int, end: int) -> Iterator[str]:
-    """The session's commands: to the first clock, and a trail each few clocks from there on."""
+    """A session's commands that tell all events of a short run: to the first clock, and a trail each few clocks from there on."""
     yield f'go {first}'
     for clock in range(first, end, CLOCKS_OF_A_TRAIL):
         yield f'go {min(CLOCKS_OF_A_TRAIL, end - clock)}'
         yield 'trail'
 
 
-def events(files: Files, first: int, end: int) -> Iterator[Event]:
-    """The events of the clocks from the first on and before the end, the oldest first."""
-    newest, trail = -1, list[str]()
-    for line in transcript(files, commands(first, end)):
-        if line.startswith('clock '):
-            trail.clear()
-            continue
-        if line.startswith('fault '):
-            raise Sorry(f'the program refuses: {line}')
-        trail.append(line)
-        clock = int(line.partition(' ')[0])
-        if len(trail) == 1 and newest >= first and clock > newest:
-            raise Sorry(f'more than {TRAIL} events between the clocks {newest} and {clock}: some are missing')
-        if clock > newest:
-            newest = clock
-            if clock >= first:
-                yield event_of(line)
-
-
-def costs(found: list[Event], end: int) -> list[int]:
-    """The clocks from each event to the next one, of the last to the run's end."""
-    after = [it.clock for it in found[1:]] + [end]
-    return [b - a.clock for a, b in zip(found, after)]
+def with_costs(found: Iterable[Event], end: int) -> Iterator[tuple[Event, int]]:
+    """Each event with the clocks to the next one, the last with those to the run's end."""
+    before: Event | None = None
+    for event in found:
+        if before:
+            yield before, event.clock - before.clock
+        before = event
+    if before:
+        yield before, end - before.clock

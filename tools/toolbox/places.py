@@ -8,7 +8,7 @@ from zebludor import Event, event_of
 from toolbox.command import Sorry
 from toolbox.listing import Line, Listing, code_of, physical
 
-__all__ = ['Event', 'address_of', 'event_of', 'event_text', 'far_of', 'line_at', 'number_of', 'of_line']
+__all__ = ['Event', 'address_of', 'event_of', 'event_text', 'far_of', 'line_at', 'number_of', 'of_line', 'told_of']
 
 
 def line_at(listing: Listing, event: Event) -> Line | None:
@@ -19,12 +19,17 @@ def line_at(listing: Listing, event: Event) -> Line | None:
     return line if event.octets[:8] == line.shown[:len(event.octets)] else None
 
 
-def event_text(listing: Listing, event: Event) -> str:
-    """A line of the trail, with label and source line."""
+def told_of(listing: Listing, event: Event) -> str:
+    """A line of the trail, with label and source line, and without its clock."""
     label, line = listing.label_before(event.segment, event.offset), line_at(listing, event)
     what = f'interrupt {event.entry:02X}' if event.entry is not None else event.text
     source = f'| {line.number}: {code_of(line.text).strip()}' if line and event.entry is None else ''
-    return f'{event.clock:>9} {event.segment:04X}:{event.offset:04X} {label:<12} {what:<28} {source}'.rstrip()
+    return f'{event.segment:04X}:{event.offset:04X} {label:<12} {what:<28} {source}'.rstrip()
+
+
+def event_text(listing: Listing, event: Event) -> str:
+    """It with its clock."""
+    return f'{event.clock:>9} {told_of(listing, event)}'
 
 
 def number_of(text: str, most: int = 0xFFFFF) -> int:

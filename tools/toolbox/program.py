@@ -1,18 +1,15 @@
 """The program itself: where it stands, runs of it, and sessions of `debug` on a pipe."""
 from __future__ import annotations
 
-import os
-import subprocess
-import tempfile
 from dataclasses import dataclass
-from typing import Iterable, Iterator, NoReturn
+from typing import NoReturn
 
 import zebludor
 from zebludor import LAST_CLOCK, TOP, Ran, Unfit
 
 from toolbox.command import Sorry
 
-__all__ = ['CLOCKS_OF_A_TRAIL', 'LAST_CLOCK', 'TOP', 'Files', 'Ran', 'Session', 'answer_of', 'path', 'refusal', 'run', 'transcript']
+__all__ = ['CLOCKS_OF_A_TRAIL', 'LAST_CLOCK', 'TOP', 'Files', 'Ran', 'Session', 'answer_of', 'path', 'refusal', 'run']
 # An instruction takes two clocks or more, so no more than 31 begin in so many clocks, and the trail of 32 has them all.
 CLOCKS_OF_A_TRAIL = 60
 
@@ -88,20 +85,3 @@ class Session(zebludor.Dialogue):
             told = self.one(f'back {self.clock - clock}' if clock < self.clock else f'go {clock - self.clock}')
             if told.startswith('fault'):
                 raise Sorry(f'the debugger refuses: {told}')
-
-
-def transcript(files: Files, commands: Iterable[str]) -> Iterator[str]:
-    """The answers to a list of commands, as they come. The commands lie in a file, so that a long list doesn't wait for
-    its answers."""
-    with tempfile.TemporaryFile() as given, tempfile.TemporaryFile() as err:
-        given.writelines(f'{it}\n'.encode() for it in commands)
-        given.seek(0)
-        process = subprocess.Popen([path(), *files.words('debug')], stdin=given, stdout=subprocess.PIPE, stderr=err)
-        assert process.stdout
-        with process.stdout as out:
-            for line in out:
-                yield line.decode('ascii', 'replace').rstrip('\n')
-        status = process.wait()
-        if status > 0:
-            err.seek(0)
-            raise Sorry(refusal(status, err.read().decode('utf-8', 'replace')))

@@ -5,16 +5,18 @@ from __future__ import annotations
 import contextlib
 import json
 import os
+import subprocess
 import tempfile
 from typing import Any, Iterator
 
 from zebludor import CHOICES, DEFAULTS, FIRST_CHOICES, run_file as text_of
 
 from toolbox.command import Sorry, read_text
-from toolbox.program import Files, answer_of
+from toolbox.program import Files, answer_of, path, refusal
 from toolbox.report import Report, report_of
 
-__all__ = ['CHOICES', 'DEFAULTS', 'FIRST_CHOICES', 'budget_of', 'chosen', 'read_run_file', 'report_at', 'text_of', 'with_budget']
+__all__ = ['CHOICES', 'DEFAULTS', 'FIRST_CHOICES', 'budget_of', 'chosen', 'read_run_file', 'report_at', 'speaker_changes',
+           'text_of', 'with_budget']
 
 def read_run_file(path: str) -> dict[str, Any]:
     """A run file's fields. What the values may be is judged by the program."""
@@ -51,6 +53,28 @@ def report_at(files: Files, clock: int) -> Report:
     """The report of the same files with this clock as their budget."""
     with with_budget(files, clock) as them:
         return report_of(answer_of(them.words('run')), 'the answer')
+
+
+def speaker_changes(files: Files, clock: int) -> Iterator[tuple[int, int]]:
+    """The speaker's changes of that report, read as they are wanted: there may be millions."""
+    with with_budget(files, clock) as them, tempfile.TemporaryFile() as err:
+        process = subprocess.Popen([path(), *them.words('run')], stdout=subprocess.PIPE, stderr=err)
+        assert process.stdout
+        with process.stdout as out:
+            try:
+                for line in out:
+                    if line == b'screen\n':
+                        break
+                    words = line.split()
+                    if len(words) == 2 and words[0].isdigit():
+                        yield int(words[0]), int(words[1])
+                out.read()
+            except BaseException:
+                process.kill()
+                raise
+        if process.wait() > 0:
+            err.seek(0)
+            raise Sorry(refusal(process.returncode, err.read().decode('utf-8', 'replace')))
 
 
 def budget_of(files: Files) -> int:
