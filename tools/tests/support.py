@@ -2,6 +2,7 @@
 from __future__ import annotations
 
 import os
+import shutil
 import signal
 import subprocess
 import sys
@@ -18,6 +19,14 @@ signal.signal(signal.SIGINT, signal.default_int_handler)
 signal.signal(signal.SIGHUP, signal.SIG_DFL)
 
 RESET = "ENDS\nSEGMENT RESET AT 0FFFFh\n        JMP FAR start\nENDS\n"
+
+
+def is_there(command: str, what: str, package: str) -> bool:
+    """Whether a command is there. Where it isn't, what it is wanted for is told as not run, and is neither passed nor failed."""
+    found = shutil.which(command) is not None
+    if not found:
+        print(f'not run: {what}; apt install {package}', flush=True)
+    return found
 
 
 def example(name: str) -> tuple[str, str]:
