@@ -252,20 +252,22 @@ class Event(NamedTuple):
         return (16 * self.segment + self.offset) % MEMORY
 
 
-def event_of(line: str) -> Event:
+def event_of(line: str | bytes) -> Event:
     """A line of the trail, as docs/DEBUGGER.md tells it."""
-    clock, _, rest = line.partition(' ')
-    return Event(int(clock), *_place_of(rest))
+    octets = line if isinstance(line, bytes) else line.encode()
+    clock, _, rest = octets.partition(b' ')
+    return tuple.__new__(Event, (int(clock), *_place_of(rest)))
 
 
 @functools.lru_cache(1 << 16)
-def _place_of(rest: str) -> tuple[int, int, bytes, str, int | None]:
+def _place_of(octets: bytes) -> tuple[int, int, bytes, str, int | None]:
     """All of a trail's line but the clock: loops have the same ones again and again."""
+    rest = octets.decode('ascii').rstrip('\n')
     segment, offset, what = int(rest[:4], 16), int(rest[5:9], 16), rest[10:]
     if what.startswith('entry '):
         return segment, offset, b'', what, int(what.split()[1], 16)
-    octets, _, text = what.partition(' ')
-    return segment, offset, bytes.fromhex(octets), text, None
+    shown, _, text = what.partition(' ')
+    return segment, offset, bytes.fromhex(shown), text, None
 
 
 class Dialogue:
@@ -335,23 +337,25 @@ class Dialogue:
                 return lines
             lines.append(line)
 
-    def trails(self, clocks: list[int]) -> list[list[str]]:
-        """The trails behind runs of so many clocks each, one behind the other, in a session without stops. All are asked for at
-        once, so that neither side waits for the other: at most some thirty, whose answers fit in the pipe."""
+    def trails(self, clocks: list[int]) -> list[list[bytes]]:
+        """The trails behind runs of so many clocks each, one behind the other, in a session without stops; lines for `event_of`.
+        All are asked for at once, so that neither side waits for the other: at most some thirty, whose answers fit in the pipe."""
         self._send(''.join(f'go {it}\ntrail\n' for it in clocks) + 'go 0\n')
-        found: list[list[str]] = []
-        while True:
-            line = self._line()
-            if line.startswith('fault '):
-                raise fault_in(line) or Unfit(line)
-            if not line.startswith('clock '):
-                found[-1].append(line)
-                continue
-            self.clock = int(line[6:])
-            if len(found) == len(clocks):
-                self.is_idle = True
-                return found
-            found.append([])
+        found: list[list[bytes]] = []
+        lines, nine = list[bytes](), ord('9')
+        for line in iter(self._out.readline, b''):
+            if line[0] <= nine:
+                lines.append(line)
+            elif line.startswith(b'clock '):
+                self.clock = int(line[6:])
+                if len(found) == len(clocks):
+                    self.is_idle = True
+                    return found
+                lines = []
+                found.append(lines)
+            else:
+                raise fault_in(line.decode('ascii', 'replace')) or Unfit(line.decode('ascii', 'replace').strip())
+        self._ended()
 
     def dump(self, address: int, count: int) -> bytes:
         """Bytes from a physical address on, as many as there are below 100000h."""

@@ -24,7 +24,7 @@ from toolbox.vcd import Wave
 
 class StandIn:
     """A session that stands in: its events are given."""
-    told: list[str] = []
+    told: list[bytes] = []
     asked, went_back = 0, 0
 
     def __init__(self, _: Files) -> None:
@@ -40,7 +40,7 @@ class StandIn:
         StandIn.went_back += clock < self.clock
         self.clock = clock
 
-    def trails(self, clocks: list[int]) -> list[list[str]]:
+    def trails(self, clocks: list[int]) -> list[list[bytes]]:
         found = []
         for it in clocks:
             self.clock += it
@@ -55,7 +55,7 @@ class Stored(unittest.TestCase):
 
     def of(self, clocks: Iterable[int], first: int = 0, end: int = 200) -> list[int]:
         """The clocks of the events of a run in which events begin at these."""
-        StandIn.told, StandIn.asked, StandIn.went_back = [f'{it} F000:0000 90 NOP' for it in clocks], 0, 0
+        StandIn.told, StandIn.asked, StandIn.went_back = [f'{it} F000:0000 90 NOP\n'.encode() for it in clocks], 0, 0
         with mock.patch.object(events, 'Session', StandIn):
             return [it.clock for it in events.events(Files('', ''), first, end)]
 
@@ -84,8 +84,9 @@ class Stored(unittest.TestCase):
     def test_waveform(self) -> None:
         text = io.StringIO()
         wave = Wave(text, [('cs', 16), ('speaker', 1)])
-        for change in ((0, 0, 0xF000), (4, 0, 0xF000), (5, 1, 1)):
-            wave.write(*change)
+        wave.write(0, (0, 0xF000), (1, 0))
+        wave.write(4, (0, 0xF000))
+        wave.write(5, (1, 1))
         wave.end(10)
         self.assertIn('$var wire 16 ! cs $end\n$var wire 1 " speaker $end', text.getvalue())
         self.assertTrue(text.getvalue().endswith('b0 !\n0"\n$end\n#0\nb1111000000000000 !\n#1050\n1"\n#2100\n'))
@@ -142,7 +143,8 @@ class Runs(ToolCase):
                                   text=True, start_new_session=True) as process:
                 assert process.stdout
                 printed = process.stdout.readline() if not words else ''
-                while not printed and not (os.path.exists(path) and os.path.getsize(path) > 1 << 16):
+                until = time.monotonic() + 60
+                while not printed and not (os.path.exists(path) and os.path.getsize(path) > 1 << 16) and time.monotonic() < until:
                     time.sleep(0.05)
                 if words == ['--profile']:
                     time.sleep(1)
@@ -172,7 +174,9 @@ class Runs(ToolCase):
         source, run = example('monitor')
         text = source.replace('.asm', '.hex')
         self.assertIn('IN AL,060h', self.tool('trace', '--hex', '--profile', text, run)[0])
-        self.assertIn('no source lines', self.tool('trace', '--hex', '--coverage', text, run, status=2)[1])
+        self.assertIn('no source lines', self.tool('trace', '--hex', '--listing', text, run, status=2)[1])
+        self.assertEqual(self.tool('trace', '--hex', '--coverage', text, run)[0].splitlines(),
+                         ['169 of 265 bytes of the program ran, in 83 instructions', 'F0000 to F00A3 ran', 'F00A4 to F0103 never', 'FFFF0 to FFFF4 ran'])
         self.assertIn('no clock from', self.tool('trace', '--from', '10', '--to', '5', source, run, status=2)[1])
         self.assertIn('fault 21', self.tool('trace', '--hex', source, run, status=2)[1])
         self.assertIn('--coverage', self.tool('trace', '--help')[0])

@@ -37,7 +37,7 @@ def events(files: Files, first: int, end: int) -> Iterator[Event]:
             pace.renew()
 
 
-def trails(session: Session, begun: int, ends: list[int]) -> list[list[str]]:
+def trails(session: Session, begun: int, ends: list[int]) -> list[list[bytes]]:
     """The trails at these clocks."""
     steps = [b - a for a, b in zip([begun, *ends], ends) if b > a]
     try:
@@ -46,7 +46,7 @@ def trails(session: Session, begun: int, ends: list[int]) -> list[list[str]]:
         raise Sorry(f'the program refuses: {fault}') from None
 
 
-def newer(trail: list[str], newest: int) -> list[Event] | None:
+def newer(trail: list[bytes], newest: int) -> list[Event] | None:
     """The events of a trail that are newer than this clock, the newest first; None where some may be missing."""
     found: list[Event] = []
     for line in reversed(trail):
@@ -68,7 +68,7 @@ class Pace:
         """A trail brought so many events."""
         self._most = max(self._most, count)
 
-    def is_missed(self, newest: int, at: int, trail: list[str]) -> None:
+    def is_missed(self, newest: int, at: int, trail: list[bytes]) -> None:
         """A trail may have missed some: they lie as near to each other as those that it has."""
         if self.clocks <= CLOCKS_OF_A_TRAIL:
             raise Sorry(f'more than {TRAIL} events between the clocks {newest} and {at}: some are missing')

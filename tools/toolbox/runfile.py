@@ -15,6 +15,8 @@ from toolbox.command import Sorry, read_text
 from toolbox.program import Files, answer_of, path, refusal
 from toolbox.report import Report, report_of
 
+FIRST_REPORT = 1_000_000  # clocks
+
 __all__ = ['CHOICES', 'DEFAULTS', 'FIRST_CHOICES', 'budget_of', 'chosen', 'read_run_file', 'report_at', 'speaker_changes',
            'text_of', 'with_budget']
 
@@ -55,8 +57,22 @@ def report_at(files: Files, clock: int) -> Report:
         return report_of(answer_of(them.words('run')), 'the answer')
 
 
-def speaker_changes(files: Files, clock: int) -> Iterator[tuple[int, int]]:
-    """The speaker's changes of that report, read as they are wanted: there may be millions."""
+def speaker_changes(files: Files, end: int) -> Iterator[tuple[int, int | None]]:
+    """The speaker's changes in their order, as reports tell them, each of a run ten times as long as the one before: so what is
+    wanted of a run's beginning is there at once. Behind a report's changes stands its clock, with None for a level."""
+    told, budget = 0, min(FIRST_REPORT, end)
+    while True:
+        for clock, level in changes_of_a_run(files, budget):
+            if clock > told:
+                yield clock, level
+        yield budget, None
+        if budget == end:
+            return
+        told, budget = budget, min(10 * budget, end)
+
+
+def changes_of_a_run(files: Files, clock: int) -> Iterator[tuple[int, int]]:
+    """The speaker's changes of the report at a clock, read as they are wanted: there may be millions."""
     with with_budget(files, clock) as them, tempfile.TemporaryFile() as err:
         process = subprocess.Popen([path(), *them.words('run')], stdout=subprocess.PIPE, stderr=err)
         assert process.stdout
@@ -72,7 +88,9 @@ def speaker_changes(files: Files, clock: int) -> Iterator[tuple[int, int]]:
             except BaseException:
                 process.kill()
                 raise
-        if process.wait() > 0:
+            finally:
+                process.wait()
+        if process.returncode > 0:
             err.seek(0)
             raise Sorry(refusal(process.returncode, err.read().decode('utf-8', 'replace')))
 

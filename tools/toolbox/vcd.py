@@ -1,11 +1,10 @@
 """Waveforms (VCD, IEEE 1364), which GTKWave and the like open. A processor clock counts 210 nanoseconds (4.77 MHz)."""
 from __future__ import annotations
 
+import io
 from typing import IO
 
 from toolbox.report import NANOSECONDS
-
-Change = tuple[int, int, int]  # a clock, a signal's number, and the value that it has from there on
 
 
 class Wave:
@@ -14,23 +13,34 @@ class Wave:
     def __init__(self, file: IO[str], signals: list[tuple[str, int]]) -> None:
         self._file, self._values, self._clock = file, [0] * len(signals), -1
         signs = [chr(ord('!') + place) for place in range(len(signals))]
-        # In front of a value, and behind it: a signal of one bit is written without a b.
-        self._forms = [('{}' + sign + '\n') if width == 1 else ('b{:b} ' + sign + '\n') for sign, (_, width) in zip(signs, signals)]
+        self._bits = {place for place, (_, width) in enumerate(signals) if width == 1}
+        self._forms = [f'%d{sign}\n' if place in self._bits else f' {sign}\n' for place, sign in enumerate(signs)]
         lines = ['$timescale 1 ns $end', '$scope module board $end']
         lines += [f'$var wire {width} {sign} {name} $end' for sign, (name, width) in zip(signs, signals)]
         lines += ['$upscope $end', '$enddefinitions $end', '#0', '$dumpvars']
-        file.write('\n'.join(lines) + '\n' + ''.join(it.format(0) for it in self._forms) + '$end\n')
+        file.write('\n'.join(lines) + '\n' + ''.join(it % 0 if place in self._bits else f'b0{it}' for place, it in enumerate(self._forms)) + '$end\n')
 
-    def write(self, clock: int, signal: int, value: int) -> None:
-        """Writes a change; what stays as it was is none."""
-        if value == self._values[signal]:
-            return
-        if clock != self._clock:
-            self._file.write(f'#{clock * NANOSECONDS}\n')
-            self._clock = clock
-        self._file.write(self._forms[signal].format(value))
-        self._values[signal] = value
+    def write(self, clock: int, *changes: tuple[int, int]) -> None:
+        """Writes a clock's changes, signals with their values; what stays as it was is none."""
+        values = self._values
+        for signal, value in changes:
+            if value != values[signal]:
+                if clock != self._clock:
+                    self._file.write(f'#{clock * NANOSECONDS}\n')
+                    self._clock = clock
+                self._file.write(self._forms[signal] % value if signal in self._bits else f'b{value:b}{self._forms[signal]}')
+                values[signal] = value
 
     def end(self, clock: int) -> None:
         """Writes the end of the run."""
         self._file.write(f'#{clock * NANOSECONDS}\n')
+
+
+def waveform(end: int, name: str, changes: list[tuple[int, int]]) -> str:
+    """The waveform of one signal of a bit."""
+    text = io.StringIO()
+    to = Wave(text, [(name, 1)])
+    for clock, level in changes:
+        to.write(clock, (0, level))
+    to.end(end)
+    return text.getvalue()
