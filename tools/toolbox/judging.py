@@ -23,17 +23,17 @@ def fields_of(planned: Planned, run_file: str | None) -> dict[str, Any]:
 
 
 @contextlib.contextmanager
-def files_of(planned: Planned, file: str, run_file: str | None, is_hex: bool) -> Iterator[Files]:
+def files_of(planned: Planned, file: str, run_file: str | None, is_hex: bool, symbols: str | None = None) -> Iterator[Files]:
     """The files of a planned run: RUN itself, or a copy with the page's fields."""
     if run_file and not planned.fields:
-        yield Files(file, run_file, is_hex)
+        yield Files(file, run_file, is_hex, symbols)
         return
     fields = fields_of(planned, run_file)
     with tempfile.TemporaryDirectory() as room:
         path = os.path.join(room, 'run.json')
         with open(path, 'w', encoding='utf-8') as to:
             to.write(text_of(fields))
-        yield Files(file, path, is_hex)
+        yield Files(file, path, is_hex, symbols)
 
 
 def subject_of(files: Files) -> Subject | str:
@@ -57,11 +57,11 @@ def outcomes_of(planned: Planned, subject: Subject | str) -> Iterator[Outcome]:
             subject.session.close()
 
 
-def judge_file(page: list[Planned], file: str, run_file: str | None, is_hex: bool) -> list[Outcome]:
+def judge_file(page: list[Planned], file: str, run_file: str | None, is_hex: bool, symbols: str | None = None) -> list[Outcome]:
     """All that a page expects of a file."""
     read_text(file)
     found: list[Outcome] = []
     for planned in page:
-        with files_of(planned, file, run_file, is_hex) as files:
+        with files_of(planned, file, run_file, is_hex, symbols) as files:
             found += outcomes_of(planned, subject_of(files))
     return found

@@ -6,6 +6,7 @@ import re
 import tempfile
 from dataclasses import dataclass, field
 
+from toolbox.command import Sorry, read_text
 from toolbox.program import Files, answer_of, run
 
 ADDRESS_COLUMNS = 28
@@ -91,9 +92,12 @@ def probed(source: str, names: list[str]) -> dict[str, tuple[int, int]]:
 
 
 def listing_of(files: Files) -> Listing:
-    """The listing of a source; of Intel HEX, which has no lines, an empty one."""
+    """The listing of a source; of Intel HEX, which has no lines, that of its symbols' file, or an empty one."""
     if files.is_hex:
-        return Listing()
+        from toolbox.symbols import image_of, symbols_of  # which stand on this module
+        return symbols_of(files.symbols, image_of(read_text(files.file))) if files.symbols else Listing()
+    if files.symbols:
+        raise Sorry(f'{files.file} is a source, which has its own labels; --symbols goes with --hex')
     rows = answer_of(['asm', '--list', '--', files.file]).split('\n')[:-1]
     lines = [line_of(number, row) for number, row in enumerate(rows, 1)]
     found = Listing(lines)

@@ -30,10 +30,11 @@ def run(words: list[str], given: bytes = b'') -> Ran:
 
 @dataclass(frozen=True)
 class Files:
-    """What a board is built from: a source or Intel HEX, and a run file."""
+    """What a board is built from: a source or Intel HEX, and a run file; and of Intel HEX the file that tells its symbols."""
     file: str
     run_file: str
     is_hex: bool = False
+    symbols: str | None = None
 
     def words(self, task: str) -> list[str]:
         """The command line of a task on these files. `--` lets a name begin with a hyphen."""

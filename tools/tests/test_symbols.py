@@ -1,0 +1,136 @@
+"""Symbols of Intel HEX, over stored listings; and the commands of tools/dbg that step over, run to a place and disassemble."""
+from __future__ import annotations
+
+import unittest
+
+from tests.support import ToolCase, example
+
+from toolbox.command import Sorry
+from toolbox.symbols import image_of, symbols_of
+
+ROM = 'B800B0 8EC0 EBFE 68656C6C6F2C2062696720776F726C64 00 90 90 F4'
+NASM = """     1                                          bits 16
+     2                                  ; a ROM
+     3 00000000 B800B0                  start:  mov ax,0B000h
+     4 00000003 8EC0                            mov es,ax
+     5                                  .loop:
+     6 00000005 EBFE                            jmp short .loop
+     7 00000007 68656C6C6F2C206269-     msg:    db 'hello, big world',0
+     7 00000010 6720776F726C6400   
+     8                                  %macro  two 0
+     9                                          nop
+    10                                          nop
+    11                                  %endmacro
+    12                                          two
+     9 00000018 90                  <1>  nop
+    10 00000019 90                  <1>  nop
+    13 0000001A F4                      end_it: hlt
+"""
+NASM_MAP = """
+- NASM Map file ---------------------------------------------------------------
+
+Source file:  rom.asm
+
+-- Symbols --------------------------------------------------------------------
+
+---- Section .text ------------------------------------------------------------
+
+Real              Virtual           Name
+               0                 0  start
+               5                 5  start.loop
+              1A                1A  end_it
+
+"""
+
+
+def hex_of(octets: bytes, paragraph: int = 0xF000) -> str:
+    """A HEX text of some bytes."""
+    records = [b'\0\0\2' + paragraph.to_bytes(2, 'big'), *(at.to_bytes(2, 'big') + b'\0' + octets[at:at + 16] for at in range(0, len(octets), 16)), b'\0\0\1']
+    rows = [bytes([len(it) - 3]) + it for it in records]
+    return ''.join(f':{it.hex()}{-sum(it) & 0xFF:02X}\n' for it in rows)
+
+
+class Files(ToolCase):
+    """Over texts."""
+
+    def of(self, text: str, place: str = '') -> dict[str, str]:
+        """The labels of a file of symbols."""
+        found = symbols_of(self.file('symbols', text) + place, image_of(hex_of(bytes.fromhex(ROM))))
+        self.lines = {it.number: it for it in found.lines}
+        self.at = {where: it.number for where, it in found.at.items()}
+        return {name: f'{s:04X}:{o:04X}' for name, (s, o) in found.labels.items()}
+
+    def test_nasm(self) -> None:
+        labels = self.of(NASM)
+        self.assertEqual(labels, {'start': 'F000:0000', 'start.loop': 'F000:0005', 'msg': 'F000:0007', 'end_it': 'F000:001A'})
+        self.assertEqual(list(self.lines), list(range(1, 14)))
+        self.assertEqual([self.at[0xF0000 + it] for it in (0, 3, 5, 7, 0x18, 0x19, 0x1A)], [3, 4, 6, 7, 12, 12, 13])
+        self.assertEqual(self.of(NASM, '@F000:0'), labels)
+        self.assertEqual(self.of(NASM_MAP), {it: labels[it] for it in ('start', 'start.loop', 'end_it')})
+
+    def test_another_place_or_program(self) -> None:
+        for text, place in ((NASM, '@F001'), (NASM, '@F000:1'), (NASM_MAP, '@1000'), (NASM.replace('8EC0', '8EC1'), '')):
+            with self.assertRaisesRegex(Sorry, 'FILE@SEGMENT'):
+                self.of(text, place)
+        with self.assertRaisesRegex(Sorry, 'is no NASM listing or map file'):
+            self.of('start equ 5\n')
+        with self.assertRaisesRegex(Sorry, "can't be read"):
+            symbols_of(f'{self.room}/none', {})
+
+
+class Board(ToolCase):
+    """Over the built program."""
+
+    def monitor(self) -> tuple[str, str, list[str]]:
+        """The monitor in ROM as HEX, its run file, and words with its listing."""
+        source, run = example('monitor')
+        listing = self.file('monitor.lst', self.pcboard('asm', '--list', source).stdout)
+        return source.replace('.asm', '.hex'), run, ['--hex', '--symbols', listing]
+
+    def dbg(self, *words: str, typed: str) -> list[str]:
+        """What the debugger answers."""
+        return self.tool('dbg', *words, given=typed.replace('; ', '\n') + '\n')[0].splitlines()
+
+    def test_symbols_in_each_tool(self) -> None:
+        file, run, words = self.monitor()
+        source = file.replace('.hex', '.asm')
+        self.assertEqual(self.tool('trace', *words, '--to', '2000', file, run)[0], self.tool('trace', '--to', '2000', source, run)[0])
+        for kind in ('--profile', '--coverage', '--listing'):
+            self.assertEqual(self.tool('trace', kind, *words, file, run)[0], self.tool('trace', kind, source, run)[0], kind)
+        label = next(it.split()[1] for it in self.dbg(source, run, typed='labels'))
+        self.assertEqual(self.dbg(*words, file, run, typed=f'break {label}; go; list'), self.dbg(source, run, typed=f'break {label}; go; list'))
+        page = self.file('page', f'runs = {label}\n')
+        self.assertEqual(self.tool('judge', *words, page, file, run)[0].splitlines()[-1], '1 met, 0 not')
+        self.assertIn('goes with --hex', self.tool('judge', '--symbols', 'x', page, source, run, status=2)[1])
+        self.assertIn('goes with --hex', self.tool('trace', '--symbols', 'x', source, run, status=2)[1])
+
+    def test_over_calls_repeats_and_interrupts(self) -> None:
+        files = self.program('        MOV SP,400h\n        CALL away\nback:   MOV CX,9\n        CLD\n        REP LODSB\nthen:   INT3\nlast:   HLT\n'
+                             'away:   PUSH AX\n        CALL more\nmid:    POP AX\n        RET\nmore:   RET\nthree:  IRET\nENDS\nSEGMENT VECTORS AT 0\n        ORG 12\n        DW three,SEG three')
+        told = self.dbg(*files, typed='until away; finish; next; next; next; next; where; step; next')
+        places = [it.split()[2] if 'clock' in it else it for it in told]
+        self.assertEqual([it.split('F000:')[-1].split()[1] for it in told[:6]], ['away', 'back', 'back+3', 'back+4', 'then', 'last'], places)
+        told = self.dbg(*files, typed='until away; break mid; next; next; until more; finish; stops; until nowhere')
+        self.assertEqual(told[0].split()[3], 'away')
+        self.assertIn('stop 1 (break F000:0012 mid)', told[3])
+        self.assertIn('no label', told[-1])
+
+    def test_stops_are_met_on_the_way(self) -> None:
+        files = self.program('        MOV SP,400h\n        CALL away\nback:   HLT\naway:   NOP\nmid:    NOP\n        RET')
+        told = self.dbg(*files, typed='break mid; step; step; next; stops; next; until start')
+        self.assertIn('stop 1', told[3])
+        self.assertEqual(told[4], told[0])
+        self.assertIn('never there up to the end of the run', told[-1])
+
+    def test_disassembly(self) -> None:
+        files = self.program('        JMP SHORT over\n        REP MOVSB\n        DB 0Fh\nover:   LOOP over\n        DB 0FFh,0FFh\n        HLT')
+        told = self.dbg(*files, typed='u start 6; to 20; u CS:IP 1; dump CS:IP 2; u nowhere')
+        self.assertEqual([' '.join(it.split()) for it in told[:6]], [
+            'F000:0000 start EB03 JMP SHORT 00005h', 'F000:0002 start+2 F3A4 REP MOVSB', 'F000:0004 start+4 0F no instruction of the 8086',
+            'F000:0005 over E2FE LOOP 00005h', 'F000:0007 over+2 FF no instruction of the 8086', 'F000:0008 over+3 FFF4 PUSH SP'])
+        self.assertIn('over', told[7])
+        self.assertIn('E2 FE', told[8])
+
+
+if __name__ == '__main__':
+    unittest.main()
