@@ -100,7 +100,7 @@ class Pages(ToolCase):
         """Runs a page's commands, and returns how many there were."""
         count = 0
         for command, typed, printed in (it for block in blocks(page) for it in commands(block)):
-            if not command.startswith(('tools/', './pcboard run', './pcboard debug')):
+            if not command.startswith(('tools/', './pcboard run', './pcboard debug')) or command.startswith('tools/moments'):  # which takes too long: test_moments has some of them
                 continue
             if 'mine.asm' in command and '"ram"' in printed:
                 self.file('mine.asm', MINE.replace('0xB000', '0B000h'))
@@ -135,9 +135,9 @@ class Pages(ToolCase):
         with open(f'{TOP}/docs/sweeps.md', encoding='utf-8') as file:
             plain = [it for it in re.findall(r'^```\n(.*?)^```', file.read(), re.M | re.S)]
         for block in plain:
-            if block.startswith(('mkdir', 'ls')) and 'parallel' not in block:
+            if block.startswith('examples/sweep/'):
                 self.assertEqual(self.shell(block), '', block)
-        self.assertEqual(self.check('docs/sweeps.md'), 3)
+        self.assertEqual(self.check('docs/sweeps.md'), 1)
 
 
 if __name__ == '__main__':

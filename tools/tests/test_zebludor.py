@@ -87,6 +87,21 @@ class Runs(ToolCase):
         self.assertEqual(zebludor.listing(read(source)), self.pcboard('asm', '--list', source).stdout)
         self.assertEqual(zebludor.run(text, is_hex=True, budget=900), zebludor.run(read(source), budget=900))
 
+    def test_the_page(self) -> None:
+        """The recipes of docs/python.md print what they should; those of the chips are c/benches/chips.py's."""
+        blocks = re.findall(r'^```python\n(.*?)^```', read(f'{TOP}/docs/python.md'), re.M | re.S)
+        self.assertEqual(len(blocks), 4)
+        tests = 'class mark:\n    def parametrize(names, rows):\n        return lambda it: [it(*row) for row in rows]\n'
+        self.file('pytest.py', tests)
+        os.symlink(f'{TOP}/examples', f'{self.room}/examples')
+        self.file('it.py', '\n'.join(blocks[:3]))
+        from toolbox import program
+        environment = os.environ | {'PYTHONPATH': f'{self.room}:{TOP}/python', 'PCBOARD': program.path(), 'PYTHONDONTWRITEBYTECODE': '1'}
+        done = subprocess.run([sys.executable, 'it.py'], env=environment, capture_output=True, text=True, cwd=self.room, check=False)
+        told = done.stdout.splitlines()
+        self.assertEqual((done.stderr, told[:3], len(told)), ('', ['H halted 61504', '1 2138', 'MOV AH,007h'], 14))
+        self.assertEqual((told[3], told[13]), ('1000 tktttKttttt', '2000 ttktttKtttt'))
+
     def test_a_session_forth_and_back(self) -> None:
         """That of docs/DEBUGGER.md."""
         with Session(read(example('ticks')[0])) as session:
