@@ -25,8 +25,8 @@ returns-in_ok-report-in-Run-clause-printed g c =
     (on_ok_weaker c.print_report-in-Run.result (printed_run (files c.in-Run.file.now) (files c.in-Run.run'.now) old new c.in-Run.hex
     (string_bytes c.in_ok-report-in-Run.report.text) c.in_ok-report-in-Run.ensures.report) c.print_report-in-Run.ensures.printed)
 
-pub returns-in_ok-board-clause-withheld : goal.returns-in_ok-board-clause-withheld
-returns-in_ok-board-clause-withheld g c =
+pub returns-in_ok-board-in-Debug-clause-withheld : goal.returns-in_ok-board-in-Debug-clause-withheld
+returns-in_ok-board-in-Debug-clause-withheld g c =
     let files = g.F.Opener.file_bytes c.args.files.now in
     let input = g.I.ByteInput.remaining c.args.input.now in
     let old = g.O.Write.contents c.args.out.now in
@@ -35,8 +35,8 @@ returns-in_ok-board-clause-withheld g c =
     (replies_withheld c.print_session.result (files c.in-Debug.file.now) (files c.in-Debug.run'.now) input old new c.in-Debug.hex c.in_ok-board.board
     c.in_ok-board.ensures.board c.print_session.ensures.cut)
 
-pub returns-in_ok-board-clause-printed : goal.returns-in_ok-board-clause-printed
-returns-in_ok-board-clause-printed g c =
+pub returns-in_ok-board-in-Debug-clause-printed : goal.returns-in_ok-board-in-Debug-clause-printed
+returns-in_ok-board-in-Debug-clause-printed g c =
     let files = g.F.Opener.file_bytes c.args.files.now in
     let input = g.I.ByteInput.remaining c.args.input.now in
     let old = g.O.Write.contents c.args.out.now in
