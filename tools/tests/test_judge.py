@@ -154,7 +154,7 @@ class Runs(ToolCase):
         for words in (['--class'], []):
             with subprocess.Popen([sys.executable, '-S', f'{TOOLS}/judge', *words, page, endless], stdout=subprocess.PIPE, stderr=subprocess.PIPE,
                                   text=True, start_new_session=True) as process:
-                time.sleep(0.7)
+                time.sleep(1.3)  # so that it runs, on a busy machine too, and doesn't tell yet how long
                 process.send_signal(signal.SIGINT)
                 _, err = process.communicate(timeout=10)
                 self.assertEqual((process.returncode, err), (130, ''))

@@ -200,6 +200,8 @@ class Stored(Repository):
 
     def test_the_tools_take_the_same(self) -> None:
         shutil.copy(f'{TOP}/tools/toolbox/program.py', f'{self.top}/tools/toolbox')
+        os.mkdir(f'{self.top}/python')
+        shutil.copy(f'{TOP}/python/zebludor.py', f'{self.top}/python')
         ask = ['/usr/bin/env', 'python3', '-B', '-c', f'import sys; sys.path.insert(0, "{self.top}/tools"); from toolbox import program; print(program.path())']
         self.assertIn('no program is built here; a first run of ./pcboard builds one', self.start(*ask).stderr)
         self.store()
