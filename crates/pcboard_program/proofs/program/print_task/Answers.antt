@@ -32,8 +32,8 @@ returns-in_ok-board-in-Debug-clause-withheld g c =
     let old = g.O.Write.contents c.args.out.now in
     let new = g.O.Write.contents c.print_session.new.out in
     subst (λ task. IfErr c.print_session.result (WhereRefused (new ≡ old ⊎ PrintsReplies task files input old new))) (sym c.in-Debug.is)
-    (replies_withheld c.print_session.result (files c.in-Debug.file.now) (files c.in-Debug.run'.now) input old new c.in-Debug.hex c.in_ok-board.board
-    c.in_ok-board.ensures.board c.print_session.ensures.cut)
+    (replies_withheld c.print_session.result (files c.in-Debug.file.now) (files c.in-Debug.run'.now) input old new c.in-Debug.hex c.in_ok-board-in-Debug.board
+    c.in_ok-board-in-Debug.ensures.board c.print_session.ensures.cut)
 
 pub returns-in_ok-board-in-Debug-clause-printed : goal.returns-in_ok-board-in-Debug-clause-printed
 returns-in_ok-board-in-Debug-clause-printed g c =
@@ -42,5 +42,5 @@ returns-in_ok-board-in-Debug-clause-printed g c =
     let old = g.O.Write.contents c.args.out.now in
     let new = g.O.Write.contents c.print_session.new.out in
     subst (λ task. OnOk c.print_session.result (PrintsTask task files input old new)) (sym c.in-Debug.is)
-    (on_ok_weaker c.print_session.result (printed_session (files c.in-Debug.file.now) (files c.in-Debug.run'.now) input old new c.in-Debug.hex c.in_ok-board.board
-    c.in_ok-board.ensures.board) c.print_session.ensures.transcript)
+    (on_ok_weaker c.print_session.result (printed_session (files c.in-Debug.file.now) (files c.in-Debug.run'.now) input old new c.in-Debug.hex c.in_ok-board-in-Debug.board
+    c.in_ok-board-in-Debug.ensures.board) c.print_session.ensures.transcript)
