@@ -151,7 +151,7 @@ class Runs(ToolCase):
                 os.killpg(process.pid, signal.SIGINT)
                 out, err = process.communicate(timeout=60)
             self.assertEqual(process.returncode, 130, err)
-            self.assertRegex(err, r'^trace: ended at clock [1-9]\d* of 274877906944; .*' + keeps)
+            self.assertRegex(err, r'^trace: ended at clock \d+ of 274877906944; .*' + keeps)
             self.assertEqual(err.count('\n'), 1)
             if words == ['--profile']:
                 self.assertIn('INC AX', out)
