@@ -5,7 +5,6 @@ import base64
 import os
 import queue
 import re
-import shutil
 import subprocess
 import sys
 from typing import Any, Callable
@@ -16,7 +15,7 @@ from toolbox.dap_values import Disassembly, Expression, is_code
 from toolbox.dap_wire import Broken, Read
 from toolbox.listing import Listing, listing_of, physical
 from toolbox.places import far_of
-from toolbox.program import TOP, Files
+from toolbox.program import TOP, Files, copied
 from toolbox.runfile import DEFAULTS, budget_of, text_of
 from toolbox.scancodes import stamped, strokes_of
 
@@ -186,10 +185,7 @@ class Adapter:
         is_hex = field(given, 'hex', bool, self.program.lower().endswith('.hex'))
         self.is_entry = field(given, 'stopOnEntry', bool, False)
         run_file = self.run_file(given)
-        try:
-            files = Files(shutil.copyfile(self.program, f'{self.room}/file'), shutil.copyfile(run_file, f'{self.room}/run'), is_hex)
-        except OSError as error:
-            raise Sorry(f"{error.filename} can't be read: {error.strerror}") from None
+        files = copied(Files(self.program, run_file, is_hex), self.room)
         try:
             budget, listing = budget_of(files), listing_of(files)
             if symbols := field(given, 'symbols', str, ''):

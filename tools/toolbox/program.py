@@ -1,7 +1,8 @@
 """The program itself: where it stands, runs of it, and sessions of `debug` on a pipe."""
 from __future__ import annotations
 
-from dataclasses import dataclass
+import shutil
+from dataclasses import dataclass, replace
 from typing import NoReturn
 
 import zebludor
@@ -9,7 +10,7 @@ from zebludor import LAST_CLOCK, TOP, Ran, Unfit
 
 from toolbox.command import Sorry
 
-__all__ = ['CLOCKS_OF_A_TRAIL', 'LAST_CLOCK', 'TOP', 'Files', 'Ran', 'Session', 'answer_of', 'path', 'refusal', 'run']
+__all__ = ['CLOCKS_OF_A_TRAIL', 'LAST_CLOCK', 'TOP', 'Files', 'Ran', 'Session', 'answer_of', 'copied', 'path', 'refusal', 'run']
 # An instruction takes two clocks or more, so no more than 31 begin in so many clocks, and the trail of 32 has them all.
 CLOCKS_OF_A_TRAIL = 60
 
@@ -39,6 +40,14 @@ class Files:
     def words(self, task: str) -> list[str]:
         """The command line of a task on these files. `--` lets a name begin with a hyphen."""
         return [task, *(['--hex'] if self.is_hex else []), '--', self.file, self.run_file]
+
+
+def copied(files: Files, room: str) -> Files:
+    """Copies of the files in a folder: a session that is begun anew is of the same program, whatever is edited meanwhile."""
+    try:
+        return replace(files, file=shutil.copyfile(files.file, f'{room}/file'), run_file=shutil.copyfile(files.run_file, f'{room}/run'))
+    except OSError as error:
+        raise Sorry(f"{error.filename or files.file} can't be read: {error.strerror or error}") from None
 
 
 def answer_of(words: list[str]) -> str:
