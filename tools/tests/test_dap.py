@@ -17,9 +17,10 @@ from typing import Any
 
 from tests.support import TOOLS, ToolCase, example
 
-from toolbox.dap_board import ends_with_call, is_repeated, operation_of
+from toolbox.dap_board import ends_with_call
 from toolbox.dap_values import number_in
 from toolbox.dap_wire import Broken, Reader
+from toolbox.places import is_repeated, operation_of
 from toolbox.program import Files, Session, path
 from toolbox.report import registers_of
 

@@ -9,11 +9,11 @@ import subprocess
 import sys
 from typing import Any, Callable
 
-from toolbox.command import Sorry, read_text
+from toolbox.command import Sorry
 from toolbox.dap_board import FLAG_BITS, MOST_BREAKPOINTS, Far, Gone, Machine, Paused
 from toolbox.dap_values import Disassembly, Expression, is_code
 from toolbox.dap_wire import Broken, Read
-from toolbox.listing import Listing, listing_of, physical
+from toolbox.listing import labels_alone, listing_of, physical
 from toolbox.places import far_of
 from toolbox.program import TOP, Files, copied
 from toolbox.runfile import DEFAULTS, budget_of, text_of
@@ -37,19 +37,6 @@ def field(fields: Fields, name: str, kind: type, default: Any = None) -> Any:
         return default
     if not isinstance(found, kind) or isinstance(found, bool) and kind is int:
         raise Sorry(f'the field "{name}" is missing, or no {kind.__name__}')
-    return found
-
-
-def symbols_of(path: str) -> dict[str, Far]:
-    """Labels of a file with lines `SSSS:OOOO NAME`, or as nm prints them, `ADDRESS TYPE NAME`."""
-    found: dict[str, Far] = {}
-    for line in read_text(path).splitlines():
-        if far := re.fullmatch(r'([0-9A-Fa-f]{1,4}):([0-9A-Fa-f]{1,4}) (\S+)\s*', line):
-            found[far[3]] = int(far[1], 16), int(far[2], 16)
-        elif plain := re.fullmatch(r'([0-9A-Fa-f]+) [A-Za-z] (\S+)\s*', line):
-            address = int(plain[1], 16)
-            if address < 1 << 20:
-                found[plain[2]] = address >> 16 << 12, address & 0xFFFF
     return found
 
 
@@ -185,11 +172,11 @@ class Adapter:
         is_hex = field(given, 'hex', bool, self.program.lower().endswith('.hex'))
         self.is_entry = field(given, 'stopOnEntry', bool, False)
         run_file = self.run_file(given)
-        files = copied(Files(self.program, run_file, is_hex), self.room)
+        symbols = field(given, 'symbols', str, '')
+        files = copied(Files(self.program, run_file, is_hex, os.path.realpath(symbols) if symbols else None), self.room)
         try:
             budget, listing = budget_of(files), listing_of(files)
-            if symbols := field(given, 'symbols', str, ''):
-                listing = Listing(listing.lines, listing.at, listing.labels | symbols_of(os.path.realpath(symbols)))
+            listing = labels_alone(listing) if is_hex else listing
             self.machine = Machine(files, listing, budget, self.poll)
         except Sorry as sorry:
             raise self.explained(run_file, is_hex, sorry) from None

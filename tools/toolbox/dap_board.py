@@ -7,12 +7,11 @@ from typing import Callable
 
 from toolbox.command import Sorry
 from toolbox.listing import Listing, physical
-from toolbox.places import Event, event_of
+from toolbox.places import Event, event_of, is_repeated, operation_of
 from toolbox.program import CLOCKS_OF_A_TRAIL, Files, Session
 from toolbox.report import registers_of
 
 Far = tuple[int, int]
-PREFIXES = ('ES:', 'CS:', 'SS:', 'DS:', 'LOCK', 'REP', 'REPNE')
 MOST_STOPS, MOST_BREAKPOINTS = 16, 15  # one is left for the place behind a call
 MOST_PASSED, SHORT_WALK = 64, 500
 FIRST_PIECE, LONG_PIECE, SHORT_PIECE = 100_000, 0.2, 0.05
@@ -25,16 +24,6 @@ class Gone(Sorry):
 
 class Paused(Exception):
     """The run is to end where it is."""
-
-
-def operation_of(text: str) -> str:
-    """An instruction's mnemonic, without its prefixes."""
-    return next((it for it in text.split() if it not in PREFIXES), '')
-
-
-def is_repeated(text: str) -> bool:
-    """Whether an instruction repeats itself."""
-    return bool({'REP', 'REPNE'} & set(text.split()[:-1]))
 
 
 def ends_with_call(octets: bytes) -> bool:

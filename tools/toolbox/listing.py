@@ -4,7 +4,7 @@ from __future__ import annotations
 import os
 import re
 import tempfile
-from dataclasses import dataclass, field
+from dataclasses import dataclass, field, replace
 
 from toolbox.command import Sorry, read_text
 from toolbox.program import Files, answer_of, run
@@ -109,3 +109,8 @@ def listing_of(files: Files) -> Listing:
         with open(files.file, encoding='utf-8', errors='surrogateescape', newline='') as file:
             found.labels.update(probed(file.read(), names))
     return found
+
+
+def labels_alone(listing: Listing) -> Listing:
+    """A listing of Intel HEX without the lines that its symbols' file has: in which source they are that doesn't tell."""
+    return replace(listing, lines=[], at={})

@@ -8,7 +8,18 @@ from zebludor import Event, event_of
 from toolbox.command import Sorry
 from toolbox.listing import Line, Listing, code_of, physical
 
-__all__ = ['Event', 'address_of', 'event_of', 'event_text', 'far_of', 'line_at', 'number_of', 'of_line', 'told_of']
+__all__ = ['Event', 'address_of', 'event_of', 'event_text', 'far_of', 'is_repeated', 'line_at', 'number_of', 'of_line', 'operation_of', 'told_of']
+PREFIXES = ('ES:', 'CS:', 'SS:', 'DS:', 'LOCK', 'REP', 'REPNE')
+
+
+def operation_of(text: str) -> str:
+    """An instruction's mnemonic, without its prefixes."""
+    return next((it for it in text.split() if it not in PREFIXES), '')
+
+
+def is_repeated(text: str) -> bool:
+    """Whether an instruction repeats itself."""
+    return bool({'REP', 'REPNE'} & set(text.split()[:-1]))
 
 
 def line_at(listing: Listing, event: Event) -> Line | None:

@@ -1,5 +1,6 @@
 """Labels and source lines of a program given as Intel HEX, from what its assembler wrote beside it: a listing or a map file of
-NASM's, or the listing of `pcboard asm --list`. Each line is held against the program's bytes."""
+NASM's, or the listing of `pcboard asm --list`; or labels alone, as nm or ld86 prints them, or a person writes them. Each line is held
+against the program's bytes."""
 from __future__ import annotations
 
 import re
@@ -16,6 +17,9 @@ NASM_ROW = re.compile(r' *(\d+) ([0-9A-F]{8}) ([0-9A-F\[\]()]*)(?:<rep ([0-9A-F]
 NASM_TEXT = 40  # the column of a line's text
 NASM_SYMBOL = re.compile(r' *([0-9A-F]+) +([0-9A-F]+)  (\S+)$')
 NASM_LABEL = re.compile(r'([A-Za-z_.?@][\w.$#@~?]*)(?:\s*:|\s+(?:d[bwdq]|res[bwdq]|times)\b)', re.I)
+
+FAR_LABEL = re.compile(r'([0-9A-Fa-f]{1,4}):([0-9A-Fa-f]{1,4}) +(\S+)')
+FLAT_LABEL = re.compile(r'(?P<nm>[0-9A-Fa-f]+) [A-Za-z] (?P<of_nm>\S+)|\S+ +(?P<of_ld86>\S+) +[0-9A-Fa-f] +(?P<ld86>[0-9A-Fa-f]{8})( .*)?')
 
 
 def image_of(text: str) -> dict[int, int]:
@@ -45,7 +49,10 @@ def symbols_of(given: str, image: dict[int, int]) -> Listing:
     elif told and all(re.match(OURS, it) for it in told):
         found = of_ours(rows)
     else:
-        raise Sorry(f'{path} is no NASM listing or map file (nasm -l FILE, [map all FILE]), and no listing of pcboard asm --list')
+        found = of_labels(told)
+    if not found.lines and not found.labels:
+        raise Sorry(f'{path} is no NASM listing or map file (nasm -l FILE, [map all FILE]), no listing of pcboard asm --list, '
+                    'and has no labels as nm or ld86 -M prints them, or in lines SEGMENT:OFFSET NAME')
     check(path, found, image)
     return finished(found, image)
 
@@ -100,6 +107,20 @@ def of_a_map(rows: list[str], far: tuple[int, int]) -> Listing:
     found = Listing()
     for symbol in filter(None, map(NASM_SYMBOL.match, rows)):
         found.labels[symbol[3]] = (far[0], int(symbol[2], 16) % 0x10000)
+    return found
+
+
+def of_labels(rows: list[str]) -> Listing:
+    """Lines `SEGMENT:OFFSET NAME`; nm's, `ADDRESS TYPE NAME`; and those of ld86 by -M, `MODULE NAME SEGMENT ADDRESS FLAGS`. Their
+    addresses are physical ones, taken by the multiple of 1000h below."""
+    found = Listing()
+    for row in map(str.strip, rows):
+        if far := FAR_LABEL.fullmatch(row):
+            found.labels[far[3]] = int(far[1], 16), int(far[2], 16)
+        elif flat := FLAT_LABEL.fullmatch(row):
+            address = int(flat['nm'] or flat['ld86'], 16)
+            if address < MEMORY:
+                found.labels[flat['of_nm'] or flat['of_ld86']] = address >> 16 << 12, address & 0xFFFF
     return found
 
 
