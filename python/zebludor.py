@@ -316,15 +316,23 @@ class Dialogue:
             self._ended()
         return line.decode('ascii', 'replace').rstrip('\n')
 
-    def one(self, command: str) -> str:
-        """The answer of a command that has a single line."""
+    def begin(self, command: str) -> None:
+        """Gives a command that has a single line for an answer, which is `rest`."""
         self._send(command + '\n')
+
+    def rest(self) -> str:
+        """The answer to what was begun."""
         line = self._line()
         told = re.search(r'\bclock (\d+)$', line)
         if told:
             self.clock = int(told[1])
         self.is_idle = True
         return line
+
+    def one(self, command: str) -> str:
+        """The answer of a command that has a single line."""
+        self.begin(command)
+        return self.rest()
 
     def many(self, command: str) -> list[str]:
         """The answer of any other command. `go 0` behind it changes nothing, and its answer marks the end."""

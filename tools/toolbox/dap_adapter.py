@@ -10,7 +10,7 @@ import sys
 from typing import Any, Callable
 
 from toolbox.command import Sorry
-from toolbox.dap_board import FLAG_BITS, MOST_BREAKPOINTS, Far, Gone, Machine, Paused
+from toolbox.dap_board import FLAG_BITS, MOST_BREAKPOINTS, Far, Gone, Left, Machine, Paused
 from toolbox.dap_values import Disassembly, Expression, is_code
 from toolbox.dap_wire import Broken, Read
 from toolbox.listing import labels_alone, listing_of, physical
@@ -119,7 +119,9 @@ class Adapter:
         """Between the pieces of a run: answers what has come meanwhile."""
         while not self.messages.empty():
             self.take(self.messages.get())
-        if self.is_over or self.is_paused:
+        if self.is_over:
+            raise Left
+        if self.is_paused:
             raise Paused
 
     def move(self, what: Callable[[], tuple[str, str]]) -> None:

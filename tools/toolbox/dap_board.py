@@ -10,6 +10,7 @@ from toolbox.listing import Listing, physical
 from toolbox.places import Event, event_of, is_repeated, operation_of
 from toolbox.program import CLOCKS_OF_A_TRAIL, Files, Session
 from toolbox.report import registers_of
+from toolbox.way_back import last_stop
 
 Far = tuple[int, int]
 MOST_STOPS, MOST_BREAKPOINTS = 16, 15  # one is left for the place behind a call
@@ -26,6 +27,10 @@ class Paused(Exception):
     """The run is to end where it is."""
 
 
+class Left(Paused):
+    """The client has left."""
+
+
 def ends_with_call(octets: bytes) -> bool:
     """Whether four bytes end with a near CALL: E8 and a word, or FF with 2 in reg and the displacement that mod asks for."""
     if octets[-3:-2] == b'\xE8':
@@ -39,8 +44,15 @@ def ends_with_call(octets: bytes) -> bool:
     return False
 
 
+def refused(answer: str) -> str:
+    """An answer that isn't a refusal, but for one that is expected."""
+    if answer.startswith('fault') and answer != 'fault 54 BeforeStart':
+        raise Sorry(f'the program refuses: {answer}')
+    return answer
+
+
 class Machine:
-    """The board at a clock. `poll` is called between the pieces of a run, and raises Paused to end it."""
+    """The board at a clock. `poll` is called between the pieces of a run, and raises Paused or Left to end it."""
 
     def __init__(self, files: Files, listing: Listing, budget: int, poll: Callable[[], None]) -> None:
         self.files, self.listing, self.budget, self.poll = files, listing, budget, poll
@@ -68,12 +80,12 @@ class Machine:
             answer = self._session.one(command)
         except (Sorry, OSError) as error:
             raise Gone(f"the board's process has ended: {error}") from None
-        if answer.startswith('fault') and answer != 'fault 54 BeforeStart':
-            raise Sorry(f'the program refuses: {answer}')
-        return answer
+        return refused(answer)
 
     def many(self, command: str) -> list[str]:
-        """The lines that answer a command."""
+        """The lines that answer a command. On a long way back the session answers nothing else."""
+        if not self._session.is_idle:
+            raise Sorry('the board goes back; pause first')
         try:
             return self._session.many(command)
         except (Sorry, OSError) as error:
@@ -212,7 +224,7 @@ class Machine:
         passed = 0
         while wanted and self.clock:
             self.poll()
-            words = self.one('back stop').split()
+            words = self._last_stop().split()
             if words[0] == 'fault':
                 break
             met = self._stops[int(words[1]) - 1]
@@ -226,6 +238,26 @@ class Machine:
                 self._want(wanted)
         self.go_to(0)
         return None
+
+    def _last_stop(self) -> str:
+        """The answer to `back stop`. Where it is ended before, the board stands where it was."""
+        def is_ended() -> bool:
+            try:
+                self.poll()
+            except Left:
+                raise
+            except Paused:
+                return True
+            return False
+
+        try:
+            self._session, answer = last_stop(self._session, self.files, is_ended)
+        except (Sorry, OSError) as error:
+            raise Gone(f"the board's process has ended: {error}") from None
+        if not answer:
+            self._stops = []
+            raise Paused
+        return refused(answer)
 
     def step(self) -> Event | None:
         """Makes one instruction, iteration or entry, and returns what began. A halted processor goes on to its interrupt."""

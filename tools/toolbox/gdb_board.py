@@ -10,6 +10,7 @@ from toolbox.listing import Listing, physical
 from toolbox.places import Event, event_of
 from toolbox.program import LAST_CLOCK, Files, Session
 from toolbox.report import registers_of
+from toolbox.way_back import last_stop
 
 MOST_STOPS = 16
 FIRST_PIECE = 1 << 16
@@ -88,10 +89,13 @@ class Board:
         """Bytes of memory."""
         return self._session.dump(address, count)
 
+    def trail(self) -> list[Event]:
+        """The last instructions' starts, and interrupts."""
+        return [event_of(it) for it in self.many('trail')]
+
     def last_event(self) -> Event | None:
-        """The last instruction's start, or interrupt."""
-        trail = self.many('trail')
-        return event_of(trail[-1]) if trail else None
+        """The last of them."""
+        return next(reversed(self.trail()), None)
 
     def begin_anew(self, breaks: list[str]) -> None:
         """A new session at the present clock, with these breakpoints besides the stops of `monitor`. They are added there, so that
@@ -160,7 +164,9 @@ class Board:
         self.want(breaks)
         passed = 0
         while True:
-            answer = self.one('back stop')
+            answer = self._last_stop()
+            if not answer:
+                return Met('interrupt')
             if answer == 'fault 54 BeforeStart':
                 self.go_to(0)
                 return Met('begin')
@@ -172,6 +178,16 @@ class Board:
             passed += 1
             if passed == PASSED_OVER:
                 self.begin_anew(breaks)
+
+    def _last_stop(self) -> str:
+        """The answer to `back stop`, or none where an interrupt has ended it."""
+        self._registers = {}
+        self._session, answer = last_stop(self._session, self.files, self.is_interrupted)
+        if not answer:
+            self._breaks = []
+            for stop in self.named:
+                refused(self._session.stop(stop))
+        return answer
 
     def go_to(self, clock: int) -> None:
         """Goes to a clock, past all stops."""

@@ -1,6 +1,7 @@
 """The program itself: where it stands, runs of it, and sessions of `debug` on a pipe."""
 from __future__ import annotations
 
+import select
 import shutil
 from dataclasses import dataclass, replace
 from typing import NoReturn
@@ -80,6 +81,10 @@ class Session(zebludor.Dialogue):
     def refused(self, status: int, err: str) -> NoReturn:
         """A sentence for what the program refuses."""
         raise Sorry(refusal(status, err))
+
+    def is_answered(self, seconds: float) -> bool:
+        """Whether the answer, or the end, of what was begun comes within so many seconds."""
+        return bool(select.select([self._out], [], [], seconds)[0])
 
     def stop(self, condition: str) -> str:
         """Adds a stop, and returns its answer."""

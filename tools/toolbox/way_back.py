@@ -1,0 +1,68 @@
+"""A way back to a stop that can be ended soon. The session that is on it can't be but with its process: so while a long one is under
+way, a spare session goes to the same clock, and takes its place."""
+from __future__ import annotations
+
+import time
+from typing import Callable, TypeVar
+
+from toolbox.program import Files, Session
+
+SHORT_WAIT, POLLED_EACH = 0.5, 0.1  # seconds of a way back
+GIVEN_STILL = 1  # seconds in which a spare session may still come to the clock
+FIRST_PIECE = 1 << 20
+LEAST_SECONDS, MOST_SECONDS = 0.15, 0.5  # of a piece of the spare session's run
+S = TypeVar('S', bound=Session)
+
+
+class Spare:
+    """A session that goes to a clock by pieces, beside other work."""
+
+    def __init__(self, session: Session, clock: int) -> None:
+        self.session, self.clock, self._piece = session, clock, FIRST_PIECE
+        self._begin()
+
+    def _begin(self) -> None:
+        """Begins the next piece."""
+        self._begun = time.monotonic()
+        self.session.begin(f'go {min(self._piece, self.clock - self.session.clock)}')
+
+    def has_come(self, seconds: float) -> bool:
+        """Whether it stands there. Else it goes on for so many seconds at most, with the next piece where one is over."""
+        if not self.session.is_idle and self.session.is_answered(seconds):
+            self.session.rest()
+            took = time.monotonic() - self._begun
+            self._piece = self._piece * 2 if took < LEAST_SECONDS else max(1, self._piece // 2) if took > MOST_SECONDS else self._piece
+            if self.session.clock < self.clock:
+                self._begin()
+        return self.session.clock == self.clock
+
+    def end(self, is_ended: Callable[[], bool]) -> None:
+        """Goes on for a short time, and stops where it has come to by then."""
+        last = time.monotonic() + GIVEN_STILL
+        while not self.has_come(POLLED_EACH) and time.monotonic() < last:
+            is_ended()
+        if not self.session.is_idle:
+            self.session.rest()
+
+
+def last_stop(session: S, files: Files, is_ended: Callable[[], bool]) -> tuple[S, str]:
+    """The answer to `back stop`, with its session. Where it is ended before, none, with another session, without stops: at the same
+    clock, or on the way there where it is far."""
+    here = session.clock
+    session.begin('back stop')
+    if session.is_answered(SHORT_WAIT):
+        return session, session.rest()
+    other = type(session)(files)
+    try:
+        spare = Spare(other, here)
+        while not session.is_answered(POLLED_EACH):
+            spare.has_come(0)
+            if is_ended():
+                session.close()
+                spare.end(is_ended)
+                return other, ''
+        other.close()
+        return session, session.rest()
+    except BaseException:
+        other.close()
+        raise
