@@ -10,7 +10,8 @@ from typing import Callable, Iterator
 
 HINT_STATUS = 2
 SYMBOLS = ("with --hex: a NASM listing or map file, or a listing of pcboard asm --list, for labels and lines; FILE@SEGMENT or "
-           "FILE@SEGMENT:OFFSET, where NASM's first byte isn't at F000:0000")
+           "FILE@SEGMENT:OFFSET, where NASM's first byte isn't at F000:0000; or labels as nm or ld86 -M prints them, or lines "
+           "SEGMENT:OFFSET NAME")
 
 
 class Sorry(Exception):

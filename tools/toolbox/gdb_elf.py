@@ -1,5 +1,5 @@
 """A listing's labels and lines as an ELF file with DWARF 3, by which gdb knows them: addresses are physical ones, and the code
-is the board's (the file has none). Made by hand, so that no assembler has to be there."""
+is the board's (the file has none). Made by hand, so that no assembler has to be there. How a caller is found stands there too."""
 from __future__ import annotations
 
 import os
@@ -11,6 +11,10 @@ from toolbox.listing import Line, Listing, physical
 MEMORY = 1 << 20
 MACHINE, EXECUTABLE, PROGBITS, SYMTAB, STRTAB, NOBITS = 3, 2, 1, 2, 3, 8
 ASSEMBLER = 0x8001  # DW_LANG_Mips_Assembler, the language of all assemblers in DWARF 3
+# DWARF's numbers of registers on the i386, and what its expressions and rules are made of.
+ESP, EIP, FS, GS = 4, 8, 44, 45
+ZERO, PLUS, BREG, BREGX = b'\x30', b'\x22', 0x70, b'\x92'
+SAME, CFA_IS, VALUE_IS = b'\x08', b'\x0F', b'\x16'
 
 
 def uleb(value: int) -> bytes:
@@ -84,6 +88,24 @@ def unit_of(path: str) -> tuple[bytes, bytes]:
     return abbreviation, counted(struct.pack('<HIB', 3, 0, 4) + unit)
 
 
+def frames_of() -> bytes:
+    """`.debug_frame`: one rule for all of memory. Where a CALL, INT or interrupt has just led to, FS tells how many bytes it pushed
+    and GS to where it returns (see `Stub`); its frame is above them. Elsewhere FS is 0, and the frame above is the same one, which
+    gdb takes for the last."""
+    def register(number: int) -> bytes:
+        return BREGX + uleb(number) + b'\x00'
+
+    def expression(*parts: bytes) -> bytes:
+        whole = b''.join(parts)
+        return uleb(len(whole)) + whole
+
+    above = CFA_IS + expression(bytes([BREG + ESP, 0]), register(FS), PLUS)
+    back = VALUE_IS + uleb(EIP) + expression(register(GS))
+    rules = above + back + VALUE_IS + uleb(FS) + expression(ZERO) + SAME + uleb(GS)
+    common = struct.pack('<IB', 0xFFFFFFFF, 3) + b'\x00' + uleb(1) + sleb(1) + uleb(EIP) + rules
+    return counted(common) + counted(struct.pack('<III', 0, 0, MEMORY))
+
+
 @dataclass
 class Table:
     """Names, each with its place."""
@@ -98,16 +120,39 @@ class Table:
         return self.places[name]
 
 
+def is_call(octets: bytes) -> bool:
+    """Whether bytes are a CALL or INT, behind prefixes of a segment."""
+    plain = octets.lstrip(b'\x26\x2E\x36\x3E')
+    lengths = {0xE8: 3, 0x9A: 5, 0xCC: 1, 0xCD: 2, 0xCE: 1}
+    if plain[:1] == b'\xFF' and len(plain) > 1:
+        return plain[1] >> 3 & 7 in (2, 3)
+    return bool(plain) and lengths.get(plain[0]) == len(plain)
+
+
+def places_behind_calls(listing: Listing) -> set[int]:
+    """Where calls return to. Of Intel HEX, which doesn't tell where an instruction begins, these are the labels before which one
+    may stand."""
+    found = {address + len(line.shown) for address, line in listing.at.items() if is_call(line.shown)}
+    for first, octets in listing.parts.items():
+        for label in listing.labels.values():
+            at = physical(*label) - first
+            if any(is_call(octets[at - length:at]) for length in range(2, 6) if length <= at <= len(octets)):
+                found.add(first + at)
+    return found
+
+
 def symbols_of(listing: Listing) -> tuple[bytes, bytes]:
-    """`.symtab` and `.strtab`: each label, up to the next one or the end of its run; one behind all bytes has a size of 1, for gdb
-    would take it for all that follows."""
-    names, rows = Table(), bytes(16)
+    """`.symtab` and `.strtab`: each label, up to the next one or the end of its run or part; one behind all bytes has a size of 1,
+    for gdb would take it for all that follows. One behind a CALL has none, and the one before reaches over it: where a call returns
+    to gdb wants to find the routine that made it."""
+    names, rows, behind = Table(), bytes(16), places_behind_calls(listing)
     places = {name: physical(*at) for name, at in listing.labels.items()}
-    runs = runs_of(listing)
-    ends = sorted({*places.values(), *map(end_of, runs)})
+    parts = [(run[0][0], end_of(run)) for run in runs_of(listing)] + [(it, it + len(octets)) for it, octets in listing.parts.items()]
+    ends = sorted({*places.values(), *(end for _, end in parts)} - behind)
     for name, address in sorted(places.items(), key=lambda it: it[1]):
-        is_in_run = any(run[0][0] <= address < end_of(run) for run in runs)
-        end = next(it for it in ends if it > address) if is_in_run else address + 1
+        is_in_part = any(first <= address < end for first, end in parts)
+        end = next((it for it in ends if it > address), address) if is_in_part else address + 1
+        end = address if address in behind else end
         rows += struct.pack('<IIIBBH', names.place(name), address, end - address, 0x12, 0, 1)
     return rows, names.octets
 
@@ -131,7 +176,8 @@ def elf_of(listing: Listing, path: str) -> bytes:
     symbols, names = symbols_of(listing)
     sections = [Section('.text', NOBITS, flags=6, size=MEMORY), Section('.debug_abbrev', PROGBITS, abbreviation),
                 Section('.debug_info', PROGBITS, unit), Section('.debug_line', PROGBITS, lines_of(listing, os.path.basename(path))),
-                Section('.symtab', SYMTAB, symbols, link=6, first_global=1, row=16), Section('.strtab', STRTAB, names)]
+                Section('.debug_frame', PROGBITS, frames_of()),
+                Section('.symtab', SYMTAB, symbols, link=7, first_global=1, row=16), Section('.strtab', STRTAB, names)]
     table = Table()
     rows, body = bytes(40), b''
     for section in [*sections, Section('.shstrtab', STRTAB)]:

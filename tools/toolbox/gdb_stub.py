@@ -5,6 +5,7 @@ import re
 
 from toolbox.command import Sorry
 from toolbox.gdb_board import MEMORY, MOST_STOPS, Board, Met, far_of_address
+from toolbox.gdb_frames import Frames
 from toolbox.gdb_wire import MOST_BYTES, Wire
 from toolbox.listing import Listing, physical
 
@@ -23,12 +24,14 @@ def word_of(value: int) -> str:
 
 
 class Stub:
-    """A session with gdb over a wire."""
+    """A session with gdb over a wire. The 8086 has no FS and GS. Where a CALL, INT or interrupt has just led to, they tell gdb how
+    many bytes that pushed, and to which address it returns: so `next` goes over it. Elsewhere they tell what finds no caller."""
 
     def __init__(self, wire: Wire, board: Board, listing: Listing) -> None:
         self._wire, self._board, self._listing = wire, board, listing
         self._addresses = set[int]()
         self._told = set[int]()
+        self._frames = Frames(board.dump)
         self._has_ended, self._last, self._state = False, 'S05', 'running'
         self._can_name_breaks = False
         board.is_interrupted = wire.is_interrupted
@@ -104,9 +107,11 @@ class Stub:
         return {'QStartNoAckMode': 'OK', 'qAttached': '1', 'qC': 'QC1', 'qfThreadInfo': 'm1', 'qsThreadInfo': 'l'}.get(name, '')
 
     def _registers(self) -> list[int]:
-        """The sixteen registers of `g`; FS and GS aren't there."""
+        """The sixteen registers of `g`."""
         found = self._board.registers()
-        return [physical(found[SEGMENT_OF[it]], found[it]) if it in SEGMENT_OF else found[it] for it in NAMES] + [0, 0]
+        above, place = self._frames.frame(found, self._board.trail())
+        told = [physical(found[SEGMENT_OF[it]], found[it]) if it in SEGMENT_OF else found[it] for it in NAMES]
+        return told + [above % (1 << 32), physical(*place) if place else told[NAMES.index('IP')] + 1]
 
     def _register(self, text: str) -> str:
         """A register by its number."""
@@ -140,6 +145,8 @@ class Stub:
         found: list[str] = []
         for address in sorted(self._addresses):
             segment, offset, is_known = far_of_address(self._listing, address, self._board.registers()['CS'])
+            if address in self._frames.returns:
+                (segment, offset), is_known = self._frames.returns[address], True
             found.append(f'break {segment:X}:{offset:X}')
             if not is_known and address not in self._told:
                 self._told.add(address)

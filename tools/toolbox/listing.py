@@ -29,10 +29,12 @@ class Line:
 
 @dataclass(frozen=True)
 class Listing:
-    """A source's lines, by physical address too, and its labels."""
+    """A source's lines, by physical address too, and its labels. Intel HEX has no lines, but parts of memory that it fills, by
+    where they begin."""
     lines: list[Line] = field(default_factory=list)
     at: dict[int, Line] = field(default_factory=dict)
     labels: dict[str, tuple[int, int]] = field(default_factory=dict)
+    parts: dict[int, bytes] = field(default_factory=dict)
 
     def label_before(self, segment: int, offset: int) -> str:
         """`label` or `label+N` for an address: the nearest label at or before it in the same paragraph, or nothing."""
@@ -91,11 +93,22 @@ def probed(source: str, names: list[str]) -> dict[str, tuple[int, int]]:
     return {}
 
 
+def parts_of(image: dict[int, int]) -> dict[int, bytes]:
+    """The parts of memory that these bytes fill, each as long as it goes."""
+    found, first = dict[int, bytes](), -1
+    for address, octet in sorted(image.items()):
+        if address != first + len(found.get(first, b'')):
+            first = address
+        found[first] = found.get(first, b'') + bytes([octet])
+    return found
+
+
 def listing_of(files: Files) -> Listing:
     """The listing of a source; of Intel HEX, which has no lines, that of its symbols' file, or an empty one."""
     if files.is_hex:
         from toolbox.symbols import image_of, symbols_of  # which stand on this module
-        return symbols_of(files.symbols, image_of(read_text(files.file))) if files.symbols else Listing()
+        image = image_of(read_text(files.file))
+        return replace(symbols_of(files.symbols, image) if files.symbols else Listing(), parts=parts_of(image))
     if files.symbols:
         raise Sorry(f'{files.file} is a source, which has its own labels; --symbols goes with --hex')
     rows = answer_of(['asm', '--list', '--', files.file]).split('\n')[:-1]
