@@ -1,15 +1,16 @@
-;; What an Emacs user does with dap-mode, in batch: emacs --batch -l dap_mode.el EDITORS/emacs.el SOURCE RUN LINE.
-;; Each stop is printed as `reason line clock`.
+;; What an Emacs user does with dap-mode, in batch: emacs --batch -l dap_mode.el EDITORS/emacs.el PROGRAM RUN PLACE [SYMBOLS].
+;; The breakpoint's place is a line of the source, or a label. Each stop is printed as `reason line clock place`.
 (package-initialize)
 (setq dap-auto-configure-features nil)
-(pcase-let ((`(,settings ,source ,run ,line) command-line-args-left))
+(pcase-let ((`(,settings ,source ,run ,place . ,symbols) command-line-args-left))
   (setq command-line-args-left nil dap-breakpoints-file (concat temporary-file-directory "/breakpoints") lsp-session-file (concat temporary-file-directory "/lsp"))
   (load settings nil t)
   (require 'cl-lib)
   (find-file source)
   (goto-char (point-min))
-  (forward-line (1- (string-to-number line)))
-  (dap-breakpoint-add)
+  (unless symbols
+    (forward-line (1- (string-to-number place)))
+    (dap-breakpoint-add))
   (let* ((stops nil) (session nil)
          (wait (lambda (what) (let ((until (+ (float-time) 60)))
                                 (while (and (not (funcall what)) (< (float-time) until)) (accept-process-output nil 0.01))
@@ -19,18 +20,21 @@
                  (funcall wait (lambda () stops))
                  (let* ((frame (car (gethash "stackFrames" (funcall ask "stackTrace" :threadId 1))))
                         (clock (gethash "value" (car (gethash "variables" (funcall ask "variables" :variablesReference 3))))))
-                   (princ (format "%s %s %s\n" (pop stops) (gethash "line" frame) clock))))))
+                   (princ (format "%s %s %s %s\n" (pop stops) (gethash "line" frame) clock (gethash "name" frame)))))))
     (advice-add 'dap--on-event :before
                 (lambda (_ event) (when (equal (gethash "event" event) "stopped") (push (gethash "reason" (gethash "body" event)) stops))))
-    (dap-debug (list :type "zebludor" :request "launch" :name "board" :program source :run run :stopOnEntry t))
+    (dap-debug `(:type "zebludor" :request "launch" :name "board" :program ,source :run ,run :stopOnEntry t
+                 ,@(when symbols (list :symbols (car symbols)))))
     (setq session (dap--cur-session))
     (funcall tell)
+    (when symbols
+      (funcall ask "setFunctionBreakpoints" :breakpoints (vector (list :name place))))
     (dolist (move (list (lambda () (dap-continue session 1)) (lambda () (dap-next session)) (lambda () (dap-step-in session))
                         #'zebludor-step-back #'zebludor-step-back (lambda () (dap-continue session 1)) #'zebludor-reverse-continue))
       (funcall move)
       (funcall tell))
-    (princ (format "%s\n" (gethash "result" (funcall ask "evaluate" :expression "tick" :context "watch"))))
-    (princ (format "%s\n" (gethash "data" (funcall ask "readMemory" :memoryReference "0xB0000" :count 4))))
+    (princ (format "%s\n" (gethash "result" (funcall ask "evaluate" :expression (if symbols place "tick") :context "watch"))))
+    (princ (format "%s\n" (gethash "data" (funcall ask "readMemory" :memoryReference (if symbols "_total" "0xB0000") :count 4))))
     (dap-disconnect session)
     (funcall wait (lambda () (not (process-live-p (dap--debug-session-proc session)))))
     (princ "gone\n")))

@@ -24,6 +24,15 @@ def has_dap_mode() -> bool:
     return bool(shutil.which('emacs')) and subprocess.run(asked, capture_output=True, check=False).returncode == 0
 
 
+def batch(room: str, *words: str) -> list[str]:
+    """What Emacs prints, with a home of its own."""
+    os.makedirs(f'{room}/tmp')
+    done = subprocess.run(['emacs', '--batch', *words], capture_output=True, text=True, check=False, timeout=300,
+                          env=os.environ | {'HOME': room, 'TMPDIR': f'{room}/tmp'})
+    assert done.returncode == 0, done.stderr
+    return done.stdout.splitlines()
+
+
 class Folder(ToolCase):
     """VS Code's folder."""
 
@@ -72,20 +81,12 @@ class Folder(ToolCase):
 class Editors(ToolCase):
     """The editors themselves, where they are installed."""
 
-    def batch(self, *words: str) -> list[str]:
-        """What Emacs prints, with a home of its own."""
-        os.makedirs(f'{self.room}/tmp')
-        done = subprocess.run(['emacs', '--batch', *words], capture_output=True, text=True, check=False, timeout=300,
-                              env=os.environ | {'HOME': self.room, 'TMPDIR': f'{self.room}/tmp'})
-        self.assertEqual(done.returncode, 0, done.stderr)
-        return done.stdout.splitlines()
-
     def test_dap_mode_debugs(self) -> None:
         if not has_dap_mode():
             print('not run: Emacs with dap-mode')
             return
         source, run = example('ticks')
-        told = self.batch('-l', MODE_CLIENT, f'{TOP}/editors/emacs.el', source, run, '25')
+        told = batch(self.room, '-l', MODE_CLIENT, f'{TOP}/editors/emacs.el', source, run, '25')
         reasons = [it.split()[0] for it in told[:8]]
         self.assertEqual(reasons, ['entry', 'breakpoint', 'step', 'step', 'step', 'step', 'breakpoint', 'breakpoint'])
         with Session(Files(source, run)) as session:
@@ -114,7 +115,28 @@ class Editors(ToolCase):
             return
         text = ("(progn (require 'compile) (let ((b (compilation-start \"%s/why --lines %s\"))) (while (get-buffer-process b) (accept-process-output nil 0.1))"
                 "(with-current-buffer b (compilation--ensure-parse (point-max)) (princ compilation-num-errors-found))))")
-        self.assertEqual(self.batch('--eval', text % (TOOLS, source)), ['2'])
+        self.assertEqual(batch(self.room, '--eval', text % (TOOLS, source)), ['2'])
+
+
+    def test_neovim(self) -> None:
+        """Its settings, with a stand-in for nvim-dap, and its quickfix."""
+        if not shutil.which('nvim'):
+            print('not run: Neovim')
+            return
+        source, _ = self.program(' FROB\n MOV AX,0x10')
+        os.makedirs(f'{self.room}/lua')
+        self.file('lua/dap.lua', 'return { adapters = {}, configurations = {} }')
+        script = self.file('it.lua', f"""dofile('{TOP}/editors/nvim.lua')
+            vim.cmd('edit {source}')
+            vim.bo.filetype = 'asm'
+            vim.cmd('silent make')
+            local dap, lines = require('dap'), {{}}
+            for _, it in ipairs(vim.fn.getqflist()) do table.insert(lines, it.lnum) end
+            vim.fn.writefile({{ vim.json.encode({{ dap.adapters.zebludor.command, dap.configurations.asm[1].type, lines }}) }}, 'found')""")
+        done = subprocess.run(['nvim', '--headless', '-u', 'NONE', '--cmd', f'set rtp+={self.room}', '-c', f'luafile {script}', '-c', 'qa!'], cwd=self.room,
+                              stdin=subprocess.DEVNULL, capture_output=True, text=True, check=False, timeout=100)
+        with open(f'{self.room}/found', encoding='utf-8') as file:
+            self.assertEqual(json.load(file), [f'{TOP}/tools/dap', 'zebludor', [3, 4]], done.stderr)
 
 
 class Examples(unittest.TestCase):

@@ -11,14 +11,17 @@ import subprocess
 import sys
 import time
 import unittest
+import unittest.mock
 
 from tests.support import TOOLS, TOP, ToolCase, example
 
 from toolbox.gdb_board import far_of_address
-from toolbox.gdb_elf import sleb, uleb
+from toolbox.gdb_elf import is_call, sleb, uleb
+from toolbox.gdb_frames import pushed_by
 from toolbox.gdb_stub import NAMES
 from toolbox.gdb_wire import framed, unescaped
 from toolbox.listing import Line, Listing
+from toolbox.places import event_of
 from toolbox.program import Files, Session
 from toolbox.report import registers_of
 
@@ -26,6 +29,56 @@ SECONDS = 60
 GDB = shutil.which('gdb')
 LONG = '{"version":1,"ram":64,"sw1":0,"sw2":0,"budget":1000000000000,"keys":[]}'
 BUSY = 'again:  INC AX\n        JMP SHORT again'
+# A board whose way back lasts for a minute.
+SLOW = """#!/usr/bin/env python3
+import sys, time
+clock = 0
+for line in sys.stdin:
+    word, *more = line.split()
+    if word == 'go':
+        clock += int(more[0])
+    if line == 'back stop\\n':
+        time.sleep(60)
+    if word == 'regs':
+        print(' '.join(it + '=0000' for it in 'AX BX CX DX SP BP SI DI'.split()))
+        print(' '.join(it + '=0000' for it in 'CS DS ES SS IP FL'.split()))
+    elif word in ('go', 'back', 'step'):
+        print('clock', clock)
+    elif word == 'break':
+        print('stop 1')
+    elif word == 'dump':
+        print('00000: 00')
+    sys.stdout.flush()
+"""
+CALLS = """        MOV SP,400h
+        CALL near
+        CALL far_on
+here:   INT 3
+        PUSH AX
+        PUSH AX
+        CALL takes
+        CALL takes2
+        HLT
+near:   NOP
+        CALL inner
+        RET
+far_on: CALL FAR away
+        RET
+inner:  MOV CX,2
+again:  LOOP again
+        RET
+takes:  NOP
+        RET 2
+takes2: NOP
+        RET 2
+away:   NOP
+        RETF
+trap:   NOP
+        IRET
+ENDS
+SEGMENT VECTORS AT 0
+        DW 0,0,0,0,0,0,trap,0F000h
+"""
 
 
 class Words(unittest.TestCase):
@@ -47,6 +100,17 @@ class Words(unittest.TestCase):
         for address, wanted in ((0xF0010, (0xF000, 0x10, True)), (0x504, (0x50, 4, True)), (0xFFFF2, (0xFFFF, 2, False)),
                                 (0xF0123, (0xF000, 0x123, False))):
             self.assertEqual(far_of_address(listing, address, 0xFFFF), wanted)
+
+
+    def test_what_calls(self) -> None:
+        for octets, wanted in (('E80000', True), ('E800', False), ('9A000000F0', True), ('FFD0', True), ('FF5E02', True), ('FFE0', False), ('CD10', True),
+                               ('2EFF1E0001', True), ('90', False), ('', False)):
+            self.assertEqual(is_call(bytes.fromhex(octets)), wanted, octets)
+        for event, place, wanted in (('9 F000:0010 E80D00 CALL 00020h', (0xF000, 0x20), 2), ('9 F000:0010 9A200000F0 CALL FAR 0F000h:00020h', (0xF000, 0x20), 4),
+                                     ('9 F000:0010 CD21 INT 021h', (0xF000, 0x20), 6), ('9 F000:0010 entry 08', (0xF000, 0x20), 6),
+                                     ('9 F000:0010 F7F3 DIV BX', (0xF000, 0x12), 0), ('9 F000:0010 F7F3 DIV BX', (0xF000, 0x20), 6),
+                                     ('9 F000:0010 CE INTO', (0xF000, 0x11), 0), ('9 F000:0010 EB0E JMP SHORT 00020h', (0xF000, 0x20), 0)):
+            self.assertEqual(pushed_by(event_of(event), place), wanted, event)
 
 
 class Client:
@@ -102,11 +166,11 @@ class Client:
 
 
 def told_as(lines: list[str]) -> list[int]:
-    """The registers of a session as gdb is told them."""
+    """The registers of a session as gdb is told them, but for FS and GS, of which it makes its frames."""
     found = registers_of(lines)
     for name, segment in (('SP', 'SS'), ('BP', 'SS'), ('IP', 'CS')):
         found[name] = (16 * found[segment] + found[name]) % (1 << 20)
-    return [found[it] for it in NAMES] + [0, 0]
+    return [found[it] for it in NAMES]
 
 
 class Served(ToolCase):
@@ -259,6 +323,29 @@ class Served(ToolCase):
             self.tool_process.send_signal(sign)
             self.assert_nothing_left(status)
 
+    def test_an_interrupt_on_a_long_way_back(self) -> None:
+        """A way back can't be ended; so another board takes the place of one that is on it."""
+        slow = self.file('pcboard', SLOW)
+        os.chmod(slow, 0o755)
+        with unittest.mock.patch.dict(os.environ, {'PCBOARD': slow}):
+            client = self.client(self.file('it.hex', ':00000001FF\n'), self.file('long.json', LONG), '--hex')
+        self.assertEqual(client.monitor('go 5000'), 'clock 5000\n')
+        first = self.board_of()
+        client.ask('Z0,500,1')
+        client.socket.sendall(framed('bc'))
+        time.sleep(0.2)
+        begun = time.monotonic()
+        client.socket.sendall(b'\x03')
+        self.assertEqual(client.packet(), 'T02thread:1;')
+        self.assertLess(time.monotonic() - begun, 20)
+        self.assertIn('clock 5000: interrupted', client.shown)
+        self.assertNotEqual(self.board_of(), first)
+        self.assertEqual(client.monitor('go 5'), 'clock 5005\n')
+        client.socket.sendall(framed('bc'))
+        time.sleep(0.7)
+        client.close()  # one that goes on the way
+        self.assert_nothing_left()
+
     def test_here_alone(self) -> None:
         self.client(*example('hello'))
         with open('/proc/net/tcp', encoding='ascii') as file:
@@ -278,7 +365,7 @@ class Served(ToolCase):
             clock = int(client.monitor('go 0').split()[-1])
             with Session(Files(*files)) as direct:
                 direct.go_to(clock)
-                self.assertEqual(client.registers(), told_as(direct.many('regs')), (walk, requests))
+                self.assertEqual(client.registers()[:14], told_as(direct.many('regs')), (walk, requests))
                 for address in (0, 0x400, 0xB0000):
                     self.assertEqual(client.ask(f'm{address:x},400'), direct.dump(address, 1024).hex(), (walk, requests))
             client.ask('k')
@@ -325,6 +412,71 @@ class Gdb(ToolCase):
                         'Writing to memory is not allowed', 'Writing to registers is not allowed') if GDB else ()):
             self.assertIn(wanted, told)
 
+    def started(self, *commands: str) -> subprocess.Popen[str]:
+        """gdb on a run that lasts, in a group of its own, as at a terminal; behind these commands it has said that it runs."""
+        os.makedirs(f'{self.room}/tmp')
+        given = [it for command in (*commands, 'echo ready\\n', 'continue', 'monitor go 0') for it in ('-ex', command)]
+        files = self.program(BUSY)[0], self.file('long.json', LONG)
+        tool = subprocess.Popen([sys.executable, '-S', f'{TOOLS}/gdb', *files, '-nx', '-batch', *given], stdout=subprocess.PIPE, stderr=subprocess.STDOUT,
+                                text=True, start_new_session=True, env=os.environ | {'TMPDIR': f'{self.room}/tmp'})
+        self.addCleanup(Served.leave, tool)
+        assert tool.stdout
+        while 'ready' not in tool.stdout.readline():
+            self.assertIsNone(tool.poll())
+        time.sleep(0.5)
+        return tool
+
+    @staticmethod
+    def children(process: int) -> dict[str, int]:
+        """A process's own, by their names."""
+        found = {}
+        with open(f'/proc/{process}/task/{process}/children', encoding='ascii') as file:
+            for child in file.read().split():
+                with open(f'/proc/{child}/comm', encoding='ascii') as name:
+                    found[name.read().strip()] = int(child)
+        return found
+
+    def test_control_c(self) -> None:
+        if not GDB:
+            return
+        tool = self.started()
+        os.killpg(tool.pid, signal.SIGINT)
+        told, _ = tool.communicate(timeout=SECONDS)
+        for wanted in ('interrupted; the processor is running', 'Program received signal SIGINT', 'clock '):
+            self.assertIn(wanted, told)
+        self.assertEqual((tool.returncode, os.listdir(f'{self.room}/tmp')), (0, []))
+
+    def test_nothing_is_left(self) -> None:
+        """Whichever of the two others is killed."""
+        for name in ('gdb', 'pcboard') if GDB else ():
+            with self.subTest(name):
+                tool = self.started()
+                theirs = self.children(tool.pid)
+                os.kill(next(it for whose, it in theirs.items() if whose.startswith(name)), signal.SIGKILL)
+                tool.communicate(timeout=SECONDS)
+                self.assertEqual(os.listdir(f'{self.room}/tmp'), [])
+                os.rmdir(f'{self.room}/tmp')
+                self.assertEqual([it for it in theirs.values() if os.path.exists(f'/proc/{it}')], [])
+
+    def test_each_answer(self) -> None:
+        """What gdb comes to is what the debugger's own commands come to."""
+        files = example('ticks')
+        moves = (('break *0xf002e', 'break F000:2E'), ('continue', 'go 100000'), ('stepi', 'step'), ('stepi', 'step'), ('reverse-stepi', 'back step'),
+                 ('continue', 'go 100000'), ('reverse-continue', 'back stop'), ('monitor back 10', 'back 10'), ('monitor step', 'step'))
+        typed = [it for move, _ in moves for it in (move, 'monitor go 0', 'monitor regs', 'x/16xb 0xb0000')]
+        told = self.gdb(files, *typed)
+        found, wanted = re.findall(r'^clock (\d+)\n(AX=.*)\n(CS=.*)$', told, re.M), list[tuple[str, ...]]()
+        octets = re.findall(r'^0xb0000.*:((?:\t0x..){8})\n0xb0008.*:((?:\t0x..){8})$', told, re.M)
+        memory = list[tuple[str, ...]]()
+        with Session(Files(*files)) as session:
+            session.many('regs')
+            for _, command in moves:
+                session.one(command)
+                wanted.append((str(session.clock), *session.many('regs')))
+                rows = ''.join(f'\t0x{it:02x}' for it in session.dump(0xB0000, 16))
+                memory.append((rows[:40], rows[40:]))
+        self.assertEqual((found, octets), (wanted, memory) if GDB else ([], []))
+
     def test_the_page(self) -> None:
         """Each line that the page shows is printed, in its order."""
         with open(f'{TOP}/docs/editors.md', encoding='utf-8') as file:
@@ -361,6 +513,19 @@ class Gdb(ToolCase):
         source, run = example('monitor')
         told = self.gdb((source.replace('.asm', '.hex'), run), 'break *0xf0000', 'continue', 'p/x $pc', words=('--hex',))
         for wanted in (('where CS:IP is F000:0000; by another CS it is passed', '= 0xf0000') if GDB else ()):
+            self.assertIn(wanted, told)
+
+    def test_over_calls(self) -> None:
+        """`next` goes over what a line calls, near, far or by INT, takes arguments from the stack or not; `step` goes in, `finish` out."""
+        source, run = self.program(CALLS)
+        typed = ['stepi', *['next'] * 9, 'reverse-continue', 'break away', 'continue', 'backtrace', 'finish', 'next', 'step', 'finish', 'monitor go 0']
+        told = self.gdb((source, run), *typed)
+        with Session(Files(source, run)) as session:
+            session.many('break F000:B')
+            clock = session.one('go 1000').split()[-1]
+        stops = [int(it) for it in re.findall(r'^(\d+)\t', told, re.M)]
+        self.assertEqual(stops, [34, 3, 4, 5, 6, 7, 8, 9, 10, 11, 12, 34, 24, 16, 6, 26, 7] if GDB else [])
+        for wanted in ('#0  away () at it.asm:24\n#1  0x000f001e in far_on () at it.asm:15', f'\nclock {clock}\n') if GDB else ():
             self.assertIn(wanted, told)
 
     def test_a_watch(self) -> None:

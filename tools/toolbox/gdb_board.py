@@ -8,7 +8,7 @@ from typing import Callable
 from toolbox.command import Sorry
 from toolbox.listing import Listing, physical
 from toolbox.places import Event, event_of
-from toolbox.program import LAST_CLOCK, Files, Session
+from toolbox.program import CLOCKS_OF_A_TRAIL, LAST_CLOCK, Files, Session
 from toolbox.report import registers_of
 from toolbox.way_back import last_stop
 
@@ -21,7 +21,7 @@ MEMORY = 1 << 20
 
 @dataclass(frozen=True)
 class Met:
-    """How a run ended: `break`, `stop` (then its number among those of `monitor`), `budget`, `begin` or `interrupt`."""
+    """How a run ended: `break`, `stop` (then its number among those of `monitor`), `budget`, `begin`, `interrupt` or `woken`."""
     how: str
     number: int = 0
 
@@ -52,7 +52,7 @@ class Board:
         self.files, self.budget = files, min(budget, LAST_CLOCK)
         self.named, self._breaks = list[str](), list[str]()
         self.is_interrupted: Callable[[], bool] = lambda: False
-        self._registers: dict[str, int] = {}
+        self._registers, self._trail = dict[str, int](), list[Event]()
         self._session = Watched(files)
         self._session.many('regs')
 
@@ -72,12 +72,16 @@ class Board:
 
     def one(self, command: str) -> str:
         """The answer to a command that moves the board or adds a stop."""
-        self._registers = {}
+        self._forget()
         return self._session.one(command)
 
     def many(self, command: str) -> list[str]:
         """The answer to any other command."""
         return self._session.many(command)
+
+    def _forget(self) -> None:
+        """Forgets what was asked for at the clock before."""
+        self._registers, self._trail = {}, []
 
     def registers(self) -> dict[str, int]:
         """The registers, asked for once at each clock."""
@@ -90,8 +94,10 @@ class Board:
         return self._session.dump(address, count)
 
     def trail(self) -> list[Event]:
-        """The last instructions' starts, and interrupts."""
-        return [event_of(it) for it in self.many('trail')]
+        """The last instructions' starts, and interrupts, asked for once at each clock."""
+        if not self._trail:
+            self._trail = [event_of(it) for it in self.many('trail')]
+        return self._trail
 
     def last_event(self) -> Event | None:
         """The last of them."""
@@ -108,7 +114,7 @@ class Board:
         except BaseException:
             session.close()
             raise
-        old, self._session, self._breaks, self._registers = self._session, session, list(breaks), {}
+        old, self._session, self._breaks = self._session, session, list(breaks)
         old.close()
 
     def name(self, command: str) -> str:
@@ -181,7 +187,7 @@ class Board:
 
     def _last_stop(self) -> str:
         """The answer to `back stop`, or none where an interrupt has ended it."""
-        self._registers = {}
+        self._forget()
         self._session, answer = last_stop(self._session, self.files, self.is_interrupted)
         if not answer:
             self._breaks = []
@@ -191,7 +197,7 @@ class Board:
 
     def go_to(self, clock: int) -> None:
         """Goes to a clock, past all stops."""
-        self._registers = {}
+        self._forget()
         self._session.go_to(clock)
 
     def step(self) -> None:
@@ -206,11 +212,36 @@ class Board:
         refused(answer)
         return True
 
+    @property
+    def is_halted(self) -> bool:
+        """Whether the processor is: behind a HLT nothing comes but an interrupt, which would be in the trail."""
+        last = self.last_event()
+        return bool(last and last.text.endswith('HLT') and self.clock > last.clock)
+
+    def wake(self, breaks: list[str]) -> Met:
+        """From within a halt to where the interrupt that ends it has been entered, at most to a stop or to the budget's end."""
+        halted, length = self.last_event(), 1
+        while self.clock < self.budget:
+            here = self.clock
+            met, trail = self.go(breaks, min(here + length, self.budget)), self.trail()
+            behind = [after for event, after in zip(trail, trail[1:]) if event == halted]
+            if behind:
+                self.go_to(behind[0].clock)
+                self.step()
+                return Met('woken')
+            if trail[-1] != halted:  # too far for the trail
+                self.go_to(here)
+                length = max(1, length // 2) if length > CLOCKS_OF_A_TRAIL else 1
+            elif met.how == 'budget':
+                length *= 2
+            else:
+                return met
+        return Met('budget')
+
     def state(self) -> str:
-        """`running`, `halted` or `jammed`. Behind a HLT nothing comes but an interrupt, which would be in the trail. A jammed
-        processor steps by single clocks without end; an instruction has two or more."""
+        """`running`, `halted` or `jammed`. A jammed processor steps by single clocks without end; an instruction has two or more."""
         last, here = self.last_event(), self.clock
-        if last and last.text.endswith('HLT') and here > last.clock:
+        if self.is_halted:
             return 'halted'
         for _ in range(2):
             before = self.clock

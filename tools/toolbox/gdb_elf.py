@@ -1,33 +1,18 @@
 """A listing's labels and lines as an ELF file with DWARF 3, by which gdb knows them: addresses are physical ones, and the code
-is the board's (the file has none). Made by hand, so that no assembler has to be there. How a caller is found stands there too."""
+is the board's (the file has none). Made by hand, so that no assembler has to be there."""
 from __future__ import annotations
 
 import os
 import struct
 from dataclasses import dataclass, field
 
+from toolbox.gdb_cfi import MEMORY, counted, frames_of, sleb, uleb
 from toolbox.listing import Line, Listing, physical
 
-MEMORY = 1 << 20
 MACHINE, EXECUTABLE, PROGBITS, SYMTAB, STRTAB, NOBITS = 3, 2, 1, 2, 3, 8
+# Of a file by GNU's compilers from 4.5 on gdb takes the rules for callers also at a RET, where it else expects 32 bits.
+PRODUCER = b'GNU Zebludor 4.5\x00'
 ASSEMBLER = 0x8001  # DW_LANG_Mips_Assembler, the language of all assemblers in DWARF 3
-# DWARF's numbers of registers on the i386, and what its expressions and rules are made of.
-ESP, EIP, FS, GS = 4, 8, 44, 45
-ZERO, PLUS, BREG, BREGX = b'\x30', b'\x22', 0x70, b'\x92'
-SAME, CFA_IS, VALUE_IS = b'\x08', b'\x0F', b'\x16'
-
-
-def uleb(value: int) -> bytes:
-    """A number of DWARF without sign."""
-    more, low = value >> 7, value & 0x7F
-    return bytes([low | 0x80]) + uleb(more) if more else bytes([low])
-
-
-def sleb(value: int) -> bytes:
-    """A number of DWARF with its sign."""
-    more, low = value >> 7, value & 0x7F
-    is_last = more == (-1 if low & 0x40 else 0)
-    return bytes([low]) if is_last else bytes([low | 0x80]) + sleb(more)
 
 
 def runs_of(listing: Listing) -> list[list[tuple[int, Line]]]:
@@ -56,11 +41,6 @@ def end_of(run: list[tuple[int, Line]]) -> int:
     return run[-1][0] + len(run[-1][1].shown)
 
 
-def counted(rest: bytes) -> bytes:
-    """A part of DWARF with its length before it."""
-    return struct.pack('<I', len(rest)) + rest
-
-
 def steps_of(run: list[tuple[int, Line]]) -> bytes:
     """The program of line numbers for a run: each line's address and number, and where the last one ends."""
     program, address, number = b'\x00\x05\x02' + struct.pack('<I', run[0][0]), run[0][0], 1
@@ -75,35 +55,19 @@ def lines_of(listing: Listing, name: str) -> bytes:
     lengths = bytes([0, 1, 1, 1, 1, 0, 0, 0, 1, 0, 0, 1])  # how many operands each standard step has
     files = b'\x00' + name.encode('utf-8', 'surrogateescape') + b'\x00\x00\x00\x00\x00'
     header = bytes([1, 1, 0xFB, 14, 13]) + lengths + files
-    program = b''.join(map(steps_of, runs_of(listing)))
+    # Without any line gdb would leave out the unit: so of Intel HEX the last byte of memory has one.
+    runs = runs_of(listing) or [[(MEMORY - 1, Line(1, '', None, b'\x00'))]]
+    program = b''.join(map(steps_of, runs))
     return counted(struct.pack('<HI', 3, len(header)) + header + program)
 
 
 def unit_of(path: str) -> tuple[bytes, bytes]:
     """`.debug_abbrev` and `.debug_info`: one unit, the source, over all of memory."""
-    forms = ((0x03, 0x08), (0x1B, 0x08), (0x13, 0x05), (0x10, 0x06), (0x11, 0x01), (0x12, 0x01))
+    forms = ((0x03, 0x08), (0x1B, 0x08), (0x25, 0x08), (0x13, 0x05), (0x10, 0x06), (0x11, 0x01), (0x12, 0x01))
     abbreviation = b'\x01\x11\x00' + bytes(it for pair in forms for it in pair) + b'\x00\x00\x00'
     folder, name = (it.encode('utf-8', 'surrogateescape') + b'\x00' for it in os.path.split(path))
-    unit = b'\x01' + name + folder + struct.pack('<HIII', ASSEMBLER, 0, 0, MEMORY)
+    unit = b'\x01' + name + folder + PRODUCER + struct.pack('<HIII', ASSEMBLER, 0, 0, MEMORY)
     return abbreviation, counted(struct.pack('<HIB', 3, 0, 4) + unit)
-
-
-def frames_of() -> bytes:
-    """`.debug_frame`: one rule for all of memory. Where a CALL, INT or interrupt has just led to, FS tells how many bytes it pushed
-    and GS to where it returns (see `Stub`); its frame is above them. Elsewhere FS is 0, and the frame above is the same one, which
-    gdb takes for the last."""
-    def register(number: int) -> bytes:
-        return BREGX + uleb(number) + b'\x00'
-
-    def expression(*parts: bytes) -> bytes:
-        whole = b''.join(parts)
-        return uleb(len(whole)) + whole
-
-    above = CFA_IS + expression(bytes([BREG + ESP, 0]), register(FS), PLUS)
-    back = VALUE_IS + uleb(EIP) + expression(register(GS))
-    rules = above + back + VALUE_IS + uleb(FS) + expression(ZERO) + SAME + uleb(GS)
-    common = struct.pack('<IB', 0xFFFFFFFF, 3) + b'\x00' + uleb(1) + sleb(1) + uleb(EIP) + rules
-    return counted(common) + counted(struct.pack('<III', 0, 0, MEMORY))
 
 
 @dataclass
@@ -141,18 +105,26 @@ def places_behind_calls(listing: Listing) -> set[int]:
     return found
 
 
-def symbols_of(listing: Listing) -> tuple[bytes, bytes]:
-    """`.symtab` and `.strtab`: each label, up to the next one or the end of its run or part; one behind all bytes has a size of 1,
-    for gdb would take it for all that follows. One behind a CALL has none, and the one before reaches over it: where a call returns
-    to gdb wants to find the routine that made it."""
-    names, rows, behind = Table(), bytes(16), places_behind_calls(listing)
-    places = {name: physical(*at) for name, at in listing.labels.items()}
+def extents_of(listing: Listing) -> dict[str, tuple[int, int]]:
+    """Each label's address and end, which is the next one or the end of its run or part; one behind all bytes has a size of 1, for
+    gdb would take it for all that follows. One behind a CALL has none, and the one before reaches over it: where a call returns to
+    gdb wants to find the routine that made it."""
+    behind, places = places_behind_calls(listing), {name: physical(*at) for name, at in listing.labels.items()}
     parts = [(run[0][0], end_of(run)) for run in runs_of(listing)] + [(it, it + len(octets)) for it, octets in listing.parts.items()]
     ends = sorted({*places.values(), *(end for _, end in parts)} - behind)
-    for name, address in sorted(places.items(), key=lambda it: it[1]):
-        is_in_part = any(first <= address < end for first, end in parts)
-        end = next((it for it in ends if it > address), address) if is_in_part else address + 1
-        end = address if address in behind else end
+
+    def end(address: int) -> int:
+        if address in behind:
+            return address
+        is_in_part = any(first <= address < last for first, last in parts)
+        return next((it for it in ends if it > address), address) if is_in_part else address + 1
+    return {name: (address, end(address)) for name, address in sorted(places.items(), key=lambda it: it[1])}
+
+
+def symbols_of(extents: dict[str, tuple[int, int]]) -> tuple[bytes, bytes]:
+    """`.symtab` and `.strtab`."""
+    names, rows = Table(), bytes(16)
+    for name, (address, end) in extents.items():
         rows += struct.pack('<IIIBBH', names.place(name), address, end - address, 0x12, 0, 1)
     return rows, names.octets
 
@@ -173,10 +145,11 @@ class Section:
 def elf_of(listing: Listing, path: str) -> bytes:
     """The file's bytes, for a source at this absolute path."""
     abbreviation, unit = unit_of(path)
-    symbols, names = symbols_of(listing)
+    extents = extents_of(listing)
+    symbols, names = symbols_of(extents)
     sections = [Section('.text', NOBITS, flags=6, size=MEMORY), Section('.debug_abbrev', PROGBITS, abbreviation),
                 Section('.debug_info', PROGBITS, unit), Section('.debug_line', PROGBITS, lines_of(listing, os.path.basename(path))),
-                Section('.debug_frame', PROGBITS, frames_of()),
+                Section('.debug_frame', PROGBITS, frames_of(listing, sorted(set(extents.values())))),
                 Section('.symtab', SYMTAB, symbols, link=7, first_global=1, row=16), Section('.strtab', STRTAB, names)]
     table = Table()
     rows, body = bytes(40), b''

@@ -34,20 +34,19 @@ class Frames:
         self._below = dict[tuple[int, int], int]()  # by return address and SP at the call, how far below it the end was told
 
     def frame(self, registers: dict[str, int], trail: list[Event]) -> tuple[int, Far | None]:
-        """How far above SP the stack of the frame before ends, and the CS:IP to which it returns, where a call has just led here.
-        Elsewhere the end of the present one, and no place."""
+        """What is told in FS; and where a call has just led here, the CS:IP to which it returns."""
         before, event = ([None, None] + trail)[-2:]
         here, stack = (registers['CS'], registers['IP']), registers['SP']
         pushed = pushed_by(event, here) if event else 0
         if not event or not pushed:
-            return self._end(event, here, stack), None
+            return self._end(event, here, stack) & 0xFFFF, None
         octets = self._dump(physical(registers['SS'], stack), 4)
         offset, segment = (int.from_bytes(octets[at:at + 2], 'little') for at in (0, 2))
         back = registers['CS'] if pushed == 2 else segment, offset
         above = self._end(before, (event.segment, event.offset), stack + pushed)
         self.returns[physical(*back)] = back
         self._below[physical(*back), stack + pushed] = -above
-        return pushed + above, back
+        return (pushed + above) % 0x10000 << 16, back
 
     def _end(self, event: Event | None, here: Far, stack: int) -> int:
         """How far from SP gdb is told that the stack of the present frame ends, here, behind this event."""

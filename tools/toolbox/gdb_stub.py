@@ -25,7 +25,8 @@ def word_of(value: int) -> str:
 
 class Stub:
     """A session with gdb over a wire. The 8086 has no FS and GS. Where a CALL, INT or interrupt has just led to, they tell gdb how
-    many bytes that pushed, and to which address it returns: so `next` goes over it. Elsewhere they tell what finds no caller."""
+    many bytes that pushed, and to which address it returns: so `next` goes over it. Elsewhere they lead to the same frame, which gdb
+    takes for the last."""
 
     def __init__(self, wire: Wire, board: Board, listing: Listing) -> None:
         self._wire, self._board, self._listing = wire, board, listing
@@ -109,9 +110,9 @@ class Stub:
     def _registers(self) -> list[int]:
         """The sixteen registers of `g`."""
         found = self._board.registers()
-        above, place = self._frames.frame(found, self._board.trail())
+        ends, place = self._frames.frame(found, self._board.trail())
         told = [physical(found[SEGMENT_OF[it]], found[it]) if it in SEGMENT_OF else found[it] for it in NAMES]
-        return told + [above % (1 << 32), physical(*place) if place else told[NAMES.index('IP')] + 1]
+        return told + [ends, physical(*place) if place else told[NAMES.index('IP')] + 1]
 
     def _register(self, text: str) -> str:
         """A register by its number."""
@@ -166,10 +167,15 @@ class Stub:
         return self._ended(met)
 
     def _step(self) -> str:
-        """A step. One of a single clock makes it likely that the processor stands."""
+        """A step; from within a halt to the interrupt. One of a single clock makes it likely that the processor is jammed."""
         before = self._board.clock
+        if before < self._board.budget and self._board.is_halted:
+            met = self._board.wake(self._breaks())
+            self._state = 'running'
+            return self._stopped(TRAP) if met.how == 'woken' else self._ended(met)
         self._board.step()
-        state = self._board.state() if self._board.clock == before + 1 else 'running'
+        is_clock = self._board.clock == before + 1
+        state = self._board.state() if is_clock else 'halted' if self._board.is_halted else 'running'
         if state not in ('running', self._state):
             self.tell(f'clock {self._board.clock}: the processor is {state}')
         self._state = state

@@ -1,0 +1,152 @@
+"""A C program in ROM by its Intel HEX and symbols: tools/gdb, tools/dap and Emacs' dap-mode on it. HEX and symbols are stored; where
+the compiler is installed they are made again."""
+from __future__ import annotations
+
+import base64
+import os
+import re
+import shutil
+import subprocess
+import unittest
+from typing import Any
+
+from tests.support import STORED, TOP, ToolCase
+from tests.test_dap import Client
+from tests.test_editors import MODE_CLIENT, batch, has_dap_mode
+from tests.test_gdb import GDB
+
+from toolbox.listing import parts_of, symbols_of
+from toolbox.program import Files, Session
+
+PROGRAM, EMACS = f'{STORED}/c', f'{TOP}/editors/emacs.el'
+HEX, MAP = f'{PROGRAM}/sums.hex', f'{PROGRAM}/sums.map'
+SUM, MAIN = 'F000:44', 'F000:67'
+RUN = '{"version":1,"ram":64,"sw1":0,"sw2":0,"budget":20000,"keys":[]}'
+
+
+class Symbols(unittest.TestCase):
+    """What the files hold."""
+
+    def test_symbols(self) -> None:
+        found = symbols_of(MAP)
+        self.assertEqual((found['_sum'], found['_main'], found['_total']), ((0xF000, 0x44), (0xF000, 0x67), (0, 0x508)))
+
+    def test_parts(self) -> None:
+        with open(HEX, encoding='ascii') as file:
+            found = parts_of(file.read())
+        self.assertEqual({it: len(octets) for it, octets in found.items()}, {0xFFFF0: 5, 0xF0000: 248})
+        self.assertEqual(found[0xF0000][0xF0:0xF4], b'SUM ')
+
+
+class Compiled(ToolCase):
+    """The stored files are those of the C program."""
+
+    def test_they_are_made_of_the_program(self) -> None:
+        if not all(map(shutil.which, ('bcc', 'as86', 'ld86', 'objcopy'))):
+            print('not run: bcc, bin86')
+            return
+        room = shutil.copytree(PROGRAM, f'{self.room}/c')
+        for name in ('sums.hex', 'sums.map'):
+            os.remove(f'{room}/{name}')
+        subprocess.run([f'{room}/make', 'sums', room], check=True)
+        for name in ('sums.hex', 'sums.map'):
+            with open(f'{room}/{name}', encoding='ascii') as made, open(f'{PROGRAM}/{name}', encoding='ascii') as stored:
+                self.assertEqual(*(re.sub('Total memory.*', '', it.read()) for it in (made, stored)))
+
+
+class Debugged(ToolCase):
+    """By each of the debuggers, held against the board's own."""
+
+    def setUp(self) -> None:
+        super().setUp()
+        self.run_file = self.file('run.json', RUN)
+
+    def session(self, *commands: str) -> list[str]:
+        """The answers of the debugger, each with what it comes to in the last line."""
+        with Session(Files(HEX, self.run_file, True)) as session:
+            session.many('regs')
+            return [session.one(it) for it in commands]
+
+    def clocks(self, *commands: str) -> list[str]:
+        """Where the debugger stands behind each of these commands, but for those that set a stop."""
+        return [it.split()[-1] for it in self.session(*commands) if 'clock' in it]
+
+    def test_it_runs(self) -> None:
+        told = self.pcboard('run', '--hex', HEX, self.run_file).stdout
+        self.assertIn('\nscreen\nSUM 55 ', told)
+
+    def test_gdb(self) -> None:
+        if not GDB:
+            print("not run: gdb isn't installed")
+            return
+        typed = ('break *_sum', 'continue', 'monitor go 0', 'x/i $pc', 'reverse-stepi', 'monitor go 0', 'x/i $pc', 'stepi', 'continue', 'monitor go 0',
+                 'backtrace', 'delete', 'finish', 'x/i $pc', 'next', 'x/i $pc', 'tbreak *_main', 'reverse-continue', 'monitor go 0', 'nexti 25',
+                 'x/i $pc', 'nexti', 'x/i $pc', 'x/4cb &_text', 'x/dh &_total', 'info symbol 0xf0050')
+        out, err = self.tool('gdb', HEX, self.run_file, '--hex', '--symbols', MAP, '-nx', '-batch', *(it for line in typed for it in ('-ex', line)))
+        told = out + err
+        clocks = self.clocks(f'break {SUM}', 'go 20000', 'back step', 'step', 'go 20000', f'break {MAIN}', 'back stop', 'back stop')
+        wanted = ([clocks[0]] * 2, [clocks[1]], [clocks[3]] * 2)
+        found = re.findall(r'^clock (\d+)$', told, re.M)
+        self.assertEqual(found[:5], [it for them in wanted for it in them])
+        self.assertIn(clocks[5], found)
+        for line in ('=> 0xf0044 <_sum>:\tpush   bp', '=> 0xf009e <_main+55>:\tcall   0xf0044 <_sum>',
+                     '#0  0x000f0044 in _sum ()\n#1  0x000f005e in _sum ()\n#2  0x000f00a1 in _main ()\n#3  0x000f002a in _start ()\n',
+                     '=> 0xf005e <_sum+26>:\tinc    sp', '=> 0xf00a1 <_main+58>:\tinc    sp', "0x500 <_text>:\t83 'S'\t85 'U'\t77 'M'\t32 ' '",
+                     '<_total>:\t', '_sum + 12 in section .text'):
+            self.assertIn(line, told)
+
+    def test_dap(self) -> None:
+        os.makedirs(f'{self.room}/tmp', exist_ok=True)
+        client = Client(self.room)
+        self.addCleanup(client.watch.cancel)
+        client.launch(HEX, run=self.run_file, symbols=MAP, stopOnEntry=True)
+        client.event('stopped')
+        told = client.ask('setFunctionBreakpoints', breakpoints=[{'name': '_sum'}])['breakpoints']
+        self.assertEqual([it['instructionReference'] for it in told], ['0xF0044'])
+        clocks = []
+        for command in ('continue', 'stepBack', 'stepIn', 'stepIn', 'reverseContinue', 'continue', 'continue'):
+            client.move(command)
+            clocks.append(str(client.clock()))
+        commands = (f'break {SUM}', 'go 20000', 'back step', 'step', 'step', 'back stop', 'go 20000', 'go 20000')
+        self.assertEqual(clocks, self.clocks(*commands))
+        self.assertEqual(self.names(client), ['_sum', '_sum+1A', '_sum+1A', '_main+3A'])
+        client.ask('setFunctionBreakpoints', breakpoints=[])
+        for command, wanted in (('stepOut', '_sum+1A'), ('stepOut', '_sum+1A'), ('stepOut', '_main+3A')):
+            client.move(command)
+            self.assertEqual(self.names(client)[0], wanted)
+        client.move('stepBack')
+        client.move('stepBack')
+        self.assertEqual(client.ask('evaluate', expression='WORD [_total]', context='watch')['result'], '00000h (0)')
+        self.assertEqual(client.ask('evaluate', expression="BYTE [_text+1]", context='hover')['result'], "055h (85) 'U'")
+        self.assertEqual(base64.b64decode(client.ask('readMemory', memoryReference='_text', count=4)['data']), b'SUM ')
+        rows = client.ask('disassemble', memoryReference='0xF0044', instructionCount=3)['instructions']
+        self.assertEqual([it['instruction'] for it in rows], ['PUSH BP', 'MOV BP,SP', 'PUSH DI'])
+        client.move('continue')
+        self.assertIn('SUM 55\n', self.screens(client))
+        self.assertEqual(client.leave(), 0)
+        self.assertEqual(os.listdir(f'{self.room}/tmp'), [])
+
+    @staticmethod
+    def names(client: Client) -> list[str]:
+        """The frames' names."""
+        return [it['name'] for it in client.ask('stackTrace', threadId=1)['stackFrames']]
+
+    @staticmethod
+    def screens(client: Client) -> str:
+        """What was told of the screen so far."""
+        told: list[dict[str, Any]] = [it['body'] for it in client.events if it['event'] == 'output']
+        return ''.join(it['output'] for it in told)
+
+    def test_dap_mode(self) -> None:
+        if not has_dap_mode():
+            print('not run: Emacs with dap-mode')
+            return
+        told = batch(self.room, '-l', MODE_CLIENT, EMACS, HEX, self.run_file, '_sum', MAP)
+        clocks = self.clocks(f'break {SUM}', 'go 20000', 'step', 'step', 'back step', 'back step', 'go 20000', 'back stop')
+        self.assertEqual([it.split()[-2] for it in told[:8]], ['0', *clocks])
+        self.assertEqual([it.split()[-1] for it in told[1:3] + told[7:8]], ['_sum', '_sum+1', '_sum'])
+        self.assertEqual(told[8:], ['00044h (68)', 'AAAAAA==', 'gone'])
+
+
+if __name__ == '__main__':
+    unittest.main()

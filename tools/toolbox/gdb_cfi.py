@@ -1,0 +1,106 @@
+"""Where gdb finds the callers, as DWARF's `.debug_frame`. A frame is where its stack ends, at the return address, and its routine.
+Everywhere one rule goes by what `gdb_frames` tells in FS and GS. A routine that begins with PUSH BP and MOV BP,SP, as those of C do,
+has rules of its own behind these, by BP."""
+from __future__ import annotations
+
+import struct
+
+from toolbox.listing import Listing
+
+MEMORY = 1 << 20
+# DWARF's numbers of registers on the i386, and what its expressions and rules are made of.
+ESP, EBP, EIP, CS, SS, FS, GS = 4, 5, 8, 41, 42, 44, 45
+ZERO, FOUR, SIXTEEN, LEFT, RIGHT, PLUS, WORD_AT = b'\x30', b'\x34', b'\x40', b'\x24', b'\x26', b'\x22', b'\x94\x02'
+BREG, BREGX = 0x70, b'\x92'
+FURTHER, SAME, CFA_AT, CFA_IS, VALUE_IS = b'\x04', b'\x08', b'\x0C', b'\x0F', b'\x16'
+PROLOGUES, POP_BP = (b'\x55\x89\xE5', b'\x55\x8B\xEC'), 0x5D
+RETURNS = {0xC3: 1, 0xC2: 3}  # near ones, with their lengths
+
+
+def uleb(value: int) -> bytes:
+    """A number of DWARF without sign."""
+    more, low = value >> 7, value & 0x7F
+    return bytes([low | 0x80]) + uleb(more) if more else bytes([low])
+
+
+def sleb(value: int) -> bytes:
+    """A number of DWARF with its sign."""
+    more, low = value >> 7, value & 0x7F
+    is_last = more == (-1 if low & 0x40 else 0)
+    return bytes([low]) if is_last else bytes([low | 0x80]) + sleb(more)
+
+
+def counted(rest: bytes) -> bytes:
+    """A part of DWARF with its length before it."""
+    return struct.pack('<I', len(rest)) + rest
+
+
+def expression(*parts: bytes) -> bytes:
+    """An expression."""
+    whole = b''.join(parts)
+    return uleb(len(whole)) + whole
+
+
+def register(number: int) -> bytes:
+    """A register's value."""
+    return BREGX + uleb(number) + b'\x00'
+
+
+def value_is(number: int, *parts: bytes) -> bytes:
+    """The rule by which the caller had this value in a register."""
+    return VALUE_IS + uleb(number) + expression(*parts)
+
+
+def word_in(segment: int, base: int, offset: int) -> tuple[bytes, ...]:
+    """The address that a word on the stack, so far from a register, is in a segment."""
+    return register(segment), FOUR, LEFT, bytes([BREG + base]) + sleb(offset), WORD_AT, PLUS
+
+
+def told() -> bytes:
+    """The rule by FS and GS: the end, from SP on, is FS's low word; the caller's SP is from there on its high word; GS tells where
+    it goes on."""
+    low, high = (register(FS), SIXTEEN, LEFT, SIXTEEN, RIGHT), (register(FS), SIXTEEN, RIGHT)
+    end = (bytes([BREG + ESP, 0]), *low, PLUS)
+    return CFA_IS + expression(*end) + value_is(ESP, *end, *high, PLUS) + value_is(EIP, register(GS)) + value_is(FS, ZERO) + SAME + uleb(GS)
+
+
+def returns_at(base: int, offset: int, has_saved: bool) -> bytes:
+    """The rule where the return address stands so far from a register, and BP's value before it if it is saved."""
+    there, above = word_in(CS, base, offset), bytes([BREG + base]) + sleb(offset + 2)
+    saved = value_is(EBP, *word_in(SS, EBP, 0)) if has_saved else SAME + uleb(EBP)
+    return (CFA_AT + uleb(base) + uleb(offset) + value_is(ESP, above) + value_is(EIP, *there) + value_is(GS, *there)
+            + value_is(FS, ZERO) + saved)
+
+
+def rules_of(octets: bytes) -> bytes:
+    """The rules of a routine with a frame: behind PUSH BP, behind MOV BP,SP, and at each RET behind a POP BP."""
+    framed = returns_at(EBP, 2, True)
+    rules, at = FURTHER + struct.pack('<I', 1) + returns_at(ESP, 2, False) + FURTHER + struct.pack('<I', 2) + framed, 3
+    for place in range(4, len(octets)):
+        length = RETURNS.get(octets[place], 0)
+        if length and octets[place - 1] == POP_BP and place >= at:
+            rules += FURTHER + struct.pack('<I', place - at) + returns_at(ESP, 0, False) + FURTHER + struct.pack('<I', length) + framed
+            at = place + length
+    return rules
+
+
+def memory_of(listing: Listing) -> dict[int, int]:
+    """The bytes that a listing tells."""
+    parts = [*listing.parts.items(), *((address, line.shown) for address, line in listing.at.items())]
+    return {first + it: octet for first, octets in parts for it, octet in enumerate(octets)}
+
+
+def frames_of(listing: Listing, routines: list[tuple[int, int]]) -> bytes:
+    """`.debug_frame`, for routines by first address and end, in their order."""
+    common = struct.pack('<IB', 0xFFFFFFFF, 3) + b'\x00' + uleb(1) + sleb(1) + uleb(EIP) + told()
+    entries, memory, here = counted(common), memory_of(listing), 0
+    for first, end in [*routines, (MEMORY, MEMORY)]:
+        octets = bytes(memory.get(it, 0) for it in range(first, end))
+        if first < here or octets[:3] not in PROLOGUES and first < MEMORY:
+            continue
+        if first > here:
+            entries += counted(struct.pack('<III', 0, here, first - here))
+        if first < end:
+            entries += counted(struct.pack('<III', 0, first, end - first) + rules_of(octets))
+        here = end
+    return entries
