@@ -13,7 +13,7 @@ import time
 import unittest
 import unittest.mock
 
-from tests.support import TOOLS, TOP, ToolCase, example
+from tests.support import STORED, TOOLS, TOP, ToolCase, example
 
 from toolbox.gdb_board import far_of_address
 from toolbox.gdb_elf import is_call, sleb, uleb
@@ -28,6 +28,7 @@ from toolbox.report import registers_of
 SECONDS = 60
 GDB = shutil.which('gdb')
 LONG = '{"version":1,"ram":64,"sw1":0,"sw2":0,"budget":1000000000000,"keys":[]}'
+RUN = '{"version":1,"ram":64,"sw1":0,"sw2":0,"budget":100000,"keys":[]}'
 BUSY = 'again:  INC AX\n        JMP SHORT again'
 # A board whose way back lasts for a minute.
 SLOW = """#!/usr/bin/env python3
@@ -346,6 +347,19 @@ class Served(ToolCase):
         client.close()  # one that goes on the way
         self.assert_nothing_left()
 
+    def test_an_interrupt_on_a_very_long_way_back(self) -> None:
+        """Where the other board is still far from the clock, it stays where it has come to."""
+        slow = self.file('pcboard', SLOW.replace('clock += int(more[0])', 'clock += int(more[0]); time.sleep(3 * (clock == 1 << 20))'))
+        os.chmod(slow, 0o755)
+        with unittest.mock.patch.dict(os.environ, {'PCBOARD': slow}):
+            client = self.client(self.file('it.hex', ':00000001FF\n'), self.file('long.json', LONG), '--hex')
+        client.monitor('go 1000000000')
+        client.ask('Z0,500,1')
+        client.socket.sendall(framed('bc') + b'\x03')
+        self.assertEqual(client.packet(), 'T02thread:1;')
+        self.assertIn('clock 1048576: interrupted on the way to clock 1000000000, where it was', client.shown)
+        self.assertEqual(client.monitor('go 0'), 'clock 1048576\n')
+
     def test_here_alone(self) -> None:
         self.client(*example('hello'))
         with open('/proc/net/tcp', encoding='ascii') as file:
@@ -477,19 +491,24 @@ class Gdb(ToolCase):
                 memory.append((rows[:40], rows[40:]))
         self.assertEqual((found, octets), (wanted, memory) if GDB else ([], []))
 
-    def test_the_page(self) -> None:
-        """Each line that the page shows is printed, in its order."""
-        with open(f'{TOP}/docs/editors.md', encoding='utf-8') as file:
-            block = re.search(r'^```\n\$ sed (.*?)^```', file.read(), re.M | re.S)
-        assert block
-        os.symlink(f'{TOP}/examples', f'{self.room}/examples')
-        lines = block[0].splitlines()[1:-1]
-        subprocess.run(lines[0].removeprefix('$ '), shell=True, cwd=self.room, check=True)
+    def shows(self, block: str, files: tuple[str, str], *words: str) -> None:
+        """Each line that a block of the page shows is printed."""
+        lines = [it for it in block.splitlines() if not it.startswith('$ ')]
         typed = [it.removeprefix('(gdb) ') for it in lines if it.startswith('(gdb) ')]
-        told = self.gdb((f'{self.room}/lost.asm', f'{TOP}/examples/clock.json'), *typed)
+        self.assertGreater(len(typed), 4)
+        told = self.gdb(files, *typed, words=words)
         for line in lines if GDB else []:
-            if not line.startswith(('$ ', '(gdb) ')):
+            if not line.startswith('(gdb) '):
                 self.assertIn(line, told)
+
+    def test_the_page(self) -> None:
+        with open(f'{TOP}/docs/editors.md', encoding='utf-8') as file:
+            blocks = re.findall(r'^```\n(\$ .*?\n\(gdb\) .*?)^```', file.read(), re.M | re.S)
+        self.assertEqual(len(blocks), 2)
+        os.symlink(f'{TOP}/examples', f'{self.room}/examples')
+        subprocess.run(blocks[0].splitlines()[0].removeprefix('$ '), shell=True, cwd=self.room, check=True)
+        self.shows(blocks[0], (f'{self.room}/lost.asm', f'{TOP}/examples/clock.json'))
+        self.shows(blocks[1], (f'{STORED}/c/sums.hex', self.file('run.json', RUN)), '--hex', '--symbols', f'{STORED}/c/sums.map')
 
     def test_a_walk(self) -> None:
         """Walks by gdb end where a session has the same registers and memory."""

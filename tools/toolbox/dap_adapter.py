@@ -130,7 +130,7 @@ class Adapter:
         try:
             reason, text = what()
         except Paused:
-            reason, text = 'pause', 'paused'
+            reason, text = 'pause', f'clock {self.board().clock}: paused'
         except Gone as gone:
             return self.end(gone)
         except Sorry as sorry:

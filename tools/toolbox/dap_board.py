@@ -240,7 +240,7 @@ class Machine:
         return None
 
     def _last_stop(self) -> str:
-        """The answer to `back stop`. Where it is ended before, the board stands where it was."""
+        """The answer to `back stop`. Where it is ended before, the board stands where it was, or on the way there."""
         def is_ended() -> bool:
             try:
                 self.poll()

@@ -163,8 +163,9 @@ class Stub:
             return self._stopped(TRAP) if self._board.back_step() else self._stopped(TRAP, 'replaylog:begin;')
         if request[0] in 'sS':
             return self._step()
+        before = self._board.clock
         met = self._board.back(self._breaks()) if request == 'bc' else self._board.go(self._breaks())
-        return self._ended(met)
+        return self._ended(met, before)
 
     def _step(self) -> str:
         """A step; from within a halt to the interrupt. One of a single clock makes it likely that the processor is jammed."""
@@ -172,7 +173,7 @@ class Stub:
         if before < self._board.budget and self._board.is_halted:
             met = self._board.wake(self._breaks())
             self._state = 'running'
-            return self._stopped(TRAP) if met.how == 'woken' else self._ended(met)
+            return self._stopped(TRAP) if met.how == 'woken' else self._ended(met, before)
         self._board.step()
         is_clock = self._board.clock == before + 1
         state = self._board.state() if is_clock else 'halted' if self._board.is_halted else 'running'
@@ -181,8 +182,8 @@ class Stub:
         self._state = state
         return self._stopped(ILLEGAL if state == 'jammed' else TRAP)
 
-    def _ended(self, met: Met) -> str:
-        """How a run ended, told with its clock."""
+    def _ended(self, met: Met, before: int) -> str:
+        """How a run that began at a clock ended, told with the present one."""
         here = f'clock {self._board.clock}'
         if met.how == 'begin':
             self.tell(f'{here}: the beginning')
@@ -195,6 +196,8 @@ class Stub:
             return self._stopped(TRAP)
         self._state = self._board.state()
         what = "the end of the run file's budget" if met.how == 'budget' else 'interrupted'
+        if self._board.clock < before:
+            what += f' on the way to clock {before}, where it was'
         self.tell(f'{here}: {what}; the processor is {self._state}')
         signal = INTERRUPTED if met.how == 'interrupt' else TIME_IS_UP
         return self._stopped(ILLEGAL if self._state == 'jammed' and met.how == 'budget' else signal)
