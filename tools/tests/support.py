@@ -19,6 +19,27 @@ signal.signal(signal.SIGINT, signal.default_int_handler)
 signal.signal(signal.SIGHUP, signal.SIG_DFL)
 
 RESET = "ENDS\nSEGMENT RESET AT 0FFFFh\n        JMP FAR start\nENDS\n"
+# A board whose way back lasts for a minute.
+SLOW = """#!/usr/bin/env python3
+import sys, time
+clock = 0
+for line in sys.stdin:
+    word, *more = line.split()
+    if word == 'go':
+        clock += int(more[0])
+    if line == 'back stop\\n':
+        time.sleep(60)
+    if word == 'regs':
+        print(' '.join(it + '=0000' for it in 'AX BX CX DX SP BP SI DI'.split()))
+        print(' '.join(it + '=0000' for it in 'CS DS ES SS IP FL'.split()))
+    elif word in ('go', 'back', 'step'):
+        print('clock', clock)
+    elif word == 'break':
+        print('stop 1')
+    elif word == 'dump':
+        print('00000: 00')
+    sys.stdout.flush()
+"""
 
 
 def is_there(command: str, what: str, package: str) -> bool:

@@ -15,7 +15,7 @@ import unittest
 import unittest.mock
 from typing import Any
 
-from tests.support import TOOLS, ToolCase, example
+from tests.support import SLOW, TOOLS, ToolCase, example
 
 from toolbox.dap_board import ends_with_call
 from toolbox.dap_values import number_in
@@ -318,6 +318,27 @@ class Sessions(ToolCase):
         self.assertEqual(client.move('continue')['reason'], 'breakpoint')
         self.assertEqual(client.line(), 3)
         self.assertEqual(client.leave(), 0)
+
+    def test_a_pause_on_a_long_way_back(self) -> None:
+        slow = self.file('pcboard', SLOW)
+        os.chmod(slow, 0o755)
+        program = self.file('it.hex', ':00000001FF\n')
+        with unittest.mock.patch.dict(os.environ, {'PCBOARD': slow}):
+            client = self.client()
+        client.launch(program, budget=5000, stopOnEntry=True)
+        client.event('stopped')
+        told = client.ask('setInstructionBreakpoints', breakpoints=[{'instructionReference': '0x00500'}])['breakpoints']
+        self.assertTrue(told[0]['verified'])
+        client.move('continue')
+        client.ask('reverseContinue', threadId=1)
+        self.assertIn('pause first', client.refused('stackTrace', threadId=1))
+        client.ask('pause', threadId=1)
+        self.assertEqual(client.event('stopped')['text'], 'clock 5000: paused')
+        client.ask('reverseContinue', threadId=1)
+        begun = time.monotonic()
+        self.assertEqual(client.end(), 0)  # one that goes on the way
+        self.assertLess(time.monotonic() - begun, 30)
+        self.assertEqual(os.listdir(f'{self.room}/tmp'), [])
 
     def test_seventeen_breakpoints_and_halts(self) -> None:
         client, (source, run) = self.client(), example('ticks')

@@ -13,7 +13,7 @@ import time
 import unittest
 import unittest.mock
 
-from tests.support import STORED, TOOLS, TOP, ToolCase, example
+from tests.support import SLOW, STORED, TOOLS, TOP, ToolCase, example
 
 from toolbox.gdb_board import far_of_address
 from toolbox.gdb_elf import is_call, sleb, uleb
@@ -30,27 +30,6 @@ GDB = shutil.which('gdb')
 LONG = '{"version":1,"ram":64,"sw1":0,"sw2":0,"budget":1000000000000,"keys":[]}'
 RUN = '{"version":1,"ram":64,"sw1":0,"sw2":0,"budget":100000,"keys":[]}'
 BUSY = 'again:  INC AX\n        JMP SHORT again'
-# A board whose way back lasts for a minute.
-SLOW = """#!/usr/bin/env python3
-import sys, time
-clock = 0
-for line in sys.stdin:
-    word, *more = line.split()
-    if word == 'go':
-        clock += int(more[0])
-    if line == 'back stop\\n':
-        time.sleep(60)
-    if word == 'regs':
-        print(' '.join(it + '=0000' for it in 'AX BX CX DX SP BP SI DI'.split()))
-        print(' '.join(it + '=0000' for it in 'CS DS ES SS IP FL'.split()))
-    elif word in ('go', 'back', 'step'):
-        print('clock', clock)
-    elif word == 'break':
-        print('stop 1')
-    elif word == 'dump':
-        print('00000: 00')
-    sys.stdout.flush()
-"""
 CALLS = """        MOV SP,400h
         CALL near
         CALL far_on
