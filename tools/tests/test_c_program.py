@@ -15,8 +15,9 @@ from tests.test_dap import Client
 from tests.test_editors import MODE_CLIENT, batch, has_dap_mode
 from tests.test_gdb import GDB
 
-from toolbox.listing import parts_of, symbols_of
+from toolbox.listing import parts_of
 from toolbox.program import Files, Session
+from toolbox.symbols import image_of, symbols_of
 
 PROGRAM, EMACS = f'{STORED}/c', f'{TOP}/editors/emacs.el'
 HEX, MAP = f'{PROGRAM}/sums.hex', f'{PROGRAM}/sums.map'
@@ -28,12 +29,13 @@ class Symbols(unittest.TestCase):
     """What the files hold."""
 
     def test_symbols(self) -> None:
-        found = symbols_of(MAP)
+        with open(HEX, encoding='ascii') as file:
+            found = symbols_of(MAP, image_of(file.read())).labels
         self.assertEqual((found['_sum'], found['_main'], found['_total']), ((0xF000, 0x44), (0xF000, 0x67), (0, 0x508)))
 
     def test_parts(self) -> None:
         with open(HEX, encoding='ascii') as file:
-            found = parts_of(file.read())
+            found = parts_of(image_of(file.read()))
         self.assertEqual({it: len(octets) for it, octets in found.items()}, {0xFFFF0: 5, 0xF0000: 248})
         self.assertEqual(found[0xF0000][0xF0:0xF4], b'SUM ')
 

@@ -68,6 +68,13 @@ class Files(ToolCase):
         self.assertEqual(self.of(NASM, '@F000:0'), labels)
         self.assertEqual(self.of(NASM_MAP), {it: labels[it] for it in ('start', 'start.loop', 'end_it')})
 
+    def test_labels_alone(self) -> None:
+        self.assertEqual(self.of('F000:0000 start\n0050:4 count\n'), {'start': 'F000:0000', 'count': '0050:0004'})
+        self.assertEqual(self.of('000f0007 T msg\n00000500 B count\n'), {'msg': 'F000:0007', 'count': '0000:0500'})
+        told = '                rom                  _main  0  {}  R\n                rom                 _count  3  00000002  R C\nTotal memory used: 29c\n'
+        self.assertEqual(self.of(told.format('000f0003')), {'_main': 'F000:0003', '_count': '0000:0002'})
+        self.assertEqual(self.of(told.format('00000003'), '@F000'), {'_main': 'F000:0003'})
+
     def test_another_place_or_program(self) -> None:
         for text, place in ((NASM, '@F001'), (NASM, '@F000:1'), (NASM_MAP, '@1000'), (NASM.replace('8EC0', '8EC1'), '')):
             with self.assertRaisesRegex(Sorry, 'FILE@SEGMENT'):

@@ -19,7 +19,8 @@ NASM_SYMBOL = re.compile(r' *([0-9A-F]+) +([0-9A-F]+)  (\S+)$')
 NASM_LABEL = re.compile(r'([A-Za-z_.?@][\w.$#@~?]*)(?:\s*:|\s+(?:d[bwdq]|res[bwdq]|times)\b)', re.I)
 
 FAR_LABEL = re.compile(r'([0-9A-Fa-f]{1,4}):([0-9A-Fa-f]{1,4}) +(\S+)')
-FLAT_LABEL = re.compile(r'(?P<nm>[0-9A-Fa-f]+) [A-Za-z] (?P<of_nm>\S+)|\S+ +(?P<of_ld86>\S+) +[0-9A-Fa-f] +(?P<ld86>[0-9A-Fa-f]{8})( .*)?')
+FLAT_LABEL = re.compile(r'(?P<nm>[0-9A-Fa-f]+) (?P<type>[A-Za-z]) (?P<of_nm>\S+)|'
+                        r'\S+ +(?P<of_ld86>\S+) +(?P<part>[0-9A-Fa-f]) +(?P<ld86>[0-9A-Fa-f]{8})(?![^\n]* a\b)( .*)?')
 
 
 def image_of(text: str) -> dict[int, int]:
@@ -49,7 +50,7 @@ def symbols_of(given: str, image: dict[int, int]) -> Listing:
     elif told and all(re.match(OURS, it) for it in told):
         found = of_ours(rows)
     else:
-        found = of_labels(told)
+        found = of_labels(told, far if place else None)
     if not found.lines and not found.labels:
         raise Sorry(f'{path} is no NASM listing or map file (nasm -l FILE, [map all FILE]), no listing of pcboard asm --list, '
                     'and has no labels as nm or ld86 -M prints them, or in lines SEGMENT:OFFSET NAME')
@@ -110,17 +111,20 @@ def of_a_map(rows: list[str], far: tuple[int, int]) -> Listing:
     return found
 
 
-def of_labels(rows: list[str]) -> Listing:
+def of_labels(rows: list[str], far: tuple[int, int] | None) -> Listing:
     """Lines `SEGMENT:OFFSET NAME`; nm's, `ADDRESS TYPE NAME`; and those of ld86 by -M, `MODULE NAME SEGMENT ADDRESS FLAGS`. Their
-    addresses are physical ones, taken by the multiple of 1000h below."""
+    addresses are physical ones, taken by the multiple of 1000h below; or where the first byte is told, offsets from there, and only
+    those of code count."""
     found = Listing()
     for row in map(str.strip, rows):
-        if far := FAR_LABEL.fullmatch(row):
-            found.labels[far[3]] = int(far[1], 16), int(far[2], 16)
+        if label := FAR_LABEL.fullmatch(row):
+            found.labels[label[3]] = int(label[1], 16), int(label[2], 16)
         elif flat := FLAT_LABEL.fullmatch(row):
-            address = int(flat['nm'] or flat['ld86'], 16)
-            if address < MEMORY:
-                found.labels[flat['of_nm'] or flat['of_ld86']] = address >> 16 << 12, address & 0xFFFF
+            address, name = int(flat['nm'] or flat['ld86'], 16), flat['of_nm'] or flat['of_ld86']
+            if far and (flat['type'] or flat['part']) in ('T', 't', '0'):
+                found.labels[name] = far[0], (far[1] + address) % 0x10000
+            elif not far and address < MEMORY:
+                found.labels[name] = address >> 16 << 12, address & 0xFFFF
     return found
 
 
