@@ -6,20 +6,11 @@ use Rattle.std.specs.List.{AllByRecursion}
 use Rattle.std.specs.List.Sorted.{IsStrictlySortedBy}
 use Rattle.std.specs.Map.{keys_of}
 use Rattle.std.specs.declared.cmp.Ordering.TheVariants.{Less, Equal, Greater}
-use Rattle.std.proofs.lemmas.Bool.{cases_lt, eqb-true}
+use Rattle.std.proofs.lemmas.Bool.{cases_lt, eqb-true, eq-eqb as eq_yes, le-ltb as lt_not, lt-ltb as lt_yes}
 use Rattle.std.proofs.lemmas.Bool.Decides.{nat_tests}
 use Rattle.board_types.specs.Image.{image_byte}
 
-lt_yes : (a b : ℕ) → a < b → nat_lt a b ≡ true
-lt_yes a b h = grind (arith, nat_tests)
-
-lt_not : (a b : ℕ) → b ≤ a → nat_lt a b ≡ false
-lt_not a b h = grind (arith, nat_tests)
-
-eq_yes : (a b : ℕ) → a ≡ b → (a == b) ≡ true
-eq_yes a b h = grind (arith, nat_tests)
-
-eq_not : (a b : ℕ) → b < a → (a == b) ≡ false
+pub eq_not : (a b : ℕ) → b < a → (a == b) ≡ false
 eq_not a b h = grind (arith, nat_tests)
 
 above_not : (a b : ℕ) → a < b → (a == b) ≡ false
@@ -70,7 +61,7 @@ byte_put k v a (e ∷ es) = elim (cases_lt k e.0) [
   ]
 ]
 
-less_is : (a b : ℕ) → nat_cmp a b ≡ Less → a < b
+pub less_is : (a b : ℕ) → nat_cmp a b ≡ Less → a < b
 less_is a b is = elim (cases_lt a b) [
   | inl below ↦ below
   | inr not_below ↦ absurd (never (a == b) (rw (lt_not a b not_below) at is))
@@ -123,7 +114,8 @@ later_byte a e es h = first_byte a e es ∙ ap (λ t. if t then Some e.1 else im
 early_byte : (a : ℕ) (e : ℕ × ℕ) (es : List (ℕ × ℕ)) → a < e.0 → image_byte (e ∷ es) a ≡ image_byte es a
 early_byte a e es h = first_byte a e es ∙ ap (λ t. if t then Some e.1 else image_byte es a) (eq_not e.0 a h)
 
-none_below : (a k : ℕ) (es : List (ℕ × ℕ)) → AllAbove k es → a ≤ k → image_byte es a ≡ None
+-- below the first of rising addresses there is no byte
+pub none_below : (a k : ℕ) (es : List (ℕ × ℕ)) → AllAbove k es → a ≤ k → image_byte es a ≡ None
 none_below a k [] above low = refl
 none_below a k (e ∷ es) above low =
     let over : k < e.0 = less_is k e.0 above.0 in

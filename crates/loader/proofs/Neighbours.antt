@@ -4,6 +4,7 @@ use Rattle.std.specs.List.{AllByRecursion}
 use Rattle.std.proofs.lemmas.List.{map-append}
 use Rattle.std.proofs.lemmas.List.Elements.{filter-append}
 use Rattle.board_types.specs.Image.{image_byte}
+use Rattle.board_types.proofs.ImageBytes.{eq_not}
 use Rattle.loader.specs.declared.hex_fault.RecordFault.{RecordFault}
 use Rattle.loader.specs.declared.hex_record.Extension.{Extension}
 use Rattle.loader.specs.declared.hex_record.Extension.TheVariants.{Segment}
@@ -13,7 +14,6 @@ use Rattle.loader.specs.Reading.{is_blank}
 use Rattle.loader.specs.Records.{HexRecord, bytes_at, end_of_file, extension_at, start_at, are_loadable, placed_bytes, record_of}
 use Rattle.loader.proofs.Loaded.{all_append, head_same, put_byte, tail_same}
 use Rattle.loader.proofs.Places.{records_change_places}
-use Rattle.loader.proofs.Runs.{eq_not}
 
 abbrev Answer : Type 0
 Answer = Result HexRecord RecordFault

@@ -3,11 +3,11 @@ use Rattle.std.proofs.Common.{◌≡◌, ◌∙◌, ◌≢◌, ℕ, ◌<◌, Lis
 use Rattle.std.specs.List.{AllByRecursion}
 use Rattle.std.specs.Ordering.{nat_cmp}
 use Rattle.std.specs.BTreeMap.{insert_entry}
-use Rattle.std.proofs.lemmas.Bool.{cases_lt}
+use Rattle.std.proofs.lemmas.Bool.{cases_lt, eq-eqb as eq_yes, le-ltb as lt_not, lt-ltb as lt_yes}
+use Rattle.board_types.proofs.ImageBytes.{eq_not}
 use Rattle.loader.specs.Laws.{bytes_of, BytesChangePlaces, RecordsChangePlaces}
 use Rattle.loader.specs.Records.{bytes_at, end_of_file, extension_at, start_at, placed_bytes, with_bytes}
 use Rattle.loader.proofs.Loaded.{put_append}
-use Rattle.loader.proofs.Runs.{eq_not, eq_yes, lt_not, lt_yes}
 
 abbrev put : List (ℕ × ℕ) → ℕ → ℕ → List (ℕ × ℕ)
 put es k v = insert_entry nat_cmp es k v

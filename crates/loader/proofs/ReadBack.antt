@@ -6,12 +6,13 @@ use Rattle.std.specs.Map.{keys_of, values_of}
 use Rattle.std.specs.Ordering.{nat_cmp}
 use Rattle.std.specs.BTreeMap.{insert_entry}
 use Rattle.std.specs.declared.cmp.Ordering.TheVariants.{Less}
-use Rattle.std.proofs.lemmas.Bool.{cases_eq}
+use Rattle.std.proofs.lemmas.Bool.{cases_eq, eq-eqb as eq_yes, le-ltb as lt_not}
 use Rattle.std.proofs.lemmas.Bool.Decides.{nat_tests}
 use Rattle.std.proofs.lemmas.List.Elements.{recursion_from_All}
 use Rattle.hex.specs.Hex.{IsBytes, decode_pairs, encode_upper, encode_with, hex_digit_value, upper_digits}
 use Rattle.hex.proofs.HexLemmas.{IsDigits-upper_digits, decode_of-encode_upper}
 use Rattle.board_types.specs.Image.{IsImage, IsLoadable}
+use Rattle.board_types.proofs.ImageBytes.{eq_not, less_is}
 use Rattle.loader.specs.declared.hex_record.Extension.{Extension}
 use Rattle.loader.specs.declared.hex_record.Extension.TheVariants.{Segment}
 use Rattle.loader.specs.HexText.{bank_line, checksum, data_line, end_line, hex_text, is_bank, hex_lines, record_line, row_lines, longest_run}
@@ -20,7 +21,7 @@ use Rattle.loader.specs.Lines.{unless_last, without_spaces}
 use Rattle.board_types.specs.TextLines.{onto_first, text_lines}
 use Rattle.loader.specs.Reading.{after_line, after_record, image_after, image_of, load_state}
 use Rattle.loader.specs.Records.{◌>>=◌, HexRecord, address_in, are_loadable, extension_at, bytes_at, is_loadable, placed_bytes, record_in, record_of, record_of_type, with_bytes}
-use Rattle.loader.proofs.Runs.{eq_not, eq_yes, less_is, lt_not, row_lines_at, run_at}
+use Rattle.loader.proofs.Runs.{row_lines_at, run_at}
 
 -- ---- lines
 

@@ -4,30 +4,13 @@ use Rattle.std.specs.List.{AllByRecursion}
 use Rattle.std.specs.List.Sorted.{IsStrictlySortedBy}
 use Rattle.std.specs.Map.{keys_of}
 use Rattle.std.specs.Ordering.{nat_cmp}
-use Rattle.std.specs.declared.cmp.Ordering.TheVariants.{Less, Equal, Greater}
-use Rattle.std.proofs.lemmas.Bool.{cases_lt}
+use Rattle.std.specs.declared.cmp.Ordering.TheVariants.{Less}
+use Rattle.std.proofs.lemmas.Bool.{cases_lt, eq-eqb as eq_yes, le-leb as le_yes, le-ltb as lt_not, lt-leb as le_not, lt-ltb as lt_yes}
 use Rattle.std.proofs.lemmas.Bool.Decides.{nat_tests}
 use Rattle.std.proofs.lemmas.Map.Keys.{sorted_tail}
 use Rattle.board_types.specs.Image.{IsLoadable, image_byte}
+use Rattle.board_types.proofs.ImageBytes.{eq_not, none_below}
 use Rattle.loader.specs.HexText.{bytes_from, hex_lines, row_lines, longest_run}
-
-pub lt_yes : (a b : ℕ) → a < b → nat_lt a b ≡ true
-lt_yes a b h = grind (arith, nat_tests)
-
-pub lt_not : (a b : ℕ) → b ≤ a → nat_lt a b ≡ false
-lt_not a b h = grind (arith, nat_tests)
-
-le_yes : (a b : ℕ) → a ≤ b → nat_le a b ≡ true
-le_yes a b h = grind (arith, nat_tests)
-
-le_not : (a b : ℕ) → b < a → nat_le a b ≡ false
-le_not a b h = grind (arith, nat_tests)
-
-pub eq_yes : (a b : ℕ) → a ≡ b → (a == b) ≡ true
-eq_yes a b h = grind (arith, nat_tests)
-
-pub eq_not : (a b : ℕ) → b < a → (a == b) ≡ false
-eq_not a b h = grind (arith, nat_tests)
 
 -- where an image has no byte at an address, it goes on behind it
 pub gets_none : (a : ℕ) (es : List (ℕ × ℕ)) → image_byte es a ≡ None → bytes_from es a ≡ bytes_from es (a + 1)
@@ -45,23 +28,6 @@ gets_none a (e ∷ es) h = elim (cases_lt a e.0) [
     some_none : (b : ℕ) → Some b ≡ None → ⊥
     some_none b is = cc
 
-pub less_is : (a b : ℕ) → nat_cmp a b ≡ Less → a < b
-less_is a b is = elim (cases_lt a b) [
-  | inl below ↦ below
-  | inr not_below ↦ absurd (never (a == b) (rw (lt_not a b not_below) at is))
-]
-  where
-    never : (same : Bool) → (if same then Equal else Greater) ≡ Less → ⊥
-    never true is = cc
-    never false is = cc
-
--- below the first of rising keys there is no byte
-none_below : (k a : ℕ) (es : List (ℕ × ℕ)) → AllByRecursion (λ y. nat_cmp k y ≡ Less) (keys_of es) → a ≤ k → image_byte es a ≡ None
-none_below k a [] all low = refl
-none_below k a (e ∷ es) all low =
-    let below : a < e.0 = omega (arith, less_is k e.0 all.0) in
-    rw (lt_yes a e.0 below) (none_below k a es all.1 low)
-
 head_below : (e : ℕ × ℕ) (es : List (ℕ × ℕ)) → IsStrictlySortedBy nat_cmp (keys_of (e ∷ es)) → AllByRecursion (λ y. nat_cmp e.0 y ≡ Less) (keys_of es)
 unfolding IsStrictlySortedBy
 head_below e es sorted = sorted.0
@@ -71,7 +37,7 @@ pub gets_some : (a b : ℕ) (es : List (ℕ × ℕ)) → IsStrictlySortedBy nat_
 gets_some a b [] sorted h = cc
 gets_some a b (e ∷ es) sorted h = elim (cases_lt a e.0) [
   | inl below ↦
-      let none : image_byte es a ≡ None = none_below e.0 a es (head_below e es sorted) (omega arith) in
+      let none : image_byte es a ≡ None = none_below a e.0 es (head_below e es sorted) (omega arith) in
       absurd (none_some none (rw (lt_yes a e.0 below) at h))
   | inr not_below ↦ elim (cases_lt e.0 a) [
     | inl above ↦
@@ -80,7 +46,7 @@ gets_some a b (e ∷ es) sorted h = elim (cases_lt a e.0) [
     | inr not_above ↦
         let key : e.0 ≡ a = omega arith in
         let byte : e.1 ≡ b = some_same (rw (lt_not a e.0 not_below, eq_yes a e.0 (sym key)) at h) in
-        let none : image_byte es a ≡ None = none_below e.0 a es (head_below e es sorted) (omega arith) in
+        let none : image_byte es a ≡ None = none_below a e.0 es (head_below e es sorted) (omega arith) in
         rw (le_yes a e.0 (omega arith), le_not (a + 1) e.0 (omega arith))
         (ap₂ (λ x xs. x ∷ xs) (ap₂ (λ x y. (x, y)) key byte) (gets_none a es none))
   ]
