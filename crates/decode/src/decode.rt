@@ -95,7 +95,7 @@ fn decode_bare(code: &[u8; LONGEST]) -> Decoded
 }
 
 /// The instruction whose bytes stand at the front of `code`, and no other.
-fn decode_code(code: &[u8; LONGEST]) -> Decoded
+pub fn decode_code(code: &[u8; LONGEST]) -> Decoded
     ensures value { result ≡ decoded_from code.now }
     ensures exact { IsDecoded code.now result }
 {
