@@ -6,3 +6,4 @@ pub mod GoesPlainly
 pub mod StoreAt
 mod Again
 mod Counted
+pub mod BySlot

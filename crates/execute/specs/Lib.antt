@@ -8,3 +8,4 @@ pub mod Store
 pub mod StoreAt
 pub mod Iterations
 pub mod Accesses
+pub mod BySlot

@@ -2,17 +2,24 @@
 #![tactic(auto)]
 
 pub mod boundary;
+pub mod by_slot;
+mod bytes_by_slot;
 pub mod cpu;
 pub mod in_registers;
+mod jumps_by_slot;
 pub mod laws;
 pub mod parts;
 mod perform;
 pub mod port_writes;
+mod ports_by_slot;
 pub mod repeating;
 pub mod shadow;
+mod stack_by_slot;
 pub mod step;
 pub mod store;
 pub mod storing;
+mod strings_by_slot;
 pub mod whole;
+mod words_by_slot;
 
 pub use bus::Bus;

@@ -125,7 +125,13 @@ fn combine<B: Bus>(
 /// What the operation makes of two numbers of this width and of the flags.
 #[inline(always)]
 #[tactic(auto, unfolding(crate::specs::Meaning::result_of, crate::specs::Meaning::with_flags_of))]
-fn calculate(flags: &mut FlagRegister, operation: Arithmetic, width: Width, a: u16, b: u16) -> u16
+pub fn calculate(
+    flags: &mut FlagRegister,
+    operation: Arithmetic,
+    width: Width,
+    a: u16,
+    b: u16,
+) -> u16
     requires first { a < size_of width }
     requires second { b < size_of width }
     ensures value { result ≡ result_of operation flags.old width a b }
@@ -158,7 +164,7 @@ fn logical(flags: &mut FlagRegister, width: Width, value: u16) -> u16
 }
 
 /// CMP and TEST keep no result.
-fn keeps_result(operation: Arithmetic) -> bool
+pub fn keeps_result(operation: Arithmetic) -> bool
     ensures { result ≡ keeps_result operation }
 {
     !matches!(operation, Arithmetic::Cmp | Arithmetic::Test)

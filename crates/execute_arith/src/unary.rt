@@ -59,7 +59,7 @@ pub fn perform_unary_on_register<B: Bus>(
     let _ = instr;
     let width = to.width();
     let a = operand(bus, registers, to, width);
-    let result = calculate(&mut registers.flags, operation, width, a);
+    let result = calculate_unary(&mut registers.flags, operation, width, a);
     put_in_register(bus, registers, to, result);
 }
 
@@ -80,13 +80,13 @@ fn perform_elsewhere<B: Bus>(
     let _ = instr;
     let width = to.width();
     let a = operand(bus, registers, to, width);
-    let result = calculate(&mut registers.flags, operation, width, a);
+    let result = calculate_unary(&mut registers.flags, operation, width, a);
     put(bus, registers, to, result);
 }
 
 /// What the operation makes of a number of this width and of the flags.
 #[tactic(auto, unfolding(crate::specs::Meaning::unary_result_of, crate::specs::Meaning::with_unary_flags_of))]
-fn calculate(flags: &mut FlagRegister, operation: Unary, width: Width, a: u16) -> u16
+pub fn calculate_unary(flags: &mut FlagRegister, operation: Unary, width: Width, a: u16) -> u16
     requires { a < size_of width }
     ensures value { result ≡ unary_result_of operation width a }
     ensures flags { flags.new ≡ with_unary_flags_of operation flags.old width a }

@@ -10,3 +10,4 @@ pub mod overflow;
 pub mod registers;
 pub mod stack;
 pub mod width;
+pub mod words;
