@@ -6,7 +6,10 @@ pub mod Rounds
 pub mod Leap
 pub mod Passing
 pub mod Acting
+pub mod BySlots
 pub mod Clear
+pub mod Coded
+pub mod Steps
 pub mod Reach
 pub mod Rooms
 pub mod Ticking

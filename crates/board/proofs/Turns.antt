@@ -1,6 +1,6 @@
 -- The turns of a run against its work: a clock with work pays for three, and the run for what is left.
-use Rattle.std.proofs.Common.{◌≡◌, ℕ, ◌+◌, ◌-◌, ◌*◌, ◌<◌, ◌≤◌, min, inl, inr, ◌++◌, length, sym, ap, ◌∙◌, subst, arith, append-nil}
-use Rattle.std.specs.Prelude.{◌⊎◌, OnOk, Result, Ok, Err}
+use Rattle.std.proofs.Common.{zero, suc, refl, ◌≡◌, ℕ, ◌+◌, ◌-◌, ◌*◌, ◌<◌, ◌≤◌, min, inl, inr, ◌++◌, length, sym, ap, ◌∙◌, subst, arith, append-nil}
+use Rattle.std.specs.Prelude.{◌⊎◌, OnErr, OnOk, Result, Ok, Err}
 use Rattle.board_types.proofs.Iterate.{total_zero, total_more, total_add}
 use Rattle.board_plain.specs.Board.{BoardState, Ran, StoppedEarly}
 use Rattle.board.specs.HeldBack.{IsHeldBack}
@@ -8,11 +8,14 @@ use Rattle.board_plain.specs.Laws.{WiresHold}
 use Rattle.board.specs.Leap.{IsQuiet, IsTight, leapt}
 use Rattle.board_plain.specs.Plain.{Plain, after_clock, changes_in, clock_of}
 use Rattle.board_plain.specs.Trail.{last}
-use Rattle.board.specs.Turns.{IsLeapOn, IsStepOn, IsStrideOn, IsTickOn, IsTurnOn}
+use Rattle.board.specs.ClearSteps.{AreClearSteps, Noted}
+use Rattle.board.specs.Turns.{AreStepsOn, IsHeldBehind, IsLongTurnOn, IsLeapOn, IsStepOn, IsStrideOn, IsTickOn, IsTurnOn}
 use Rattle.board_plain.specs.Work.{steps_in, steps_next, work_in, work_next}
 use Rattle.board_plain.proofs.LastEntries.{last_within, nothing_added}
 use Rattle.board.proofs.Leap.{board_leaps, clock_of_leap, no_changes, no_entries}
+use Rattle.board.proofs.Beginning.{step_made}
 use Rattle.board.proofs.Rooms.{works_at_once}
+use Rattle.board.proofs.Steps.{have_gone}
 use Rattle.board.proofs.Ticking.{not_held, ran_more, stopped}
 use Rattle.board_plain.proofs.Runs.{ran_none, runs_join}
 use Rattle.board.proofs.Works.{first_has_none, none_to_do, none_to_step, busy_of_leap, one_step_at_most}
@@ -290,3 +293,54 @@ step_moves end t b u before first (inr rest) =
 pub stride_moves : (end : ℕ) (t u : BoardState) → clock_of t.plain < end → IsStrideOn end t u → end - clock_of u.plain < end - clock_of t.plain
 stride_moves end t u before (inl turn) = turn_moves end t u before turn
 stride_moves end t u before (inr step) = step_moves end t step.begun u before step.first step.rest
+
+-- steps at once, while nothing comes
+
+-- the board behind so many of them
+abbrev behind : BoardState → ℕ → Noted → BoardState
+behind t n v = record t { plain = v.plain; trail = v.trail; turns = t.turns + n }
+
+so_far_each : (n spare end : ℕ) (s t : BoardState) (v : Noted) → AreClearSteps n end (record { plain = t.plain; trail = t.trail }) v → SoFar spare end s t → SoFar spare end s (behind t n v)
+unfolding AreClearSteps
+so_far_each zero spare end s t v same so_far =
+    let counted : t.turns ≡ t.turns + 0 = omega arith in
+    subst (λ b. SoFar spare end s b) (λ k. record t { plain = (sym same k).plain; trail = (sym same k).trail; turns = counted k }) so_far
+so_far_each (suc n) spare end s t v steps so_far =
+    let w : Noted = steps.0 in
+    let before = so_far_each n spare end s t w steps.1 so_far in
+    so_far_stride spare end s (behind t n w) (behind t (suc n) v) before steps.2.before
+    (inr (step_made end (behind t n w) (behind t (suc n) v) steps.2.calmly steps.2.passed refl steps.2.entries refl (omega arith)))
+
+pub so_far_steps : (spare end : ℕ) (s t u : BoardState) → SoFar spare end s t → AreStepsOn end t u → SoFar spare end s u
+so_far_steps spare end s t u so_far on =
+    subst (λ b. SoFar spare end s b) (λ k. record u { changes = sym on.changes k; room = sym on.room k; turns = sym on.turns k })
+    (so_far_each on.count spare end s t (record { plain = u.plain; trail = u.trail }) on.steps so_far)
+
+pub so_far_long : (spare end : ℕ) (s t u : BoardState) → SoFar spare end s t → IsLongTurnOn end t u → SoFar spare end s u
+so_far_long spare end s t u so_far long =
+    let mid = so_far_steps spare end s t long.between so_far long.steps in
+    elim long.rest [
+      | inl last ↦ subst (SoFar spare end s) (sym last.0) mid
+      | inr stride ↦ so_far_stride spare end s long.between u mid stride.0 stride.1
+    ]
+
+pub long_moves : (end : ℕ) (t u : BoardState) → clock_of t.plain < end → IsLongTurnOn end t u → end - clock_of u.plain < end - clock_of t.plain
+long_moves end t u before long =
+    let gone = have_gone long.steps.count end _ _ long.steps.steps in
+    let some : long.steps.count + clock_of t.plain ≤ clock_of long.between.plain = gone.some in
+    elim long.rest [
+      | inl last ↦
+          let here : clock_of u.plain ≡ clock_of long.between.plain = ap (λ (x : BoardState). clock_of x.plain) last.0 in
+          let past = last.1 in omega (arith, here, past, before)
+      | inr stride ↦ let less = stride_moves end long.between u stride.0 stride.1 in omega (arith, less, some)
+    ]
+
+-- behind such steps
+
+pub if_long : {E : Type 0} (end : ℕ) (s t u : BoardState) (result : Result Unit E) → AreStepsOn end s t → clock_of t.plain < end → OnOk result (IsStrideOn end t u) → OnOk result (IsLongTurnOn end s u)
+if_long end s t u (Ok x) steps before stride = record { between = t; steps = steps; rest = inr (before, stride) }
+if_long end s t u (Err e) steps before stride = stride
+
+pub if_held : {E : Type 0} (end : ℕ) (s t u : BoardState) (result : Result Unit E) → AreStepsOn end s t → clock_of t.plain < end → OnErr result (IsHeldBack t u) → OnErr result (IsHeldBehind end s u)
+if_held end s t u (Err e) steps before held = record { between = t; steps = steps; before = before; held = held }
+if_held end s t u (Ok x) steps before held = held

@@ -8,3 +8,4 @@ pub mod Clear
 pub mod Turns
 pub mod AwaitFree
 pub mod Found
+pub mod ClearSteps

@@ -1,7 +1,9 @@
 -- Turns: time goes on by a clock that has work, or leaps.
 -- For proofs alone: no public contract rests on it.
-use Rattle.std.specs.Prelude.{ℕ, ◌≡◌, ◌+◌, ◌-◌, ◌≤◌, ◌⊎◌, ◌++◌, length}
+use Rattle.std.specs.Prelude.{ℕ, ◌≡◌, ◌+◌, ◌-◌, ◌<◌, ◌≤◌, ◌⊎◌, ◌++◌, length}
 use Rattle.board_plain.specs.Board.{BoardState}
+use Rattle.board.specs.ClearSteps.{AreClearSteps}
+use Rattle.board.specs.HeldBack.{IsHeldBack}
 use Rattle.board_plain.specs.Laws.{WiresHold}
 use Rattle.board.specs.Leap.{IsQuiet, IsTight, leapt}
 use Rattle.board_plain.specs.Plain.{after_clock, change_next, clock_of}
@@ -45,3 +47,26 @@ pub record IsStepOn (end : ℕ) (old new : BoardState) : Type 0 where
 -- a turn, or such a step
 abbrev pub IsStrideOn : ℕ → BoardState → BoardState → Type 0
 IsStrideOn end old new = IsTurnOn end old new ⊎ IsStepOn end old new
+
+-- so many such steps at once, while nothing comes
+pub record AreStepsOn (end : ℕ) (old new : BoardState) : Type 0 where
+  pub count : ℕ
+  pub steps : AreClearSteps count end (record { plain = old.plain; trail = old.trail })
+      (record { plain = new.plain; trail = new.trail })
+  pub changes : new.changes ≡ old.changes
+  pub room : new.room ≡ old.room
+  pub turns : new.turns ≡ old.turns + count
+
+-- and where the run doesn't end with them, a turn or a step
+pub record IsLongTurnOn (end : ℕ) (old new : BoardState) : Type 0 where
+  pub between : BoardState
+  pub steps : AreStepsOn end old between
+  pub rest : ((new ≡ between) × (end ≤ clock_of between.plain))
+      ⊎ ((clock_of between.plain < end) × IsStrideOn end between new)
+
+-- or what comes behind them is held back
+pub record IsHeldBehind (end : ℕ) (old new : BoardState) : Type 0 where
+  pub between : BoardState
+  pub steps : AreStepsOn end old between
+  pub before : clock_of between.plain < end
+  pub held : IsHeldBack between new

@@ -16,7 +16,7 @@ ghost use Rattle.board_plain.specs.Lasts.{IsLastOf};
 ghost use Rattle.board.specs.Found.{found_at, found_before};
 ghost use Rattle.board_plain.specs.Trail.{last, trail_in, trail_next};
 ghost use Rattle.board.specs.AwaitFree.{IsTurnBetween};
-ghost use Rattle.board.specs.Turns.{IsStepOn, IsStrideOn, IsTickOn, IsTurnOn};
+ghost use Rattle.board.specs.Turns.{AreStepsOn, IsHeldBehind, IsLongTurnOn, IsStepOn, IsStrideOn, IsTickOn, IsTurnOn};
 ghost use Rattle.board_plain.specs.Work.{steps_in, work_in, work_next};
 ghost use Rattle.board_types.specs.Lines.{from_bool};
 
@@ -166,7 +166,7 @@ impl<A: Allocator> Board<A> {
         }
         let end = self.clock().get() + count;
         'turns: while self.clock().get() < end {
-            self.stride(end)?;
+            self.long_turn(end)?;
         }
         Ok(())
     }
@@ -322,6 +322,33 @@ impl<A: Allocator> Board<A> {
             return Ok(());
         }
         self.other_turn(end)
+    }
+
+    /// As many steps at once as can be made, while nothing comes; and where the run doesn't end with them, a turn or a step.
+    #[inline(always)]
+    fn long_turn(&mut self, end: u64) -> Result<(), BoardFault>
+        requires before_end { clock_of self.old.plain < end }
+        requires within { end ≤ 2 ^ 40 }
+        ensures ok { OnOk result (IsLongTurnOn end self.old self.new) }
+        ensures err { OnErr result (IsHeldBehind end self.old self.new) }
+        ensures fault { IfErr result (λ fault. fault ≡ BoardFault.Memory) }
+    {
+        self.stride_clearly(end);
+        if self.clock().get() >= end {
+            return Ok(());
+        }
+        self.stride(end)
+    }
+
+    /// Those steps.
+    #[inline(always)]
+    fn stride_clearly(&mut self, end: u64)
+        requires before_end { clock_of self.old.plain < end }
+        requires within { end ≤ 2 ^ 40 }
+        ensures { AreStepsOn end self.old self.new }
+    {
+        let made = self.engine.stride_clearly(&mut self.trail, end);
+        self.turns += made;
     }
 
     /// A turn of a run that ends at the clock `end`; or a step of an instruction or of a repeat with the leap over its

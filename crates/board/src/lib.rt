@@ -3,6 +3,7 @@
 
 mod arrivals;
 pub mod board;
+mod clearly;
 mod engine;
 mod stop;
 mod trail;

@@ -1,4 +1,4 @@
-use Rattle.std.proofs.Common.{◌≡◌, ◌<◌, ◌+◌, None, Some, refl, sym, ap, ◌∙◌, subst, arith}
+use Rattle.std.proofs.Common.{◌≡◌, ◌<◌, ◌+◌, None, Some, refl, sym, ◌∙◌, subst, arith}
 use Rattle.board_plain.specs.Plain.{clock_of}
 use Rattle.board_plain.specs.Stops.{holding}
 use Rattle.board.proofs.Search.{between_moves, found, held_at_once, held_search, nothing_found, searched_between, searched_first}

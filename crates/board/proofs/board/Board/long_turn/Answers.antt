@@ -1,0 +1,18 @@
+use Rattle.std.proofs.Common.{inl, refl, arith}
+use Rattle.board.proofs.Turns.{if_held, if_long}
+use Rattle.board.proofs.board.Board.long_turn.Goals as goal
+
+pub returns-then-get-end-clause-ok : goal.returns-then-get-end-clause-ok
+returns-then-get-end-clause-ok g c = record {
+  between = c.stride_clearly.new.self;
+  steps = c.stride_clearly.ensures;
+  rest = inl (refl, omega (arith, c.if-get-end.true, c.get.ensures.value, c.clock.ensures));
+}
+
+pub returns-clause-ok : goal.returns-clause-ok
+returns-clause-ok g c =
+    if_long c.args.end _ _ _ c.stride.result c.stride_clearly.ensures (omega (arith, c.if-get-end.false, c.get.ensures.value, c.clock.ensures)) c.stride.ensures.ok
+
+pub returns-clause-err : goal.returns-clause-err
+returns-clause-err g c =
+    if_held c.args.end _ _ _ c.stride.result c.stride_clearly.ensures (omega (arith, c.if-get-end.false, c.get.ensures.value, c.clock.ensures)) c.stride.ensures.err
