@@ -1,0 +1,21 @@
+use Rattle.std.proofs.Common.{◌<◌, refl, sym, subst, arith}
+use Rattle.board_plain.specs.Board.{BoardState}
+use Rattle.board_plain.specs.Plain.{clock_of}
+use Rattle.board.proofs.Beginning.{GoesOn, goes_on, step_of}
+use Rattle.board.proofs.board.Board.step_by_slot.Goals as goal
+
+pub invariant_of-self-2 : goal.invariant_of-self-2
+invariant_of-self-2 g c =
+    let yes = c.if-not-stride_by_slot.false in
+    let before : clock_of c.self.inside.engine < c.args.end = subst (λ (b : BoardState). clock_of b.plain < c.args.end) (sym c.self.view_is) c.requires.before_end in
+    let on : GoesOn c.args.end c.self.inside.engine c.stride_by_slot.new.self = goes_on c.args.end _ _ before (c.stride_by_slot.ensures.passed yes) in
+    let some = on.some in
+    let within = on.within in
+    let turns = c.self.invariant.2 in
+    (omega (arith, within, c.requires.within), c.stride_by_slot.ensures.few, omega (arith, some, turns))
+
+pub returns-clause-made : goal.returns-clause-made
+returns-clause-made g c = λ _.
+    let made = c.stride_by_slot.ensures in
+    let yes = c.if-not-stride_by_slot.false in
+    step_of c.args.end _ c.args.self.now _ c.self.view_is (made.calmly yes) (made.passed yes) refl (made.entries yes) refl refl
