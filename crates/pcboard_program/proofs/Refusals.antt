@@ -11,18 +11,25 @@ use Rattle.pcboard_program.specs.declared.unanswered.Unanswered.TheVariants.{Fai
 use Rattle.pcboard_program.specs.Answer.{IsTrueRefusal, run_text_of, source_of}
 use Rattle.pcboard_program.specs.Ready.{seen_of}
 use Rattle.pcboard_program.specs.Refusal.{IsTrueOfFiles, IsTrueOfText}
-use Rattle.pcboard_program.specs.Unanswered.{EndsFor}
+use Rattle.pcboard_program.specs.Unanswered.{EndsFor, IsUnjudged}
 use Rattle.pcboard_program.proofs.Reading.{seen_whole, shorter}
 
 -- the program ends for a fault that is passed on
-pub passed_on : {A : Type 0} (result : Result A Unanswered) (fault : Fault) (Is : Fault → Type 0) → IsErrAnd result (λ end. end ≡ Refused fault) → Is fault
-    → IfErr result (EndsFor Is)
-passed_on (Ok value) fault Is given is = tt
-passed_on (Err Failed) fault Is given is = let never : Failed ≡ Refused fault = given in cc
-passed_on (Err (Refused other)) fault Is given is =
+pub passed_on : {A : Type 0} (result : Result A Unanswered) (fault : Fault) (Wants Is : Fault → Type 0) → IsErrAnd result (λ end. end ≡ Refused fault) → Is fault
+    → IfErr result (EndsFor Wants Is)
+passed_on (Ok value) fault Wants Is given is = tt
+passed_on (Err Failed) fault Wants Is given is = let never : Failed ≡ Refused fault = given in cc
+passed_on (Err (Refused other)) fault Wants Is given is =
     let same : Refused other ≡ Refused fault = given in
     let alike : fault ≡ other = cc in
     inr (subst Is alike is)
+
+-- or for a want of memory that is one of several
+pub unjudged_wider : {A : Type 0} (result : Result A Unanswered) (Wants More : Fault → Type 0) → ((fault : Fault) → Wants fault → More fault)
+    → IfErr result (IsUnjudged Wants) → IfErr result (IsUnjudged More)
+unjudged_wider (Ok value) Wants More more is = tt
+unjudged_wider (Err Failed) Wants More more is = tt
+unjudged_wider (Err (Refused fault)) Wants More more is = more fault is
 
 -- a source's first fault is seen in the bytes that were read of it
 seen_first : (source : List ℕ) (fault : AsmFault) → IsFirst (take 1048577 source) fault → IsFirst source fault

@@ -1,4 +1,4 @@
--- The definitions of a session's input and of what is printed on it, at lines that are written out.
+-- The definitions of a session's input, of what is printed on it, and of wants of memory, at lines that are written out.
 use Rattle.std.proofs.Common.{◌≡◌, [], ◌∷◌, codes, true, false, None, Some, Err, refl}
 use Rattle.std.specs.Prelude.{⊤}
 use Rattle.std.specs.Fmt.{digits}
@@ -9,6 +9,8 @@ use Rattle.debugger.specs.declared.fault.DebugFault.TheVariants.{BadCommand, Mem
 use Rattle.debugger.specs.Commands.{command_of, command_with, is_quit, plain_command}
 use Rattle.debugger.specs.Stands.{SessionState}
 use Rattle.debugger.specs.Words.{count_of, words_of}
+use Rattle.pcboard_program.specs.Faults.{fault_text}
+use Rattle.pcboard_program.specs.Refusal.{want_of_board, want_of_file, want_of_run_file, want_of_session}
 use Rattle.pcboard_program.specs.Transcript.{Transcript, ends_session, input_lines, refusal_text, typed_command}
 
 -- what a row unfolds
@@ -53,6 +55,27 @@ refused = refl
 refused_there : refusal_text (Memory (Some 96)) ≡ codes "fault 53 Memory clock 96\n"
 unfolding on_lines
 refused_there = refl
+
+-- the lines of wants of memory
+source_wanted : fault_text (want_of_file false) ≡ codes "fault 13 Memory\n"
+unfolding on_lines fault_text
+source_wanted = refl
+
+hex_wanted : fault_text (want_of_file true) ≡ codes "fault 27 Memory\n"
+unfolding on_lines fault_text
+hex_wanted = refl
+
+run_file_wanted : fault_text want_of_run_file ≡ codes "fault 37 Memory\n"
+unfolding on_lines fault_text
+run_file_wanted = refl
+
+board_wanted : fault_text want_of_board ≡ codes "fault 41 Memory\n"
+unfolding on_lines fault_text
+board_wanted = refl
+
+session_wanted : fault_text want_of_session ≡ codes "fault 53 Memory\n"
+unfolding on_lines fault_text
+session_wanted = refl
 
 -- what a session prints on a blank line, `quit` and a line behind it, wherever it stands
 blank : (session : SessionState) → Transcript session (input_lines (codes "\nquit\nregs\n")) (codes "fault 51 BadCommand\n")

@@ -1,9 +1,14 @@
 -- What the program tells where it gives no answer.
 -- To be believed: the headline rests on it.
-use Rattle.std.specs.Prelude.{ℕ, ◌≡◌, ◌⊎◌, ◌++◌, Bool, false, List, codes, Option, IfSome, Ok, Err, string_bytes}
+use Rattle.std.specs.Prelude.{ℕ, ◌≡◌, ◌⊎◌, ◌++◌, Bool, true, false, List, codes, Option, None, IfSome, Ok, Err, string_bytes}
 use Rattle.std.specs.Io.KnownBytes.{Appends}
 use Rattle.assembler.specs.FirstFault.{IsFirst}
+use Rattle.assembler.specs.declared.fault.AsmFault.TheVariants as asm
+use Rattle.loader.specs.declared.hex_fault.HexFault.TheVariants as hexes
+use Rattle.loader.specs.declared.run_fault.RunFault.TheVariants as runs
 use Rattle.board_plain.specs.Board.{BoardState}
+use Rattle.board_plain.specs.declared.fault.BoardFault.TheVariants as boards
+use Rattle.debugger.specs.declared.fault.DebugFault.TheVariants as sessions
 use Rattle.pcboard_words.specs.CommandLine.{Answers as AnswersWords}
 use Rattle.pcboard_words.specs.declared.task.LineFault.{LineFault}
 use Rattle.pcboard_words.specs.declared.task.LineFault.TheVariants.{Usage, Memory}
@@ -11,10 +16,38 @@ use Rattle.pcboard_words.specs.declared.task.Task.{Task}
 use Rattle.pcboard_words.specs.declared.task.Task.TheVariants as tasks
 use Rattle.pcboard_program.specs.declared.fault.Fault.{Fault}
 use Rattle.pcboard_program.specs.declared.fault.Fault.TheVariants.{Source, Hex, Run, Board, Session}
-use Rattle.pcboard_program.specs.Faults.{IsWantOfMemory, fault_text}
+use Rattle.pcboard_program.specs.Faults.{fault_text}
 use Rattle.debugger.specs.Stands.{SessionState, session_about}
 use Rattle.pcboard_program.specs.Answer.{AppendsA, IsBoardOf, IsTrueRefusal, run_text_of, source_of}
 use Rattle.pcboard_program.specs.Transcript.{Transcript, input_lines}
+
+-- the want of memory for a program's bytes: fault 27 of a HEX text, if `hex`, else 13 of a source
+abbrev pub want_of_file : Bool → Fault
+want_of_file true = Hex hexes.Memory
+want_of_file false = Source asm.Memory
+
+-- the want of memory for the words, a board, its report or a session's line: fault 41
+abbrev pub want_of_board : Fault
+want_of_board = Board boards.Memory
+
+-- the want of memory for a run file: fault 37
+abbrev pub want_of_run_file : Fault
+want_of_run_file = Run runs.Memory
+
+-- the want of memory for a session that is to begin: fault 53
+abbrev pub want_of_session : Fault
+want_of_session = Session (sessions.Memory None)
+
+-- a want of memory of a run
+abbrev pub IsWantOfRun : Bool → Fault → Type 0
+IsWantOfRun hex fault = (fault ≡ want_of_file hex) ⊎ ((fault ≡ want_of_run_file) ⊎ (fault ≡ want_of_board))
+
+-- a want of memory of a task
+abbrev pub IsWantOfTask : Task → Fault → Type 0
+IsWantOfTask tasks.Stored fault = IsWantOfRun false fault
+IsWantOfTask (tasks.Asm file list) fault = fault ≡ want_of_file false
+IsWantOfTask (tasks.Run file run hex) fault = IsWantOfRun hex fault
+IsWantOfTask (tasks.Debug file run hex) fault = IsWantOfRun hex fault ⊎ (fault ≡ want_of_session)
 
 -- a refusal is true of a source that is to be assembled: it is its first fault
 abbrev pub IsTrueOfText : List ℕ → Fault → Type 0
@@ -36,10 +69,12 @@ IsTrueOfTask (tasks.Asm file list) files input fault = IfSome (files file.now) (
 IsTrueOfTask (tasks.Run file run hex) files input fault = IsTrueOfFiles hex (files file.now) (files run.now) fault
 IsTrueOfTask (tasks.Debug file run hex) files input fault = IsTrueOfFiles hex (files file.now) (files run.now) fault
 
--- The refusal is a want of memory, which may come at any words; or the words name a task, and it is true of that.
+-- The refusal is the want of memory for the words; or these name a task, and it is a want of memory of that, or true of
+-- it.
 abbrev pub IsTrueOfWords : List (List ℕ) → (List ℕ → Option (List ℕ)) → Option (List ℕ) → Fault → Type 0
 IsTrueOfWords words files input fault =
-    IsWantOfMemory fault ⊎ ((task : Task) × AnswersWords words (Ok task) × IsTrueOfTask task files input fault)
+    (fault ≡ want_of_board)
+    ⊎ ((task : Task) × AnswersWords words (Ok task) × (IsWantOfTask task fault ⊎ IsTrueOfTask task files input fault))
 
 -- the known bytes grow by the line of such a refusal
 abbrev pub TellsA : (Fault → Type 0) → Option (List ℕ) → Option (List ℕ) → Type 0

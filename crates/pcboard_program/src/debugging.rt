@@ -5,7 +5,7 @@ ghost use Rattle.loader.specs.ByteInput.{CountsNone};
 ghost use Rattle.debugger.specs.Session.{AnswersLine};
 ghost use Rattle.debugger.specs.Stands.{session_about};
 ghost use Rattle.pcboard_program.specs.Answer.{AppendsA};
-ghost use Rattle.pcboard_program.specs.Refusal.{BeginsTranscript};
+ghost use Rattle.pcboard_program.specs.Refusal.{BeginsTranscript, want_of_board, want_of_session};
 ghost use Rattle.pcboard_program.specs.Taking.{TakesLine};
 ghost use Rattle.pcboard_program.specs.Transcript.{Transcript, ends_session, input_lines, refusal_text, reply_text, typed_command};
 ghost use Rattle.pcboard_program.specs.Unanswered.{IsUnjudged, UnlessFailed, WhereRefused};
@@ -35,7 +35,7 @@ pub(crate) fn print_session<I: ByteInput, O: Write>(
     ensures cut { IfErr result (WhereRefused (O.contents out.new ≡ O.contents out.old
         ⊎ IfSome (I.remaining input.old) (λ typed. AppendsA (BeginsTranscript (session_about board) (input_lines typed))
         (O.contents out.old) (O.contents out.new)))) }
-    ensures end { IfErr result IsUnjudged }
+    ensures end { IfErr result (IsUnjudged (λ fault. fault ≡ want_of_board ⊎ fault ≡ want_of_session)) }
     ensures unfailed { UnlessFailed (CountsNone (I.failures input.old) (I.failures input.new)) result }
 {
     let mut session = Session::new(alloc, board)?;
@@ -54,7 +54,7 @@ fn answer_lines<I: ByteInput, O: Write>(
     ensures cut { IfErr result (WhereRefused (IfSome (I.remaining input.old)
         (λ typed. AppendsA (BeginsTranscript session.old (input_lines typed)) (O.contents out.old)
         (O.contents out.new)))) }
-    ensures end { IfErr result IsUnjudged }
+    ensures end { IfErr result (IsUnjudged (λ fault. fault ≡ want_of_board)) }
     ensures unfailed { UnlessFailed (CountsNone (I.failures input.old) (I.failures input.new)) result }
 {
     'lines: for _ in 0..u64::MAX {
@@ -74,7 +74,7 @@ fn answer_lines<I: ByteInput, O: Write>(
 fn next_line<I: ByteInput>(alloc: Global, input: &mut I) -> Result<Option<Vec<u8>>, Unanswered>
     ensures line { IfOk result (λ line. TakesLine (I.remaining input.old) (I.remaining input.new)
         (option_map vec_items line)) }
-    ensures end { IfErr result IsUnjudged }
+    ensures end { IfErr result (IsUnjudged (λ fault. fault ≡ want_of_board)) }
     ensures unfailed { UnlessFailed (CountsNone (I.failures input.old) (I.failures input.new)) result }
 {
     let mut line = Vec::new(alloc);

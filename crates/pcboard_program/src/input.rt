@@ -1,7 +1,7 @@
 //! What the program reads.
-ghost use Rattle.std.specs.Prelude.{◌≡◌, take, IfErr, IfOk, IfSome};
+ghost use Rattle.std.specs.Prelude.{◌≡◌, ◌⊎◌, take, IfErr, IfOk, IfSome};
 ghost use Rattle.loader.specs.ByteInput.{CountsNone};
-ghost use Rattle.pcboard_program.specs.Faults.{IsWantOfMemory};
+ghost use Rattle.pcboard_program.specs.Refusal.{want_of_file, want_of_run_file};
 ghost use Rattle.pcboard_program.specs.Unanswered.{IsUnjudged, UnlessFailed};
 ghost use Rattle.pcboard_program.specs.Ready.{seen_of};
 ghost use Rattle.pcboard_program.specs.Taking.{TakesByte};
@@ -27,7 +27,7 @@ pub(crate) fn read_program<F: Opener>(
 ) -> Result<Vec<u8>, Unanswered>
     ensures bytes { IfSome (F.file_bytes files.now path.now)
         (λ known. IfOk result (λ bytes. bytes.items ≡ seen_of hex known)) }
-    ensures end { IfErr result IsUnjudged }
+    ensures end { IfErr result (IsUnjudged (λ fault. fault ≡ want_of_file hex)) }
 {
     let mut file = files.open(path)?;
     if hex {
@@ -50,7 +50,7 @@ pub(crate) fn read_files<F: Opener>(
     ensures bytes { IfSome (F.file_bytes files.now file.now)
         (λ known. IfOk result (λ read. read.0.items ≡ seen_of hex known)) }
     ensures said { IfSome (F.file_bytes files.now run.now) (λ known. IfOk result (λ read. read.1.items ≡ known)) }
-    ensures end { IfErr result IsUnjudged }
+    ensures end { IfErr result (IsUnjudged (λ fault. fault ≡ want_of_file hex ⊎ fault ≡ want_of_run_file)) }
 {
     let bytes = read_program(alloc, files, file, hex)?;
     let mut run = files.open(run)?;
@@ -65,7 +65,7 @@ pub(crate) fn read_whole<I: ByteInput>(
     want: Fault,
 ) -> Result<Vec<u8>, Unanswered>
     ensures bytes { IfSome (I.remaining input.old) (λ known. IfOk result (λ bytes. bytes.items ≡ known)) }
-    ensures end { IsWantOfMemory want → IfErr result IsUnjudged }
+    ensures end { IfErr result (IsUnjudged (λ fault. fault ≡ want)) }
     ensures unfailed { UnlessFailed (CountsNone (I.failures input.old) (I.failures input.new)) result }
 {
     // No more than this can stand in memory.
@@ -82,7 +82,7 @@ fn read_front<I: ByteInput>(
     want: Fault,
 ) -> Result<Vec<u8>, Unanswered>
     ensures bytes { IfSome (I.remaining input.old) (λ known. IfOk result (λ bytes. bytes.items ≡ take limit known)) }
-    ensures end { IsWantOfMemory want → IfErr result IsUnjudged }
+    ensures end { IfErr result (IsUnjudged (λ fault. fault ≡ want)) }
     ensures unfailed { UnlessFailed (CountsNone (I.failures input.old) (I.failures input.new)) result }
 {
     match read_all(alloc, input, limit) {
@@ -95,7 +95,7 @@ fn read_front<I: ByteInput>(
 /// The next byte of the input, or `None` at its end.
 pub(crate) fn next_byte<I: ByteInput>(input: &mut I) -> Result<Option<u8>, Unanswered>
     ensures byte { IfOk result (TakesByte (I.remaining input.old) (I.remaining input.new)) }
-    ensures end { IfErr result IsUnjudged }
+    ensures end { IfErr result (λ end. end ≡ Unanswered.Failed) }
     ensures unfailed { UnlessFailed (CountsNone (I.failures input.old) (I.failures input.new)) result }
 {
     let mut byte = [0];

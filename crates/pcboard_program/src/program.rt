@@ -1,5 +1,5 @@
 //! The program, over any files, standard input and writers.
-ghost use Rattle.std.specs.Prelude.{◌≡◌, ◌≢◌, ◌≤◌, ◌<◌, List, [], length, map, ◌⊎◌, IfErr, IfSome, OnOk, string_bytes};
+ghost use Rattle.std.specs.Prelude.{◌≡◌, ◌≢◌, ◌≤◌, ◌<◌, List, [], length, map, ◌⊎◌, IfErr, IfSome, MatchResult, OnOk, false, string_bytes};
 ghost use Rattle.std.specs.Io.KnownBytes.{Appends};
 ghost use Rattle.board_types.specs.TextLines.{text_lines};
 ghost use Rattle.assembler.specs.Gives.{Gives};
@@ -7,8 +7,8 @@ ghost use Rattle.assembler.specs.Rows.{AreRows, Row, names_of};
 ghost use Rattle.loader.specs.ByteInput.{CountsNone};
 ghost use Rattle.loader.specs.HexText.{hex_text};
 ghost use Rattle.pcboard_program.specs.Answer.{AppendsA, IsAssembled, IsListingOf, Prints, PrintsTask};
-ghost use Rattle.pcboard_program.specs.Faults.{IsWantOfMemory, fault_text};
-ghost use Rattle.pcboard_program.specs.Refusal.{IsTrueOfTask, IsTrueOfText, IsTrueOfWords, PrintsNoAnswer, PrintsReplies, RefusesWords, TellsA, unreadable_text};
+ghost use Rattle.pcboard_program.specs.Faults.{fault_text};
+ghost use Rattle.pcboard_program.specs.Refusal.{IsTrueOfTask, IsTrueOfText, IsTrueOfWords, IsWantOfTask, PrintsNoAnswer, PrintsReplies, RefusesWords, TellsA, unreadable_text, want_of_board, want_of_file};
 ghost use Rattle.pcboard_program.specs.Unanswered.{EndsFor, IsUnjudged, UnlessFailed, WhereRefused};
 
 use crate::debugging::print_session;
@@ -92,7 +92,7 @@ pub fn without_words<E: Write>(err: &mut E) -> u8
     ensures above { 0 < result }
     ensures within { result ≤ 3 }
     ensures status { result ≢ 2 }
-    ensures told { result ≡ 1 → TellsA IsWantOfMemory (E.contents err.old) (E.contents err.new) }
+    ensures told { result ≡ 1 → Appends (E.contents err.old) (E.contents err.new) (fault_text want_of_board) }
 {
     refused(err, Fault::Board(BoardFault::Memory))
 }
@@ -103,7 +103,16 @@ pub fn with_unreadable_words<E: Write>(err: &mut E) -> u8
     ensures status { result ≡ 2 ⊎ result ≡ 3 }
     ensures told { result ≡ 2 → Appends (E.contents err.old) (E.contents err.new) unreadable_text }
 {
-    told(err, UNREADABLE_WORDS, 2)
+    let (status, text) = unreadable_words();
+    told(err, text, status)
+}
+
+/// The exit status for words that can't be read, and what is told of them.
+pub fn unreadable_words() -> (u8, &'static str)
+    ensures status { result.0 ≡ 2 }
+    ensures text { result.1.now ≡ unreadable_text }
+{
+    (2, UNREADABLE_WORDS)
 }
 
 /// Prints the answer to a task.
@@ -119,7 +128,7 @@ fn print_task<F: Opener, I: ByteInput, O: Write>(
     ensures withheld { IfErr result (WhereRefused (O.contents out.new ≡ O.contents out.old
         ⊎ PrintsReplies task.entry (F.file_bytes files.now) (I.remaining input.old) (O.contents out.old)
         (O.contents out.new))) }
-    ensures end { IfErr result (EndsFor (IsTrueOfTask task.entry (F.file_bytes files.now) (I.remaining input.old))) }
+    ensures end { IfErr result (EndsFor (IsWantOfTask task.entry) (IsTrueOfTask task.entry (F.file_bytes files.now) (I.remaining input.old))) }
     ensures unfailed { UnlessFailed (CountsNone (I.failures input.old) (I.failures input.new)) result }
 {
     match task {
@@ -144,7 +153,7 @@ fn print_report<O: Write>(report: &Report, out: &mut O) -> Result<(), Unanswered
     ensures printed { OnOk result (Appends (O.contents out.old) (O.contents out.new)
         (string_bytes report.now.text)) }
     ensures kept { IfErr result (WhereRefused (O.contents out.new ≡ O.contents out.old)) }
-    ensures end { IfErr result IsUnjudged }
+    ensures end { IfErr result (λ end. end ≡ Unanswered.Failed) }
 {
     Ok(print(out, report.text.as_str())?)
 }
@@ -160,8 +169,8 @@ fn print_assembled<F: Opener, O: Write>(
     ensures printed { OnOk result (IfSome (F.file_bytes files.now file.now)
         (λ source. AppendsA (IsAssembled list source) (O.contents out.old) (O.contents out.new))) }
     ensures kept { IfErr result (WhereRefused (O.contents out.new ≡ O.contents out.old)) }
-    ensures end { IfErr result (EndsFor (λ fault. IfSome (F.file_bytes files.now file.now)
-        (λ source. IsTrueOfText source fault))) }
+    ensures end { IfErr result (EndsFor (λ fault. fault ≡ want_of_file false)
+        (λ fault. IfSome (F.file_bytes files.now file.now) (λ source. IsTrueOfText source fault))) }
 {
     let source = read_program(alloc, files, file, false)?;
     let listing = assemble(alloc, source.as_slice())?;
@@ -185,7 +194,7 @@ fn print_listing<O: Write>(
         → listing.now.names ≡ names_of rows }
     ensures printed { OnOk result (AppendsA (IsListingOf listing.now.source) (O.contents out.old) (O.contents out.new)) }
     ensures kept { IfErr result (WhereRefused (O.contents out.new ≡ O.contents out.old)) }
-    ensures end { IfErr result IsUnjudged }
+    ensures end { IfErr result (IsUnjudged (λ fault. fault ≡ want_of_file false)) }
 {
     let text = listing_text(alloc, listing, size)?;
     Ok(print(out, text.as_str())?)
@@ -195,7 +204,7 @@ fn print_listing<O: Write>(
 fn print_hex<O: Write>(image: &Image, out: &mut O) -> Result<(), Unanswered>
     ensures printed { OnOk result (Appends (O.contents out.old) (O.contents out.new) (hex_text image.now)) }
     ensures kept { IfErr result (WhereRefused (O.contents out.new ≡ O.contents out.old)) }
-    ensures end { IfErr result IsUnjudged }
+    ensures end { IfErr result (λ end. end ≡ Unanswered.Failed) }
 {
     match write_hex(image, out) {
         Ok(()) => Ok(out.flush()?),
@@ -220,10 +229,7 @@ fn told<W: Write>(err: &mut W, text: &str, status: u8) -> u8
     ensures status { result < 3 → result ≡ status }
     ensures told { result < 3 → Appends (W.contents err.old) (W.contents err.new) text.now }
 {
-    match print(err, text) {
-        Ok(()) => status,
-        Err(_) => 3,
-    }
+    status_after(&print(err, text), status)
 }
 
 /// Tells a refusal, and answers the status.
@@ -233,8 +239,15 @@ fn refused<W: Write>(err: &mut W, fault: Fault) -> u8
     ensures status { result ≢ 2 }
     ensures told { result ≡ 1 → Appends (W.contents err.old) (W.contents err.new) (fault_text fault) }
 {
-    match write_fault(&fault, err) {
-        Ok(()) => 1,
+    status_after(&write_fault(&fault, err), 1)
+}
+
+/// The exit status behind a text that was to be told: 3 where writing it failed, and nowhere else.
+fn status_after(written: &io::Result<()>, status: u8) -> u8
+    ensures { MatchResult written.now (λ _. result ≡ status) (λ _. result ≡ 3) }
+{
+    match written {
+        Ok(()) => status,
         Err(_) => 3,
     }
 }

@@ -2,7 +2,7 @@
 ghost use Rattle.std.specs.Prelude.{◌≡◌, ◌<◌, length, false, IfErr, IfOk, IfSome, string_bytes};
 ghost use Rattle.loader.specs.ByteInput.{CountsNone};
 ghost use Rattle.pcboard_program.specs.Answer.{IsBoardOf, IsReport, IsTrueRefusal, first_line_end, run_text_of, source_of};
-ghost use Rattle.pcboard_program.specs.Refusal.{IsTrueOfFiles};
+ghost use Rattle.pcboard_program.specs.Refusal.{IsTrueOfFiles, IsWantOfRun};
 ghost use Rattle.pcboard_program.specs.Unanswered.{EndsFor, UnlessFailed};
 
 use crate::fault::Fault;
@@ -24,7 +24,7 @@ pub(crate) fn stored_report<I: ByteInput>(
 ) -> Result<Report, Unanswered>
     ensures report { IfSome (I.remaining input.old) (λ text. IfOk result
         (λ report. IsReport false (source_of text) (run_text_of text) (string_bytes report.text))) }
-    ensures end { IfErr result (EndsFor (λ fault. IfSome (I.remaining input.old)
+    ensures end { IfErr result (EndsFor (IsWantOfRun false) (λ fault. IfSome (I.remaining input.old)
         (λ text. IsTrueRefusal false (source_of text) (run_text_of text) fault))) }
     ensures unfailed { UnlessFailed (CountsNone (I.failures input.old) (I.failures input.new)) result }
 {
@@ -44,7 +44,7 @@ pub(crate) fn read_report<F: Opener>(
     ensures report { IfSome (F.file_bytes files.now file.now)
         (λ bytes. IfSome (F.file_bytes files.now run.now)
         (λ said. IfOk result (λ report. IsReport hex bytes said (string_bytes report.text)))) }
-    ensures end { IfErr result (EndsFor (IsTrueOfFiles hex (F.file_bytes files.now file.now)
+    ensures end { IfErr result (EndsFor (IsWantOfRun hex) (IsTrueOfFiles hex (F.file_bytes files.now file.now)
         (F.file_bytes files.now run.now))) }
 {
     let (bytes, said) = read_files(alloc, files, file, run, hex)?;
@@ -61,7 +61,7 @@ pub(crate) fn read_board<F: Opener>(
 ) -> Result<Board, Unanswered>
     ensures board { IfSome (F.file_bytes files.now file.now)
         (λ bytes. IfSome (F.file_bytes files.now run.now) (λ said. IfOk result (IsBoardOf hex bytes said))) }
-    ensures end { IfErr result (EndsFor (IsTrueOfFiles hex (F.file_bytes files.now file.now)
+    ensures end { IfErr result (EndsFor (IsWantOfRun hex) (IsTrueOfFiles hex (F.file_bytes files.now file.now)
         (F.file_bytes files.now run.now))) }
 {
     let (bytes, said) = read_files(alloc, files, file, run, hex)?;

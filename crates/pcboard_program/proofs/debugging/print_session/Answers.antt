@@ -1,11 +1,12 @@
-use Rattle.std.proofs.Common.{◌≡◌, ◌⊎◌, inr, IfErr, IfSome, OnOk, Result, Ok, Err, subst}
+use Rattle.std.proofs.Common.{◌≡◌, ◌⊎◌, inl, inr, IfErr, IfSome, OnOk, Result, Ok, Err, subst}
 use Rattle.debugger.specs.Stands.{SessionState}
 use Rattle.pcboard_program.specs.declared.unanswered.Unanswered.{Unanswered}
 use Rattle.pcboard_program.specs.declared.unanswered.Unanswered.TheVariants.{Failed, Refused}
 use Rattle.pcboard_program.specs.Answer.{AppendsA}
-use Rattle.pcboard_program.specs.Refusal.{BeginsTranscript}
+use Rattle.pcboard_program.specs.Refusal.{BeginsTranscript, want_of_board, want_of_session}
 use Rattle.pcboard_program.specs.Transcript.{Transcript, input_lines}
 use Rattle.pcboard_program.specs.Unanswered.{WhereRefused}
+use Rattle.pcboard_program.proofs.Refusals.{unjudged_wider}
 use Rattle.pcboard_program.proofs.debugging.print_session.Goals as goal
 
 or_nothing : {T : Type 0} (A B : Type 0) (result : Result T Unanswered) → IfErr result (WhereRefused B) → IfErr result (WhereRefused (A ⊎ B))
@@ -25,3 +26,7 @@ returns-clause-cut g c =
     (subst
     (λ (session : SessionState). IfErr c.answer_lines.result (WhereRefused (IfSome (g.I.ByteInput.remaining c.args.input.now)
     (λ typed. AppendsA (BeginsTranscript session (input_lines typed)) (g.O.Write.contents c.args.out.now) (g.O.Write.contents c.answer_lines.new.out))))) c.in_ok-session.ensures.session c.answer_lines.ensures.cut)
+
+pub returns-clause-end : goal.returns-clause-end
+returns-clause-end g c =
+    unjudged_wider c.answer_lines.result (λ fault. fault ≡ want_of_board) (λ fault. fault ≡ want_of_board ⊎ fault ≡ want_of_session) (λ fault is. inl is) c.answer_lines.ensures.end

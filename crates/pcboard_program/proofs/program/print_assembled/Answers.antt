@@ -14,7 +14,7 @@ returns-in_err-listing-clause-end g c =
     let fault = Source c.in_err-listing.field-0.0 in
     let read = subst (λ bytes. IsFirst bytes c.in_err-listing.field-0.0) c.as_slice.ensures.value c.in_err-listing.ensures.fault in
     let refused = refused_text (g.F.Opener.file_bytes c.args.files.now c.args.file.now) c.in_ok-source.source.items fault c.in_ok-source.ensures.bytes read in
-    passed_on c.from_residual-in_err-listing.result fault _ c.from_residual-in_err-listing.ensures.1 refused
+    passed_on c.from_residual-in_err-listing.result fault _ _ c.from_residual-in_err-listing.ensures.1 refused
 
 pub returns-then-list-clause-printed : goal.returns-then-list-clause-printed
 returns-then-list-clause-printed g c =

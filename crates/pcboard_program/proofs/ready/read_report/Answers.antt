@@ -17,4 +17,4 @@ returns-in_err-run_texts-clause-end g c =
     let true_of = subst (λ run. IsTrueRefusal c.args.hex c.in_ok-bytes.bytes.items run c.in_err-run_texts.field-0.0) c.as_slice-2.ensures.value seen in
     let refused = refused_files (g.F.Opener.file_bytes c.args.files.now c.args.file.now) (g.F.Opener.file_bytes c.args.files.now c.args.run.now) c.args.hex
     c.in_ok-bytes.bytes.items c.in_ok-bytes.said.items c.in_err-run_texts.field-0.0 c.in_ok-bytes.ensures.bytes c.in_ok-bytes.ensures.said true_of in
-    passed_on c.from_residual-in_err-run_texts.result c.in_err-run_texts.field-0.0 _ c.from_residual-in_err-run_texts.ensures.1 refused
+    passed_on c.from_residual-in_err-run_texts.result c.in_err-run_texts.field-0.0 _ _ c.from_residual-in_err-run_texts.ensures.1 refused
