@@ -52,21 +52,24 @@ static zebludor_outcome run_it(int is_hex, size_t room) {
                                                       report.bytes, room);
 }
 
-/* Each allocation refused in turn: a run is then refused for want of memory, as one of four parts tells it. */
+/* Each allocation refused in turn: a run is then refused for want of memory. As the refused allocation comes later, the program's
+ * fault is told, then the run file's, then the board's. */
 static int refuses_truthfully(int is_hex, long allocations) {
+    const int wants[] = {is_hex ? 27 : 13, 37, 41};
+    int part = 0;
     for (long at = 0; at < allocations; at++) {
         long before = held;
         asked = 0, refuse_at = at;
         zebludor_outcome outcome = run_it(is_hex, sizeof report.bytes);
         refuse_at = -1;
-        int wants = outcome.fault == 13 || outcome.fault == 27 || outcome.fault == 37 || outcome.fault == 41;
-        if (outcome.status != 1 || !wants || held != before) {
+        if (part < 2 && outcome.fault == wants[part + 1]) part++;
+        if (outcome.status != 1 || outcome.fault != wants[part] || held != before) {
             fprintf(stderr, "allocation %ld refused: status %d, fault %d, %ld blocks kept\n", at, outcome.status,
                     outcome.fault, held - before);
             return 0;
         }
     }
-    return 1;
+    return part == 2;
 }
 
 int main(int count, char **words) {

@@ -28,6 +28,10 @@ CUT_REPLIES = REGS + 'clock 68\nstop 1\n' + BACK + 'stop 1 clock 62\n'
 FORTH = 'regs\ngo 70\nsound\ngo 70\n'
 FORTH_REPLIES = REGS + STOPS + 'stop 1 clock 72\n'
 
+# The refusals of each task, as the refused allocation comes later.
+ORDERS = {'asm': '41 13', 'listing': '41 13', 'run': '41 13 37 13 37 41', 'run of HEX': '41 27 37 27 37 41', 'stored run': '41 13 37 41',
+          'session': '41 13 37 13 37 41 53 41'}
+
 
 def replies_to(_: object, commands: str) -> str:
     """What an undisturbed session replies."""
@@ -61,15 +65,24 @@ class Judging(unittest.TestCase):
                                         (REGS, 'fault 3 BadLine line 1\n', False)):
                 self.assertEqual(REFUSALS.is_true(SESSION, WHOLE, Ran(1, out, fault)), is_true, out)
 
+    def test_refusals_in_their_order(self) -> None:
+        def told(*numbers: int) -> list[Ran]:
+            return [Ran(1, '', f'fault {it} Memory\n') for it in numbers]
+        for answers, wants in ((told(41, 41, 13, 37, 13, 13, 37, 41), (41, 13, 37, 13, 37, 41)), (told(41, 13, 37), (41, 13, 37)),
+                               ([*told(53), WHOLE, Ran(0, 'fault 53 Memory\n', ''), *told(41)], (53, 41)),
+                               (told(41, 37, 13), (41, 37, 13)), ([], ())):
+            self.assertEqual(REFUSALS.in_turn(answers), wants, answers)
+
 
 class Refusing(ToolCase):
     """Over the built program."""
 
     def test_each_allocation_refused(self) -> None:
         out, _ = self.tool('dev/refusals')
-        counts = re.findall(r': (\d+) allocations refused, (\d+) told, 0 other answers', out)
+        counts = re.findall(r'(.*): (\d+) allocations refused, (\d+) told as (.*), 0 other answers', out)
         self.assertEqual(len(counts), 15)
-        for count, told in counts:
+        for _, count, told, _ in counts:
             self.assertGreater(int(count), 10)
             self.assertGreater(int(told), 10)
+        self.assertEqual({name.partition(', ')[2]: wants for name, _, _, wants in counts if 'bytes' not in name}, ORDERS)
         self.assertTrue(out.endswith('\n0 other answers\n'), out)
