@@ -75,7 +75,8 @@ class StandIn(ToolCase):
         files = self.begin('0')
         for words, wanted in (([], 'has its --at'), (['--key', 'EE', '--at', '1..9'], 'no scan code'), (['--key', '1E', '--at', '9..9'], 'no clock'),
                               (['--key', '1E', '--at', 'soon'], '1000..9000'), (['--key', '1E', '--at', '890..901'], 'never comes'),
-                              (['--key', '1E', '--at', '1..9', '--sample', '9'], 'there are 8 moments')):
+                              (['--key', '1E', '--at', '1..9', '--sample', '9'], 'there are 8 moments'),
+                              (['--key', '1E', '--at', '1..9', '--symbols', 'x'], 'goes with --hex')):
             self.assertIn(wanted, self.tool('moments', *files, *words, status=2)[1])
         self.file('it.moments', '{}')
         self.assertIn('remove it', self.tool('moments', *files, '--key', '1E', '--at', '1..9', status=2)[1])
@@ -119,6 +120,18 @@ class Board(ToolCase):
         self.tool('judge', f'{TURNS}.page', f'{TURNS}.asm', f'{self.room}/turns.failing.json', status=1)
         out, _ = self.tool('moments', f'{TURNS}.page', f'{EXAMPLES}/moments/mended.asm', *words, '1200..1240')
         self.assertEqual(out, '40 of 40 moments tried, 0 failed\n')
+
+    def test_labels_of_hex(self) -> None:
+        """The label whose word is spoilt in the same moments is told by a listing."""
+        text = self.file('turns.hex', self.pcboard('asm', f'{TURNS}.asm').stdout)
+        listing = self.file('turns.lst', self.pcboard('asm', '--list', f'{TURNS}.asm').stdout)
+        words = (self.file('page', 'runs = idle\nmemory turns = 14 00\n'), text, f'{TURNS}.json', '--hex', '--key', '1E', '--at', '1214..1218')
+        out, _ = self.tool('moments', *words, '--symbols', listing, status=1)
+        self.assertEqual(out.splitlines()[0], '4 of 4 moments tried, 2 failed')
+        self.assertIn('failing 1216 to 1217\n', out)
+        self.assertIn('no idle in', self.tool('moments', *words, status=1)[0])
+        self.file('turns.lst', '0500:0000 turns\n')
+        self.assertIn('no byte at any of its labels', self.tool('moments', *words, '--symbols', listing, status=2)[1])
 
 
 if __name__ == '__main__':

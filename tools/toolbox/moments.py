@@ -15,14 +15,16 @@ import tempfile
 import threading
 import time
 from bisect import bisect_right
-from dataclasses import dataclass, field
+from dataclasses import dataclass, field, replace
 from typing import Any, Iterator, Sequence
 
 from toolbox.command import Sorry, read_text, write_text
 from toolbox.expectations import Planned, page_of
 from toolbox.judging import fields_of, outcomes_of, subject_of
+from toolbox.listing import Listing
 from toolbox.program import Files, path as program_path
 from toolbox.runfile import text_of
+from toolbox.symbols import path_of
 
 AT_ONCE = 8  # moments that a process is handed
 
@@ -37,15 +39,17 @@ class Key:
 class Plan:
     """What is to be tried: moments, of which each is a clock for each key."""
 
-    def __init__(self, page: str, file: str, run_file: str | None, is_hex: bool, keys: list[Key], sample: int, seed: int) -> None:
-        self.page, self.file, self.run_file, self.is_hex = page, file, run_file, is_hex
+    def __init__(self, page: str, files: Files, keys: list[Key], sample: int, seed: int) -> None:
+        self.page, self.files = page, files
         self.keys, self.sample, self.seed = keys, sample, seed
-        self.runs, self.text = page_of(page), read_text(file)
+        self.runs, self.text = page_of(page), read_text(files.file)
+        self.symbols = [files.symbols, read_text(path_of(files.symbols))] if files.symbols else []
+        self.listing: Listing | None = None  # where labels stand, once it was asked
         total = math.prod(len(it.clocks) for it in keys)
         if not 0 <= sample <= total:
             raise Sorry(f'--sample {sample}: there are {total} moments')
         self.moments: Sequence[int] = sorted(random.Random(seed).sample(range(total), sample)) if sample else range(total)
-        self._run = {id(it): fields_of(it, run_file) for it in self.runs}
+        self._run = {id(it): fields_of(it, files.run_file or None) for it in self.runs}
 
     def clocks(self, moment: int) -> tuple[int, ...]:
         """The clocks of the moment of this number."""
@@ -71,13 +75,15 @@ class Plan:
         tool = os.path.join(os.path.dirname(os.path.dirname(os.path.realpath(__file__))), 'moments')
         keys = [word for it in self.keys for word in ('--key', f'{it.code:02X}', '--at', f'{it.clocks.start}..{it.clocks.stop}')]
         sample = ['--sample', str(self.sample), '--seed', str(self.seed)] if self.sample else []
-        return [sys.executable, '-S', tool, '--worker', room, *keys, *sample, *(['--hex'] if self.is_hex else []), '--', self.page,
-                self.file, *([self.run_file] if self.run_file else [])]
+        files = self.files
+        form = [*(['--hex'] if files.is_hex else []), *(['--symbols', files.symbols] if files.symbols else [])]
+        return [sys.executable, '-S', tool, '--worker', room, *keys, *sample, *form, '--', self.page, files.file,
+                *([files.run_file] if files.run_file else [])]
 
     def sum(self) -> str:
         """What tells this plan from others: all that an outcome hangs on."""
         program = os.stat(program_path())
-        known = [self.text, read_text(self.page), [self.fields(it) for it in self.runs], self.is_hex, self.sample, self.seed,
+        known = [self.text, read_text(self.page), [self.fields(it) for it in self.runs], self.files.is_hex, self.symbols, self.sample, self.seed,
                  [(it.code, it.clocks.start, it.clocks.stop) for it in self.keys], program.st_size, program.st_mtime_ns]
         return hashlib.sha256(json.dumps(known).encode()).hexdigest()
 
@@ -147,15 +153,17 @@ class Kept:
 
 def failure_of(plan: Plan, run_file: str, moment: int | None) -> Failure | None:
     """What a moment fails by: the first expectation of the first run that isn't met. None: the runs without the keys."""
-    files = Files(plan.file, run_file, plan.is_hex)
+    files = replace(plan.files, run_file=run_file)
     for number, planned in enumerate(plan.runs):
         fields = plan.fields(planned)
         with open(run_file, 'w', encoding='utf-8') as to:
             to.write(text_of(fields if moment is None else plan.with_keys(fields, moment)))
         subject = subject_of(files)
         if isinstance(subject, str):
-            raise Sorry(f'{plan.file} is {subject} (tools/why tells more)')
+            raise Sorry(f'{files.file} is {subject} (tools/why tells more)')
+        subject.listing = plan.listing
         unmet = next((it for it in outcomes_of(planned, subject) if it.but is not None), None)
+        plan.listing = subject.listing
         if unmet:
             return Failure(number, unmet.said, unmet.but or '')
     return None

@@ -36,10 +36,14 @@ def image_of(text: str) -> dict[int, int]:
     return found
 
 
+def path_of(given: str) -> str:
+    """The path of such a file, without the place of its first byte."""
+    return re.sub(PLACE, '', given)
+
+
 def symbols_of(given: str, image: dict[int, int]) -> Listing:
     """The lines and labels of such a file."""
-    place = re.search(PLACE, given)
-    path = given[:place.start()] if place else given
+    place, path = re.search(PLACE, given), path_of(given)
     far = (int(place[1], 16), int(place[2] or '0', 16)) if place else (0xF000, 0)
     rows = read_text(path).removesuffix('\n').replace('\r', '').split('\n')
     told = [it for it in rows if it]
