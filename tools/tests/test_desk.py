@@ -327,6 +327,26 @@ class Boards(Served):
         saved = self.client.ask('save', board=answer['board'])
         self.assertEqual(saved['hex'], True)
 
+    def test_labels_of_hex(self) -> None:
+        """Those of the words' file stand beside its bytes, where the source has them, and beside no other program's."""
+        source, run_file = example('monitor')
+        text, listing = source.replace('.asm', '.hex'), self.file('monitor.lst', self.pcboard('asm', '--list', source).stdout)
+        self.desk.given = Given(text, run_file, True, listing)
+        with open(source, encoding='utf-8') as of_source, open(run_file, encoding='utf-8') as fields:
+            them = [{'source': it, 'run': run, 'hex': is_hex} for run in [json.load(fields)] for it, is_hex in
+                    ((of_source.read(), False), (self.desk.answer({'do': 'hello'})['given']['source'], True))]
+        shown = list[Fields]()
+        for one in them:
+            board = self.client.ask('open', **one)['board']
+            shown.append(self.client.ask('go to', board=board, clock=5000) | {'trail without lines': [it[:4] for it in self.client.ask('look', board=board)['trail']]})
+            label = shown[0]['label'].partition('+')[0]
+            shown[-1]['stops'] = [it[:2] for it in self.client.ask('stops', board=board, places=[label])['stops']]
+        for name in ('label', 'trail without lines', 'stack', 'stops'):
+            self.assertEqual(shown[1][name], shown[0][name], name)
+        self.assertTrue(label and shown[1]['line'] is None)
+        other = self.client.ask('open', source=self.pcboard('asm', *example('hello')[:1]).stdout, run=RUN, hex=True)['board']
+        self.assertEqual({it[2] for it in self.client.ask('go to', board=other, clock=60)['trail']}, {''})
+
     def test_keys_typed_while_it_runs(self) -> None:
         """The run goes on as it would have gone with the keys from the start, and what is saved repeats it to the byte."""
         board = self.client.open('keys', keys=[], budget=0)['board']
@@ -499,6 +519,8 @@ class Started(ToolCase):
         self.assertIn('no such folder', self.tool('desk', self.file('a.asm', FOREVER), 'none/a.json', status=2)[1])
         self.assertIn('is no JSON', self.tool('desk', self.file('a.asm', FOREVER), self.file('a.json', '{'), status=2)[1])
         self.assertIn('a port is', self.tool('desk', '--port', '70000', status=2)[1])
+        self.assertIn('goes with Intel HEX', self.tool('desk', '--symbols', 'x', self.file('a.asm', FOREVER), status=2)[1])
+        self.assertIn('no byte at any of its labels', self.tool('desk', '--symbols', self.file('a.sym', 'F000:7 it\n'), self.file('a.hex', ''), status=2)[1])
 
 
 class Pages(unittest.TestCase):

@@ -12,7 +12,7 @@ from toolbox.command import Sorry
 from toolbox.dap_board import MOST_BREAKPOINTS, Far, Machine, Paused, is_repeated
 from toolbox.desk_work import Fields, Helpers, Job
 from toolbox.events import commands
-from toolbox.listing import listing_of, physical
+from toolbox.listing import labels_alone, listing_of, physical
 from toolbox.places import address_of, event_of, line_at
 from toolbox.program import LAST_CLOCK, Files
 from toolbox.report import REGISTERS, Report, registers_of, report_of
@@ -62,8 +62,8 @@ def stretches(line: list[Cell]) -> list[tuple[str, int]]:
 class Board:
     """The board of one page, at a clock."""
 
-    def __init__(self, room: str, source: str, fields: Fields, is_hex: bool) -> None:
-        self.room, self.is_hex, self.used = room, is_hex, time.monotonic()
+    def __init__(self, room: str, source: str, fields: Fields, is_hex: bool, symbols: str | None = None) -> None:
+        self.room, self.is_hex, self.symbols, self.used = room, is_hex, symbols, time.monotonic()
         self.source, self._fields = source, {name: it for name, it in fields.items() if name != 'keys'}
         given = fields.get('keys')
         self._raw_keys: Any = given
@@ -78,7 +78,8 @@ class Board:
         self.stops, self.furthest, self._was_at, self._turn = list[Far](), 0, 0, 0
         self._looks = 0
         self.files = self._written(self.keys if is_key_list(given) else None)
-        self.listing = listing_of(self.files)
+        listing = listing_of(self.files)
+        self.listing = labels_alone(listing) if is_hex else listing
         self.machine = self._machine(self.files)
 
     def _written(self, keys: list[Key] | None) -> Files:
@@ -92,7 +93,7 @@ class Board:
         listed = [[it.stamp, it.code] for it in keys] if keys is not None else self._raw_keys
         with open(run_file, 'w', encoding='utf-8') as to:
             to.write(text_of(self._fields | ({} if listed is None else {'keys': listed})))
-        return Files(file, run_file, self.is_hex)
+        return Files(file, run_file, self.is_hex, self.symbols)
 
     def _machine(self, files: Files) -> Machine:
         """A session on these files, at clock 0."""
@@ -285,12 +286,13 @@ class Board:
                 line.number if line and event.entry is None else None]
 
     def _stack(self, registers: dict[str, int]) -> list[list[Any]]:
-        """The words from SS:SP on, with the label of one that leads to a line of the source."""
+        """The words from SS:SP on, with the label of one that leads to a line of the source, or to bytes of Intel HEX."""
         segment, top = registers['SS'], registers['SP']
         octets = self.machine.dump(physical(segment, top), STACK_BYTES)
         words = [int.from_bytes(octets[at:at + 2], 'little') for at in range(0, len(octets) - 1, 2)]
+
         def label(word: int) -> str:
-            return self.listing.label_before(registers['CS'], word) if word and physical(registers['CS'], word) in self.listing.at else ''
+            return self.listing.label_before(registers['CS'], word) if word and self.listing.has(physical(registers['CS'], word)) else ''
 
         return [[f'{top + 2 * at:04X}', f'{word:04X}', label(word)] for at, word in enumerate(words) if top + 2 * at < 0x10000]
 

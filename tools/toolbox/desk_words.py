@@ -22,6 +22,7 @@ from toolbox.places import far_of
 from toolbox.program import LAST_CLOCK, TOP, Files
 from toolbox.runfile import DEFAULTS, read_run_file
 from toolbox.scancodes import stamped, strokes_of
+from toolbox.symbols import image_of
 
 MOST_BOARDS, IDLE_SECONDS = 8, 900
 LONGEST_SOURCE, MOST_MESSAGES, MESSAGES_SECONDS = 1 << 20, 20, 2.0
@@ -36,6 +37,7 @@ class Given:
     file: str | None = None
     run_file: str | None = None
     is_hex: bool = False
+    symbols: str | None = None
 
 
 def want(fields: Fields, name: str, kind: type, default: Any = None) -> Any:
@@ -155,7 +157,7 @@ class Desk:
         board = None
         try:
             os.mkdir(room)
-            board = Board(room, source, run, is_hex)
+            board = Board(room, source, run, is_hex, self._symbols(source) if is_hex else None)
         except Gone as gone:
             return {'refused': refusals(Files(self._file(room, is_hex), '', is_hex), str(gone))}
         except Sorry as sorry:
@@ -170,6 +172,12 @@ class Desk:
                 self._end(name, None)
         lines = {str(it.number): '%04X:%04X' % it.address for it in board.listing.lines if it.address}
         return {'board': name, 'lines': lines, 'budget': board.budget} | board.view('there', 0)
+
+    def _symbols(self, source: str) -> str | None:
+        """The file of symbols that the command's words name, for the bytes of its FILE alone."""
+        if self.given.symbols and self.given.file and image_of(source) == image_of(read_text(self.given.file)):
+            return self.given.symbols
+        return None
 
     def _file(self, room: str, is_hex: bool) -> str:
         """Where a board has its source."""

@@ -36,6 +36,10 @@ class Listing:
     labels: dict[str, tuple[int, int]] = field(default_factory=dict)
     parts: dict[int, bytes] = field(default_factory=dict)
 
+    def has(self, address: int) -> bool:
+        """Whether a line begins at a physical address, or Intel HEX has a byte there."""
+        return address in self.at or any(first <= address < first + len(part) for first, part in self.parts.items())
+
     def label_before(self, segment: int, offset: int) -> str:
         """`label` or `label+N` for an address: the nearest label at or before it in the same paragraph, or nothing."""
         best = max(((at, name) for name, (para, at) in self.labels.items() if para == segment and at <= offset),
