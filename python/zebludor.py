@@ -349,21 +349,18 @@ class Dialogue:
         """The trails behind runs of so many clocks each, one behind the other, in a session without stops; lines for `event_of`.
         All are asked for at once, so that neither side waits for the other: at most some thirty, whose answers fit in the pipe."""
         self._send(''.join(f'go {it}\ntrail\n' for it in clocks) + 'go 0\n')
-        found: list[list[bytes]] = []
-        lines, nine = list[bytes](), ord('9')
-        for line in iter(self._out.readline, b''):
-            if line[0] <= nine:
-                lines.append(line)
-            elif line.startswith(b'clock '):
-                self.clock = int(line[6:])
-                if len(found) == len(clocks):
-                    self.is_idle = True
-                    return found
-                lines = []
-                found.append(lines)
-            else:
-                raise fault_in(line.decode('ascii', 'replace')) or Unfit(line.decode('ascii', 'replace').strip())
-        self._ended()
+        octets = bytearray(b'\n')
+        while not octets.endswith(b'\n') or octets.count(b'clock ') + octets.count(b'fault ') <= len(clocks):
+            piece = self._out.read1(1 << 16)
+            if not piece:
+                self._ended()
+            octets += piece
+        _, *parts = bytes(octets).split(b'\nclock ')
+        if len(parts) <= len(clocks):
+            odd = next(it for it in octets.decode('ascii', 'replace').splitlines() if re.match(r'(?!clock )\D', it))
+            raise fault_in(odd) or Unfit(odd)
+        self.clock, self.is_idle = int(parts.pop()), True
+        return [part.split(b'\n')[1:] for part in parts]
 
     def dump(self, address: int, count: int) -> bytes:
         """Bytes from a physical address on, as many as there are below 100000h."""

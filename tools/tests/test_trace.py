@@ -84,9 +84,9 @@ class Stored(unittest.TestCase):
     def test_waveform(self) -> None:
         text = io.StringIO()
         wave = Wave(text, [('cs', 16), ('speaker', 1)])
-        wave.write(0, (0, 0xF000), (1, 0))
-        wave.write(4, (0, 0xF000))
-        wave.write(5, (1, 1))
+        wave.write(0, ((0, 0xF000), (1, 0)))
+        wave.write(4, ((0, 0xF000),))
+        wave.write(5, ((1, 1),))
         wave.end(10)
         self.assertIn('$var wire 16 ! cs $end\n$var wire 1 " speaker $end', text.getvalue())
         self.assertTrue(text.getvalue().endswith('b0 !\n0"\n$end\n#0\nb1111000000000000 !\n#1050\n1"\n#2100\n'))

@@ -7,11 +7,16 @@ from typing import IO
 from toolbox.report import NANOSECONDS
 
 
+Changes = tuple[tuple[int, int], ...]
+MOST_KNOWN = 1 << 14
+
+
 class Wave:
     """A waveform that is written as its changes come, in the order of their clocks. Each signal begins as 0."""
 
     def __init__(self, file: IO[str], signals: list[tuple[str, int]]) -> None:
-        self._file, self._values, self._clock = file, [0] * len(signals), -1
+        self._file, self._values, self._clock = file, (0,) * len(signals), -1
+        self._known: dict[tuple[tuple[int, ...], Changes], tuple[str, tuple[int, ...]]] = {}
         signs = [chr(ord('!') + place) for place in range(len(signals))]
         self._bits = {place for place, (_, width) in enumerate(signals) if width == 1}
         self._forms = [f'%d{sign}\n' if place in self._bits else f' {sign}\n' for place, sign in enumerate(signs)]
@@ -20,16 +25,25 @@ class Wave:
         lines += ['$upscope $end', '$enddefinitions $end', '#0', '$dumpvars']
         file.write('\n'.join(lines) + '\n' + ''.join(it % 0 if place in self._bits else f'b0{it}' for place, it in enumerate(self._forms)) + '$end\n')
 
-    def write(self, clock: int, *changes: tuple[int, int]) -> None:
+    def write(self, clock: int, changes: Changes) -> None:
         """Writes a clock's changes, signals with their values; what stays as it was is none."""
-        values = self._values
+        known = self._known.get((self._values, changes)) or self._text(changes)
+        text, self._values = known
+        if text:
+            self._file.write(text if clock == self._clock else f'#{clock * NANOSECONDS}\n{text}')
+            self._clock = clock
+
+    def _text(self, changes: Changes) -> tuple[str, tuple[int, ...]]:
+        """The text of changes, and the values behind them, kept for the next time: loops have the same ones again and again."""
+        text, values = '', list(self._values)
         for signal, value in changes:
             if value != values[signal]:
-                if clock != self._clock:
-                    self._file.write(f'#{clock * NANOSECONDS}\n')
-                    self._clock = clock
-                self._file.write(self._forms[signal] % value if signal in self._bits else f'b{value:b}{self._forms[signal]}')
+                text += self._forms[signal] % value if signal in self._bits else f'b{value:b}{self._forms[signal]}'
                 values[signal] = value
+        if len(self._known) >= MOST_KNOWN:
+            self._known.clear()
+        found = self._known[self._values, changes] = text, tuple(values)
+        return found
 
     def end(self, clock: int) -> None:
         """Writes the end of the run."""
@@ -41,6 +55,6 @@ def waveform(end: int, name: str, changes: list[tuple[int, int]]) -> str:
     text = io.StringIO()
     to = Wave(text, [(name, 1)])
     for clock, level in changes:
-        to.write(clock, (0, level))
+        to.write(clock, ((0, level),))
     to.end(end)
     return text.getvalue()
