@@ -254,9 +254,8 @@ class Event(NamedTuple):
 
 def event_of(line: str | bytes) -> Event:
     """A line of the trail, as docs/DEBUGGER.md tells it."""
-    octets = line if isinstance(line, bytes) else line.encode()
-    clock, _, rest = octets.partition(b' ')
-    return tuple.__new__(Event, (int(clock), *_place_of(rest)))
+    clock, _, rest = (line if isinstance(line, bytes) else line.encode()).partition(b' ')
+    return tuple.__new__(Event, (int(clock),) + _place_of(rest))
 
 
 @functools.lru_cache(1 << 16)
@@ -349,12 +348,13 @@ class Dialogue:
         """The trails behind runs of so many clocks each, one behind the other, in a session without stops; lines for `event_of`.
         All are asked for at once, so that neither side waits for the other: at most some thirty, whose answers fit in the pipe."""
         self._send(''.join(f'go {it}\ntrail\n' for it in clocks) + 'go 0\n')
-        octets = bytearray(b'\n')
-        while not octets.endswith(b'\n') or octets.count(b'clock ') + octets.count(b'fault ') <= len(clocks):
+        octets, last = bytearray(b'\n'), b''
+        while last[:1].isdigit() or not last.endswith(b'\n') or octets.count(b'clock ') + octets.count(b'fault ') <= len(clocks):
             piece = self._out.read1(1 << 16)
             if not piece:
                 self._ended()
             octets += piece
+            last = octets[octets.rfind(b'\n', 0, -1) + 1:]
         _, *parts = bytes(octets).split(b'\nclock ')
         if len(parts) <= len(clocks):
             odd = next(it for it in octets.decode('ascii', 'replace').splitlines() if re.match(r'(?!clock )\D', it))

@@ -2,6 +2,8 @@
 come, or where that was too late, once more from there on."""
 from __future__ import annotations
 
+import itertools
+from bisect import bisect_right
 from typing import Iterable, Iterator
 
 from zebludor import Fault
@@ -19,6 +21,16 @@ PATIENCE = 4  # how often trails are asked for before their distance grows again
 
 def events(files: Files, first: int, end: int) -> Iterator[Event]:
     """The events of the clocks from the first on and before the end, the oldest first."""
+    return events_of(parts(files, first, end))
+
+
+def events_of(found: Iterable[list[bytes]]) -> Iterator[Event]:
+    """The events that parts of the trail tell."""
+    return map(event_of, itertools.chain.from_iterable(found))
+
+
+def parts(files: Files, first: int, end: int) -> Iterator[list[bytes]]:
+    """The trail's lines of the clocks from the first on and before the end, in parts, the oldest first."""
     with Session(files) as session:
         session.go_to(first)
         pace, newest = Pace(), first - 1
@@ -32,8 +44,10 @@ def events(files: Files, first: int, end: int) -> Iterator[Event]:
                     session.go_to(begun)
                     break
                 pace.has_brought(len(found))
-                begun, newest = at, found[0].clock if found else newest
-                yield from reversed(found)
+                begun = at
+                if found:
+                    newest = clock_of(found[-1])
+                    yield found
             pace.renew()
 
 
@@ -46,15 +60,15 @@ def trails(session: Session, begun: int, ends: list[int]) -> list[list[bytes]]:
         raise Sorry(f'the program refuses: {fault}') from None
 
 
-def newer(trail: list[bytes], newest: int) -> list[Event] | None:
-    """The events of a trail that are newer than this clock, the newest first; None where some may be missing."""
-    found: list[Event] = []
-    for line in reversed(trail):
-        event = event_of(line)
-        if event.clock <= newest:
-            return found
-        found.append(event)
-    return found if len(trail) < TRAIL else None
+def clock_of(line: bytes) -> int:
+    """The clock of a trail's line."""
+    return int(line[:line.index(b' ')])
+
+
+def newer(trail: list[bytes], newest: int) -> list[bytes] | None:
+    """The lines of a trail that are newer than this clock; None where some may be missing."""
+    known = bisect_right(trail, newest, key=clock_of)
+    return trail[known:] if known or len(trail) < TRAIL else None
 
 
 class Pace:
@@ -72,7 +86,7 @@ class Pace:
         """A trail may have missed some: they lie as near to each other as those that it has."""
         if self.clocks <= CLOCKS_OF_A_TRAIL:
             raise Sorry(f'more than {TRAIL} events between the clocks {newest} and {at}: some are missing')
-        near = (event_of(trail[-1]).clock - event_of(trail[0]).clock) * WANTED // TRAIL
+        near = (clock_of(trail[-1]) - clock_of(trail[0])) * WANTED // TRAIL
         self.clocks = max(CLOCKS_OF_A_TRAIL, min(self.clocks * 3 // 4, near))
         self._most, self._patience, self.together = TRAIL, PATIENCE, AT_FIRST
 
