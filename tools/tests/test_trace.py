@@ -14,12 +14,13 @@ from unittest import mock
 
 from tests.support import TOOLS, ToolCase, example
 
-from toolbox import events
+from toolbox import events  # where zebludor is found
 from toolbox.command import Sorry
 from toolbox.places import event_of
-from toolbox.program import Files
+from toolbox.program import Files, Session
 from toolbox.runfile import budget_of
 from toolbox.vcd import Wave
+from zebludor import Fault
 
 
 class StandIn:
@@ -90,6 +91,33 @@ class Stored(unittest.TestCase):
         wave.end(10)
         self.assertIn('$var wire 16 ! cs $end\n$var wire 1 " speaker $end', text.getvalue())
         self.assertTrue(text.getvalue().endswith('b0 !\n0"\n$end\n#0\nb1111000000000000 !\n#1050\n1"\n#2100\n'))
+
+
+# It answers a byte at a time, and refuses to go on behind clock 20.
+DRIBBLE = '''#!/usr/bin/env python3
+import sys
+clock = 0
+for line in sys.stdin:
+    word, *more = line.split()
+    clock += int(more[0]) if more else 0
+    told = f'clock {clock}' if word == 'go' and clock <= 20 else 'fault 53 BadCount' if word == 'go' else f'{clock - 1} F000:0000 90 NOP'
+    for it in told + '\\n':
+        sys.stdout.write(it)
+        sys.stdout.flush()
+'''
+
+
+class Pieces(ToolCase):
+    """Trails that come in pieces."""
+
+    def test_they_are_put_together(self) -> None:
+        program = self.file('program', DRIBBLE)
+        os.chmod(program, 0o755)
+        with mock.patch.dict(os.environ, {'PCBOARD': program}), Session(Files('x', 'x')) as session:
+            self.assertEqual(session.trails([5, 15]), [[b'4 F000:0000 90 NOP'], [b'19 F000:0000 90 NOP']])
+            self.assertEqual(session.clock, 20)
+            with self.assertRaisesRegex(Fault, 'fault 53 BadCount'):
+                session.trails([0, 5, 5])
 
 
 class Runs(ToolCase):
