@@ -5,11 +5,10 @@ import argparse
 import json
 import os
 import subprocess
-import sys
 from concurrent.futures import ThreadPoolExecutor
 from dataclasses import dataclass, field
 
-from toolbox.command import waiting
+from toolbox.command import PYTHON, waiting
 from toolbox.program import path as program_path
 
 HIDDEN = argparse.SUPPRESS
@@ -28,7 +27,7 @@ class Class:
 
     def row(self, file: str) -> list[str]:
         """A file's row: how many are met, each outcome, and why there is none."""
-        words = [sys.executable, '-S', JUDGE, '--json', *(['--hex'] if self.is_hex else []), '--', self.page, file,
+        words = [PYTHON, '-S', JUDGE, '--json', *(['--hex'] if self.is_hex else []), '--', self.page, file,
                  *([self.run_file] if self.run_file else [])]
         process = subprocess.Popen(words, stdin=subprocess.DEVNULL, stdout=subprocess.PIPE, stderr=subprocess.PIPE, text=True, errors='replace')
         self.at_work.add(process)

@@ -9,6 +9,7 @@ import time
 from typing import Callable, Iterator
 
 HINT_STATUS = 2
+PYTHON = sys.executable or 'python3'  # Python knows no path of its own where it was started without PATH
 SYMBOLS = ("with --hex: a NASM listing or map file, or a listing of pcboard asm --list, for labels and lines; FILE@SEGMENT or "
            "FILE@SEGMENT:OFFSET, where NASM's first byte isn't at F000:0000; or labels as nm or ld86 -M prints them, or lines "
            "SEGMENT:OFFSET NAME")

@@ -6,10 +6,9 @@ import os
 import queue
 import re
 import subprocess
-import sys
 from typing import Any, Callable
 
-from toolbox.command import Sorry
+from toolbox.command import PYTHON, Sorry
 from toolbox.dap_board import FLAG_BITS, MOST_BREAKPOINTS, Far, Gone, Left, Machine, Paused
 from toolbox.dap_values import Disassembly, Expression, is_code
 from toolbox.dap_wire import Broken, Read
@@ -203,7 +202,7 @@ class Adapter:
 
     def explained(self, run_file: str, is_hex: bool, sorry: Sorry) -> Sorry:
         """Tells by tools/why what is refused, each line of a source at its place, and gives the first of it."""
-        why = [sys.executable, '-S', f'{TOP}/tools/why']
+        why = [PYTHON, '-S', f'{TOP}/tools/why']
         first = ''
         if not is_hex:
             told = subprocess.run([*why, '--lines', '--', self.program], stdin=subprocess.DEVNULL, capture_output=True, text=True,

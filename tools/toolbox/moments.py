@@ -18,7 +18,7 @@ from bisect import bisect_right
 from dataclasses import dataclass, field, replace
 from typing import Any, Iterator, Sequence
 
-from toolbox.command import Sorry, read_text, write_text
+from toolbox.command import PYTHON, Sorry, read_text, write_text
 from toolbox.expectations import Planned, page_of
 from toolbox.judging import fields_of, outcomes_of, subject_of
 from toolbox.listing import Listing
@@ -77,7 +77,7 @@ class Plan:
         sample = ['--sample', str(self.sample), '--seed', str(self.seed)] if self.sample else []
         files = self.files
         form = [*(['--hex'] if files.is_hex else []), *(['--symbols', files.symbols] if files.symbols else [])]
-        return [sys.executable, '-S', tool, '--worker', room, *keys, *sample, *form, '--', self.page, files.file,
+        return [PYTHON, '-S', tool, '--worker', room, *keys, *sample, *form, '--', self.page, files.file,
                 *([files.run_file] if files.run_file else [])]
 
     def sum(self) -> str:
