@@ -203,14 +203,13 @@ def build_all(crates, names, work, progress):
 
 
 def hand_out(crates, target):
-    """Puts what was built into the repository, and beside a program the text PROVED."""
+    """Puts what was built into the repository, and beside it the text PROVED."""
     made = os.path.basename(crates.made(target)).removesuffix('.o')
     to = f'{TOP}/crates/{target}/out/{made}'
     os.makedirs(os.path.dirname(to), exist_ok=True)
     shutil.copy(f'{crates.folder(target)}/out/{made}', f'{to}.new')
     os.replace(f'{to}.new', to)
-    if crates.is_program(target):
-        proved.note(to, crates, crates.below(target))
+    proved.note(to, crates, crates.below(target))
 
 
 def lock(log, progress):
