@@ -30,6 +30,8 @@ if TYPE_CHECKING:
 TOP = os.path.dirname(os.path.dirname(os.path.realpath(__file__)))
 LAST_CLOCK = 1 << 40
 MEMORY = 1 << 20
+# The chips' library of a release, else the one that dev/build leaves.
+CHIPS = f'{TOP}/lib/libzebludor_chips.so', f'{TOP}/crates/zebludor_chips/out/libzebludor_chips.a'
 ROWS, COLUMNS = 25, 80
 REGISTER_LINES = (('AX', 'BX', 'CX', 'DX', 'SP', 'BP', 'SI', 'DI'), ('CS', 'DS', 'ES', 'SS', 'IP', 'FL'))
 REGISTERS = REGISTER_LINES[0] + REGISTER_LINES[1]
@@ -524,7 +526,7 @@ class Chips:
         import ctypes
         with open(f'{TOP}/c/zebludor.h', encoding='utf-8') as file:
             header = Header(file.read())
-        path = os.environ.get('ZEBLUDOR_CHIPS') or f'{TOP}/crates/zebludor_chips/out/libzebludor_chips.a'
+        path = os.environ.get('ZEBLUDOR_CHIPS') or next(filter(os.path.exists, CHIPS), CHIPS[-1])
         if not os.path.exists(path):
             raise Unfit(f"the chips' library {path} isn't there; dev/build zebludor_chips builds it, or ZEBLUDOR_CHIPS names another")
         library = _shared(path) if path.endswith('.a') else ctypes.CDLL(path)

@@ -1,0 +1,368 @@
+"""dev/release: its archive is the same twice, runs in any folder without kit, compiler or environment, and is refused where something
+of it isn't there. It is made of a repository whose pages, tools and program are this one's, and whose crates are stand-ins; its
+libraries are those that the gate left, else stand-ins too, which answer nothing."""
+from __future__ import annotations
+
+import os
+import re
+import shlex
+import shutil
+import stat
+import subprocess
+import sys
+import tarfile
+import unittest
+
+from tests.repository import KIT, LOGIC, Repository
+from tests.support import TOP, is_there
+from toolbox import program, release
+from toolbox.crates import Crates
+from toolbox.proved import Proved
+from toolbox.sources import sum_of, sum_of_sources
+
+VERDICT = 'logic=proved functions=1 sum=0123456789abcdef native=nat'
+CRATES = {'pcboard': {'low', 'pcboard'}, 'zebludor_chips': {'low', 'zebludor_chips'}, 'zebludor_run': {'low', 'zebludor_run'}}
+NAME = release.name()
+NOBODY, SECONDS = 65534, 60
+# A bench in C. What it prints of the gate's library docs/PARTS.md works out by hand; stand-ins leave the zeros in it.
+BENCH = r"""#include "zebludor.h"
+#include <stdio.h>
+
+int main(void) {
+    zebludor_pit pit = {0};
+    zebludor_pit_power_on(&pit);
+    zebludor_pit_set_gate(&pit, 2, 1);
+    zebludor_pit_write(&pit, 3, 0xB6);
+    zebludor_pit_write(&pit, 2, 7);
+    zebludor_pit_write(&pit, 2, 0);
+    for (int leap = 0; leap < 3; leap++) {
+        uint64_t ticks = zebludor_pit_until_change(&pit, 2);
+        zebludor_pit_advance(&pit, ticks);
+        printf("%llu ", (unsigned long long)ticks);
+    }
+}
+"""
+PYTHON = """import sys
+sys.path.insert(0, 'python')
+import zebludor
+pit = zebludor.Pit()
+pit.set_gate(2, 1)
+for port, value in (3, 0xB6), (2, 7), (2, 0):
+    pit.write(port, value)
+for _ in range(3):
+    ticks = pit.until_change(2)
+    pit.advance(ticks)
+    print(ticks, end=' ')
+"""
+# Words for tools that answer at once, what is typed, and what they tell; PAGE and OUT are files that stand apart.
+RUN = 'examples/hello.asm examples/hello.json'
+WORDS = (('tools/try examples/fibonacci.asm', '', '1 1 2 3 5 8 13 21'), (f'tools/why run {RUN}', '', 'HI'), (f'tools/trace {RUN}', '', 'STOSW'),
+         ('tools/why fault examples/hello.asm', 'fault 7 Undefined line 3', 'no line defines the name'), (f'tools/judge PAGE {RUN}', '', '1 met, 0 not'),
+         (f'tools/dbg {RUN}', 'go 100\nquit\n', 'clock 100: F000:0017'), (f'tools/moments PAGE {RUN} --key 1E --at 10..11', '', '1 of 1 moments tried, 0 failed'),
+         ('tools/keys a', '', '[[2000,30],[2500,158]]'), ('tools/runfile', '', '"budget":100000'), (f'tools/picture - --of {RUN}', '', '<svg'),
+         ('tools/table -', 'REPORT', '\t100\thalted\t'), ('tools/sound OUT', 'REPORT', ''))
+
+
+class Unpacked(Repository):
+    """That repository, and its archive."""
+
+    def setUp(self) -> None:
+        super().setUp()
+        self.top = f'{self.room}/top'
+        os.chmod(self.room, 0o755)
+        for path in (*release.FILES, *release.FOLDERS, 'dev', 'tools'):
+            source = f'{TOP}/{path}'
+            if os.path.isdir(source):
+                shutil.copytree(source, f'{self.top}/{path}', dirs_exist_ok=True, ignore=shutil.ignore_patterns('tests', '__pycache__', 'out'))
+            elif not path.startswith('stored/'):
+                shutil.copy(source, f'{self.top}/{path}')
+        os.makedirs(f'{self.top}/stored')
+        shutil.copy(program.path(), f'{self.top}/stored/pcboard')
+        os.mkdir(f'{self.room}/c')
+        self.file('top/crates.txt', 'low:\npcboard: low\nzebludor_chips staticlib: low\nzebludor_run staticlib: low\n')
+        for name in release.LIBRARIES:
+            for part in ('src', 'out'):
+                os.makedirs(f'{self.top}/crates/{name}/{part}')
+            self.file(f'top/crates/{name}/src/lib.rt', '// nothing\n')
+        self.is_real = self.put_libraries()
+        for name in CRATES:
+            self.note(name)
+
+    def put_libraries(self) -> bool:
+        """Puts the gate's libraries there; where one of them isn't there, stand-ins. Returns whether they are the gate's."""
+        archives = [release.archive_of(Crates(), it) for it in release.LIBRARIES]
+        memory = self.file('c/liblibc_c.a', '!<arch>\n')
+        if all(map(os.path.isfile, archives)):
+            for path in archives:
+                shutil.copy(path, f'{self.top}/{os.path.relpath(path, TOP)}')
+            return True
+        with open(f'{TOP}/c/zebludor.h', encoding='utf-8') as file:
+            text = re.sub(r'/\*.*?\*/', '', file.read(), flags=re.S)
+        calls = re.findall(r'^(\w+ zebludor_\w+\([^)]*\));', text, re.M)
+        code = ''.join(f'{it} {{ {"" if it.startswith("void") else "return (typeof(" + it.split()[0] + ")){0};"} }}\n' for it in calls)
+        source = self.file('calls.c', f'#include "zebludor.h"\n{code}')
+        subprocess.run(['cc', '-w', '-fPIC', '-c', f'-I{TOP}/c', '-o', f'{self.room}/calls.o', source], check=True)
+        for name in release.LIBRARIES:
+            subprocess.run(['ar', 'rcD', f'{self.top}/crates/{name}/out/lib{name}.a', f'{self.room}/calls.o'], check=True)
+        self.assertTrue(os.path.isfile(memory))
+        return False
+
+    def made(self, name: str) -> str:
+        """What is built of a crate."""
+        return f'{self.top}/stored/pcboard' if name == 'pcboard' else f'{self.top}/crates/{name}/out/lib{name}.a'
+
+    def note(self, name: str, **others: str) -> None:
+        """Writes PROVED beside what is built of a crate."""
+        heads = {'program': sum_of(self.made(name)), 'sources': sum_of_sources(CRATES[name], self.top), 'kit': KIT, 'logic': LOGIC} | others
+        told = Proved(**heads, verdicts={it: f'{VERDICT} of={it}' for it in CRATES[name]})
+        self.file(os.path.relpath(f'{os.path.dirname(self.made(name))}/PROVED', self.room), told.text())
+
+    def release(self, into: str = '') -> subprocess.CompletedProcess[str]:
+        return self.start(sys.executable, '-S', f'{self.top}/dev/release', '--into', into or self.room)
+
+    def archive(self, into: str = '') -> str:
+        """The path of an archive that is made."""
+        ran = self.release(into)
+        self.assertEqual((ran.returncode, ran.stderr), (0, ''))
+        path = f'{into or self.room}/{NAME}.tar.gz'
+        self.assertEqual(ran.stdout, f'{sum_of(path)}  {path}\n')
+        return path
+
+    def unpacked(self, into: str = 'a path with a blank') -> str:
+        """The folder that the archive is unpacked to, in a folder that may only be read."""
+        room = f'{self.room}/{into}'
+        os.mkdir(room)
+        subprocess.run(['tar', '-xzf', self.archive(), '-C', room], check=True)
+        for folder, _, files in os.walk(room, topdown=False):
+            for path in (*(f'{folder}/{it}' for it in files), folder):
+                os.chmod(path, os.stat(path).st_mode & 0o555)
+                self.addCleanup(os.chmod, path, 0o755)
+        return f'{room}/{NAME}'
+
+    def run_in(self, top: str, *words: str, given: str = '', path: str = '') -> tuple[int, str, str]:
+        """A command in that folder, in an empty environment and as another user, where that may be."""
+        another = {'user': NOBODY, 'group': NOBODY, 'extra_groups': []} if os.getuid() == 0 else {}
+        done = subprocess.run(words, cwd=top, input=given, capture_output=True, text=True, errors='replace', check=False, timeout=SECONDS,
+                              env={'PATH': path} if path else {}, **another)  # type: ignore[call-overload]
+        self.assertNotIn('Traceback', done.stderr, words)
+        return done.returncode, done.stdout, done.stderr
+
+
+class Release(Unpacked):
+    """The archive, where nothing is missing."""
+
+    def test_twice_the_same_bytes(self) -> None:
+        first = self.archive()
+        os.rename(self.top, f'{self.room}/was')
+        shutil.copytree(f'{self.room}/was', self.top, copy_function=shutil.copy)
+        for folder, _, files in os.walk(self.top):
+            for path in (f'{folder}/{it}' for it in files):
+                os.utime(path, (1, 1))
+                os.chmod(path, stat.S_IMODE(os.stat(path).st_mode) & 0o700)
+        os.makedirs(f'{self.top}/tools/__pycache__')
+        self.file('top/tools/__pycache__/it.pyc', 'nothing of a release')
+        os.mkdir(f'{self.room}/second')
+        second = self.archive(f'{self.room}/second')
+        with open(first, 'rb') as one, open(second, 'rb') as other:
+            self.assertTrue(one.read() == other.read())
+
+    def test_entries_have_no_time_owner_or_place(self) -> None:
+        with tarfile.open(self.archive()) as archive:
+            entries = archive.getmembers()
+            names = [it.name for it in entries]
+            self.assertEqual(names, sorted(names))
+            self.assertEqual({(it.mtime, it.uid, it.gid, it.uname, it.gname) for it in entries}, {(release.TIME, 0, 0, '', '')})
+            self.assertEqual({oct(it.mode) for it in entries if it.isdir()}, {'0o755'})
+            self.assertTrue({oct(it.mode) for it in entries} <= {'0o755', '0o644'})
+            self.assertEqual({it.name.partition('/')[0] for it in entries}, {NAME})
+            for it in entries:
+                file = archive.extractfile(it) if it.isfile() else None
+                self.assertFalse(file and self.room.encode() in file.read(), it.name)
+        for path in ('pcboard', 'stored/pcboard', 'tools/try', 'python/zebludor.py', 'c/zebludor.h', 'LICENSE-MIT', 'RELEASE', 'SHA256SUMS',
+                     'lib/libzebludor_chips.a', 'lib/libzebludor_chips.so', 'lib/pkgconfig/zebludor_run.pc', 'editors/emacs.el'):
+            self.assertIn(f'{NAME}/{path}', names)
+        for path in ('crates', 'dev', 'bench', 'tools/test', 'tools/tests'):
+            self.assertNotIn(f'{NAME}/{path}', names)
+
+    def test_it_tells_what_was_proved(self) -> None:
+        top = self.unpacked()
+        with open(f'{top}/RELEASE', encoding='utf-8') as file:
+            lines = file.read().splitlines()
+        heads = [f'zebludor {release.version()} x86_64-linux', f'kit {KIT}', f'logic {LOGIC}']
+        self.assertEqual(lines[:3], heads)
+        made = [(f'{top}/{path}', crate) for path, crate in (('stored/pcboard', 'pcboard'), ('lib/libzebludor_chips.a', 'zebludor_chips'),
+                                                           ('lib/libzebludor_run.a', 'zebludor_run'))]
+        self.assertEqual(lines[3:6], [f'made {os.path.relpath(path, top)} {sum_of(path)} sources {sum_of_sources(CRATES[crate], self.top)}'
+                                      for path, crate in made])
+        self.assertEqual(lines[6:], [f'{it}: {VERDICT} of={it}' for it in ('low', 'pcboard', 'zebludor_chips', 'zebludor_run')])
+
+    def test_sums(self) -> None:
+        top = self.unpacked()
+        self.assertEqual(self.run_in(top, 'sha256sum', '--strict', '--quiet', '-c', 'SHA256SUMS'), (0, '', ''))
+        with open(f'{top}/SHA256SUMS', encoding='utf-8') as file:
+            told = {line[66:].rstrip('\n') for line in file}
+        there = {os.path.relpath(f'{folder}/{it}', top) for folder, _, files in os.walk(top) for it in files}
+        self.assertEqual(told | {'SHA256SUMS'}, there)
+
+    def test_links_lead_somewhere(self) -> None:
+        """But for those into the sources, which a clone has."""
+        top = self.unpacked()
+        for folder, _, files in os.walk(top):
+            for page in (f'{folder}/{it}' for it in files if it.endswith('.md')):
+                with open(page, encoding='utf-8') as file:
+                    links = re.findall(r'\]\(([^)\s#:]+)[^)]*\)', re.sub(r'^```.*?^```', '', file.read(), flags=re.M | re.S))
+                for target in (os.path.relpath(os.path.normpath(f'{folder}/{it}'), top) for it in links):
+                    self.assertTrue(target.startswith(('crates/', 'tools/tests/')) or os.path.exists(f'{top}/{target}'), f'{page}: {target}')
+
+    def test_readmes_commands(self) -> None:
+        top = self.unpacked()
+        with open(f'{top}/README.md', encoding='utf-8') as file:
+            command, printed = re.findall(r'^```\n(\./pcboard run .*)\n```\n\nprints\n\n```\n(.*?)^```', file.read(), re.M | re.S)[0]
+        status, out, told = self.run_in(top, *command.split())
+        self.assertEqual((status, out.rstrip()), (0, printed.rstrip()))
+        self.assertRegex(told, r'\Apcboard: this program, stored/pcboard, was proved elsewhere, with rattle-kit-1; RELEASE has [^\n]*\n\Z')
+        self.assertEqual(self.run_in(top, './pcboard', '--version')[:2],
+                         (0, f'pcboard {release.version()}\nkit {KIT}\nlogic {LOGIC}\nsources {sum_of_sources(CRATES["pcboard"], self.top)}\n'
+                             'program stored/pcboard, proved elsewhere\n'))
+        self.assertIn('Usage: pcboard', self.run_in(top, './pcboard', '--help')[1])
+
+    def test_each_tool(self) -> None:
+        top = self.unpacked()
+        tools = sorted(f'tools/{it}' for it in os.listdir(f'{top}/tools') if os.path.isfile(f'{top}/tools/{it}'))
+        self.assertLess({it.split()[0] for it, _, _ in WORDS}, set(tools))
+        for tool in tools:
+            status, printed, told = self.run_in(top, tool, '--help')
+            self.assertEqual((status, told), (0, ''), tool)
+            self.assertIn(os.path.basename(tool), printed)
+        report, page = self.run_in(top, './pcboard', 'run', *RUN.split())[1], self.file('it.page', 'shows = HI\n')
+        os.mkdir(f'{self.room}/out')
+        os.chmod(f'{self.room}/out', 0o777)
+        for words, typed, wanted in WORDS:
+            words = words.replace('PAGE', page).replace('OUT', f'{self.room}/out/it')
+            status, printed, told = self.run_in(top, *words.split(), given=typed.replace('REPORT', report))
+            self.assertEqual(status, 0, f'{words}: {told}')
+            self.assertIn(wanted, printed + told, words)
+        self.assertTrue(os.path.isfile(f'{self.room}/out/it'))
+
+    def test_one_that_is_damaged(self) -> None:
+        top = self.unpacked()
+        os.chmod(f'{top}/stored/pcboard', 0o755)
+        with open(f'{top}/stored/pcboard', 'ab') as file:
+            file.write(b'\n')
+        for ran in (self.launch(has_rt=has_rt, top=top) for has_rt in (True, False)):
+            self.assertEqual((ran.returncode, ran.stdout), (127, ''))
+            self.assertIn('its SHA-256 is another\n', ran.stderr)
+            self.assertIn('unpack its archive again', ran.stderr)
+        self.assertFalse(os.path.exists(f'{top}/crates'))
+
+
+class Libraries(Unpacked):
+    """The libraries of an unpacked archive."""
+
+    def wanted(self) -> str:
+        """OUT of counter 2 rises 5 ticks after its count is written, falls 3 after that, and rises 4 after that."""
+        return '5 3 4 ' if self.is_real else '0 0 0 '
+
+    def test_chips_for_python_without_a_compiler(self) -> None:
+        top, empty = self.unpacked(), f'{self.room}/empty'
+        os.mkdir(empty)
+        python = '/usr/bin/python3' if os.path.exists('/usr/bin/python3') else sys.executable
+        self.assertEqual(self.run_in(top, python, '-B', '-c', PYTHON, path=empty), (0, self.wanted(), ''))
+
+    def test_the_shared_one_needs_only_the_c_library(self) -> None:
+        if not is_there('readelf', 'what the shared library needs', 'binutils'):
+            return
+        told = self.run_in(self.unpacked(), 'readelf', '-d', release.SHARED, path='/usr/bin:/bin')[1]
+        self.assertLessEqual(set(re.findall(r'Shared library: \[(.*)\]', told)), {'libc.so.6'})
+        self.assertIn('soname: [libzebludor_chips.so]', told)
+
+    def test_pkg_config(self) -> None:
+        if not is_there('pkg-config', 'the C bench by pkg-config', 'pkg-config'):
+            return
+        source = self.file('bench.c', BENCH)
+        for top in (self.unpacked('plain'), self.unpacked()):
+            told = subprocess.run(['pkg-config', '--cflags', '--libs', 'zebludor_chips'], capture_output=True, text=True, check=True,
+                                  env={'PATH': '/usr/bin:/bin', 'PKG_CONFIG_PATH': f'{top}/lib/pkgconfig'}).stdout
+            subprocess.run(['cc', '-std=c11', '-Wall', '-Werror', source, *shlex.split(told), '-o', f'{self.room}/bench'], check=True)
+            self.assertEqual(self.run_in(top, f'{self.room}/bench'), (0, self.wanted(), ''))
+
+    def test_whole_runs_by_pkg_config(self) -> None:
+        if not is_there('pkg-config', 'whole runs in C by pkg-config', 'pkg-config'):
+            return
+        top = self.unpacked('plain')
+        told = subprocess.run(['pkg-config', '--libs', 'zebludor_run'], capture_output=True, text=True, check=True,
+                              env={'PATH': '/usr/bin:/bin', 'PKG_CONFIG_PATH': f'{top}/lib/pkgconfig'}).stdout
+        self.assertRegex(told, r'\A-L\S+/lib -l:libzebludor_run\.a -l:liblibc_c\.a ?\n\Z')
+
+
+class Lacking(Unpacked):
+    """What stands in the way of a release, and is told."""
+
+    def refused(self, *sentences: str) -> None:
+        """Nothing is made, and each of these is told, in a line of its own."""
+        ran = self.release()
+        self.assertEqual((ran.returncode, ran.stdout), (1, ''), ran.stderr)
+        for line, sentence in zip(ran.stderr.splitlines(), sentences, strict=True):
+            self.assertTrue(line.startswith('release: '), line)
+            self.assertIn(sentence, line)
+        self.assertEqual([it for it in os.listdir(self.room) if it.startswith('zebludor')], [])
+
+    def test_what_is_missing(self) -> None:
+        os.remove(self.made('zebludor_chips'))
+        os.remove(f'{self.top}/crates/zebludor_run/out/PROVED')
+        os.remove(f'{self.top}/LICENSE-MIT')
+        self.refused("LICENSE-MIT isn't there", "libzebludor_chips.a isn't there; dev/build zebludor_chips proves and builds it",
+                     'nothing tells what crates/zebludor_run/out/libzebludor_run.a was made of; dev/build zebludor_run')
+
+    def test_other_sources(self) -> None:
+        put_back = self.change_text('crates/low/src/lib.rt')
+        other = 'it was made of other sources than are here'
+        self.refused(f"stored/pcboard isn't taken: {other}; tools/test", *(f"{it}.a isn't taken: {other}; dev/build {it}" for it in release.LIBRARIES))
+        put_back()
+        self.archive()
+
+    def test_another_program(self) -> None:
+        with open(self.made('pcboard'), 'ab') as file:
+            file.write(b'\n')
+        self.refused("stored/pcboard isn't one of which stored/PROVED tells")
+
+    def test_a_verdict_that_is_unknown(self) -> None:
+        path = f'{self.top}/crates/zebludor_run/out/PROVED'
+        with open(path, encoding='utf-8') as file:
+            told = file.read()
+        self.file(os.path.relpath(path, self.room), re.sub('^low: .*\n', '', told, flags=re.M))
+        self.refused('its PROVED has no verdict of low')
+
+    def test_another_kit(self) -> None:
+        self.note('zebludor_chips', kit='rattle-kit-0')
+        self.refused('rattle-kit-0 made it, and rattle-kit-1 stored/pcboard')
+        for name in CRATES:
+            self.note(name, kit='rattle-kit-0')
+        self.refused("Rattle's kit is rattle-kit-1, and rattle-kit-0 made stored/pcboard")
+
+    def test_no_kit(self) -> None:
+        os.remove(f'{self.room}/bin/rt')
+        self.refused("rt is not on the path")
+
+    def test_what_is_not_committed(self) -> None:
+        git = ('git', '-C', self.top, '-c', 'user.name=it', '-c', 'user.email=it')
+        if not is_there('git', 'a release of a clone that has changes', 'git'):
+            return
+        with open(f'{TOP}/.gitignore', encoding='utf-8') as file:
+            self.file('top/.gitignore', file.read())
+        for words in (('init', '-q'), ('add', '-A'), ('commit', '-q', '-m', 'all')):
+            subprocess.run([*git, *words], check=True)
+        self.archive()
+        os.remove(f'{self.room}/{NAME}.tar.gz')
+        self.file('top/examples/mine.asm', '')
+        self.file('top/dev/mine', 'of no release')
+        self.change_text('tools/try')
+        self.refused("tools/try isn't as it was committed", "examples/mine.asm isn't as it was committed")
+
+    def test_a_folder_that_is_none(self) -> None:
+        ran = self.release(f'{self.room}/none')
+        self.assertEqual((ran.returncode, ran.stdout, ran.stderr), (2, '', f"release: {self.room}/none isn't a folder\n"))
+
+
+if __name__ == '__main__':
+    unittest.main()

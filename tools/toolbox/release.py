@@ -1,0 +1,219 @@
+"""What a release has, what has to be there for it, and its archive, whose bytes are the same whenever it is made of the same files."""
+from __future__ import annotations
+
+import gzip
+import hashlib
+import io
+import os
+import shutil
+import subprocess
+import tarfile
+import tempfile
+from typing import Iterator
+
+from toolbox import proved
+from toolbox.command import Sorry
+from toolbox.crates import KIT, TOP, Crates
+from toolbox.proved import STORED, TARGET, Proved
+from toolbox.sources import sum_of, sum_of_sources
+
+PLATFORM = 'x86_64-linux'
+FILES = ('CHANGELOG.md', 'LICENSE-APACHE', 'LICENSE-MIT', 'README.md', 'VERSION', TARGET, f'stored/{TARGET}', 'stored/PROVED')
+FOLDERS = ('c', 'docs', 'editors', 'examples', 'python', 'tools')
+LEFT_OUT = ('tools/test', 'tools/tests', 'editors/grammar')  # which want the sources
+LIBRARIES = {'zebludor_chips': 'timer, interrupt controller and parallel port of an IBM PC 5150',
+             'zebludor_run': 'whole runs of an IBM PC 5150'}
+SHARED = 'lib/libzebludor_chips.so'
+MEMORY = 'lib/liblibc_c.a'  # by which whole runs call malloc, realloc and free
+TIME = 315532800  # of every file: the first second of 1980, the earliest that other kinds of archives have too
+PACKAGE = """prefix=${{pcfiledir}}/../..
+libdir=${{prefix}}/lib
+includedir=${{prefix}}/c
+
+Name: {name}
+Description: {what}
+Version: {version}
+Cflags: -I${{includedir}}
+Libs: -L${{libdir}} {libraries}
+"""
+
+
+def version() -> str:
+    """The version that is released."""
+    with open(f'{TOP}/VERSION', encoding='ascii') as file:
+        return file.read().strip()
+
+
+def name() -> str:
+    """The name of the archive's folder."""
+    return f'zebludor-{version()}-{PLATFORM}'
+
+
+def archive_of(crates: Crates, crate: str) -> str:
+    """Where a static library stands."""
+    return f'{crates.folder(crate)}/{crates.made(crate)}'
+
+
+def lacking() -> list[str]:
+    """A sentence for each thing that a release wants and that isn't here, or isn't of the present sources, with what makes it so."""
+    crates = Crates()
+    found = [f"{it} isn't there" for it in (*FILES, *FOLDERS) if not os.path.exists(f'{TOP}/{it}')]
+    found += filter(None, (of_program(crates), *(of_library(crates, it) for it in LIBRARIES), of_kit()))
+    if not shutil.which('cc'):
+        found.append('cc, which links the shared library, is not on the path')
+    return found + [f"{it} isn't as it was committed; a release has what a commit has" for it in uncommitted()]
+
+
+def differs(told: Proved, crates: Crates, crate: str) -> str | None:
+    """What is amiss with the text PROVED of something that is made of a crate."""
+    names = crates.below(crate)
+    if told.sources != sum_of_sources(names):
+        return 'it was made of other sources than are here'
+    unknown = sorted(names - told.verdicts.keys())
+    return f'its PROVED has no verdict of {", ".join(unknown)}' if unknown else None
+
+
+def of_program(crates: Crates) -> str | None:
+    """What is amiss with the stored program."""
+    told = proved.read(STORED)
+    renew = 'tools/test proves and builds one, and then dev/build --store renews it'
+    if told is None or not told.is_of(f'{STORED}/{TARGET}'):
+        return f"stored/{TARGET} isn't one of which stored/PROVED tells; {renew}"
+    why = differs(told, crates, TARGET)
+    return why and f"stored/{TARGET} isn't taken: {why}; {renew}"
+
+
+def of_library(crates: Crates, crate: str) -> str | None:
+    """What is amiss with a static library."""
+    path = archive_of(crates, crate)
+    short, build = os.path.relpath(path, TOP), f'dev/build {crate} proves and builds it, and so does tools/test'
+    if not os.path.isfile(path):
+        return f"{short} isn't there; {build}"
+    told, stored = proved.read(os.path.dirname(path)), proved.read(STORED)
+    if told is None or not told.is_of(path):
+        return f'nothing tells what {short} was made of; {build}'
+    why = differs(told, crates, crate)
+    if not why and stored and (told.kit, told.logic) != (stored.kit, stored.logic):
+        why = f'{told.kit} made it, and {stored.kit} stored/{TARGET}'
+    return why and f"{short} isn't taken: {why}; {build}"
+
+
+def of_kit() -> str | None:
+    """What is amiss with the kit, of which the archive has what whole runs call for memory."""
+    stored = proved.read(STORED)
+    if not shutil.which('rt'):
+        return "Rattle's kit, whose c/liblibc_c.a goes along, isn't there: rt is not on the path"
+    if stored and proved.version() != (stored.kit, stored.logic):
+        return f"Rattle's kit is {proved.version()[0]}, and {stored.kit} made stored/{TARGET}"
+    return None if os.path.isfile(f'{KIT}/c/liblibc_c.a') else f"{KIT}/c/liblibc_c.a isn't there"
+
+
+def uncommitted() -> list[str]:
+    """The files of a release that are changed or new since the last commit, where this is a clone."""
+    if not os.path.exists(f'{TOP}/.git'):
+        return []
+    words = ['git', 'status', '--porcelain', '-z', '--untracked-files=all', '--no-renames', '--', *FILES, *FOLDERS]
+    try:
+        told = subprocess.run(words, cwd=TOP, capture_output=True, text=True, check=False)
+    except OSError as error:
+        raise Sorry(f"git can't be started: {error.strerror}") from None
+    if told.returncode:
+        raise Sorry(f'git status: {told.stderr.strip()}')
+    return [it for it in (entry[3:] for entry in told.stdout.split('\0')) if it and not is_left_out(it)]
+
+
+def is_left_out(path: str) -> bool:
+    """Whether a path is of no release."""
+    parts = path.split('/')
+    return any(it.startswith('.') or it in ('__pycache__', 'out') for it in parts) or any(
+        path == it or path.startswith(f'{it}/') for it in LEFT_OUT)
+
+
+def paths() -> list[str]:
+    """The files that a release has of the repository."""
+    inside = (os.path.relpath(f'{folder}/{file}', TOP) for it in FOLDERS for folder, _, files in os.walk(f'{TOP}/{it}') for file in files)
+    return [*FILES, *(it for it in inside if not is_left_out(it))]
+
+
+def shared(archive: str) -> bytes:
+    """A static library as a shared one, which has nothing of the compiler's own files, names or times."""
+    with tempfile.TemporaryDirectory() as room:
+        path = f'{room}/{os.path.basename(SHARED)}'
+        words = ['cc', '-shared', '-nostartfiles', '-s', '-o', path, f'-Wl,-soname,{os.path.basename(SHARED)}', '-Wl,--build-id=none',
+                 '-Wl,--whole-archive', archive, '-Wl,--no-whole-archive', '-Wl,--no-undefined']
+        done = subprocess.run(words, capture_output=True, text=True, check=False)
+        if done.returncode:
+            raise Sorry(f'cc makes no shared library of {archive}: {done.stderr.strip()[-500:]}')
+        with open(path, 'rb') as file:
+            return file.read()
+
+
+def package(crate: str) -> str:
+    """What pkg-config reads of a library. The static one is named, since its shared one stands beside it."""
+    libraries = f'-l:lib{crate}.a' + (f' -l:{os.path.basename(MEMORY)}' if crate == 'zebludor_run' else '')
+    return PACKAGE.format(name=crate, what=LIBRARIES[crate], version=version(), libraries=libraries)
+
+
+def verdicts_of(crates: Crates) -> str:
+    """The text RELEASE: version, kit and logic; of each thing that was built its SHA-256 and the sum of its sources; and the
+    verdict on each crate."""
+    stored = proved.read(STORED)
+    assert stored
+    made, verdicts = [(f'stored/{TARGET}', stored)], dict(stored.verdicts)
+    for crate in LIBRARIES:
+        library = proved.read(os.path.dirname(archive_of(crates, crate)))
+        assert library
+        made.append((f'lib/lib{crate}.a', library))
+        verdicts |= {it: verdict for it, verdict in library.verdicts.items() if it not in verdicts}
+    lines = [f'zebludor {version()} {PLATFORM}', f'kit {stored.kit}', f'logic {stored.logic}']
+    lines += [f'made {path} {it.program} sources {it.sources}' for path, it in made]
+    return '\n'.join([*lines, *(f'{it}: {verdict}' for it, verdict in sorted(verdicts.items()))]) + '\n'
+
+
+def contents() -> dict[str, tuple[bytes, bool]]:
+    """All files of a release by their paths: what each holds, and whether it may be started."""
+    crates = Crates()
+    found: dict[str, tuple[bytes, bool]] = {}
+    taken = {it: f'{TOP}/{it}' for it in paths()} | {MEMORY: f'{KIT}/c/liblibc_c.a'}
+    taken |= {f'lib/lib{it}.a': archive_of(crates, it) for it in LIBRARIES}
+    for path, source in taken.items():
+        with open(source, 'rb') as file:
+            found[path] = file.read(), not path.startswith('lib/') and os.access(source, os.X_OK)
+    found[SHARED] = shared(archive_of(crates, 'zebludor_chips')), False
+    found['RELEASE'] = verdicts_of(crates).encode(), False
+    for crate in LIBRARIES:
+        found[f'lib/pkgconfig/{crate}.pc'] = package(crate).encode(), False
+    sums = (f'{hashlib.sha256(octets).hexdigest()}  {path}\n' for path, (octets, _) in sorted(found.items()))
+    found['SHA256SUMS'] = ''.join(sums).encode(), False
+    return found
+
+
+def folders_of(path: str) -> Iterator[str]:
+    """The folders that a file is in, up to the archive's own, which is empty."""
+    while path:
+        path = os.path.dirname(path)
+        yield path
+
+
+def members(found: dict[str, tuple[bytes, bool]]) -> Iterator[tuple[tarfile.TarInfo, bytes]]:
+    """The archive's entries, folders too, by their names, without owner or time of their own."""
+    for path in sorted({*found, *(folder for it in found for folder in folders_of(it))}):
+        entry = tarfile.TarInfo(f'{name()}/{path}'.rstrip('/'))
+        entry.mtime = TIME
+        octets, is_program = found.get(path, (b'', True))
+        entry.type, entry.size = (tarfile.REGTYPE if path in found else tarfile.DIRTYPE), len(octets)
+        entry.mode = 0o755 if is_program else 0o644
+        yield entry, octets
+
+
+def make(folder: str) -> tuple[str, str]:
+    """Writes the archive into a folder, in one go; returns its path and its SHA-256."""
+    written = io.BytesIO()
+    with gzip.GzipFile('', 'wb', 9, written, mtime=0) as packed, tarfile.open(fileobj=packed, mode='w', format=tarfile.USTAR_FORMAT) as archive:
+        for entry, octets in members(contents()):
+            archive.addfile(entry, io.BytesIO(octets))
+    path = f'{folder}/{name()}.tar.gz'
+    with open(f'{path}.new', 'wb') as file:
+        file.write(written.getvalue())
+    os.replace(f'{path}.new', path)
+    return path, sum_of(path)
