@@ -21,7 +21,7 @@ WORDS = ('tools/judge --same all {} {}', 'tools/judge --class {} {}', 'tools/jud
          'tools/keys --read {}', 'tools/picture it.svg --of {} {}', 'tools/runfile --from {}', 'tools/sound {}',
          'tools/trace --vcd {} hello.asm hello.json', 'tools/trace --hex {} hello.json', 'tools/try hello.asm --run {}',
          'tools/try hello.asm --write {}', 'tools/why run {} hello.json', 'tools/why run hello.asm {}', 'tools/why --all {}',
-         'tools/why fault {}', 'dev/build --seen {} {}', 'tools/dbg hello.asm {}', 'tools/desk hello.asm {}', 'bench/count {} --steps')
+         'tools/why fault {}', 'dev/build --seen {} {}', 'dev/release --into {}', 'tools/dbg hello.asm {}', 'tools/desk hello.asm {}', 'bench/count {} --steps')
 MAY_SUCCEED = {'tools/why fault', 'tools/trace --vcd', 'tools/try hello.asm --write'}
 
 
