@@ -305,7 +305,7 @@ impl<A: Allocator> Board<A> {
         ensures fault { IfErr result (λ fault. fault ≡ BoardFault.Memory) }
     {
         if whole {
-            return self.watched_stride(end);
+            return self.stride(end);
         }
         self.short_turn(end)
     }
@@ -367,21 +367,6 @@ impl<A: Allocator> Board<A> {
         self.other_turn(end)
     }
 
-    /// The same between two looks for a stop: mostly it is a step by a slot.
-    #[inline(always)]
-    fn watched_stride(&mut self, end: u64) -> Result<(), BoardFault>
-        requires before_end { clock_of self.old.plain < end }
-        requires within { end ≤ 2 ^ 40 }
-        ensures ok { OnOk result (IsStrideOn end self.old self.new) }
-        ensures err { OnErr result (IsHeldBack self.old self.new) }
-        ensures fault { IfErr result (λ fault. fault ≡ BoardFault.Memory) }
-    {
-        if self.step_by_slot(end) {
-            return Ok(());
-        }
-        self.stride(end)
-    }
-
     /// A turn that isn't such a step. It is kept out of the run's loop, whose values then stay in registers.
     #[inline(never)]
     fn other_turn(&mut self, end: u64) -> Result<(), BoardFault>
@@ -430,21 +415,6 @@ impl<A: Allocator> Board<A> {
         ensures not_made { ¬ (IsTrue result) → self.new ≡ self.old }
     {
         if !self.engine.stride(&mut self.trail, end) {
-            return false;
-        }
-        self.turns += 1;
-        true
-    }
-
-    /// The same of one instruction by its slot.
-    #[inline(always)]
-    fn step_by_slot(&mut self, end: u64) -> bool
-        requires before_end { clock_of self.old.plain < end }
-        requires within { end ≤ 2 ^ 40 }
-        ensures made { IsTrue result → IsStepOn end self.old self.new }
-        ensures not_made { ¬ (IsTrue result) → self.new ≡ self.old }
-    {
-        if !self.engine.stride_by_slot(&mut self.trail, end) {
             return false;
         }
         self.turns += 1;
