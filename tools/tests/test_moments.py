@@ -78,6 +78,7 @@ class StandIn(ToolCase):
                               (['--key', '1E', '--at', '1..9', '--sample', '9'], 'there are 8 moments'),
                               (['--key', '1E', '--at', '1..9', '--symbols', 'x'], 'goes with --hex')):
             self.assertIn(wanted, self.tool('moments', *files, *words, status=2)[1])
+        self.assertIn('give its name', self.tool('moments', '-', *files[1:], '--key', '1E', '--at', '1..9', status=2)[1])
         self.file('it.moments', '{}')
         self.assertIn('remove it', self.tool('moments', *files, '--key', '1E', '--at', '1..9', status=2)[1])
 
