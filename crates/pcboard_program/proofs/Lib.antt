@@ -3,4 +3,5 @@ pub mod Refusals
 pub mod Listed
 pub mod Sessions
 pub mod Tasks
+pub mod Opening
 mod Rows

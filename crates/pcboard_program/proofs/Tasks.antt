@@ -1,5 +1,5 @@
 -- What a task prints, from what its parts tell.
-use Rattle.std.proofs.Common.{◌≡◌, ℕ, Bool, false, List, refl, Option, None, Some, IfSome, Result, Ok, Err, IfErr, inl, inr}
+use Rattle.std.proofs.Common.{◌≡◌, ℕ, Bool, false, List, Option, None, Some, IfSome, Result, Ok, Err, IfErr, inl, inr}
 use Rattle.std.specs.Prelude.{◌⊎◌}
 use Rattle.std.specs.Io.KnownBytes.{Appends}
 use Rattle.board_plain.specs.Board.{BoardState}

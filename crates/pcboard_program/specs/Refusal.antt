@@ -80,6 +80,27 @@ IsTrueOfWords words files input fault =
 abbrev pub TellsA : (Fault → Type 0) → Option (List ℕ) → Option (List ℕ) → Type 0
 TellsA Is old new = (fault : Fault) × Is fault × Appends old new (fault_text fault)
 
+-- a file that a task reads is one of those that can't be opened
+abbrev pub LacksFile : Task → (List ℕ → Type 0) → Type 0
+LacksFile tasks.Stored Lacks = ⊥
+LacksFile (tasks.Asm file list) Lacks = Lacks file.now
+LacksFile (tasks.Run file run hex) Lacks = Lacks file.now ⊎ Lacks run.now
+LacksFile (tasks.Debug file run hex) Lacks = Lacks file.now ⊎ Lacks run.now
+
+-- whether a task's program is a HEX text
+abbrev pub hex_of : Task → Bool
+hex_of tasks.Stored = false
+hex_of (tasks.Asm file list) = false
+hex_of (tasks.Run file run hex) = hex
+hex_of (tasks.Debug file run hex) = hex
+
+-- The program ends before anything is judged: with status 3; or with 1, and tells the want of memory for the words or for
+-- the task's program.
+abbrev pub EndsUnjudged : Task → ℕ → Option (List ℕ) → Option (List ℕ) → Type 0
+EndsUnjudged task status old new =
+    (status ≡ 3)
+    ⊎ ((status ≡ 1) × TellsA (λ fault. (fault ≡ want_of_board) ⊎ (fault ≡ want_of_file (hex_of task))) old new)
+
 -- what a session prints on the first ones of these lines, on none or on all
 pub record BeginsTranscript (session : SessionState) (lines : List (List ℕ)) (text : List ℕ) : Type 0 where
   pub answered : List (List ℕ)

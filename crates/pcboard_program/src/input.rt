@@ -1,5 +1,5 @@
 //! What the program reads.
-ghost use Rattle.std.specs.Prelude.{◌≡◌, ◌⊎◌, take, IfErr, IfOk, IfSome};
+ghost use Rattle.std.specs.Prelude.{◌≡◌, ◌⊎◌, take, IfErr, IfOk, IfSome, IsErrAnd, IsErrOf};
 ghost use Rattle.loader.specs.ByteInput.{CountsNone};
 ghost use Rattle.pcboard_program.specs.Refusal.{want_of_file, want_of_run_file};
 ghost use Rattle.pcboard_program.specs.Unanswered.{IsUnjudged, UnlessFailed};
@@ -28,6 +28,7 @@ pub(crate) fn read_program<F: Opener>(
     ensures bytes { IfSome (F.file_bytes files.now path.now)
         (λ known. IfOk result (λ bytes. bytes.items ≡ seen_of hex known)) }
     ensures end { IfErr result (IsUnjudged (λ fault. fault ≡ want_of_file hex)) }
+    ensures lacking { F.lacks files.now path.now → IsErrOf result Unanswered.Failed }
 {
     let mut file = files.open(path)?;
     if hex {
@@ -51,6 +52,8 @@ pub(crate) fn read_files<F: Opener>(
         (λ known. IfOk result (λ read. read.0.items ≡ seen_of hex known)) }
     ensures said { IfSome (F.file_bytes files.now run.now) (λ known. IfOk result (λ read. read.1.items ≡ known)) }
     ensures end { IfErr result (IsUnjudged (λ fault. fault ≡ want_of_file hex ⊎ fault ≡ want_of_run_file)) }
+    ensures lacking { F.lacks files.now file.now ⊎ F.lacks files.now run.now
+        → IsErrAnd result (IsUnjudged (λ fault. fault ≡ want_of_file hex)) }
 {
     let bytes = read_program(alloc, files, file, hex)?;
     let mut run = files.open(run)?;

@@ -1,5 +1,5 @@
 //! Where the program finds its files.
-ghost use Rattle.std.specs.Prelude.{◌≡◌, ℕ, List, Option, None, Some, IfOk, IfSome};
+ghost use Rattle.std.specs.Prelude.{◌≡◌, ℕ, List, Option, None, Some, IfOk, IfSome, IsErr};
 
 use loader::byte_input::ByteInput;
 use std::io;
@@ -11,8 +11,12 @@ pub trait Opener {
     // the bytes of the file of this name, where they are known
     ghost file_bytes: { Self → List ℕ → Option (List ℕ) } = { λ _ _. None };
 
+    // that no file of this name can be opened
+    ghost lacks: { Self → List ℕ → Type 0 } = { λ _ _. ⊥ };
+
     /// Opens the file `path`.
     fn open(&self, path: &str) -> io::Result<Self::Input>
-        ensures { IfSome (file_bytes self.now path.now)
-            (λ bytes. IfOk result (λ file. Self.Input.remaining file ≡ Some bytes)) };
+        ensures bytes { IfSome (file_bytes self.now path.now)
+            (λ bytes. IfOk result (λ file. Self.Input.remaining file ≡ Some bytes)) }
+        ensures lacking { lacks self.now path.now → IsErr result };
 }

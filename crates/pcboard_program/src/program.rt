@@ -1,14 +1,16 @@
 //! The program, over any files, standard input and writers.
-ghost use Rattle.std.specs.Prelude.{◌≡◌, ◌≢◌, ◌≤◌, ◌<◌, List, [], length, map, ◌⊎◌, IfErr, IfSome, MatchResult, OnOk, false, string_bytes};
+ghost use Rattle.std.specs.Prelude.{◌≡◌, ◌≢◌, ◌≤◌, ◌<◌, List, [], length, map, ◌⊎◌, IfErr, IfSome, IsErrAnd, MatchResult, Ok, OnOk, false, string_bytes};
 ghost use Rattle.std.specs.Io.KnownBytes.{Appends};
 ghost use Rattle.board_types.specs.TextLines.{text_lines};
 ghost use Rattle.assembler.specs.Gives.{Gives};
 ghost use Rattle.assembler.specs.Rows.{AreRows, Row, names_of};
 ghost use Rattle.loader.specs.ByteInput.{CountsNone};
 ghost use Rattle.loader.specs.HexText.{hex_text};
+ghost use Rattle.pcboard_words.specs.CommandLine.{Answers as AnswersWords};
+ghost use Rattle.pcboard_words.specs.declared.task.Task.{Task};
 ghost use Rattle.pcboard_program.specs.Answer.{AppendsA, IsAssembled, IsListingOf, Prints, PrintsTask};
 ghost use Rattle.pcboard_program.specs.Faults.{fault_text};
-ghost use Rattle.pcboard_program.specs.Refusal.{IsTrueOfTask, IsTrueOfText, IsTrueOfWords, IsWantOfTask, PrintsNoAnswer, PrintsReplies, RefusesWords, TellsA, unreadable_text, want_of_board, want_of_file};
+ghost use Rattle.pcboard_program.specs.Refusal.{EndsUnjudged, IsTrueOfTask, IsTrueOfText, IsTrueOfWords, IsWantOfTask, LacksFile, PrintsNoAnswer, PrintsReplies, RefusesWords, TellsA, hex_of, unreadable_text, want_of_board, want_of_file};
 ghost use Rattle.pcboard_program.specs.Unanswered.{EndsFor, IsUnjudged, UnlessFailed, WhereRefused};
 
 use crate::debugging::print_session;
@@ -71,6 +73,10 @@ pub fn program<F: Opener, I: ByteInput, O: Write, E: Write>(
     // At status 2 nothing is printed.
     ensures unprinted { result ≡ 2 → O.contents out.new ≡ O.contents out.old }
 
+    // Where a file that the words name can't be opened, nothing is judged.
+    ensures lacking { (task : Task) → AnswersWords (map (λ word. word.now) words.entry.now) (Ok task)
+        → LacksFile task (F.lacks files.now) → EndsUnjudged task result (E.contents err.old) (E.contents err.new) }
+
     // At any status but 3 the input hasn't failed.
     ensures unfailed { result ≢ 3 → CountsNone (I.failures input.old) (I.failures input.new) }
 {
@@ -128,7 +134,10 @@ fn print_task<F: Opener, I: ByteInput, O: Write>(
     ensures withheld { IfErr result (WhereRefused (O.contents out.new ≡ O.contents out.old
         ⊎ PrintsReplies task.entry (F.file_bytes files.now) (I.remaining input.old) (O.contents out.old)
         (O.contents out.new))) }
-    ensures end { IfErr result (EndsFor (IsWantOfTask task.entry) (IsTrueOfTask task.entry (F.file_bytes files.now) (I.remaining input.old))) }
+    ensures end { IfErr result (EndsFor (IsWantOfTask task.entry)
+        (IsTrueOfTask task.entry (F.file_bytes files.now) (I.remaining input.old))) }
+    ensures lacking { LacksFile task.entry (F.lacks files.now)
+        → IsErrAnd result (IsUnjudged (λ fault. fault ≡ want_of_file (hex_of task.entry))) }
     ensures unfailed { UnlessFailed (CountsNone (I.failures input.old) (I.failures input.new)) result }
 {
     match task {
@@ -171,6 +180,7 @@ fn print_assembled<F: Opener, O: Write>(
     ensures kept { IfErr result (WhereRefused (O.contents out.new ≡ O.contents out.old)) }
     ensures end { IfErr result (EndsFor (λ fault. fault ≡ want_of_file false)
         (λ fault. IfSome (F.file_bytes files.now file.now) (λ source. IsTrueOfText source fault))) }
+    ensures lacking { F.lacks files.now file.now → IsErrAnd result (IsUnjudged (λ fault. fault ≡ want_of_file false)) }
 {
     let source = read_program(alloc, files, file, false)?;
     let listing = assemble(alloc, source.as_slice())?;

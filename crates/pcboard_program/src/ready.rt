@@ -1,9 +1,9 @@
 //! What a task's files and input give: the report of a run, or a board that is ready for a session.
-ghost use Rattle.std.specs.Prelude.{◌≡◌, ◌<◌, length, false, IfErr, IfOk, IfSome, string_bytes};
+ghost use Rattle.std.specs.Prelude.{◌≡◌, ◌<◌, length, false, ◌⊎◌, IfErr, IfOk, IfSome, IsErrAnd, string_bytes};
 ghost use Rattle.loader.specs.ByteInput.{CountsNone};
 ghost use Rattle.pcboard_program.specs.Answer.{IsBoardOf, IsReport, IsTrueRefusal, first_line_end, run_text_of, source_of};
-ghost use Rattle.pcboard_program.specs.Refusal.{IsTrueOfFiles, IsWantOfRun};
-ghost use Rattle.pcboard_program.specs.Unanswered.{EndsFor, UnlessFailed};
+ghost use Rattle.pcboard_program.specs.Refusal.{IsTrueOfFiles, IsWantOfRun, want_of_file};
+ghost use Rattle.pcboard_program.specs.Unanswered.{EndsFor, IsUnjudged, UnlessFailed};
 
 use crate::fault::Fault;
 use crate::input::{read_files, read_whole};
@@ -46,6 +46,8 @@ pub(crate) fn read_report<F: Opener>(
         (λ said. IfOk result (λ report. IsReport hex bytes said (string_bytes report.text)))) }
     ensures end { IfErr result (EndsFor (IsWantOfRun hex) (IsTrueOfFiles hex (F.file_bytes files.now file.now)
         (F.file_bytes files.now run.now))) }
+    ensures lacking { F.lacks files.now file.now ⊎ F.lacks files.now run.now
+        → IsErrAnd result (IsUnjudged (λ fault. fault ≡ want_of_file hex)) }
 {
     let (bytes, said) = read_files(alloc, files, file, run, hex)?;
     Ok(run_texts(alloc, hex, bytes.as_slice(), said.as_slice())?)
@@ -63,6 +65,8 @@ pub(crate) fn read_board<F: Opener>(
         (λ bytes. IfSome (F.file_bytes files.now run.now) (λ said. IfOk result (IsBoardOf hex bytes said))) }
     ensures end { IfErr result (EndsFor (IsWantOfRun hex) (IsTrueOfFiles hex (F.file_bytes files.now file.now)
         (F.file_bytes files.now run.now))) }
+    ensures lacking { F.lacks files.now file.now ⊎ F.lacks files.now run.now
+        → IsErrAnd result (IsUnjudged (λ fault. fault ≡ want_of_file hex)) }
 {
     let (bytes, said) = read_files(alloc, files, file, run, hex)?;
     Ok(board_of(alloc, hex, bytes.as_slice(), said.as_slice())?)
