@@ -1,5 +1,5 @@
 //! The keyboard and its latch (IBM PC Technical Reference, "Keyboard"; "System Board I/O", ports 60h and 61h).
-ghost use Rattle.std.specs.Prelude.{◌≡◌, ◌↔◌, IfOk, IsTrue};
+ghost use Rattle.std.specs.Prelude.{◌≡◌, ◌≤◌, ◌↔◌, IfOk, IsTrue, length, slice_get};
 ghost use Rattle.keyboard.specs.Keyboard.{power_on, after_arrival, after_settling};
 
 use board_types::bits::bit;
@@ -103,6 +103,16 @@ impl Keyboard {
         ensures { result ≡ self.now.latch }
     {
         self.latch
+    }
+
+    /// The waiting code at `index`, the one that moves first being at 0; `None` where no more wait.
+    pub fn waiting(&self, index: usize) -> Option<u8>
+        ensures code { result ≡ slice_get self.now.waiting index }
+        ensures few { length self.now.waiting ≤ 16 }
+    {
+        // no more than QUEUE_LENGTH codes wait
+        let _count = self.waiting.len();
+        self.waiting.get(index).copied()
     }
 
     /// How many codes were lost, up to the greatest `u64`.

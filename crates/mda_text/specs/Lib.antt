@@ -1,4 +1,5 @@
 pub mod Mda
+pub mod Registers
 pub mod Screen
 pub mod Marks
 pub mod Snapshot

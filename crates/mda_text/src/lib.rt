@@ -6,4 +6,5 @@ pub mod changes;
 pub mod difference;
 pub mod laws;
 pub mod mda;
+pub mod registers;
 mod snapshot;

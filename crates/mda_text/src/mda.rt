@@ -4,11 +4,13 @@ ghost use Rattle.std.specs.Prelude.{◌≡◌, ◌<◌, ◌≤◌, ◌+◌, ◌+
 ghost use Rattle.std.specs.List.{range_with_len, flat_map};
 ghost use Rattle.std.specs.String.{string_bytes};
 ghost use Rattle.board_types.specs.Bits.{has_bit};
-ghost use Rattle.mda_text.specs.Mda.{MdaState, power_on, text_byte, with_text_byte, with_high, with_low, register_byte, with_register, status, byte_at, after_write};
+ghost use Rattle.mda_text.specs.Mda.{MdaState, power_on, text_byte, with_text_byte, with_high, with_low, register_byte, with_register, status, byte_at, after_write, after_clocks};
+ghost use Rattle.mda_text.specs.Registers.{registers_of};
 ghost use Rattle.mda_text.specs.Screen.{cell, character_at, character_of, glyph, screen_row, screen_text, nth_character, characters};
 ghost use Rattle.mda_text.specs.Marks.{after_mark, number_after, is_changed, changed_cells};
 
 use crate::changes::ChangedCells;
+use crate::registers::Registers;
 use crate::snapshot::{BLOCK_BYTES, Snapshot};
 use board_types::address::TEXT_SIZE;
 use board_types::timed::Timed;
@@ -135,6 +137,21 @@ impl Mda {
                 taken: self.snapshot.taken,
             },
         })
+    }
+
+    /// The registers, and where the beam stands, after `clocks` more processor clocks.
+    #[tactic(auto, using(crate::proofs::Raster::clocks_come_round))]
+    pub fn registers_after(&self, clocks: u64) -> Registers
+        ensures { result ≡ registers_of (after_clocks self.now clocks) }
+    {
+        let raster = (self.raster() + clocks % RASTER_CLOCKS) % RASTER_CLOCKS;
+        Registers {
+            index: self.index,
+            start: self.start,
+            cursor: self.cursor,
+            video: self.video,
+            raster: raster as u16,
+        }
     }
 
     /// The byte that a read of `port` gives: FFh where the adapter doesn't answer, and at 3B4h and 3B8h, which can

@@ -127,6 +127,7 @@ impl Ppi {
 
     /// The byte that a read of `port` gives: 0 to 2 are ports A to C, 3 is the control register, which can't be
     /// read and gives FFh.
+    #[inline(always)]
     #[tactic(auto, unfolding(crate::specs::Ppi::byte_at))]
     pub fn read(&self, port: u8, inputs: Inputs) -> u8
         requires { port < 4 }
