@@ -1,9 +1,8 @@
 pub mod Writes
 pub mod Order
 mod Rows
-pub mod InRegisters
 pub mod GoesPlainly
-pub mod StoreAt
+pub mod Elements
 mod Again
 mod Counted
 pub mod BySlot

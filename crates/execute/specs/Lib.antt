@@ -3,9 +3,10 @@ pub mod Meaning
 pub mod Boundaries
 pub mod PortWrites
 pub mod Laws
-pub mod InRegisters
+pub mod Plain
 pub mod Store
-pub mod StoreAt
+pub mod Elements
 pub mod Iterations
 pub mod Accesses
 pub mod BySlot
+pub mod Made

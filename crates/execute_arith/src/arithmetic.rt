@@ -57,7 +57,7 @@ pub fn perform_arithmetic<B: Bus>(
 /// Performs it on a general register, its first operand. Inlined, a call with a word register has no other case left.
 #[inline(always)]
 #[tactic(auto, unfolding(crate::specs::Meaning::after_arithmetic))]
-pub fn perform_on_register<B: Bus>(
+fn perform_on_register<B: Bus>(
     bus: &B,
     registers: &mut Registers,
     operation: Arithmetic,

@@ -44,7 +44,7 @@ pub fn perform_unary<B: Bus>(
 /// Performs it on a general register, its operand. Inlined, a call with a word register has no other case left.
 #[inline(always)]
 #[tactic(auto, unfolding(crate::specs::Meaning::after_unary))]
-pub fn perform_unary_on_register<B: Bus>(
+fn perform_unary_on_register<B: Bus>(
     bus: &B,
     registers: &mut Registers,
     operation: Unary,

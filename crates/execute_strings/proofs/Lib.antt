@@ -1,5 +1,5 @@
 pub mod Apart
 pub mod Copies
 pub mod Kept
-mod Order
+pub mod Order
 mod Rows

@@ -2,6 +2,7 @@
 //! whether another follows. A part of `execute`, which alone uses it.
 #![tactic(auto)]
 
+pub mod elements;
 pub mod laws;
 pub mod repeat;
 pub mod strings;

@@ -1,0 +1,28 @@
+//! What a processor keeps between two boundaries.
+ghost use Rattle.std.specs.Prelude.{◌≡◌, is_some};
+
+use crate::cpu::Cpu;
+use crate::shadow::Shadow;
+
+impl Cpu {
+    /// Which interrupts the last instruction keeps off.
+    pub fn shadow(&self) -> Shadow
+        ensures { result ≡ self.now.shadow }
+    {
+        self.parts.shadow
+    }
+
+    /// Whether a single step is due.
+    pub fn is_step_due(&self) -> bool
+        ensures { result ≡ self.now.step_due }
+    {
+        self.parts.step_due
+    }
+
+    /// Whether a repeat is under way.
+    pub fn is_repeating(&self) -> bool
+        ensures { result ≡ is_some self.now.repeat }
+    {
+        self.parts.repeat.is_some()
+    }
+}
