@@ -1,0 +1,4 @@
+pub mod Kept
+pub mod Calm
+pub mod Lag
+pub mod AtPresent

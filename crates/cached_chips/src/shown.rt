@@ -1,0 +1,50 @@
+//! What the chips hold at the present clock, where they may lag behind it.
+ghost use Rattle.std.specs.Prelude.{◌≡◌};
+ghost use Rattle.mda_text.specs.Registers.{registers_of};
+
+use crate::cached::CachedChips;
+use keyboard::keyboard::Keyboard;
+use mda_text::registers::Registers;
+use pic8259::Pic;
+use pit8253::pit::Pit;
+use ppi8255::ppi::Ppi;
+
+impl CachedChips {
+    /// The interrupt controller.
+    pub fn controller(&self) -> Pic
+        ensures { result ≡ self.now.pic }
+    {
+        self.chips.controller()
+    }
+
+    /// The timer.
+    pub fn timer(&self) -> Pit
+        ensures { result ≡ self.now.pit }
+    {
+        let mut pit = self.chips.timer();
+        pit.advance(self.present.get() / 4 - self.chips.clock().get() / 4);
+        pit
+    }
+
+    /// The parallel port.
+    pub fn parallel_port(&self) -> Ppi
+        ensures { result ≡ self.now.ppi }
+    {
+        self.chips.parallel_port()
+    }
+
+    /// The keyboard.
+    pub fn keyboard(&self) -> &Keyboard
+        ensures { result.now ≡ self.now.keyboard }
+    {
+        self.chips.keyboard()
+    }
+
+    /// The text adapter's registers.
+    pub fn adapter(&self) -> Registers
+        ensures { result ≡ registers_of self.now.mda }
+    {
+        let behind = self.present.get() - self.chips.clock().get();
+        self.chips.adapter_after(behind)
+    }
+}
