@@ -1,7 +1,7 @@
 -- A clock in which the processor acts and writes to no port, the chips being calm.
 use Rattle.std.proofs.Common.{◌≡◌, ℕ, ◌+◌, ◌-◌, ◌<◌, ◌≤◌, inl, inr, List, ◌++◌, length, refl, sym, ap, ◌∙◌, subst, arith, append-nil}
 use Rattle.std.specs.Prelude.{◌⊎◌}
-use Rattle.board_bus.proofs.Calm.{level_stays}
+use Rattle.cached_chips.proofs.Calm.{level_stays}
 use Rattle.board_types.specs.Lines.{from_bool}
 use Rattle.board_types.specs.declared.keys.StampedKey.{StampedKey}
 use Rattle.execute.specs.Meaning.{StepResult}

@@ -19,3 +19,4 @@ pub mod Turns
 pub mod Works
 mod Stores
 pub mod Latest
+pub mod OneTurn

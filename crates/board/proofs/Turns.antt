@@ -1,14 +1,15 @@
 -- The turns of a run against its work: a clock with work pays for three, and the run for what is left.
-use Rattle.std.proofs.Common.{zero, suc, refl, ◌≡◌, ℕ, ◌+◌, ◌-◌, ◌*◌, ◌<◌, ◌≤◌, min, inl, inr, ◌++◌, length, sym, ap, ◌∙◌, subst, arith, append-nil}
+use Rattle.std.proofs.Common.{zero, suc, true, refl, ◌≡◌, ℕ, ◌+◌, ◌-◌, ◌*◌, ◌<◌, ◌≤◌, min, inl, inr, ◌++◌, length, sym, ap, ◌∙◌, subst, arith, append-nil}
 use Rattle.std.specs.Prelude.{◌⊎◌, OnErr, OnOk, Result, Ok, Err}
 use Rattle.board_types.proofs.Iterate.{total_zero, total_more, total_add}
 use Rattle.board_plain.specs.Board.{BoardState, Ran, StoppedEarly}
+use Rattle.board.specs.AwaitFree.{IsTurnBetween}
 use Rattle.board.specs.HeldBack.{IsHeldBack}
 use Rattle.board_plain.specs.Laws.{WiresHold}
 use Rattle.board.specs.Leap.{IsQuiet, IsTight, leapt}
 use Rattle.board_plain.specs.Plain.{Plain, after_clock, changes_in, clock_of}
 use Rattle.board_plain.specs.Trail.{last}
-use Rattle.board.specs.ClearSteps.{AreClearSteps, Noted}
+use Rattle.board.specs.ClearSteps.{AreClearSteps, IsClearStep, Noted}
 use Rattle.board.specs.Turns.{AreStepsOn, IsHeldBehind, IsLongTurnOn, IsLeapOn, IsStepOn, IsStrideOn, IsTickOn, IsTurnOn}
 use Rattle.board_plain.specs.Work.{steps_in, steps_next, work_in, work_next}
 use Rattle.board_plain.proofs.LastEntries.{last_within, nothing_added}
@@ -25,7 +26,7 @@ use Rattle.board.proofs.Works.{first_has_none, none_to_do, none_to_step, busy_of
 few_of_run : (n : ℕ) (s t : BoardState) → Ran n s t → length t.trail ≤ 32
 few_of_run n s t ran = subst (λ xs. length xs ≤ 32) (sym ran.trail) (last_within 32 _)
 
-leap_runs : (end count : ℕ) (t u : BoardState) → (leap : IsLeapOn end count t u) → length t.trail ≤ 32 → Ran leap.clocks t u
+pub leap_runs : (end count : ℕ) (t u : BoardState) → (leap : IsLeapOn end count t u) → length t.trail ≤ 32 → Ran leap.clocks t u
 leap_runs end count t u leap few = record {
   plain = leap.plain ∙ sym (board_leaps leap.clocks t.plain leap.wires leap.quiet);
   clock = ap clock_of leap.plain ∙ clock_of_leap t.plain leap.clocks;
@@ -261,6 +262,11 @@ pub if_turn : {E : Type 0} (end : ℕ) (old new : BoardState) (result : Result U
 if_turn end old new (Ok x) turn = inl turn
 if_turn end old new (Err e) turn = turn
 
+-- and one between two looks for a stop
+pub if_stride : {E : Type 0} (passes : ℕ → Type 0) (end : ℕ) (old new : BoardState) (result : Result Unit E) → OnOk result (IsStrideOn end old new) → OnOk result (IsTurnBetween true passes end old new)
+if_stride passes end old new (Ok x) stride = inr stride
+if_stride passes end old new (Err e) stride = stride
+
 -- a step that ends with the next clock
 pub step_alone : (end : ℕ) (old new : BoardState) → IsStepOn (clock_of old.plain + 1) old new → IsTurnOn end old new
 step_alone end old new step =
@@ -297,36 +303,40 @@ stride_moves end t u before (inr step) = step_moves end t step.begun u before st
 -- steps at once, while nothing comes
 
 -- the board behind so many of them
-abbrev behind : BoardState → ℕ → Noted → BoardState
+abbrev pub behind : BoardState → ℕ → Noted → BoardState
 behind t n v = record t { plain = v.plain; trail = v.trail; turns = t.turns + n }
 
-so_far_each : (n spare end : ℕ) (s t : BoardState) (v : Noted) → AreClearSteps n end (record { plain = t.plain; trail = t.trail }) v → SoFar spare end s t → SoFar spare end s (behind t n v)
+so_far_each : (passes : ℕ → Type 0) (n spare end : ℕ) (s t : BoardState) (v : Noted) → AreClearSteps passes n end (record { plain = t.plain; trail = t.trail }) v → SoFar spare end s t → SoFar spare end s (behind t n v)
 unfolding AreClearSteps
-so_far_each zero spare end s t v same so_far =
+so_far_each passes zero spare end s t v same so_far =
     let counted : t.turns ≡ t.turns + 0 = omega arith in
     subst (λ b. SoFar spare end s b) (λ k. record t { plain = (sym same k).plain; trail = (sym same k).trail; turns = counted k }) so_far
-so_far_each (suc n) spare end s t v steps so_far =
+so_far_each passes (suc n) spare end s t v steps so_far =
     let w : Noted = steps.0 in
-    let before = so_far_each n spare end s t w steps.1 so_far in
+    let before = so_far_each passes n spare end s t w steps.1 so_far in
     so_far_stride spare end s (behind t n w) (behind t (suc n) v) before steps.2.before
     (inr (step_made end (behind t n w) (behind t (suc n) v) steps.2.calmly steps.2.passed refl steps.2.entries refl (omega arith)))
 
-pub so_far_steps : (spare end : ℕ) (s t u : BoardState) → SoFar spare end s t → AreStepsOn end t u → SoFar spare end s u
-so_far_steps spare end s t u so_far on =
-    subst (λ b. SoFar spare end s b) (λ k. record u { changes = sym on.changes k; room = sym on.room k; turns = sym on.turns k })
-    (so_far_each on.count spare end s t (record { plain = u.plain; trail = u.trail }) on.steps so_far)
+-- where they lead
+pub steps_lead : (passes : ℕ → Type 0) (end : ℕ) (t u : BoardState) → (on : AreStepsOn passes end t u) → behind t on.count (record { plain = u.plain; trail = u.trail }) ≡ u
+steps_lead passes end t u on = λ k. record u { changes = sym on.changes k; room = sym on.room k; turns = sym on.turns k }
 
-pub so_far_long : (spare end : ℕ) (s t u : BoardState) → SoFar spare end s t → IsLongTurnOn end t u → SoFar spare end s u
-so_far_long spare end s t u so_far long =
-    let mid = so_far_steps spare end s t long.between so_far long.steps in
+pub so_far_steps : (passes : ℕ → Type 0) (spare end : ℕ) (s t u : BoardState) → SoFar spare end s t → AreStepsOn passes end t u → SoFar spare end s u
+so_far_steps passes spare end s t u so_far on =
+    subst (λ b. SoFar spare end s b) (steps_lead passes end t u on)
+    (so_far_each passes on.count spare end s t (record { plain = u.plain; trail = u.trail }) on.steps so_far)
+
+pub so_far_long : (passes : ℕ → Type 0) (spare end : ℕ) (s t u : BoardState) → SoFar spare end s t → IsLongTurnOn passes end t u → SoFar spare end s u
+so_far_long passes spare end s t u so_far long =
+    let mid = so_far_steps passes spare end s t long.between so_far long.steps in
     elim long.rest [
       | inl last ↦ subst (SoFar spare end s) (sym last.0) mid
       | inr stride ↦ so_far_stride spare end s long.between u mid stride.0 stride.1
     ]
 
-pub long_moves : (end : ℕ) (t u : BoardState) → clock_of t.plain < end → IsLongTurnOn end t u → end - clock_of u.plain < end - clock_of t.plain
-long_moves end t u before long =
-    let gone = have_gone long.steps.count end _ _ long.steps.steps in
+pub long_moves : (passes : ℕ → Type 0) (end : ℕ) (t u : BoardState) → clock_of t.plain < end → IsLongTurnOn passes end t u → end - clock_of u.plain < end - clock_of t.plain
+long_moves passes end t u before long =
+    let gone = have_gone passes long.steps.count end _ _ long.steps.steps in
     let some : long.steps.count + clock_of t.plain ≤ clock_of long.between.plain = gone.some in
     elim long.rest [
       | inl last ↦
@@ -337,10 +347,30 @@ long_moves end t u before long =
 
 -- behind such steps
 
-pub if_long : {E : Type 0} (end : ℕ) (s t u : BoardState) (result : Result Unit E) → AreStepsOn end s t → clock_of t.plain < end → OnOk result (IsStrideOn end t u) → OnOk result (IsLongTurnOn end s u)
-if_long end s t u (Ok x) steps before stride = record { between = t; steps = steps; rest = inr (before, stride) }
-if_long end s t u (Err e) steps before stride = stride
+pub if_long : {E : Type 0} (passes : ℕ → Type 0) (end : ℕ) (s t u : BoardState) (result : Result Unit E) → AreStepsOn passes end s t → clock_of t.plain < end → OnOk result (IsStrideOn end t u) → OnOk result (IsLongTurnOn passes end s u)
+if_long passes end s t u (Ok x) steps before stride = record { between = t; steps = steps; rest = inr (before, stride) }
+if_long passes end s t u (Err e) steps before stride = stride
 
-pub if_held : {E : Type 0} (end : ℕ) (s t u : BoardState) (result : Result Unit E) → AreStepsOn end s t → clock_of t.plain < end → OnErr result (IsHeldBack t u) → OnErr result (IsHeldBehind end s u)
-if_held end s t u (Err e) steps before held = record { between = t; steps = steps; before = before; held = held }
-if_held end s t u (Ok x) steps before held = held
+pub if_held : {E : Type 0} (passes : ℕ → Type 0) (end : ℕ) (s t u : BoardState) (result : Result Unit E) → AreStepsOn passes end s t → clock_of t.plain < end → OnErr result (IsHeldBack t u) → OnErr result (IsHeldBehind passes end s u)
+if_held passes end s t u (Err e) steps before held = record { between = t; steps = steps; before = before; held = held }
+if_held passes end s t u (Ok x) steps before held = held
+
+-- steps that end with the next clock are one
+one_alone : (passes : ℕ → Type 0) (n end : ℕ) (t : BoardState) (v : Noted) → clock_of t.plain < clock_of v.plain → AreClearSteps passes n (clock_of t.plain + 1) (record { plain = t.plain; trail = t.trail }) v → IsTurnOn end t (behind t n v)
+unfolding AreClearSteps
+one_alone passes zero end t v moved same =
+    let here : clock_of v.plain ≡ clock_of t.plain = ap (λ (x : Noted). clock_of x.plain) same in absurd (omega (arith, here, moved))
+one_alone passes (suc zero) end t v moved steps =
+    let first : steps.0 ≡ record { plain = t.plain; trail = t.trail } = steps.1 in
+    let step = subst (λ w. IsClearStep (clock_of t.plain + 1) w v) first steps.2 in
+    step_alone end t (behind t 1 v)
+    (step_made (clock_of t.plain + 1) t (behind t 1 v) step.calmly step.passed refl step.entries refl refl)
+one_alone passes (suc (suc n)) end t v moved steps =
+    let gone = have_gone passes (suc n) (clock_of t.plain + 1) _ steps.0 steps.1 in
+    let some = gone.some in
+    let before = steps.2.before in absurd (omega (arith, some, before))
+
+pub steps_alone : (passes : ℕ → Type 0) (end : ℕ) (t u : BoardState) → clock_of t.plain < clock_of u.plain → AreStepsOn passes (clock_of t.plain + 1) t u → IsTurnOn end t u
+steps_alone passes end t u moved on =
+    subst (IsTurnOn end t) (steps_lead passes (clock_of t.plain + 1) t u on)
+    (one_alone passes on.count end t (record { plain = u.plain; trail = u.trail }) moved on.steps)

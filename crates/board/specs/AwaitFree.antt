@@ -1,10 +1,11 @@
 -- Stops that wait for a free processor: none of them is passed in the midst of a step.
 -- For proofs alone: no public contract rests on it.
-use Rattle.std.specs.Prelude.{ℕ, ◌≡◌, ◌<◌, Bool, true, false, List, length, slice_index_or}
+use Rattle.std.specs.Prelude.{ℕ, ◌≡◌, ◌<◌, ◌⊎◌, Bool, true, false, List, length, slice_index_or}
 use Rattle.board_plain.specs.declared.stop.Condition.{Condition}
 use Rattle.board_plain.specs.declared.stop.Condition.TheVariants.{Free, At, Byte, Sound, Halted}
 use Rattle.board_plain.specs.Board.{BoardState}
-use Rattle.board.specs.Turns.{IsStrideOn, IsTurnOn}
+use Rattle.board_plain.specs.Plain.{clock_of}
+use Rattle.board.specs.Turns.{AreStepsOn, IsStrideOn, IsTurnOn}
 
 -- whether it holds only where the processor is free
 abbrev pub awaits_free : Condition → Bool
@@ -17,7 +18,12 @@ awaits_free Halted = false
 abbrev pub AllAwaitFree : List Condition → Type 0
 AllAwaitFree stops = (k : ℕ) → k < length stops → awaits_free (slice_index_or stops k Free) ≡ true
 
--- a turn between two looks for a stop: a whole stride where all wait for a free processor
-abbrev pub IsTurnBetween : Bool → ℕ → BoardState → BoardState → Type 0
-IsTurnBetween true end old new = IsStrideOn end old new
-IsTurnBetween false end old new = IsTurnOn end old new
+-- some steps at once, which take time
+abbrev pub ArePassedOn : (ℕ → Type 0) → ℕ → BoardState → BoardState → Type 0
+ArePassedOn passes end old new = AreStepsOn passes end old new × (clock_of old.plain < clock_of new.plain)
+
+-- a turn between two looks for a stop: where all wait for a free processor, a whole stride, or steps at once, between which IP
+-- is one that may be passed
+abbrev pub IsTurnBetween : Bool → (ℕ → Type 0) → ℕ → BoardState → BoardState → Type 0
+IsTurnBetween true passes end old new = ArePassedOn passes end old new ⊎ IsStrideOn end old new
+IsTurnBetween false passes end old new = IsTurnOn end old new

@@ -1,5 +1,5 @@
 -- A clock that finds no room for its change of the speaker's level.
--- For proofs alone: no public contract rests on it.
+-- To be believed by callers of this crate: the headline does not rest on it.
 use Rattle.std.specs.Prelude.{◌≡◌, ◌≢◌}
 use Rattle.board_plain.specs.Plain.{after_clock, speaker_level}
 use Rattle.board_plain.specs.Board.{BoardState}

@@ -5,7 +5,7 @@ use Rattle.std.specs.Prelude.{ℕ, ◌≡◌, ◌≢◌, ◌+◌, ◌-◌, ◌<�
 use Rattle.board_types.specs.declared.choice.ClockTable.{ClockTable}
 use Rattle.board_types.specs.Timed.{IsSteady}
 use Rattle.board_types.specs.declared.keys.StampedKey.{StampedKey}
-use Rattle.board_bus.specs.Calm.{IsCalm}
+use Rattle.cached_chips.specs.Calm.{IsCalm}
 use Rattle.execute.specs.Boundaries.{boundary_of}
 use Rattle.execute.specs.Cpu.{CpuState}
 use Rattle.execute.specs.declared.boundary.Boundary.{Boundary}

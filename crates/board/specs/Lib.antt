@@ -9,3 +9,4 @@ pub mod Turns
 pub mod AwaitFree
 pub mod Found
 pub mod ClearSteps
+pub mod OneTurn

@@ -49,24 +49,24 @@ abbrev pub IsStrideOn : ℕ → BoardState → BoardState → Type 0
 IsStrideOn end old new = IsTurnOn end old new ⊎ IsStepOn end old new
 
 -- so many such steps at once, while nothing comes
-pub record AreStepsOn (end : ℕ) (old new : BoardState) : Type 0 where
+pub record AreStepsOn (passes : ℕ → Type 0) (end : ℕ) (old new : BoardState) : Type 0 where
   pub count : ℕ
-  pub steps : AreClearSteps count end (record { plain = old.plain; trail = old.trail })
+  pub steps : AreClearSteps passes count end (record { plain = old.plain; trail = old.trail })
       (record { plain = new.plain; trail = new.trail })
   pub changes : new.changes ≡ old.changes
   pub room : new.room ≡ old.room
   pub turns : new.turns ≡ old.turns + count
 
 -- and where the run doesn't end with them, a turn or a step
-pub record IsLongTurnOn (end : ℕ) (old new : BoardState) : Type 0 where
+pub record IsLongTurnOn (passes : ℕ → Type 0) (end : ℕ) (old new : BoardState) : Type 0 where
   pub between : BoardState
-  pub steps : AreStepsOn end old between
+  pub steps : AreStepsOn passes end old between
   pub rest : ((new ≡ between) × (end ≤ clock_of between.plain))
       ⊎ ((clock_of between.plain < end) × IsStrideOn end between new)
 
 -- or what comes behind them is held back
-pub record IsHeldBehind (end : ℕ) (old new : BoardState) : Type 0 where
+pub record IsHeldBehind (passes : ℕ → Type 0) (end : ℕ) (old new : BoardState) : Type 0 where
   pub between : BoardState
-  pub steps : AreStepsOn end old between
+  pub steps : AreStepsOn passes end old between
   pub before : clock_of between.plain < end
   pub held : IsHeldBack between new

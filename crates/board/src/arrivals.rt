@@ -6,9 +6,9 @@ ghost use Rattle.wiring.specs.Wires.{after_arrivals};
 ghost use Rattle.board.specs.Leap.{ComesAfter};
 ghost use Rattle.board_plain.specs.Plain.{chips_after_clock, codes_at};
 
-use board_bus::cached::CachedChips;
 use board_types::clock::Clock;
 use board_types::keys::StampedKey;
+use cached_chips::cached::CachedChips;
 
 /// How many of the keys have arrived, and the stamp of the next one, where one comes.
 #[derive(Clone, Copy)]

@@ -1,5 +1,5 @@
 //! The board: run for a number of clocks, and read.
-ghost use Rattle.std.specs.Prelude.{IsTrue, None, true, All, ◌-◌, slice_get, ◌≡◌, ◌+◌, ◌*◌, ◌<◌, ◌≤◌, ◌^◌, [], ◌∷◌, ◌++◌, length, OnErr, OnOk, IfOk, IsOk, ◌↔◌, ◌⊎◌};
+ghost use Rattle.std.specs.Prelude.{ℕ, IsTrue, None, true, All, ◌-◌, slice_get, ◌≡◌, ◌+◌, ◌*◌, ◌<◌, ◌≤◌, ◌^◌, [], ◌∷◌, ◌++◌, length, OnErr, OnOk, IfOk, IsOk, ◌↔◌, ◌⊎◌};
 ghost use Rattle.std.specs.Result.{IfErr, IsErrOf};
 ghost use Rattle.std.specs.String.{string_bytes};
 ghost use Rattle.memory.specs.Map.{IsRamSize, FitsRam};
@@ -9,7 +9,7 @@ ghost use Rattle.board_plain.specs.Board.{Ran, StoppedEarly, board_fault_name, b
 ghost use Rattle.board.specs.HeldBack.{IsHeldBack};
 ghost use Rattle.board.specs.KeptAgain.{IsExact};
 ghost use Rattle.board.specs.Leap.{IsQuiet, leapt};
-ghost use Rattle.board.specs.Reach.{AllWithin};
+ghost use Rattle.board.specs.Reach.{AllWithin, all_pass, may_pass};
 ghost use Rattle.board_plain.specs.Plain.{after_clock, after_clocks, byte_of, change_next, changes_in, clock_of, is_free, lost_codes, next_act, power_on, registers_of, screen_of, speaker_level, state_of};
 ghost use Rattle.board_plain.specs.Stops.{FitsRoom, HasAddress, IsStopOf, NoStop, holding, run_length};
 ghost use Rattle.board_plain.specs.Lasts.{IsLastOf};
@@ -23,6 +23,7 @@ ghost use Rattle.board_types.specs.Lines.{from_bool};
 use crate::engine::Engine;
 use crate::stop::{Reach, all_await_free};
 use crate::trail::Trail;
+use crate::watch::{Nothing, Watch};
 use board_plain::act::Act;
 use board_plain::config::Config;
 use board_plain::fault::BoardFault;
@@ -45,7 +46,7 @@ use std::marker::Model;
 /// list of changes grows in memory of its own allocator, `A`.
 #[derive(Drop)]
 pub struct Board<A: Allocator = Global> {
-    engine: Engine,
+    pub(crate) engine: Engine,
     changes: Vec<SpeakerChange, A>,
     trail: Trail,
     /// The leaps of time and the clocks that were made by themselves since power-on; each is a clock at least.
@@ -206,14 +207,14 @@ impl<A: Allocator> Board<A> {
         // a stop that holds at the start is none there, so the first clock is made by itself
         self.make_clock()?;
         'turns: loop {
-            if let Some(number) = self.holding(stops, reach) {
+            if let Some(number) = self.holding(stops, &reach) {
                 let clock = self.clock();
                 return Ok(Some(Stop { number, clock }));
             }
             if self.clock().get() == end {
                 return Ok(None);
             }
-            self.turn(end, whole)?;
+            self.turn(end, whole, &reach)?;
         }
     }
 
@@ -248,13 +249,13 @@ impl<A: Allocator> Board<A> {
         let reach = Reach::of(stops.as_slice());
         let mut last = None;
         'turns: while self.clock().get() < end {
-            let here = self.holding(stops, reach);
+            let here = self.holding(stops, &reach);
             // where none holds, a step with the leap behind it passes none
-            self.turn(end, passes_none(whole, here))?;
+            self.turn(end, passes_none(whole, here), &reach)?;
             // what holds before a turn does so up to the clock before the one that the turn comes to
             last = later(last, here, self.clock());
         }
-        Ok(latest(last, self.holding(stops, reach), self.clock()))
+        Ok(latest(last, self.holding(stops, &reach), self.clock()))
     }
 
     /// Makes room for `n` more changes of the speaker's level. Refused as `Memory`, with nothing changed, where
@@ -276,9 +277,9 @@ impl<A: Allocator> Board<A> {
 
     /// The least number of a condition that holds, `reach` being where IP has to be for that.
     #[inline(always)]
-    fn holding(&self, stops: &Stops, reach: Reach) -> Option<usize>
+    fn holding(&self, stops: &Stops, reach: &Reach) -> Option<usize>
         requires address { All HasAddress stops.now.items }
-        requires within { AllWithin reach stops.now.items }
+        requires within { AllWithin reach.now stops.now.items }
         ensures { result ≡ holding stops.now.items self.now.plain }
     {
         self.engine.holding_within(stops.as_slice(), reach)
@@ -295,19 +296,34 @@ impl<A: Allocator> Board<A> {
 
     /// One turn of a run that ends at the clock `end`: time leaps to the next clock at which something is due, or, where
     /// that is this one, goes on by a clock. No condition changes on the way of a leap, short of its last clock. Where it may
-    /// be `whole`, a step with the leap behind it is one, too.
+    /// be `whole`, a step with the leap behind it is one, too, and as many steps at once as come to no IP within `reach`
+    /// before the last.
     #[inline(always)]
-    fn turn(&mut self, end: u64, whole: bool) -> Result<(), BoardFault>
+    fn turn(&mut self, end: u64, whole: bool, reach: &Reach) -> Result<(), BoardFault>
         requires before_end { clock_of self.old.plain < end }
         requires within { end ≤ 2 ^ 40 }
-        ensures ok { OnOk result (IsTurnBetween whole end self.old self.new) }
+        ensures ok { OnOk result (IsTurnBetween whole (may_pass reach.now) end self.old self.new) }
         ensures err { OnErr result (IsHeldBack self.old self.new) }
         ensures fault { IfErr result (λ fault. fault ≡ BoardFault.Memory) }
     {
         if whole {
-            return self.stride(end);
+            return self.whole_turn(end, reach);
         }
         self.short_turn(end)
+    }
+
+    /// Such a turn.
+    fn whole_turn(&mut self, end: u64, reach: &Reach) -> Result<(), BoardFault>
+        requires before_end { clock_of self.old.plain < end }
+        requires within { end ≤ 2 ^ 40 }
+        ensures ok { OnOk result (IsTurnBetween true (may_pass reach.now) end self.old self.new) }
+        ensures err { OnErr result (IsHeldBack self.old self.new) }
+        ensures fault { IfErr result (λ fault. fault ≡ BoardFault.Memory) }
+    {
+        if self.stride_clearly(end, reach) {
+            return Ok(());
+        }
+        self.stride(end)
     }
 
     /// A turn in which no leap stands behind a step.
@@ -318,10 +334,23 @@ impl<A: Allocator> Board<A> {
         ensures err { OnErr result (IsHeldBack self.old self.new) }
         ensures fault { IfErr result (λ fault. fault ≡ BoardFault.Memory) }
     {
-        if self.step(self.clock().get() + 1) {
+        if self.short_step() {
             return Ok(());
         }
         self.other_turn(end)
+    }
+
+    /// The first clock of a step, if it can be made so. Answers whether it was made.
+    fn short_step(&mut self) -> bool
+        requires { clock_of self.old.plain < 2 ^ 40 }
+        ensures made { IsTrue result → (end : ℕ) → IsTurnOn end self.old self.new }
+        ensures not_made { ¬ (IsTrue result) → self.new ≡ self.old }
+    {
+        let next = self.clock().get() + 1;
+        if self.stride_clearly(next, &Nothing) {
+            return true;
+        }
+        self.step(next)
     }
 
     /// As many steps at once as can be made, while nothing comes; and where the run doesn't end with them, a turn or a step.
@@ -329,32 +358,38 @@ impl<A: Allocator> Board<A> {
     fn long_turn(&mut self, end: u64) -> Result<(), BoardFault>
         requires before_end { clock_of self.old.plain < end }
         requires within { end ≤ 2 ^ 40 }
-        ensures ok { OnOk result (IsLongTurnOn end self.old self.new) }
-        ensures err { OnErr result (IsHeldBehind end self.old self.new) }
+        ensures ok { OnOk result (IsLongTurnOn all_pass end self.old self.new) }
+        ensures err { OnErr result (IsHeldBehind all_pass end self.old self.new) }
         ensures fault { IfErr result (λ fault. fault ≡ BoardFault.Memory) }
     {
-        self.stride_clearly(end);
+        self.stride_clearly(end, &Nothing);
         if self.clock().get() >= end {
             return Ok(());
         }
         self.stride(end)
     }
 
-    /// Those steps.
+    /// Those steps. Answers whether there were any.
     #[inline(always)]
-    fn stride_clearly(&mut self, end: u64)
+    fn stride_clearly<W: Watch>(&mut self, end: u64, watch: &W) -> bool
         requires before_end { clock_of self.old.plain < end }
         requires within { end ≤ 2 ^ 40 }
-        ensures { AreStepsOn end self.old self.new }
+        ensures steps { AreStepsOn (W.passes watch.now) end self.old self.new }
+        ensures made { IsTrue result → clock_of self.old.plain < clock_of self.new.plain }
+        ensures not_made { ¬ (IsTrue result) → self.new ≡ self.old }
     {
-        let made = self.engine.stride_clearly(&mut self.trail, end);
+        let made = self.engine.stride_clearly(&mut self.trail, end, watch);
+        if made == 0 {
+            return false;
+        }
         self.turns += made;
+        true
     }
 
     /// A turn of a run that ends at the clock `end`; or a step of an instruction or of a repeat with the leap over its
     /// clocks, as one.
     #[inline(always)]
-    fn stride(&mut self, end: u64) -> Result<(), BoardFault>
+    pub(crate) fn stride(&mut self, end: u64) -> Result<(), BoardFault>
         requires before_end { clock_of self.old.plain < end }
         requires within { end ≤ 2 ^ 40 }
         ensures ok { OnOk result (IsStrideOn end self.old self.new) }

@@ -3,7 +3,10 @@
 
 mod arrivals;
 pub mod board;
+mod chips;
 mod clearly;
 mod engine;
+pub mod one_turn;
 mod stop;
 mod trail;
+mod watch;

@@ -1,8 +1,9 @@
 //! What is known of some stops beforehand: whether they wait for a free processor, and at which IP they may hold.
-ghost use Rattle.std.specs.Prelude.{◌≡◌, ◌≤◌, ◌↔◌, IsTrue};
+ghost use Rattle.std.specs.Prelude.{◌≡◌, IsTrue};
 ghost use Rattle.board.specs.AwaitFree.{awaits_free, AllAwaitFree};
 ghost use Rattle.board.specs.Reach.{AllWithin};
 
+use crate::watch::Watch;
 use board_plain::stop::Condition;
 
 /// Whether it holds only where the processor is free.
@@ -58,12 +59,16 @@ impl Reach {
         }
         reach
     }
+}
+
+impl Watch for Reach {
+    ghost use Rattle.board.specs.Reach.{may_pass};
+
+    ghost passes = { may_pass };
 
     /// Whether one of them may hold at this IP.
     #[inline(always)]
-    pub(crate) fn has(self, ip: u16) -> bool
-        ensures { IsTrue result ↔ ((self.lowest ≤ ip) × (ip ≤ self.highest)) }
-    {
+    fn has(&self, ip: u16) -> bool {
         self.lowest <= ip && ip <= self.highest
     }
 }

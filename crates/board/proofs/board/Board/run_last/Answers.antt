@@ -1,6 +1,8 @@
 use Rattle.std.proofs.Common.{◌≡◌, ◌<◌, ◌+◌, ◌∙◌, refl, sym, ap, subst, arith, None}
 use Rattle.std.specs.Bool.{IsTrue}
 use Rattle.board.specs.AwaitFree.{AllAwaitFree}
+use Rattle.board.specs.Reach.{AllWithin, may_pass}
+use Rattle.board.proofs.Reach.{passes_none}
 use Rattle.board.specs.Found.{found_before}
 use Rattle.board.proofs.Latest.{Looked}
 use Rattle.board_plain.specs.Plain.{clock_of}
@@ -17,7 +19,7 @@ turns-init g c = looked_none c.args.stops.now.items _ c.args.self.now c.is_past_
 
 pub turns-smaller : goal.turns-smaller
 turns-smaller g c =
-    between_moves _ _ _ _ (omega (arith, c.turns-test.true, c.clock-in-turns.ensures, c.get-in-turns.ensures.value)) c.in_ok-turn.ensures.ok
+    between_moves _ _ _ _ _ (omega (arith, c.turns-test.true, c.clock-in-turns.ensures, c.get-in-turns.ensures.value)) c.in_ok-turn.ensures.ok
 
 pub returns-in_err-turn-clause-succeeds : goal.returns-in_err-turn-clause-succeeds
 returns-in_err-turn-clause-succeeds g c = λ within enough.
@@ -26,7 +28,7 @@ returns-in_err-turn-clause-succeeds g c = λ within enough.
 
 pub later-last-requires : goal.later-last-requires
 later-last-requires g c =
-    let moves = between_moves (c.get.result + c.args.count) _ c.turns.self c.turn.new.self (omega (arith, c.turns-test.true, c.clock-in-turns.ensures, c.get-in-turns.ensures.value)) c.in_ok-turn.ensures.ok in
+    let moves = between_moves _ (c.get.result + c.args.count) _ c.turns.self c.turn.new.self (omega (arith, c.turns-test.true, c.clock-in-turns.ensures, c.get-in-turns.ensures.value)) c.in_ok-turn.ensures.ok in
     omega (arith, moves, c.clock-in-turns-2.ensures)
 
 pub turns-preserved : goal.turns-preserved
@@ -35,4 +37,5 @@ turns-preserved g c =
     let waits : IsTrue c.passes_none.result → AllAwaitFree c.args.stops.now.items × (c.holding-here.result ≡ None) =
     λ yes. (subst AllAwaitFree c.as_slice.ensures.value (c.all_await_free-whole.ensures (c.passes_none.ensures yes).0), (c.passes_none.ensures yes).1) in
     subst (Looked c.args.stops.now.items (c.get.result + c.args.count) c.args.self.now c.turn.new.self) (sym (c.later-last.ensures ∙ ap (found_before c.turns.last c.holding-here.result) c.clock-in-turns-2.ensures))
-    (looked_between c.args.stops.now.items (c.get.result + c.args.count) c.passes_none.result c.args.self.now c.turns.self c.turn.new.self c.turns.last c.holding-here.result waits c.turns.invariant (sym c.holding-here.ensures) before c.in_ok-turn.ensures.ok)
+    (looked_between (may_pass c.of-reach.result) c.args.stops.now.items (c.get.result + c.args.count) c.passes_none.result c.args.self.now c.turns.self c.turn.new.self c.turns.last c.holding-here.result waits
+    (passes_none c.of-reach.result c.args.stops.now.items (subst (AllWithin c.of-reach.result) c.as_slice-2.ensures.value c.of-reach.ensures)) c.turns.invariant (sym c.holding-here.ensures) before c.in_ok-turn.ensures.ok)

@@ -4,6 +4,8 @@ use Rattle.board_plain.specs.Stops.{holding}
 use Rattle.board.proofs.Search.{between_moves, found, held_at_once, held_search, nothing_found, searched_between, searched_first}
 use Rattle.board.proofs.Turns.{not_counted}
 use Rattle.board.specs.AwaitFree.{AllAwaitFree}
+use Rattle.board.specs.Reach.{AllWithin, may_pass}
+use Rattle.board.proofs.Reach.{passes_none}
 use Rattle.std.specs.Bool.{IsTrue}
 use Rattle.board.proofs.board.Board.run_until.Goals as goal
 
@@ -47,7 +49,7 @@ pub turns-smaller : goal.turns-smaller
 turns-smaller g c =
     let x = c.turns in
     let within = c.turns.invariant.so_far.within in
-    between_moves _ _ _ _ (omega (arith, within, c.clock-in-turns.ensures, c.get-in-turns.ensures.value, c.if-get-end.false)) c.in_ok-turn.ensures.ok
+    between_moves _ _ _ _ _ (omega (arith, within, c.clock-in-turns.ensures, c.get-in-turns.ensures.value, c.if-get-end.false)) c.in_ok-turn.ensures.ok
 
 pub turns-preserved : goal.turns-preserved
 turns-preserved g c =
@@ -55,7 +57,8 @@ turns-preserved g c =
     let within = c.turns.invariant.so_far.within in
     let before : clock_of c.turns.self.plain < c.get.result + c.args.count = omega (arith, within, c.clock-in-turns.ensures, c.get-in-turns.ensures.value, c.if-get-end.false) in
     let waits : IsTrue c.all_await_free-whole.result → AllAwaitFree c.args.stops.now.items = λ yes. subst AllAwaitFree c.as_slice.ensures.value (c.all_await_free-whole.ensures yes) in
-    searched_between c.args.stops.now.items (c.get.result + c.args.count) c.all_await_free-whole.result c.args.self.now c.turns.self c.turn.new.self waits c.turns.invariant here before c.in_ok-turn.ensures.ok
+    searched_between (may_pass c.of-reach.result) c.args.stops.now.items (c.get.result + c.args.count) c.all_await_free-whole.result c.args.self.now c.turns.self c.turn.new.self waits
+    (passes_none c.of-reach.result c.args.stops.now.items (subst (AllWithin c.of-reach.result) c.as_slice-2.ensures.value c.of-reach.ensures)) c.turns.invariant here before c.in_ok-turn.ensures.ok
 
 pub returns-in_err-turn-clause-succeeds : goal.returns-in_err-turn-clause-succeeds
 returns-in_err-turn-clause-succeeds g c = λ within_limit enough.

@@ -1,0 +1,41 @@
+-- One turn of a board: what begins in it, and that the wires stay behind its first clock.
+-- To be believed: the headline rests on it.
+use Rattle.std.specs.Prelude.{ℕ, ◌≡◌, ◌+◌, ◌≤◌, List, map, Option, None, Some, IfSome}
+use Rattle.std.specs.Option.{option_to_list}
+use Rattle.board_plain.specs.declared.trail.TrailEntry.{TrailEntry}
+use Rattle.board_plain.specs.declared.trail.TrailEvent.{TrailEvent}
+use Rattle.board_plain.specs.declared.trail.TrailEvent.TheVariants.{Instruction, Entry}
+use Rattle.board_plain.specs.Board.{BoardState, Ran}
+use Rattle.board_plain.specs.Plain.{Plain, after_clock, after_clocks, clock_of, speaker_level}
+use Rattle.board_plain.specs.Trail.{trail_in}
+use Rattle.board.specs.declared.one_turn.Begun.{Begun}
+
+-- the type of the interrupt that was entered, where one was
+abbrev pub type_of : TrailEvent → Option ℕ
+type_of (Instruction instr bytes) = None
+type_of (Entry kind) = Some kind
+
+-- an entry of the trail, without an instruction's bytes
+abbrev pub begun_of : TrailEntry → Begun
+begun_of e = record { clock = e.clock; cs = e.cs; ip = e.ip; entered = type_of e.event }
+
+-- what begins in n clocks
+abbrev pub begun_in : Plain → ℕ → List Begun
+begun_in s n = map begun_of (trail_in s n)
+
+-- the controller is the same, and so are OUT0, OUT2 and the speaker's level
+pub record HaveSameWires (s t : Plain) : Type 0 where
+  pub pic : t.chips.pic ≡ s.chips.pic
+  pub out_0 : t.chips.pit.counter_0.out ≡ s.chips.pit.counter_0.out
+  pub out_2 : t.chips.pit.counter_2.out ≡ s.chips.pit.counter_2.out
+  pub speaker : speaker_level t ≡ speaker_level s
+
+-- some clocks, at most up to the clock `end`; what begins in them does so in the first, and no wire changes but in it
+pub record IsOneTurn (end : ℕ) (old new : BoardState) (begun : Option Begun) : Type 0 where
+  pub passed : ℕ
+  pub some : 1 ≤ passed
+  pub within : clock_of old.plain + passed ≤ end
+  pub ran : Ran passed old new
+  pub begins : begun_in old.plain passed ≡ option_to_list begun
+  pub clock : IfSome begun (λ b. b.clock ≡ clock_of old.plain)
+  pub wires : (j : ℕ) → 1 ≤ j → j ≤ passed → HaveSameWires (after_clock old.plain) (after_clocks old.plain j)

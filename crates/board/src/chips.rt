@@ -1,0 +1,86 @@
+//! What a board's chips hold at its clock, and its processor between two boundaries.
+ghost use Rattle.std.specs.Prelude.{◌≡◌, is_some};
+ghost use Rattle.board_plain.specs.Plain.{speaker_level};
+ghost use Rattle.mda_text.specs.Registers.{registers_of};
+
+use crate::board::Board;
+use board_types::line::Line;
+use execute::shadow::Shadow;
+use keyboard::keyboard::Keyboard;
+use mda_text::registers::Registers;
+use pic8259::Pic;
+use pit8253::pit::Pit;
+use ppi8255::ppi::Ppi;
+use std::alloc::Allocator;
+
+impl<A: Allocator> Board<A> {
+    /// The interrupt controller.
+    pub fn controller(&self) -> Pic
+        ensures { result ≡ self.now.plain.chips.pic }
+    {
+        self.engine.chips.controller()
+    }
+
+    /// The timer.
+    pub fn timer(&self) -> Pit
+        ensures { result ≡ self.now.plain.chips.pit }
+    {
+        self.engine.chips.timer()
+    }
+
+    /// The parallel port.
+    pub fn parallel_port(&self) -> Ppi
+        ensures { result ≡ self.now.plain.chips.ppi }
+    {
+        self.engine.chips.parallel_port()
+    }
+
+    /// The keyboard.
+    pub fn keyboard(&self) -> &Keyboard
+        ensures { result.now ≡ self.now.plain.chips.keyboard }
+    {
+        self.engine.chips.keyboard()
+    }
+
+    /// The text adapter's registers.
+    pub fn adapter(&self) -> Registers
+        ensures { result ≡ registers_of self.now.plain.chips.mda }
+    {
+        self.engine.chips.adapter()
+    }
+
+    /// The speaker's level.
+    pub fn speaker(&self) -> Line
+        ensures { result ≡ speaker_level self.now.plain }
+    {
+        Line::from_bool(self.engine.is_high())
+    }
+
+    /// The clocks that the processor's last step or entry still takes.
+    pub fn busy(&self) -> u16
+        ensures { result ≡ self.now.plain.busy }
+    {
+        self.engine.busy
+    }
+
+    /// Which interrupts the last instruction keeps off.
+    pub fn shadow(&self) -> Shadow
+        ensures { result ≡ self.now.plain.cpu.shadow }
+    {
+        self.engine.cpu.shadow()
+    }
+
+    /// Whether a single step is due.
+    pub fn is_step_due(&self) -> bool
+        ensures { result ≡ self.now.plain.cpu.step_due }
+    {
+        self.engine.cpu.is_step_due()
+    }
+
+    /// Whether a repeat is under way.
+    pub fn is_repeating(&self) -> bool
+        ensures { result ≡ is_some self.now.plain.cpu.repeat }
+    {
+        self.engine.cpu.is_repeating()
+    }
+}

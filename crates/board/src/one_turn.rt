@@ -1,0 +1,110 @@
+//! One turn of a board at a time, with what begins in it.
+ghost use Rattle.std.specs.Prelude.{◌≡◌, ◌<◌, IfOk, IfSome, OnErr, map};
+ghost use Rattle.std.specs.Option.{option_to_list};
+ghost use Rattle.std.specs.Result.{IfErr};
+ghost use Rattle.decode.specs.Fields.{is_found};
+ghost use Rattle.board_plain.specs.Plain.{act_at, clock_of, decoded_at};
+ghost use Rattle.board_plain.specs.Trail.{entry_at, event_of, trail_next};
+ghost use Rattle.board.specs.HeldBack.{IsHeldBack};
+ghost use Rattle.board.specs.OneTurn.{IsOneTurn, begun_of};
+
+use crate::board::Board;
+use crate::engine::Engine;
+use board_plain::fault::BoardFault;
+use board_types::clock::Clock;
+use decode::decode::decode;
+use execute::boundary::Boundary;
+use std::alloc::Allocator;
+
+/// What began at a clock: an instruction, or, where it has a type, the entry of an interrupt. Of an entry CS:IP are those
+/// that it pushes.
+#[derive(Clone, Copy, Debug, PartialEq, Eq)]
+pub struct Begun {
+    pub clock: Clock,
+    pub cs: u16,
+    pub ip: u16,
+    /// The type of the interrupt that was entered.
+    pub entered: Option<u8>,
+}
+
+impl Engine {
+    /// What begins in this clock, as the trail lists it, without an instruction's bytes.
+    #[inline(always)]
+    fn begins(&self) -> Option<Begun>
+        ensures begun { option_to_list result ≡ map begun_of (trail_next self.now) }
+        ensures clock { IfSome result (λ begun. begun.clock ≡ clock_of self.now) }
+    {
+        if !self.is_free() {
+            return None;
+        }
+        self.begins_at(self.cpu.may_take(self.chips.request()))
+    }
+
+    /// What begins at a free boundary of this case.
+    #[inline(always)]
+    fn begins_at(&self, boundary: Boundary) -> Option<Begun>
+        ensures begun { option_to_list result ≡ map begun_of
+            (entry_at self.now (event_of self.now.cpu self.now.chips (act_at self.now.cpu self.now.chips boundary))) }
+        ensures clock { IfSome result (λ begun. begun.clock ≡ clock_of self.now) }
+    {
+        match boundary {
+            Boundary::Request => Some(self.begun(Some(self.chips.requested_type()))),
+            Boundary::SingleStep => Some(self.begun(Some(1))),
+            Boundary::Instruction => {
+                if self.stands_here() {
+                    Some(self.begun(None))
+                } else {
+                    None
+                }
+            }
+            Boundary::Nothing | Boundary::Iteration => None,
+        }
+    }
+
+    /// An instruction that begins in this clock, or the entry of an interrupt.
+    #[inline(always)]
+    #[tactic(auto, unfolding(board_plain::specs::Plain::clock_of))]
+    fn begun(&self, entered: Option<u8>) -> Begun
+        ensures { result ≡ record {
+          clock = clock_of self.now;
+          cs = self.now.cpu.registers.cs;
+          ip = self.now.cpu.registers.ip;
+          entered = entered;
+        } }
+    {
+        Begun {
+            clock: self.chips.clock(),
+            cs: self.cpu.cs(),
+            ip: self.cpu.ip(),
+            entered,
+        }
+    }
+
+    /// Whether an instruction stands at CS:IP. What is kept is one.
+    #[inline(always)]
+    fn stands_here(&self) -> bool
+        ensures { result ≡ is_found (decoded_at self.now.cpu self.now.chips) }
+    {
+        let (cs, ip) = (self.cpu.cs(), self.cpu.ip());
+        if self.chips.slot(cs, ip).is_some() {
+            return true;
+        }
+        decode(&self.chips, cs, ip).length() > 0
+    }
+}
+
+impl<A: Allocator> Board<A> {
+    /// One turn of a run that ends at the clock `end`: a clock, a leap of time, or a step of an instruction or of a repeat
+    /// with the leap over its other clocks. Answers what begins in it, which only its first clock does, as it alone changes
+    /// a wire. Refused as `Memory` where `run` would be, with nothing changed.
+    pub fn run_turn(&mut self, end: Clock) -> Result<Option<Begun>, BoardFault>
+        requires { clock_of self.old.plain < end }
+        ensures ok { IfOk result (IsOneTurn end self.old self.new) }
+        ensures err { OnErr result (IsHeldBack self.old self.new) }
+        ensures fault { IfErr result (λ fault. fault ≡ BoardFault.Memory) }
+    {
+        let begun = self.engine.begins();
+        self.stride(end.get())?;
+        Ok(begun)
+    }
+}

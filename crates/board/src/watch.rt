@@ -1,0 +1,27 @@
+//! At which IP a run may have to look for a stop.
+ghost use Rattle.std.specs.Prelude.{ℕ, ◌≡◌, IsTrue};
+
+/// What a run watches.
+pub(crate) trait Watch {
+    // that none of what is watched is at an IP
+    ghost passes: { Self → ℕ → Type 0 };
+
+    /// Whether something that is watched may be at this IP.
+    fn has(&self, ip: u16) -> bool
+        ensures { ¬ (IsTrue result) → passes self.now ip };
+}
+
+/// A run without stops.
+#[derive(Clone, Copy)]
+pub(crate) struct Nothing;
+
+impl Watch for Nothing {
+    ghost use Rattle.board.specs.Reach.{all_pass};
+
+    ghost passes = { λ _. all_pass };
+
+    #[inline(always)]
+    fn has(&self, _: u16) -> bool {
+        false
+    }
+}
