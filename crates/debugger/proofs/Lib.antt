@@ -1,6 +1,6 @@
 mod Scanning
 mod Counting
-mod Lines
+pub mod Lines
 mod Spelling
 mod Reading
 mod Parting

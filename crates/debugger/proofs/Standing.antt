@@ -125,6 +125,13 @@ after_run first board next kept more stops sought count stopped all runs are =
     let at : StandsAfter (shown_of first) next = stands_later (shown_of first) (run_length count board.plain stopped) board next all.stands runs.ran in
     record { addresses = all.addresses; stands = at; copies = all_stand (shown_of first) kept more next all.copies at are }
 
+-- after a turn of the board, after which it may be kept
+pub after_turn : (first board next : BoardState) (kept : List BoardState) (stops : List Condition) (n : ℕ) → IsSession first board kept stops → Ran n board next → IsSession first next kept stops
+after_turn first board next kept stops n all ran = at_board first board next kept stops all (stands_later (shown_of first) n board next all.stands ran)
+
+pub after_keeping : (first board : BoardState) (kept more : List BoardState) (stops : List Condition) → IsSession first board kept stops → AreKept kept board more → IsSession first board more stops
+after_keeping first board kept more stops all are = record { addresses = all.addresses; stands = all.stands; copies = all_stand (shown_of first) kept more board all.copies all.stands are }
+
 -- a session at another clock: the board there, and the same first board and stops
 pub at_clock : (clock left : ℕ) (old : SessionState) (first b c : BoardState) (stops : List Condition) → StandsAfter old.first b → clock ≡ clock_of b.plain + left → Ran left b c → shown_of first ≡ old.first → stops ≡ old.stops
     → StandsNow clock old (record { first = shown_of first; board = c; stops = stops })

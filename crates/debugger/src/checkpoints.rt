@@ -15,7 +15,7 @@ use std::marker::Model;
 const MOST: usize = 8;
 
 /// The turns of the board after which a further copy is kept.
-const FAR: u64 = 1 << 22;
+pub(crate) const FAR: u64 = 1 << 22;
 
 /// The most changes of the speaker's level in a board that is kept: each copy lists them all anew.
 const MOST_CHANGES: usize = 1 << 20;

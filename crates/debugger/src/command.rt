@@ -127,7 +127,7 @@ fn back_command(way: &[u8]) -> Option<Command>
 }
 
 /// Where the first colon stands.
-fn colon_place(place: &[u8]) -> Option<usize>
+pub fn colon_place(place: &[u8]) -> Option<usize>
     ensures value { result ≡ position is_colon place.now }
     ensures bound { IfSome result (λ at. at < length place.now) }
 {
@@ -136,7 +136,7 @@ fn colon_place(place: &[u8]) -> Option<usize>
 
 /// A stop at a segment and an offset with a colon between them.
 #[tactic(auto, unfolding(crate::specs::Commands::break_command))]
-fn break_command(place: &[u8]) -> Option<Command>
+pub fn break_command(place: &[u8]) -> Option<Command>
     ensures value { result ≡ break_command place.now }
     ensures within { IsWithin result }
 {

@@ -9,4 +9,4 @@ pub mod fault;
 pub mod laws;
 pub mod session;
 mod trail_text;
-mod word;
+pub mod word;

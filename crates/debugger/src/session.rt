@@ -1,7 +1,8 @@
 //! A session: a board and its stops, and what commands do to them.
-ghost use Rattle.std.specs.Prelude.{◌≡◌, ◌+◌, ◌-◌, ◌≤◌, ◌^◌, [], ◌∷◌, All, IfOk, OnErr, OnOk, MatchResult, None, Some};
+ghost use Rattle.std.specs.Prelude.{◌≡◌, ◌+◌, ◌-◌, ◌<◌, ◌≤◌, ◌^◌, [], ◌∷◌, All, IfOk, OnErr, OnOk, MatchResult, None, Some, length};
 ghost use Rattle.std.specs.Result.{IfErr};
 ghost use Rattle.std.specs.List.{flat_map};
+ghost use Rattle.board.specs.OneTurn.{IsOneTurn};
 ghost use Rattle.board_plain.specs.Lasts.{HeldLast};
 ghost use Rattle.board_plain.specs.Plain.{clock_of, registers_of, screen_of};
 ghost use Rattle.board_plain.specs.Stops.{HasAddress};
@@ -17,12 +18,13 @@ ghost use Rattle.debugger.specs.Stands.{Stands, StandsAfter, gone, session_about
 ghost use Rattle.debugger.specs.TrailText.{entry_line};
 
 use crate::answer::Answer;
-use crate::checkpoints::{Checkpoints, copy_of};
+use crate::checkpoints::{Checkpoints, FAR, copy_of};
 use crate::command::{Command, read_command};
 use crate::dump::dump_text;
 use crate::fault::DebugFault;
 use crate::trail_text::trail_text;
 use board::board::Board;
+use board::one_turn::Begun;
 use board_plain::fault::BoardFault;
 use board_plain::stop::{Condition, Stopped, Stops};
 use board_report::text::register_lines;
@@ -91,7 +93,8 @@ impl<A: Allocator> Session<A> {
 
     /// The board as it stands.
     pub fn board(&self) -> &Board
-        ensures { result.now ≡ self.now.board }
+        ensures board { result.now ≡ self.now.board }
+        ensures few { length self.now.board.trail ≤ 32 }
     {
         &self.board
     }
@@ -112,6 +115,29 @@ impl<A: Allocator> Session<A> {
         // whatever the answer is, the board stands some clocks after the first one
         let _clock = self.clock();
         answer
+    }
+
+    /// One turn of the board's run to the clock `end`, whatever the stops say, and what begins in it; after some turns a copy
+    /// of the board may be kept. Refused as `Memory`, with nothing changed, where the speaker's level changes and there is no
+    /// memory to list it.
+    pub fn run_turn(&mut self, end: Clock) -> Result<Option<Begun>, DebugFault>
+        requires { clock_of self.old.board.plain < end }
+        ensures ok { IfOk result (IsOneTurn end self.old.board self.new.board) }
+        ensures stops { self.new.stops ≡ self.old.stops }
+        ensures first { self.new.first ≡ self.old.first }
+        ensures fault { IfErr result (λ fault. fault ≡ DebugFault.Memory (Some (clock_of self.old.board.plain))) }
+        ensures err { OnErr result (self.new ≡ self.old) }
+    {
+        let clock = self.board.clock();
+        match self.board.run_turn(end) {
+            Ok(begun) => {
+                if self.board.turns().is_multiple_of(FAR) {
+                    self.checkpoints.keep(self.first.clock(), &self.board);
+                }
+                Ok(begun)
+            }
+            Err(_) => Err(DebugFault::Memory(Some(clock))),
+        }
     }
 
     /// The clock at which the board stands.

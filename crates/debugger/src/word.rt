@@ -21,7 +21,7 @@ fn skip_spaces(line: &[u8]) -> &[u8]
 
 /// The first word of a line and what follows it; none where only spaces are left.
 #[tactic(auto, unfolding(crate::specs::Words::words_of))]
-pub(crate) fn next_word(line: &[u8]) -> Option<(&[u8], &[u8])>
+pub fn next_word(line: &[u8]) -> Option<(&[u8], &[u8])>
     ensures some { IfSome result (λ p. words_of line.now ≡ p.0.now ∷ words_of p.1.now) }
     ensures none { IfNone result (words_of line.now ≡ []) }
 {
@@ -53,7 +53,7 @@ fn number_to(base: u8, digits: &[u8]) -> Option<u64>
 
 /// The number that 1 to `most` hexadecimal digits spell, `most` being at most 5.
 #[tactic(auto, unfolding(crate::specs::Words::hex_number))]
-pub(crate) fn hex_number(most: usize, word: &[u8]) -> Option<u32>
+pub fn hex_number(most: usize, word: &[u8]) -> Option<u32>
     requires { most ≤ 5 }
     ensures value { result ≡ hex_number most word.now }
     ensures bound { IfSome result (λ number. number < 16 ^ most) }
@@ -67,7 +67,7 @@ pub(crate) fn hex_number(most: usize, word: &[u8]) -> Option<u32>
 
 /// The count that one or more decimal digits spell; one above the greatest `u64` counts as that.
 #[tactic(auto, unfolding(crate::specs::Words::count_of))]
-pub(crate) fn count_of(word: &[u8]) -> Option<u64>
+pub fn count_of(word: &[u8]) -> Option<u64>
     ensures { result ≡ count_of word.now }
 {
     if word.is_empty() {

@@ -1,5 +1,5 @@
 -- What one step of reading takes of an input.
--- For proofs alone: no public contract rests on it.
+-- To be believed: the headline rests on it.
 use Rattle.std.specs.Prelude.{ℕ, ◌≡◌, List, [], ◌∷◌, Option, Some, MatchOption, IfSome}
 use Rattle.pcboard_program.specs.Transcript.{input_lines}
 

@@ -1,5 +1,5 @@
 -- Why the program gives no answer, as its functions tell each other.
--- For proofs alone: no public contract rests on it.
+-- To be believed: the headline rests on it.
 use Rattle.std.specs.Prelude.{◌⊎◌, ⊤, Result, Ok, Err}
 use Rattle.pcboard_program.specs.declared.fault.Fault.{Fault}
 use Rattle.pcboard_program.specs.declared.unanswered.Unanswered.{Unanswered}

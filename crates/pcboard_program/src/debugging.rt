@@ -71,7 +71,7 @@ fn answer_lines<I: ByteInput, O: Write>(
 }
 
 /// The next line of the input, without its line feed, or `None` at the input's end.
-fn next_line<I: ByteInput>(alloc: Global, input: &mut I) -> Result<Option<Vec<u8>>, Unanswered>
+pub fn next_line<I: ByteInput>(alloc: Global, input: &mut I) -> Result<Option<Vec<u8>>, Unanswered>
     ensures line { IfOk result (λ line. TakesLine (I.remaining input.old) (I.remaining input.new)
         (option_map vec_items line)) }
     ensures end { IfErr result (IsUnjudged (λ fault. fault ≡ want_of_board)) }
@@ -91,7 +91,7 @@ fn next_line<I: ByteInput>(alloc: Global, input: &mut I) -> Result<Option<Vec<u8
 }
 
 /// Whether a line is the word `quit`.
-fn ends_session(line: &[u8]) -> bool
+pub fn ends_session(line: &[u8]) -> bool
     ensures { result ≡ ends_session line.now }
 {
     match std::str::from_utf8(line) {
@@ -111,7 +111,7 @@ fn reply_to(alloc: Global, session: &mut Session, line: &[u8]) -> Result<Answer,
 }
 
 /// Prints an answer or a refusal, and sees to it that it reaches its end.
-fn print_reply<O: Write>(reply: &Result<Answer, DebugFault>, out: &mut O) -> io::Result<()>
+pub fn print_reply<O: Write>(reply: &Result<Answer, DebugFault>, out: &mut O) -> io::Result<()>
     ensures { OnOk result (Appends (O.contents out.old) (O.contents out.new) (reply_text reply.now)) }
 {
     match reply {

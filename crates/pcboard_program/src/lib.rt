@@ -2,14 +2,14 @@
 //! HEX texts.
 #![tactic(auto)]
 
-mod debugging;
+pub mod debugging;
 pub mod fault;
 mod input;
 mod listing;
 pub mod opener;
 pub mod program;
-mod ready;
+pub mod ready;
 pub mod report;
 pub mod run;
 mod texts;
-mod unanswered;
+pub mod unanswered;

@@ -231,7 +231,7 @@ fn print<W: Write>(to: &mut W, text: &str) -> io::Result<()>
 }
 
 /// Tells a text, and answers `status`, or 3 where that failed.
-fn told<W: Write>(err: &mut W, text: &str, status: u8) -> u8
+pub fn told<W: Write>(err: &mut W, text: &str, status: u8) -> u8
     requires above { 0 < status }
     requires within { status ≤ 3 }
     ensures above { 0 < result }
@@ -243,7 +243,7 @@ fn told<W: Write>(err: &mut W, text: &str, status: u8) -> u8
 }
 
 /// Tells a refusal, and answers the status.
-fn refused<W: Write>(err: &mut W, fault: Fault) -> u8
+pub fn refused<W: Write>(err: &mut W, fault: Fault) -> u8
     ensures above { 0 < result }
     ensures within { result ≤ 3 }
     ensures status { result ≢ 2 }

@@ -54,7 +54,7 @@ pub(crate) fn read_report<F: Opener>(
 }
 
 /// The board at power-on of a program's file, a HEX text if `hex`, else a source, under a run file.
-pub(crate) fn read_board<F: Opener>(
+pub fn read_board<F: Opener>(
     alloc: Global,
     files: &F,
     file: &str,

@@ -14,7 +14,7 @@ use std::io;
 
 /// Why the program ends without an answer to its task.
 #[derive(Clone, Copy)]
-pub(crate) enum Unanswered {
+pub enum Unanswered {
     /// An opening, a read or a write failed.
     Failed,
     Refused(Fault),

@@ -1,3 +1,4 @@
 pub mod Matches
 pub mod Rows
 pub mod Values
+pub mod ProbeMatches

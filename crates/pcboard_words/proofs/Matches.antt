@@ -40,7 +40,7 @@ first_none : (a b : Kinds) → or_else a b ≡ [] → a ≡ []
 first_none [] b e = refl
 first_none (k ∷ ks) b e = cc
 
-then_none : (a b : Kinds) → or_else a b ≡ [] → b ≡ []
+pub then_none : (a b : Kinds) → or_else a b ≡ [] → b ≡ []
 then_none [] b e = e
 then_none (k ∷ ks) b e = cc
 
@@ -54,7 +54,7 @@ abbrev misses : List Row → Rule → Bool
 misses rows a = a.required && not (is_given a.id rows)
 
 -- each required argument is given
-abbrev AllGiven : List Row → List Rule → Type 0
+abbrev pub AllGiven : List Row → List Rule → Type 0
 AllGiven rows [] = Unit {0}
 AllGiven rows (a ∷ rest) = (a.required ≡ true → is_given a.id rows ≡ true) × AllGiven rows rest
 
@@ -63,7 +63,7 @@ not_missed false given rest e = (λ never. absurd (true≢false (sym never)), e)
 not_missed true true rest e = (λ is. refl, e)
 not_missed true false rest e = absurd (true≢false e)
 
-all_given : (rows : List Row) (rules : List Rule) → list_any (misses rows) rules ≡ false → AllGiven rows rules
+pub all_given : (rows : List Row) (rules : List Rule) → list_any (misses rows) rules ≡ false → AllGiven rows rules
 all_given rows [] e = tt
 all_given rows (a ∷ rest) e =
     let first = not_missed a.required (is_given a.id rows) (list_any (misses rows) rest) e in
@@ -74,7 +74,7 @@ none_missed s rows e =
     wants_none (not false && (s.arg_required_else_help && not (list_any (λ (r : Row). explicit_source r.source) rows))) (not false && s.subcommand_required) _ e
 
 -- what a level without a fault asks of its matches
-level_missed : (s : Shape) (words : List Text) → level_fault s [] nothing_held words false [] ≡ []
+pub level_missed : (s : Shape) (words : List Text) → level_fault s [] nothing_held words false [] ≡ []
     → (not (s.subcommand_negates_reqs && false) && list_any (misses (rows_after s.rules [] words)) s.rules) ≡ false
 level_missed s words e =
     let end = (walk s.rules [] nothing_held words).held in
@@ -135,7 +135,7 @@ tasks_alone words e =
     let walked = walk_fault (built app).top (names_of (built app)) (walk_from nothing_held) (argument_words app words) in
     one_entered stop (first_none (entered_fault (built app) stop) _ (then_none walked _ e))
 
-not_true : (b : Bool) → (b ≡ true → ⊥) → b ≡ false
+pub not_true : (b : Bool) → (b ≡ true → ⊥) → b ≡ false
 not_true true never = absurd (never refl)
 not_true false never = refl
 

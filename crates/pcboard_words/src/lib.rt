@@ -2,4 +2,5 @@
 #![tactic(auto)]
 
 pub mod line;
+pub mod probe_line;
 pub mod task;

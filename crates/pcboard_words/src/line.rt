@@ -60,7 +60,7 @@ fn asm_command<'a>(alloc: Global) -> Result<Command<'a>, AllocError>
 }
 
 // A subcommand that has a program on a board.
-fn board_command<'a>(
+pub(crate) fn board_command<'a>(
     alloc: Global,
     name: &'a str,
     about: &'a str,
@@ -123,7 +123,7 @@ fn task<'a>(matches: &ArgMatches<'a>) -> Task<'a>
 
 // The text of an argument that is there, so the empty text is never taken.
 #[tactic(auto, using(crate::proofs::Matches::first_rows))]
-fn text_in<'a>(matches: &ArgMatches<'a>, name: &str) -> &'a str
+pub(crate) fn text_in<'a>(matches: &ArgMatches<'a>, name: &str) -> &'a str
     requires { is_there name.now (rows_of (found_of matches.now)) ≡ true }
     ensures { HasText name.now (rows_of (found_of matches.now)) result.now }
 {
@@ -132,13 +132,13 @@ fn text_in<'a>(matches: &ArgMatches<'a>, name: &str) -> &'a str
 
 // Whether a flag is among the words; its value is then the text `true`.
 #[tactic(auto, using(crate::proofs::Matches::first_rows))]
-fn is_given(matches: &ArgMatches<'_>, name: &str) -> bool
+pub(crate) fn is_given(matches: &ArgMatches<'_>, name: &str) -> bool
     ensures { result ≡ is_given name.now (rows_of (found_of matches.now)) }
 {
     matches.get_str(name) == Some("true")
 }
 
-fn line_fault(alloc: Global, error: &Error) -> LineFault
+pub(crate) fn line_fault(alloc: Global, error: &Error) -> LineFault
     ensures { OnUsage result (kind_of error.now ≢ ErrorKind.OutOfMemory) }
 {
     if error.kind() == ErrorKind::OutOfMemory {

@@ -1,0 +1,32 @@
+-- The command line of `pcprobe`, as a command of `clap`.
+-- To be believed by callers of this crate: the headline does not rest on it.
+use Rattle.std.specs.Prelude.{◌≡◌, ◌≢◌, List, [], codes, Bool, true, false, Result, Ok, Err}
+use Rattle.clap.specs.Words.{App, Row, Text, fault_of, matches_of, takes}
+use Rattle.pcboard_words.specs.declared.task.ProbeTask.{ProbeTask}
+use Rattle.pcboard_words.specs.declared.task.LineFault.{LineFault}
+use Rattle.pcboard_words.specs.declared.task.LineFault.TheVariants.{Usage, Memory}
+use Rattle.pcboard_words.specs.CommandLine.{HasText, board_command, is_given, is_there}
+
+-- `FILE RUN [--hex]`; the program's own name isn't among the words
+abbrev pub without_own_name : App → App
+without_own_name a = record a { top = record a.top { no_binary_name = true } }
+
+abbrev pub probe_app : App
+probe_app = without_own_name (board_command (codes "pcprobe"))
+
+-- both files are there
+abbrev pub HoldsFiles : List Row → Type 0
+HoldsFiles rows = (is_there (codes "FILE") rows ≡ true) × (is_there (codes "RUN") rows ≡ true)
+
+-- the task has these files, and `--hex` or not
+abbrev pub HasFiles : List Row → ProbeTask → Type 0
+HasFiles rows task =
+    HasText (codes "FILE") rows task.file.now × HasText (codes "RUN") rows task.run.now
+    × (task.hex ≡ is_given (codes "hex") rows)
+
+-- A task is given only where `clap` finds no fault in the words, and is the one that its matches hold;
+-- a refusal as usage only where it finds one.
+unfoldable pub AnswersProbe : List Text → Result ProbeTask LineFault → Type 0
+AnswersProbe words (Ok task) = (fault_of probe_app words ≡ []) × HasFiles (matches_of probe_app words) task
+AnswersProbe words (Err (Usage text)) = (fault_of probe_app words ≢ []) × (takes probe_app words ≡ false)
+AnswersProbe words (Err Memory) = Unit {0}

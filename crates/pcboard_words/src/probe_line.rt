@@ -1,0 +1,50 @@
+//! Reading the words of the command line of `pcprobe`.
+ghost use Rattle.std.specs.Prelude.{◌≡◌, IfOk, map, false};
+ghost use Rattle.clap.specs.Words.{app_of, found_of, rows_of};
+ghost use Rattle.pcboard_words.specs.CommandLine.{has_globals};
+ghost use Rattle.pcboard_words.specs.ProbeLine.{AnswersProbe, HasFiles, HoldsFiles, probe_app};
+
+use crate::line::{board_command, is_given, line_fault, text_in};
+use crate::task::{LineFault, ProbeTask};
+use clap::{ArgMatches, Command};
+use std::alloc::{AllocError, Global};
+
+/// Reads the words after the name of `pcprobe`: `FILE RUN [--hex]`. Refused as `Usage` where `clap` refuses the words,
+/// with its text, and as `Memory` for want of memory.
+#[tactic(auto, unfolding(crate::specs::ProbeLine::AnswersProbe))]
+pub fn read_probe_words<'a>(alloc: Global, words: &'a [&'a str]) -> Result<ProbeTask<'a>, LineFault>
+    ensures { AnswersProbe (map (λ word. word.now) words.entry.now) result }
+{
+    let command = match probe_command(alloc) {
+        Ok(command) => command,
+        Err(_) => return Err(LineFault::Memory),
+    };
+    match command.try_get_matches_from(words) {
+        Ok(matches) => Ok(probe_task(&matches)),
+        Err(error) => Err(line_fault(alloc, &error)),
+    }
+}
+
+// The command line of the program.
+fn probe_command<'a>(alloc: Global) -> Result<Command<'a>, AllocError>
+    ensures { IfOk result (λ command. app_of command ≡ probe_app) }
+{
+    let command = board_command(
+        alloc,
+        "pcprobe",
+        "Answers commands from standard input about a program's board, as `pcboard debug` does, and inquiries",
+    )?;
+    Ok(command.bin_name("pcprobe")?.no_binary_name(true))
+}
+
+// The task that the matches hold.
+fn probe_task<'a>(matches: &ArgMatches<'a>) -> ProbeTask<'a>
+    requires { HoldsFiles (rows_of (found_of matches.now)) }
+    ensures { HasFiles (rows_of (found_of matches.now)) result }
+{
+    ProbeTask {
+        file: text_in(matches, "FILE"),
+        run: text_in(matches, "RUN"),
+        hex: is_given(matches, "hex"),
+    }
+}

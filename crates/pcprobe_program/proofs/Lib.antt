@@ -1,0 +1,2 @@
+pub mod Printing
+mod Naming

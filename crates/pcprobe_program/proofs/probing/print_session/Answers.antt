@@ -1,0 +1,33 @@
+use Rattle.std.proofs.Common.{◌≡◌, ◌⊎◌, inl, inr, IfErr, IfSome, OnOk, Result, Ok, Err, subst}
+use Rattle.debugger.specs.Stands.{SessionState}
+use Rattle.pcboard_program.specs.declared.unanswered.Unanswered.{Unanswered}
+use Rattle.pcboard_program.specs.declared.unanswered.Unanswered.TheVariants.{Failed, Refused}
+use Rattle.pcboard_program.specs.Answer.{AppendsA}
+use Rattle.pcboard_program.specs.Refusal.{want_of_board, want_of_session}
+use Rattle.pcboard_program.specs.Transcript.{input_lines}
+use Rattle.pcboard_program.specs.Unanswered.{WhereRefused}
+use Rattle.pcprobe_program.specs.Probed.{BeginsTranscript, Transcript}
+use Rattle.pcboard_program.proofs.Refusals.{unjudged_wider}
+use Rattle.pcprobe_program.proofs.probing.print_session.Goals as goal
+
+or_nothing : {T : Type 0} (A B : Type 0) (result : Result T Unanswered) → IfErr result (WhereRefused B) → IfErr result (WhereRefused (A ⊎ B))
+or_nothing A B (Ok value) is = tt
+or_nothing A B (Err Failed) is = tt
+or_nothing A B (Err (Refused fault)) is = inr is
+
+pub returns-clause-transcript : goal.returns-clause-transcript
+returns-clause-transcript g c =
+    subst
+    (λ (session : SessionState). OnOk c.answer_lines.result (IfSome (g.I.ByteInput.remaining c.args.input.now)
+    (λ typed. AppendsA (Transcript session (input_lines typed)) (g.O.Write.contents c.args.out.now) (g.O.Write.contents c.answer_lines.new.out)))) c.in_ok-session.ensures.session c.answer_lines.ensures.transcript
+
+pub returns-clause-cut : goal.returns-clause-cut
+returns-clause-cut g c =
+    or_nothing (g.O.Write.contents c.answer_lines.new.out ≡ g.O.Write.contents c.args.out.now) _ c.answer_lines.result
+    (subst
+    (λ (session : SessionState). IfErr c.answer_lines.result (WhereRefused (IfSome (g.I.ByteInput.remaining c.args.input.now)
+    (λ typed. AppendsA (BeginsTranscript session (input_lines typed)) (g.O.Write.contents c.args.out.now) (g.O.Write.contents c.answer_lines.new.out))))) c.in_ok-session.ensures.session c.answer_lines.ensures.cut)
+
+pub returns-clause-end : goal.returns-clause-end
+returns-clause-end g c =
+    unjudged_wider c.answer_lines.result (λ fault. fault ≡ want_of_board) (λ fault. fault ≡ want_of_board ⊎ fault ≡ want_of_session) (λ fault is. inl is) c.answer_lines.ensures.end

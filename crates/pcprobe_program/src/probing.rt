@@ -1,0 +1,78 @@
+//! Commands and inquiries, answered line by line as they come.
+ghost use Rattle.std.specs.Prelude.{◌≡◌, ◌⊎◌, IfErr, IfSome, OnOk};
+ghost use Rattle.loader.specs.ByteInput.{CountsNone};
+ghost use Rattle.debugger.specs.Stands.{session_about};
+ghost use Rattle.pcboard_program.specs.Answer.{AppendsA};
+ghost use Rattle.pcboard_program.specs.Refusal.{want_of_board, want_of_session};
+ghost use Rattle.pcboard_program.specs.Transcript.{input_lines};
+ghost use Rattle.pcboard_program.specs.Unanswered.{IsUnjudged, UnlessFailed, WhereRefused};
+ghost use Rattle.pcprobe_program.specs.Probed.{AnswersTyped, BeginsTranscript, Transcript};
+
+use board::board::Board;
+use debugger::answer::Answer;
+use debugger::fault::DebugFault;
+use debugger::session::Session;
+use loader::byte_input::ByteInput;
+use pcboard_program::debugging::{ends_session, next_line, print_reply};
+use pcboard_program::unanswered::Unanswered;
+use probe::session::command;
+use std::alloc::Global;
+use std::io::Write;
+
+/// Answers the commands and inquiries on `input` about a board until one line is `quit` or the input ends.
+pub(crate) fn print_session<I: ByteInput, O: Write>(
+    alloc: Global,
+    board: Board,
+    input: &mut I,
+    out: &mut O,
+) -> Result<(), Unanswered>
+    ensures transcript { OnOk result (IfSome (I.remaining input.old)
+        (λ typed. AppendsA (Transcript (session_about board) (input_lines typed)) (O.contents out.old)
+        (O.contents out.new))) }
+    ensures cut { IfErr result (WhereRefused (O.contents out.new ≡ O.contents out.old
+        ⊎ IfSome (I.remaining input.old) (λ typed. AppendsA (BeginsTranscript (session_about board) (input_lines typed))
+        (O.contents out.old) (O.contents out.new)))) }
+    ensures end { IfErr result (IsUnjudged (λ fault. fault ≡ want_of_board ⊎ fault ≡ want_of_session)) }
+    ensures unfailed { UnlessFailed (CountsNone (I.failures input.old) (I.failures input.new)) result }
+{
+    let mut session = Session::new(alloc, board)?;
+    answer_lines(alloc, &mut session, input, out)
+}
+
+/// Answers lines as they come until one is `quit` or the input ends. An input of more than `u64::MAX` lines fails.
+fn answer_lines<I: ByteInput, O: Write>(
+    alloc: Global,
+    session: &mut Session,
+    input: &mut I,
+    out: &mut O,
+) -> Result<(), Unanswered>
+    ensures transcript { OnOk result (IfSome (I.remaining input.old)
+        (λ typed. AppendsA (Transcript session.old (input_lines typed)) (O.contents out.old) (O.contents out.new))) }
+    ensures cut { IfErr result (WhereRefused (IfSome (I.remaining input.old)
+        (λ typed. AppendsA (BeginsTranscript session.old (input_lines typed)) (O.contents out.old)
+        (O.contents out.new)))) }
+    ensures end { IfErr result (IsUnjudged (λ fault. fault ≡ want_of_board)) }
+    ensures unfailed { UnlessFailed (CountsNone (I.failures input.old) (I.failures input.new)) result }
+{
+    'lines: for _ in 0..u64::MAX {
+        let Some(line) = next_line(alloc, input)? else {
+            return Ok(());
+        };
+        if ends_session(line.as_slice()) {
+            return Ok(());
+        }
+        let reply = reply_to(alloc, session, line.as_slice());
+        print_reply(&reply, out)?;
+    }
+    Err(Unanswered::Failed)
+}
+
+/// What the session answers to a line, or why it refuses it.
+fn reply_to(alloc: Global, session: &mut Session, line: &[u8]) -> Result<Answer, DebugFault>
+    ensures { AnswersTyped line.now session.old result session.new }
+{
+    match std::str::from_utf8(line) {
+        Ok(line) => command(session, alloc, line),
+        Err(_) => Err(DebugFault::BadCommand),
+    }
+}

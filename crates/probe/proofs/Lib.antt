@@ -1,0 +1,7 @@
+pub mod Registers
+mod Rows
+pub mod AddingUp
+pub mod Counting
+pub mod Signalling
+pub mod Numbers
+pub mod Tallying

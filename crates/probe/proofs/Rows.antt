@@ -1,0 +1,41 @@
+-- Counts worked out by hand: five beginnings in 100 clocks, of an instruction that runs twice, one that an interrupt comes
+-- behind, and the interrupt.
+use Rattle.std.proofs.Common.{◌≡◌, ℕ, List, [], ◌∷◌, ◌++◌, None, Some, refl, true, false}
+use Rattle.std.specs.Prelude.{codes}
+use Rattle.board.specs.declared.one_turn.Begun.{Begun}
+use Rattle.probe.specs.declared.signals.Levels.{Levels}
+use Rattle.probe.specs.Counts.{count_line, lines_of, next_clock, numbers_of, place_name, place_of, type_name, type_of}
+use Rattle.probe.specs.Signals.{change_line, changes_between}
+
+abbrev run : List Begun
+run =
+    record { clock = 4; cs = 61440; ip = 18; entered = None }
+    ∷ record { clock = 8; cs = 61440; ip = 16; entered = None }
+    ∷ record { clock = 11; cs = 61440; ip = 18; entered = None }
+    ∷ record { clock = 20; cs = 61440; ip = 16; entered = Some 8 }
+    ∷ record { clock = 81; cs = 61440; ip = 16; entered = None }
+    ∷ []
+
+places : numbers_of place_of run ≡ 4026531856 ∷ 4026531858 ∷ []
+places = refl
+
+types : numbers_of type_of run ≡ 8 ∷ []
+types = refl
+
+before : next_clock run 100 ≡ 4
+before = refl
+
+-- 3 and 19 clocks at F000:0010, 4 and 9 at F000:0012, and the interrupt's 61
+place_lines : lines_of place_name place_of run 100 ≡ count_line (place_name 4026531856) 2 22 ++ (count_line (place_name 4026531858) 2 13 ++ [])
+place_lines = refl
+
+type_lines : lines_of type_name type_of run 100 ≡ count_line (type_name 8) 1 61 ++ []
+type_lines = refl
+
+-- the wires that clock 96 raises
+abbrev low : Levels
+low = record { out_0 = false; out_2 = false; ir_0 = false; ir_1 = false; int = false; speaker = false }
+
+raised : changes_between 96 low (record low { out_0 = true; int = true }) ≡ change_line (codes "OUT0") 96 false true ++ (change_line (codes "INT") 96 false true ++ [])
+unfolding changes_between
+raised = refl

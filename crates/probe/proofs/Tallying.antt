@@ -1,0 +1,121 @@
+-- Tallies of what began: one more, and their lines.
+use Rattle.std.proofs.Common.{◌≡◌, ℕ, zero, suc, ◌+◌, ◌-◌, ◌==◌, if◌then◌else◌, Bool, true, false, List, [], ◌∷◌, ◌++◌, Option, None, Some, refl, sym, ap, ◌∙◌, subst, arith}
+use Rattle.std.proofs.lemmas.Bool.Decides.{nat_tests}
+use Rattle.std.proofs.lemmas.List.Sums.{sum_by-cons, sum_by_push}
+use Rattle.std.specs.Prelude.{cond, count_by, IfOk, OnOk, Result, Ok, Err, unwrap_or}
+use Rattle.std.specs.BTreeMap.{BTreeMap, get}
+use Rattle.std.specs.Option.{option_to_list}
+use Rattle.std.specs.Ordering.{nat_cmp}
+use Rattle.board.specs.declared.one_turn.Begun.{Begun}
+use Rattle.probe.specs.declared.counts.Counts.{Counts}
+use Rattle.probe.specs.declared.counts.Tally.{Tally}
+use Rattle.probe.specs.Counts.{clocks_from, is_number, next_clock, place_of, type_of}
+use Rattle.probe.specs.Tallied.{first_clock, has, one_more, tallied_to, tally_at, tally_of, AreTallies, HasNoted, HasTallied}
+
+-- one more
+
+pub count_first : (is : Begun → Bool) (b : Begun) (bs : List Begun) → count_by is (b ∷ bs) ≡ (if is b then 1 else 0) + count_by is bs
+count_first is b bs = sum_by-cons (λ x. cond (is x) 1 0) b bs
+
+count_more : (is : Begun → Bool) (bs : List Begun) (b : Begun) → count_by is (bs ++ b ∷ []) ≡ count_by is bs + (if is b then 1 else 0)
+count_more is bs b = sum_by_push (λ x. cond (is x) 1 0) bs b
+
+next_more : (bs : List Begun) (b : Begun) (end : ℕ) → next_clock (bs ++ b ∷ []) end ≡ next_clock bs b.clock
+next_more [] b end = refl
+next_more (a ∷ bs) b end = refl
+
+clocks_more : (is : Begun → Bool) (bs : List Begun) (b : Begun) (end : ℕ) → clocks_from is (bs ++ b ∷ []) end ≡ clocks_from is bs b.clock + (if is b then end - b.clock else 0)
+clocks_more is [] b end = omega arith
+clocks_more is (a ∷ bs) b end =
+    let rest = clocks_more is bs b end in
+    let first : (if is a then next_clock (bs ++ b ∷ []) end - a.clock else 0) ≡ (if is a then next_clock bs b.clock - a.clock else 0) =
+    ap (λ n. if is a then n - a.clock else 0) (next_more bs b end) in
+    omega (arith, rest, first)
+
+-- where none began no clocks passed from them
+
+none_from : (yes : Bool) (n p q : ℕ) → (if yes then 1 else 0) + n ≡ 0 → (n ≡ 0 → q ≡ 0) → (if yes then p else 0) + q ≡ 0
+none_from true n p q none rest = absurd (omega (arith, none))
+none_from false n p q none rest = let no = rest (omega (arith, none)) in omega (arith, no)
+
+pub no_clocks : (is : Begun → Bool) (bs : List Begun) (end : ℕ) → count_by is bs ≡ 0 → clocks_from is bs end ≡ 0
+no_clocks is [] end none = refl
+no_clocks is (a ∷ bs) end none = none_from (is a) (count_by is bs) _ _ (sym (count_first is a bs) ∙ none) (no_clocks is bs end)
+
+-- so that a tally goes on
+goes_on : (count clocks more : ℕ) → (count ≡ 0 → clocks ≡ 0) → tally_of (suc count) (clocks + more) ≡ Some (one_more (tally_of count clocks) more)
+goes_on zero clocks more none = ap (λ n. Some (record { count = 1; clocks = n })) (let no = none refl in omega (arith, no))
+goes_on (suc n) clocks more none = ap (λ k. Some (record { count = k; clocks = clocks + more })) (omega arith)
+
+tally_more : (number : Begun → Option ℕ) (bs : List Begun) (b : Begun) (end k : ℕ) (yes : Bool) → has number k b ≡ yes → tally_at number (bs ++ b ∷ []) end k ≡ (if yes then Some (one_more (tally_at number bs b.clock k) (end - b.clock)) else tally_at number bs b.clock k)
+tally_more number bs b end k true is =
+    let count : count_by (has number k) (bs ++ b ∷ []) ≡ suc (count_by (has number k) bs) =
+    count_more (has number k) bs b ∙ ap (λ y. count_by (has number k) bs + (if y then 1 else 0)) is ∙ omega arith in
+    let clocks : clocks_from (has number k) (bs ++ b ∷ []) end ≡ clocks_from (has number k) bs b.clock + (end - b.clock) =
+    clocks_more (has number k) bs b end ∙ ap (λ y. clocks_from (has number k) bs b.clock + (if y then end - b.clock else 0)) is in
+    ap (λ n. tally_of n (clocks_from (has number k) (bs ++ b ∷ []) end)) count
+    ∙ ap (tally_of (suc (count_by (has number k) bs))) clocks
+    ∙ goes_on (count_by (has number k) bs) (clocks_from (has number k) bs b.clock) (end - b.clock) (no_clocks (has number k) bs b.clock)
+tally_more number bs b end k false is =
+    let count : count_by (has number k) (bs ++ b ∷ []) ≡ count_by (has number k) bs =
+    count_more (has number k) bs b ∙ ap (λ y. count_by (has number k) bs + (if y then 1 else 0)) is ∙ omega arith in
+    let clocks : clocks_from (has number k) (bs ++ b ∷ []) end ≡ clocks_from (has number k) bs b.clock =
+    clocks_more (has number k) bs b end ∙ ap (λ y. clocks_from (has number k) bs b.clock + (if y then end - b.clock else 0)) is ∙ omega arith in
+    ap (λ n. tally_of n (clocks_from (has number k) (bs ++ b ∷ []) end)) count
+    ∙ ap (tally_of (count_by (has number k) bs)) clocks
+
+-- tallies of one more that has a number
+pub add_numbered : (number : Begun → Option ℕ) (bs : List Begun) (b : Begun) (n end : ℕ) (old new : BTreeMap ℕ Tally) → number b ≡ Some n → AreTallies number bs b.clock old → ((k : ℕ) → get nat_cmp new k ≡ (if k == n then Some (one_more (get nat_cmp old n) (end - b.clock)) else get nat_cmp old k)) → AreTallies number (bs ++ b ∷ []) end new
+add_numbered number bs b n end old new is all added k = numbered_by (k == n) refl
+  where
+    here : (same : Bool) → (k == n) ≡ same → has number k b ≡ same
+    here same at = ap (is_number k) is ∙ (let turned : (n == k) ≡ (k == n) = grind (arith, nat_tests) in turned ∙ at)
+
+    numbered_by : (same : Bool) → (k == n) ≡ same → get nat_cmp new k ≡ tally_at number (bs ++ b ∷ []) end k
+    numbered_by true at =
+        let one : k ≡ n = grind (arith, nat_tests, at) in
+        added k ∙ ap (λ y. if y then Some (one_more (get nat_cmp old n) (end - b.clock)) else get nat_cmp old k) at
+        ∙ ap (λ t. Some (one_more t (end - b.clock))) (ap (get nat_cmp old) (sym one) ∙ all k)
+        ∙ sym (tally_more number bs b end k true (here true at))
+    numbered_by false at =
+        added k ∙ ap (λ y. if y then Some (one_more (get nat_cmp old n) (end - b.clock)) else get nat_cmp old k) at
+        ∙ all k
+        ∙ sym (tally_more number bs b end k false (here false at))
+
+-- and of one that has none
+pub add_numberless : (number : Begun → Option ℕ) (bs : List Begun) (b : Begun) (end : ℕ) (old : BTreeMap ℕ Tally) → number b ≡ None → AreTallies number bs b.clock old → AreTallies number (bs ++ b ∷ []) end old
+add_numberless number bs b end old is all k = all k ∙ sym (tally_more number bs b end k false (ap (is_number k) is))
+
+pub if_ok : {A B E : Type 0} (result : Result Unit E) → OnOk result A → (A → B) → OnOk result B
+if_ok (Ok x) a f = f a
+if_ok (Err e) a f = a
+
+-- the latest is tallied, an instruction or an entry
+
+pub tallied_place : (all : List Begun) (old : Counts) (b : Begun) (n end : ℕ) (new : BTreeMap ℕ Tally) → old.latest ≡ Some b → place_of b ≡ Some n → type_of b ≡ None → ((k : ℕ) → get nat_cmp new k ≡ (if k == n then Some (one_more (get nat_cmp old.places n) (end - b.clock)) else get nat_cmp old.places k)) → HasNoted all old → HasTallied all end (record old { places = new })
+tallied_place all old b n end new latest is none added noted =
+    let whole : noted.earlier ++ b ∷ [] ≡ all = sym (noted.all ∙ ap (λ l. noted.earlier ++ option_to_list l) latest) in
+    let places : AreTallies place_of noted.earlier b.clock old.places = subst (λ l. AreTallies place_of noted.earlier (tallied_to l) old.places) latest noted.tallied.places in
+    let types : AreTallies type_of noted.earlier b.clock old.types = subst (λ l. AreTallies type_of noted.earlier (tallied_to l) old.types) latest noted.tallied.types in
+    record {
+      places = subst (λ xs. AreTallies place_of xs end new) whole (add_numbered place_of noted.earlier b n end old.places new is places added);
+      types = subst (λ xs. AreTallies type_of xs end old.types) whole (add_numberless type_of noted.earlier b end old.types none types);
+    }
+
+pub tallied_type : (all : List Begun) (old : Counts) (b : Begun) (n end : ℕ) (new : BTreeMap ℕ Tally) → old.latest ≡ Some b → place_of b ≡ None → type_of b ≡ Some n → ((k : ℕ) → get nat_cmp new k ≡ (if k == n then Some (one_more (get nat_cmp old.types n) (end - b.clock)) else get nat_cmp old.types k)) → HasNoted all old → HasTallied all end (record old { types = new })
+tallied_type all old b n end new latest none is added noted =
+    let whole : noted.earlier ++ b ∷ [] ≡ all = sym (noted.all ∙ ap (λ l. noted.earlier ++ option_to_list l) latest) in
+    let places : AreTallies place_of noted.earlier b.clock old.places = subst (λ l. AreTallies place_of noted.earlier (tallied_to l) old.places) latest noted.tallied.places in
+    let types : AreTallies type_of noted.earlier b.clock old.types = subst (λ l. AreTallies type_of noted.earlier (tallied_to l) old.types) latest noted.tallied.types in
+    record {
+      places = subst (λ xs. AreTallies place_of xs end old.places) whole (add_numberless place_of noted.earlier b end old.places none places);
+      types = subst (λ xs. AreTallies type_of xs end new) whole (add_numbered type_of noted.earlier b n end old.types new is types added);
+    }
+
+pub if_text : {A E : Type 0} {P Q : A → Type 0} (result : Result A E) → IfOk result P → ((x : A) → P x → Q x) → IfOk result Q
+if_text (Ok x) p f = f x p
+if_text (Err e) p f = p
+
+pub next_is : (bs : List Begun) (end : ℕ) → unwrap_or (first_clock bs) end ≡ next_clock bs end
+next_is [] end = refl
+next_is (b ∷ bs) end = refl

@@ -1,0 +1,12 @@
+use Rattle.std.proofs.Common.{◌≡◌}
+use Rattle.std.specs.String.{string_bytes}
+use Rattle.board_types.specs.Iterate.{gathered, iterate}
+use Rattle.probe.specs.Listing.{list_line, offset_listed_next}
+use Rattle.probe.proofs.list_text.list_text.Given as goal
+
+-- the lines so far, and where the next begins
+abbrev pub invariant-loop : goal.invariant-loop
+invariant-loop l = record {
+  text : string_bytes l.text ≡ gathered (offset_listed_next l.board.plain l.segment) (list_line l.board.plain l.segment) l.counter l.fn.place.offset;
+  offset : l.offset ≡ iterate (offset_listed_next l.board.plain l.segment) l.counter l.fn.place.offset;
+}

@@ -1,0 +1,20 @@
+-- How far clocks that are counted have been made.
+-- For proofs alone: no public contract rests on it.
+use Rattle.std.specs.Prelude.{ℕ, ◌≡◌, ◌≤◌, IfSome}
+use Rattle.board.specs.OneTurn.{begun_in}
+use Rattle.board_plain.specs.Board.{Ran}
+use Rattle.board_plain.specs.Plain.{clock_of}
+use Rattle.debugger.specs.Stands.{SessionState}
+use Rattle.probe.specs.declared.counts.Counts.{Counts}
+use Rattle.probe.specs.Tallied.{HasNoted, IsBefore}
+
+-- some clocks are made, at most up to the clock `end`, and what began in them is noted
+pub record IsCounted (end : ℕ) (old new : SessionState) (c : Counts) : Type 0 where
+  pub passed : ℕ
+  pub ran : Ran passed old.board new.board
+  pub stops : new.stops ≡ old.stops
+  pub first : new.first ≡ old.first
+  pub within : clock_of new.board.plain ≤ end
+  pub noted : HasNoted (begun_in old.board.plain passed) c
+  pub before : IsBefore (clock_of new.board.plain) c
+  pub started : IfSome c.first (λ clock. clock_of old.board.plain ≤ clock)

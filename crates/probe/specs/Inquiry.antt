@@ -1,0 +1,53 @@
+-- What a line inquires.
+-- To be believed by callers of this crate: the headline does not rest on it.
+use Rattle.std.specs.Prelude.{ℕ, ◌/◌, ◌*◌, ◌%◌, ◌&&◌, nat_le, if◌then◌else◌, List, [], ◌∷◌, codes, position, Option, None, Some, is_some}
+use Rattle.std.specs.Str.{bytes_eq}
+use Rattle.debugger.specs.declared.command.Command.{Command}
+use Rattle.debugger.specs.declared.command.Command.TheVariants.{Break}
+use Rattle.debugger.specs.Commands.{break_command, is_colon}
+use Rattle.debugger.specs.Words.{count_of, hex_number, words_of}
+use Rattle.probe.specs.declared.inquiry.Inquiry.{Inquiry}
+use Rattle.probe.specs.declared.inquiry.Inquiry.TheVariants.{Chips, List as Listing, Counts, Signals}
+use Rattle.probe.specs.declared.inquiry.Place.{Place}
+
+-- a physical address by the segment of its 64 KB
+abbrev pub place_of_address : Option ℕ → Option Place
+place_of_address None = None
+place_of_address (Some address) = Some (record { segment = address / 65536 * 4096; offset = address % 65536 })
+
+-- a segment and an offset, as `break` reads them
+abbrev pub place_of_break : Option Command → Option Place
+place_of_break (Some (Break segment offset)) = Some (record { segment = segment; offset = offset })
+place_of_break _ = None
+
+-- a place in memory: a segment and an offset with a colon between them, or a physical address
+unfoldable pub place_of : List ℕ → Option Place
+place_of word = if is_some (position is_colon word) then place_of_break (break_command word) else place_of_address (hex_number 5 word)
+
+-- 1 to 4,096 instructions from a place on
+abbrev pub list_within : Place → ℕ → Option Inquiry
+list_within place count = if nat_le 1 count && nat_le count 4096 then Some (Listing place count) else None
+
+abbrev pub list_of : Option Place → Option ℕ → Option Inquiry
+list_of (Some place) (Some count) = list_within place count
+list_of (Some place) None = None
+list_of None _ = None
+
+-- so many clocks that are made
+abbrev pub run_inquiry : List ℕ → Option ℕ → Option Inquiry
+run_inquiry name None = None
+run_inquiry name (Some count) =
+    if bytes_eq name (codes "counts") then Some (Counts count) else (
+    if bytes_eq name (codes "signals") then Some (Signals count) else None)
+
+-- the inquiry that words are, if they are one
+abbrev pub inquiry_in : List (List ℕ) → Option Inquiry
+inquiry_in [] = None
+inquiry_in (name ∷ []) = if bytes_eq name (codes "chips") then Some Chips else None
+inquiry_in (name ∷ first ∷ []) = run_inquiry name (count_of first)
+inquiry_in (name ∷ first ∷ second ∷ []) =
+    if bytes_eq name (codes "list") then list_of (place_of first) (count_of second) else None
+inquiry_in (name ∷ first ∷ second ∷ third ∷ rest) = None
+
+unfoldable pub inquiry_of : List ℕ → Option Inquiry
+inquiry_of line = inquiry_in (words_of line)

@@ -1,0 +1,14 @@
+pub mod Shown
+pub mod Controller
+pub mod Counter
+pub mod Chips
+pub mod Counts
+pub mod Laws
+pub mod Making
+pub mod Tallied
+pub mod Counted
+pub mod Signals
+pub mod Signalled
+pub mod Inquiry
+pub mod Listing
+pub mod Session

@@ -1,0 +1,48 @@
+-- What stands in memory as instructions, as text.
+-- To be believed by callers of this crate: the headline does not rest on it.
+use Rattle.std.specs.Prelude.{ℕ, List, ◌++◌, codes, map}
+use Rattle.std.specs.List.{flat_map, range_with_len}
+use Rattle.board_plain.specs.Plain.{Plain, byte_of}
+use Rattle.board_types.specs.Address.{offset_after, physical}
+use Rattle.board_types.specs.Digits.{hex_byte_text, hex_word}
+use Rattle.board_types.specs.Iterate.{gathered}
+use Rattle.decode.specs.declared.decoding.Decoding.{Decoding as Decoded}
+use Rattle.decode.specs.declared.decoding.Decoding.TheVariants.{Found, NoRow}
+use Rattle.decode.specs.Decoding.{code_at, decoded_from}
+use Rattle.disassembler.specs.Text.{instr_text}
+
+-- what stands at a place
+abbrev pub stands_at : Plain → ℕ → ℕ → Decoded
+stands_at s segment offset = decoded_from (code_at (byte_of s) segment offset)
+
+-- how many bytes of it are listed: an instruction's, or the one where none begins
+abbrev pub size_listed : Decoded → ℕ
+size_listed (Found i size) = size
+size_listed NoRow = 1
+
+-- those bytes; offsets wrap at 65,536
+abbrev pub bytes_listed : Plain → ℕ → ℕ → ℕ → List ℕ
+bytes_listed s segment offset size = map (λ k. byte_of s (physical segment (offset_after offset k))) (range_with_len 0 size)
+
+-- an instruction, or a byte
+abbrev pub text_listed : Decoded → ℕ → ℕ → List ℕ
+text_listed (Found i size) offset byte = instr_text i offset
+text_listed NoRow offset byte = codes "DB 0" ++ (hex_byte_text byte ++ codes "h")
+
+-- `F000:0013 B008 MOV AL,008h`, `F000:0017 0F DB 00Fh`
+abbrev pub line_of : Plain → ℕ → ℕ → Decoded → List ℕ
+line_of s segment offset stands =
+    hex_word segment ++ (codes ":" ++ (hex_word offset ++ (codes " "
+    ++ (flat_map hex_byte_text (bytes_listed s segment offset (size_listed stands))
+    ++ (codes " " ++ (text_listed stands offset (byte_of s (physical segment offset)) ++ codes "\n"))))))
+
+unfoldable pub list_line : Plain → ℕ → ℕ → List ℕ
+list_line s segment offset = line_of s segment offset (stands_at s segment offset)
+
+-- where the next line's begins
+unfoldable pub offset_listed_next : Plain → ℕ → ℕ → ℕ
+offset_listed_next s segment offset = offset_after offset (size_listed (stands_at s segment offset))
+
+-- so many lines from a place on
+abbrev pub list_text : Plain → ℕ → ℕ → ℕ → List ℕ
+list_text s segment offset count = gathered (offset_listed_next s segment) (list_line s segment) count offset

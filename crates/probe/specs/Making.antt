@@ -1,0 +1,39 @@
+-- Clocks that are made whatever the stops say, of which a text is shown.
+-- To be believed by callers of this crate: the headline does not rest on it.
+use Rattle.std.specs.Prelude.{ℕ, ◌≡◌, ◌+◌, ◌<◌, ◌≤◌, ◌^◌, List, None, Some, Result, MatchResult}
+use Rattle.board_plain.specs.Board.{Ran}
+use Rattle.board_plain.specs.Plain.{clock_of}
+use Rattle.debugger.specs.declared.answer.Answer.{Answer}
+use Rattle.debugger.specs.declared.fault.DebugFault.{DebugFault}
+use Rattle.debugger.specs.declared.fault.DebugFault.TheVariants.{ClockLimit, BadCommand, TooManyStops, Memory, BeforeStart}
+use Rattle.debugger.specs.Session.{IsText}
+use Rattle.debugger.specs.Stands.{SessionState, shown_of, StandsAt}
+
+-- n clocks are made, and the text is shown; the stops stay
+pub record Makes (n : ℕ) (text : List ℕ) (old new : SessionState) (answer : Answer) : Type 0 where
+  pub within : clock_of old.board.plain + n ≤ 2 ^ 40
+  pub ran : Ran n old.board new.board
+  pub stops : new.stops ≡ old.stops
+  pub first : new.first ≡ old.first
+  pub shows : IsText text answer
+
+-- There is no memory: the board stands some of the n clocks further, and its clock is told.
+pub record StandsShort (n : ℕ) (old new : SessionState) (clock : ℕ) : Type 0 where
+  pub passed : ℕ
+  pub within : passed ≤ n
+  pub stands : StandsAt passed (shown_of old.board) new.board
+  pub stops : new.stops ≡ old.stops
+  pub first : new.first ≡ old.first
+  pub clock_is : clock ≡ clock_of new.board.plain
+
+-- refused past the last clock, and for want of memory
+abbrev pub RefusesMaking : ℕ → SessionState → SessionState → DebugFault → Type 0
+RefusesMaking n old new ClockLimit = (2 ^ 40 < clock_of old.board.plain + n) × (new ≡ old)
+RefusesMaking n old new BadCommand = ⊥
+RefusesMaking n old new TooManyStops = ⊥
+RefusesMaking n old new (Memory None) = ⊥
+RefusesMaking n old new (Memory (Some clock)) = StandsShort n old new clock
+RefusesMaking n old new BeforeStart = ⊥
+
+abbrev pub AnswersMaking : ℕ → List ℕ → SessionState → Result Answer DebugFault → SessionState → Type 0
+AnswersMaking n text old result new = MatchResult result (Makes n text old new) (RefusesMaking n old new)

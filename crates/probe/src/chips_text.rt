@@ -1,0 +1,192 @@
+//! What a board's chips hold, as text.
+ghost use Rattle.std.specs.Prelude.{◌≡◌, ◌++◌, IfOk, OnOk, codes};
+ghost use Rattle.std.specs.List.{flat_map};
+ghost use Rattle.std.specs.String.{string_bytes};
+ghost use Rattle.board_report.specs.Text.{state_name};
+ghost use Rattle.debugger.specs.Dump.{spaced_byte};
+ghost use Rattle.ppi8255.specs.Image.{direction_by};
+ghost use Rattle.wiring.specs.Ports.{inputs_of};
+ghost use Rattle.probe.specs.Chips.{adapter_line, chips_text, direction_text, inhibited_text, keyboard_line, ports_line, processor_boundary, processor_line, processor_state, speaker_line, timer_lines};
+
+use crate::controller_text::controller_line;
+use crate::counter_text::counter_line;
+use crate::shown::{ByteOrNone, digit, line_digit};
+use board::board::Board;
+use board_types::digits::{HexByte, HexWord};
+use board_types::line::Line;
+use board_types::state::State;
+use execute::shadow::Shadow;
+use keyboard::keyboard::Keyboard;
+use mda_text::registers::Registers;
+use pit8253::pit::Pit;
+use ppi8255::ppi::{Direction, Inputs, Ppi};
+use std::alloc::{AllocError, Global};
+
+/// What the board's chips hold, a line for each chip and counter, and the processor's last.
+#[tactic(auto, unfolding(crate::specs::Chips::chips_text))]
+pub(crate) fn chips_text(alloc: Global, board: &Board) -> Result<String, AllocError>
+    ensures { IfOk result (λ text. string_bytes text ≡ chips_text board.now.plain) }
+{
+    let mut text = controller_line(alloc, &board.controller().image())?;
+    let timer = timer_lines(alloc, &board.timer())?;
+    text.push_str(timer.as_str())?;
+    let ports = ports_line(alloc, &board.parallel_port(), inputs(board))?;
+    text.push_str(ports.as_str())?;
+    let keyboard = keyboard_line(alloc, board.keyboard())?;
+    text.push_str(keyboard.as_str())?;
+    let speaker = speaker_line(alloc, board.speaker())?;
+    text.push_str(speaker.as_str())?;
+    let adapter = adapter_line(alloc, board.adapter())?;
+    text.push_str(adapter.as_str())?;
+    let processor = processor_line(alloc, board)?;
+    text.push_str(processor.as_str())?;
+    Ok(text)
+}
+
+#[tactic(auto, unfolding(crate::specs::Chips::timer_lines, pit8253::specs::Image::pit_of))]
+fn timer_lines(alloc: Global, pit: &Pit) -> Result<String, AllocError>
+    ensures { IfOk result (λ text. string_bytes text ≡ timer_lines pit.now) }
+{
+    let image = pit.image();
+    let mut text = counter_line(alloc, 0, &image.counter_0)?;
+    let second = counter_line(alloc, 1, &image.counter_1)?;
+    text.push_str(second.as_str())?;
+    let third = counter_line(alloc, 2, &image.counter_2)?;
+    text.push_str(third.as_str())?;
+    Ok(text)
+}
+
+/// What the board brings to the parallel port's pins.
+fn inputs(board: &Board) -> Inputs
+    ensures { result ≡ inputs_of board.now.plain.chips }
+{
+    Inputs {
+        latch: board.keyboard().latch(),
+        out2: board.timer().out(2),
+    }
+}
+
+#[tactic(auto, unfolding(crate::specs::Chips::ports_line, ppi8255::specs::Image::ppi_of))]
+fn ports_line(alloc: Global, ppi: &Ppi, inputs: Inputs) -> Result<String, AllocError>
+    ensures { IfOk result (λ text. string_bytes text ≡ ports_line ppi.now inputs) }
+{
+    let image = ppi.image();
+    let a = direction_text(image.a);
+    let b = direction_text(image.b);
+    let upper = direction_text(image.c_upper);
+    let lower = direction_text(image.c_lower);
+    let port_a = HexByte(ppi.read(0, inputs));
+    let port_b = HexByte(ppi.read(1, inputs));
+    let port_c = HexByte(ppi.read(2, inputs));
+    format!(in alloc; "ports A {a} {port_a} B {b} {port_b} C {upper}/{lower} {port_c}\n")
+}
+
+fn direction_text(number: u8) -> &'static str
+    ensures { result.now ≡ direction_text (direction_by number) }
+{
+    if number == 0 { "out" } else { "in" }
+}
+
+#[tactic(auto, unfolding(crate::specs::Chips::keyboard_line))]
+fn keyboard_line(alloc: Global, keyboard: &Keyboard) -> Result<String, AllocError>
+    ensures { IfOk result (λ text. string_bytes text ≡ keyboard_line keyboard.now) }
+{
+    let latch = ByteOrNone(keyboard.latch());
+    let lost = keyboard.lost();
+    let mut text = format!(in alloc; "keyboard latch {latch} lost {lost} waiting")?;
+    push_waiting(alloc, &mut text, keyboard)?;
+    text.push_str("\n")?;
+    Ok(text)
+}
+
+/// The codes that wait, a blank before each.
+fn push_waiting(alloc: Global, text: &mut String, keyboard: &Keyboard) -> Result<(), AllocError>
+    ensures { OnOk result (string_bytes text.new ≡ string_bytes text.old ++ flat_map spaced_byte keyboard.now.waiting) }
+{
+    let mut index = 0;
+    while let Some(code) = keyboard.waiting(index) {
+        let shown = spaced_byte(alloc, code)?;
+        text.push_str(shown.as_str())?;
+        index += 1;
+    }
+    Ok(())
+}
+
+fn spaced_byte(alloc: Global, byte: u8) -> Result<String, AllocError>
+    ensures { IfOk result (λ text. string_bytes text ≡ spaced_byte byte) }
+{
+    let byte = HexByte(byte);
+    format!(in alloc; " {byte}")
+}
+
+#[tactic(auto, unfolding(crate::specs::Chips::speaker_line))]
+fn speaker_line(alloc: Global, level: Line) -> Result<String, AllocError>
+    ensures { IfOk result (λ text. string_bytes text ≡ speaker_line level) }
+{
+    let level = line_digit(level);
+    format!(in alloc; "speaker {level}\n")
+}
+
+#[tactic(auto, unfolding(crate::specs::Chips::adapter_line))]
+fn adapter_line(alloc: Global, registers: Registers) -> Result<String, AllocError>
+    ensures { IfOk result (λ text. string_bytes text ≡ adapter_line registers) }
+{
+    let index = HexByte(registers.index);
+    let start = HexWord(registers.start);
+    let cursor = HexWord(registers.cursor);
+    let video = digit(registers.video);
+    let raster = registers.raster;
+    format!(in alloc;
+        "adapter index {index} start {start} cursor {cursor} video {video} raster {raster}\n"
+    )
+}
+
+#[tactic(auto, unfolding(crate::specs::Chips::processor_line))]
+fn processor_line(alloc: Global, board: &Board) -> Result<String, AllocError>
+    ensures { IfOk result (λ text. string_bytes text ≡ processor_line board.now.plain) }
+{
+    let mut text = processor_state(alloc, board)?;
+    let boundary = processor_boundary(alloc, board)?;
+    text.push_str(boundary.as_str())?;
+    Ok(text)
+}
+
+#[tactic(auto, unfolding(crate::specs::Chips::processor_state))]
+fn processor_state(alloc: Global, board: &Board) -> Result<String, AllocError>
+    ensures { IfOk result (λ text. string_bytes text ≡ processor_state board.now.plain) }
+{
+    let state = state_name(board.state());
+    let busy = board.busy();
+    let enabled = digit(board.regs().flags.interrupt_enable);
+    format!(in alloc; "processor {state} busy {busy} IF {enabled}")
+}
+
+#[tactic(auto, unfolding(crate::specs::Chips::processor_boundary))]
+fn processor_boundary(alloc: Global, board: &Board) -> Result<String, AllocError>
+    ensures { IfOk result (λ text. string_bytes text ≡ processor_boundary board.now.plain) }
+{
+    let inhibited = inhibited_text(board.shadow());
+    let step = digit(board.is_step_due());
+    let repeat = digit(board.is_repeating());
+    format!(in alloc; " inhibits {inhibited} step {step} repeat {repeat}\n")
+}
+
+fn state_name(state: State) -> &'static str
+    ensures { result.now ≡ state_name state }
+{
+    match state {
+        State::Running => "running",
+        State::Halted => "halted",
+        State::Jammed => "jammed",
+    }
+}
+
+fn inhibited_text(shadow: Shadow) -> &'static str
+    ensures { result.now ≡ inhibited_text shadow }
+{
+    match shadow {
+        Shadow::Nothing => "none",
+        Shadow::Requests => "requests",
+        Shadow::Interrupts => "interrupts",
+    }
+}

@@ -1,0 +1,145 @@
+//! The interrupt controller as text.
+ghost use Rattle.std.specs.Prelude.{◌≡◌, ◌<◌, IfOk, if◌then◌else◌, slice_index};
+ghost use Rattle.std.specs.String.{string_bytes};
+ghost use Rattle.pic8259.specs.Image.{expected_of, flag_of, pic_of};
+ghost use Rattle.pic8259.specs.Levels.{byte_of};
+ghost use Rattle.pic8259.specs.Pic.{is_requesting, requests, vector};
+ghost use Rattle.probe.specs.Controller.{awaited_text, controller_line, controller_modes, controller_output, controller_reads, controller_registers};
+
+use crate::shown::digit;
+use board_types::digits::HexByte;
+use pic8259::Pic;
+use pic8259::image::PicImage;
+use std::alloc::{AllocError, Global};
+
+/// The line of the controller that an image stands for.
+#[tactic(auto, unfolding(crate::specs::Controller::controller_line))]
+pub(crate) fn controller_line(alloc: Global, image: &PicImage) -> Result<String, AllocError>
+    ensures { IfOk result (λ text. string_bytes text ≡ controller_line (pic_of image.now)) }
+{
+    let mut text = controller_registers(alloc, image)?;
+    let output = controller_output(alloc, image)?;
+    text.push_str(output.as_str())?;
+    let modes = controller_modes(alloc, image)?;
+    text.push_str(modes.as_str())?;
+    let reads = controller_reads(alloc, image)?;
+    text.push_str(reads.as_str())?;
+    Ok(text)
+}
+
+#[tactic(auto, unfolding(crate::specs::Controller::controller_registers))]
+fn controller_registers(alloc: Global, image: &PicImage) -> Result<String, AllocError>
+    ensures { IfOk result (λ text. string_bytes text ≡ controller_registers (pic_of image.now)) }
+{
+    let ir = HexByte(line_register(image));
+    let irr = HexByte(request_register(image));
+    let isr = HexByte(service_register(image));
+    let imr = HexByte(mask_register(image));
+    format!(in alloc; "controller IR {ir} IRR {irr} ISR {isr} IMR {imr}")
+}
+
+#[tactic(auto, unfolding(crate::specs::Controller::controller_output))]
+fn controller_output(alloc: Global, image: &PicImage) -> Result<String, AllocError>
+    ensures { IfOk result (λ text. string_bytes text ≡ controller_output (pic_of image.now)) }
+{
+    let lowest = lowest(image);
+    let int = interrupt_output(image);
+    let vector = HexByte(vector(image));
+    let awaited = awaited(image);
+    format!(in alloc; " lowest {lowest} INT {int} vector {vector} awaits {awaited}")
+}
+
+#[tactic(auto, unfolding(crate::specs::Controller::controller_modes, pic8259::specs::Image::pic_of))]
+fn controller_modes(alloc: Global, image: &PicImage) -> Result<String, AllocError>
+    ensures { IfOk result (λ text. string_bytes text ≡ controller_modes (pic_of image.now)) }
+{
+    let ltim = flag_digit(image.is_level_triggered);
+    let upm = flag_digit(image.is_8086);
+    let aeoi = flag_digit(image.auto_end);
+    let rotates = flag_digit(image.rotates);
+    format!(in alloc; " LTIM {ltim} uPM {upm} AEOI {aeoi} rotates {rotates}")
+}
+
+#[tactic(auto, unfolding(crate::specs::Controller::controller_reads, pic8259::specs::Image::pic_of))]
+fn controller_reads(alloc: Global, image: &PicImage) -> Result<String, AllocError>
+    ensures { IfOk result (λ text. string_bytes text ≡ controller_reads (pic_of image.now)) }
+{
+    let smm = flag_digit(image.special_mask);
+    let poll = flag_digit(image.polled);
+    let ris = flag_digit(image.reads_served);
+    format!(in alloc; " SMM {smm} P {poll} RIS {ris}\n")
+}
+
+/// The request lines that are high, a bit a level, as in the registers.
+#[tactic(auto, using(crate::proofs::Registers::byte_of_set), unfolding(pic8259::specs::Image::pic_of))]
+fn line_register(image: &PicImage) -> u8
+    ensures { result ≡ byte_of (pic_of image.now).high }
+{
+    image.high
+}
+
+fn request_register(image: &PicImage) -> u8
+    ensures { result ≡ byte_of (requests (pic_of image.now)) }
+{
+    let risen = image.high & image.risen;
+    if image.is_level_triggered == 0 {
+        risen
+    } else {
+        image.high
+    }
+}
+
+#[tactic(auto, using(crate::proofs::Registers::byte_of_set), unfolding(pic8259::specs::Image::pic_of))]
+fn service_register(image: &PicImage) -> u8
+    ensures { result ≡ byte_of (pic_of image.now).served }
+{
+    image.served
+}
+
+#[tactic(auto, using(crate::proofs::Registers::byte_of_set), unfolding(pic8259::specs::Image::pic_of))]
+fn mask_register(image: &PicImage) -> u8
+    ensures { result ≡ byte_of (pic_of image.now).masked }
+{
+    image.masked
+}
+
+/// The level with the lowest priority.
+#[tactic(auto, using(crate::proofs::Registers::last_of_order), unfolding(pic8259::specs::Image::pic_of))]
+fn lowest(image: &PicImage) -> u8
+    ensures { result ≡ slice_index (pic_of image.now).order 7 }
+{
+    image.lowest % 8
+}
+
+/// 1 where the interrupt output is high.
+fn interrupt_output(image: &PicImage) -> u8
+    ensures { result ≡ (if is_requesting (pic_of image.now) then 1 else 0) }
+{
+    digit(Pic::from_image(image).request())
+}
+
+/// What an acknowledge would answer.
+fn vector(image: &PicImage) -> u8
+    ensures { result ≡ vector (pic_of image.now) }
+{
+    let mut pic = Pic::from_image(image);
+    pic.acknowledge()
+}
+
+#[tactic(auto, unfolding(pic8259::specs::Image::pic_of))]
+fn awaited(image: &PicImage) -> &'static str
+    ensures { result.now ≡ awaited_text (pic_of image.now).expected }
+{
+    match image.expected {
+        2 => "ICW2",
+        3 => "ICW3",
+        4 => "ICW4",
+        _ => "none",
+    }
+}
+
+fn flag_digit(flag: u8) -> u8
+    ensures { result ≡ (if flag_of flag then 1 else 0) }
+{
+    digit(flag != 0)
+}

@@ -1,0 +1,201 @@
+//! A counter of the timer as text.
+ghost use Rattle.std.specs.Prelude.{◌≡◌, ◌%◌, ◌<◌, ◌≤◌, IfOk, if◌then◌else◌, [], ◌++◌, OnOk};
+ghost use Rattle.std.specs.String.{string_bytes};
+ghost use Rattle.board_types.specs.Lines.{is_high};
+ghost use Rattle.pit8253.specs.Counter.{is_8254, reads_high, status_of};
+ghost use Rattle.pit8253.specs.Image.{counter_of, flag_of, kind_of, line_of, option_of};
+ghost use Rattle.pit8253.specs.Program.{access_number, access_of, digits_of, mode_number, mode_of, modulus, radix_number, radix_of};
+ghost use Rattle.probe.specs.Counter.{counter_counts, counter_line, counter_lines, counter_status, newest_of};
+
+use crate::shown::{ByteOrNone, WordOrNone, digit};
+use board_types::digits::{HexByte, HexWord};
+use pit8253::image::CounterImage;
+use std::alloc::{AllocError, Global};
+
+/// The line of the counter that an image stands for, `number` being the counter's.
+#[tactic(auto, unfolding(crate::specs::Counter::counter_line))]
+pub(crate) fn counter_line(
+    alloc: Global,
+    number: u8,
+    image: &CounterImage,
+) -> Result<String, AllocError>
+    ensures { IfOk result (λ text. string_bytes text ≡ counter_line number (counter_of image.now)) }
+{
+    let mut text = counter_counts(alloc, number, image)?;
+    let lines = counter_lines(alloc, image)?;
+    text.push_str(lines.as_str())?;
+    push_status(alloc, &mut text, image)?;
+    text.push_str("\n")?;
+    Ok(text)
+}
+
+#[tactic(auto, unfolding(crate::specs::Counter::counter_counts))]
+fn counter_counts(alloc: Global, number: u8, image: &CounterImage) -> Result<String, AllocError>
+    ensures { IfOk result (λ text. string_bytes text ≡ counter_counts number (counter_of image.now)) }
+{
+    let mode = mode_digit(image);
+    let access = access_digit(image);
+    let radix = radix_digit(image);
+    let count = HexWord(count_digits(image));
+    let newest = WordOrNone(newest(image));
+    format!(in alloc;
+        "counter {number} mode {mode} RW {access} BCD {radix} count {count} newest {newest}"
+    )
+}
+
+#[tactic(auto, unfolding(crate::specs::Counter::counter_lines, pit8253::specs::Image::counter_of))]
+fn counter_lines(alloc: Global, image: &CounterImage) -> Result<String, AllocError>
+    ensures { IfOk result (λ text. string_bytes text ≡ counter_lines (counter_of image.now)) }
+{
+    let load = flag_digit(image.load_due);
+    let out = level_digit(image.out);
+    let gate = level_digit(image.gate);
+    let first = ByteOrNone(byte_where(image.has_first_byte, image.first_byte));
+    let latch = WordOrNone(word_where(image.has_latch, image.latch));
+    let high = reads_high(image);
+    format!(in alloc; " load {load} OUT {out} GATE {gate} first {first} latch {latch} high {high}")
+}
+
+/// 1 where the next read of the count gives its high byte.
+#[tactic(auto, unfolding(pit8253::specs::Image::counter_of))]
+fn reads_high(image: &CounterImage) -> u8
+    ensures { result ≡ (if reads_high (counter_of image.now).access (counter_of image.now).high_next then 1 else 0) }
+{
+    match image.access % 4 {
+        1 => 0,
+        2 => 1,
+        _ => flag_digit(image.high_next),
+    }
+}
+
+/// Adds the status of an 8254's counter.
+#[tactic(auto, unfolding(pit8253::specs::Image::counter_of))]
+fn push_status(alloc: Global, text: &mut String, image: &CounterImage) -> Result<(), AllocError>
+    ensures { OnOk result (string_bytes text.new ≡ string_bytes text.old
+        ++ (if is_8254 (counter_of image.now).kind then counter_status (counter_of image.now) else [])) }
+{
+    if image.kind == 0 {
+        return Ok(());
+    }
+    let status = counter_status(alloc, image)?;
+    text.push_str(status.as_str())
+}
+
+#[tactic(auto, unfolding(crate::specs::Counter::counter_status))]
+fn counter_status(alloc: Global, image: &CounterImage) -> Result<String, AllocError>
+    ensures { IfOk result (λ text. string_bytes text ≡ counter_status (counter_of image.now)) }
+{
+    let status = HexByte(status(image));
+    let latched = ByteOrNone(latched_status(image));
+    format!(in alloc; " status {status} latched {latched}")
+}
+
+/// The mode's number, 0 to 5.
+#[tactic(auto, unfolding(pit8253::specs::Image::counter_of))]
+fn mode_digit(image: &CounterImage) -> u8
+    ensures digit { result ≡ mode_number (counter_of image.now).mode }
+    ensures bound { result ≤ 5 }
+{
+    match image.mode % 8 {
+        0 => 0,
+        1 => 1,
+        4 => 4,
+        5 => 5,
+        bits => 2 + bits % 2,
+    }
+}
+
+/// The access: 1 the low byte, 2 the high byte, 3 both.
+#[tactic(auto, unfolding(pit8253::specs::Image::counter_of))]
+fn access_digit(image: &CounterImage) -> u8
+    ensures digit { result ≡ access_number (counter_of image.now).access }
+    ensures bound { result ≤ 3 }
+{
+    match image.access % 4 {
+        1 => 1,
+        2 => 2,
+        _ => 3,
+    }
+}
+
+/// 1 where counts are written in decimal digits.
+#[tactic(auto, unfolding(pit8253::specs::Image::counter_of))]
+fn radix_digit(image: &CounterImage) -> u8
+    ensures digit { result ≡ radix_number (counter_of image.now).radix }
+    ensures bound { result ≤ 1 }
+{
+    digit(image.radix != 0)
+}
+
+/// The running count as it is read.
+#[tactic(auto, unfolding(pit8253::specs::Image::counter_of))]
+fn count_digits(image: &CounterImage) -> u16
+    ensures { result ≡ digits_of (counter_of image.now).count_radix (counter_of image.now).count }
+{
+    digits_in(image.count_radix, image.count)
+}
+
+/// The newest full count, if there is one since the control word.
+#[tactic(auto, unfolding(pit8253::specs::Image::counter_of))]
+fn newest(image: &CounterImage) -> Option<u16>
+    ensures { result ≡ newest_of (counter_of image.now) }
+{
+    if image.progress == 0 {
+        return None;
+    }
+    Some(digits_in(image.radix, image.newest))
+}
+
+/// A count as its radix shows it.
+fn digits_in(radix: u8, count: u16) -> u16
+    ensures { result ≡ digits_of (radix_of radix) (count % modulus (radix_of radix)) }
+{
+    if radix == 0 {
+        return count;
+    }
+    let count = count % 10000;
+    4096 * (count / 1000) + 256 * (count / 100 % 10) + 16 * (count / 10 % 10) + count % 10
+}
+
+/// The status byte of an 8254's counter.
+#[tactic(auto, unfolding(pit8253::specs::Image::counter_of))]
+fn status(image: &CounterImage) -> u8
+    ensures { result ≡ status_of (counter_of image.now) }
+{
+    let out = level_digit(image.out);
+    let null = flag_digit(image.is_null);
+    128 * out + 64 * null + 16 * access_digit(image) + 2 * mode_digit(image) + radix_digit(image)
+}
+
+#[tactic(auto, unfolding(pit8253::specs::Image::counter_of))]
+fn latched_status(image: &CounterImage) -> Option<u8>
+    ensures { result ≡ (counter_of image.now).status }
+{
+    byte_where(image.has_status, image.status)
+}
+
+fn byte_where(is_there: u8, byte: u8) -> Option<u8>
+    ensures { result ≡ option_of is_there byte }
+{
+    if is_there == 0 { None } else { Some(byte) }
+}
+
+fn word_where(is_there: u8, word: u16) -> Option<u16>
+    ensures { result ≡ option_of is_there word }
+{
+    if is_there == 0 { None } else { Some(word) }
+}
+
+fn flag_digit(flag: u8) -> u8
+    ensures digit { result ≡ (if flag_of flag then 1 else 0) }
+    ensures bound { result ≤ 1 }
+{
+    digit(flag != 0)
+}
+
+fn level_digit(level: u8) -> u8
+    ensures digit { result ≡ (if is_high (line_of level) then 1 else 0) }
+    ensures bound { result ≤ 1 }
+{
+    digit(level != 0)
+}

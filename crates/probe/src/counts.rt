@@ -1,0 +1,236 @@
+//! Where a run's clocks went.
+ghost use Rattle.std.specs.Prelude.{ℕ, ◌≡◌, ◌+◌, ◌-◌, ◌*◌, ◌<◌, ◌≤◌, ◌^◌, ◌==◌, ◌++◌, if◌then◌else◌, [], ◌∷◌, List, IfErr, IfOk, IfSome, MatchResult, None, OnErr, OnOk, Some};
+ghost use Rattle.std.specs.BTreeMap.{get, IsOrdered};
+ghost use Rattle.std.specs.List.{flat_map};
+ghost use Rattle.std.specs.Option.{option_to_list};
+ghost use Rattle.std.specs.Ordering.{nat_cmp};
+ghost use Rattle.std.specs.String.{string_bytes};
+ghost use Rattle.board.specs.declared.one_turn.Begun.{Begun};
+ghost use Rattle.board.specs.OneTurn.{begun_in};
+ghost use Rattle.board_plain.specs.Plain.{clock_of};
+ghost use Rattle.probe.specs.Counts.{count_line, counts_of, counts_text};
+ghost use Rattle.probe.specs.Making.{AnswersMaking};
+ghost use Rattle.probe.specs.Tallied.{AreBelow, HasNoted, HasTallied, IsBefore, name_of, one_more, tally_line};
+
+use crate::making::lacking;
+use board::one_turn::Begun;
+use board_types::clock::Clock;
+use board_types::digits::{HexByte, HexWord};
+use debugger::answer::Answer;
+use debugger::fault::DebugFault;
+use debugger::session::Session;
+use std::alloc::{AllocError, Global};
+use std::collections::BTreeMap;
+use std::fmt;
+
+/// How often something began, and the clocks from it up to the next beginning.
+#[derive(Clone, Copy)]
+pub(crate) struct Tally {
+    count: u64,
+    clocks: u64,
+}
+
+/// What began so far.
+#[derive(Drop)]
+pub(crate) struct Counts {
+    /// The clock of the first beginning.
+    first: Option<Clock>,
+    /// What began last: it is tallied once its clocks are known.
+    latest: Option<Begun>,
+    /// Of instructions, by CS:IP.
+    places: BTreeMap<u32, Tally>,
+    /// Of entries, by their types.
+    types: BTreeMap<u32, Tally>,
+}
+
+impl Counts {
+    fn new(alloc: Global) -> Counts
+        ensures noted { HasNoted [] result }
+        ensures before { (clock : ℕ) → IsBefore clock result }
+    {
+        Counts {
+            first: None,
+            latest: None,
+            places: BTreeMap::new(alloc),
+            types: BTreeMap::new(alloc),
+        }
+    }
+
+    /// Notes what begins, if something does.
+    fn note(&mut self, begun: Option<Begun>) -> Result<(), AllocError>
+        requires { IfSome begun (λ b. IsBefore b.clock self.old) }
+        ensures noted { OnOk result ((all : List Begun) → HasNoted all self.old
+            → HasNoted (all ++ option_to_list begun) self.new) }
+        ensures before { OnOk result ((clock : ℕ) → IfSome begun (λ b. b.clock < clock) → IsBefore clock self.old
+            → IsBefore clock self.new) }
+        ensures started { OnOk result ((start : ℕ) → IfSome begun (λ b. start ≤ b.clock)
+            → IfSome self.old.first (λ first. start ≤ first) → IfSome self.new.first (λ first. start ≤ first)) }
+    {
+        match begun {
+            None => Ok(()),
+            Some(begun) => self.begin(begun),
+        }
+    }
+
+    /// Something begins.
+    fn begin(&mut self, begun: Begun) -> Result<(), AllocError>
+        requires { IsBefore begun.clock self.old }
+        ensures noted { OnOk result ((all : List Begun) → HasNoted all self.old
+            → HasNoted (all ++ begun ∷ []) self.new) }
+        ensures before { OnOk result ((clock : ℕ) → begun.clock < clock → IsBefore clock self.new) }
+        ensures started { OnOk result ((start : ℕ) → start ≤ begun.clock
+            → IfSome self.old.first (λ first. start ≤ first) → IfSome self.new.first (λ first. start ≤ first)) }
+    {
+        self.tally_latest(begun.clock)?;
+        if self.first.is_none() {
+            self.first = Some(begun.clock);
+        }
+        self.latest = Some(begun);
+        Ok(())
+    }
+
+    /// Tallies what began last, whose clocks end at this one.
+    fn tally_latest(&mut self, clock: Clock) -> Result<(), AllocError>
+        requires { IsBefore clock self.old }
+        ensures tallied { OnOk result ((all : List Begun) → HasNoted all self.old → HasTallied all clock self.new) }
+        ensures places { OnOk result (AreBelow clock self.new.places) }
+        ensures types { OnOk result (AreBelow clock self.new.types) }
+        ensures first { self.new.first ≡ self.old.first }
+        ensures latest { self.new.latest ≡ self.old.latest }
+    {
+        let Some(begun) = self.latest else {
+            return Ok(());
+        };
+        let clocks = clock.get() - begun.clock.get();
+        match begun.entered {
+            None => add(&mut self.places, place_of(begun), clocks),
+            Some(kind) => add(&mut self.types, u32::from(kind), clocks),
+        }
+    }
+
+    /// The clocks before the first beginning, and a line for each CS:IP and each type. The run ends at `end`.
+    fn text(&mut self, alloc: Global, start: Clock, end: Clock) -> Result<String, AllocError>
+        requires before { IsBefore end self.old }
+        requires started { IfSome self.old.first (λ first. start ≤ first) }
+        requires ended { start ≤ end }
+        ensures { IfOk result (λ text. (all : List Begun) → HasNoted all self.old
+            → string_bytes text ≡ counts_of all start end) }
+    {
+        self.tally_latest(end)?;
+        let before = self.first.unwrap_or(end).get() - start.get();
+        let places = lines_of(alloc, Kind::Instruction, &self.places)?;
+        let types = lines_of(alloc, Kind::Entry, &self.types)?;
+        let (places, types) = (places.as_str(), types.as_str());
+        let end = end.get();
+        format!(in alloc; "before {before}\n{places}{types}clock {end}\n")
+    }
+}
+
+/// CS:IP as a number, the segment above the offset.
+fn place_of(begun: Begun) -> u32
+    ensures { result ≡ 65536 * begun.cs + begun.ip }
+{
+    65536 * u32::from(begun.cs) + u32::from(begun.ip)
+}
+
+/// Counts one more that began, with the clocks from it.
+fn add(tallies: &mut BTreeMap<u32, Tally>, number: u32, clocks: u64) -> Result<(), AllocError>
+    requires below { AreBelow (2 ^ 40) tallies.old }
+    requires few { clocks ≤ 2 ^ 40 }
+    ensures { OnOk result ((k : ℕ) → get nat_cmp tallies.new k
+        ≡ (if k == number then Some (one_more (get nat_cmp tallies.old number) clocks) else get nat_cmp tallies.old k)) }
+{
+    if let Some(tally) = tallies.get_mut(&number) {
+        tally.count += 1;
+        tally.clocks += clocks;
+        return Ok(());
+    }
+    tallies.insert(number, Tally { count: 1, clocks })?;
+    Ok(())
+}
+
+/// What a number stands for.
+#[derive(Clone, Copy)]
+pub(crate) enum Kind {
+    /// A CS:IP at which an instruction began.
+    Instruction,
+    /// A type of interrupt that was entered.
+    Entry,
+}
+
+/// How something that began is named.
+#[derive(Clone, Copy)]
+pub(crate) struct Name {
+    kind: Kind,
+    number: u32,
+}
+
+impl fmt::Display for Name {
+    ghost output = { λ n. Some (name_of n.kind n.number) };
+
+    fn fmt<W: fmt::Write>(&self, f: &mut fmt::Formatter<W>) -> fmt::Result {
+        match self.kind {
+            Kind::Instruction => {
+                let cs = HexWord((self.number / 65536) as u16);
+                let ip = HexWord((self.number % 65536) as u16);
+                write!(f, "{cs}:{ip}")
+            }
+            Kind::Entry => {
+                let kind = HexByte((self.number % 256) as u8);
+                write!(f, "entry {kind}")
+            }
+        }
+    }
+}
+
+/// A line for each number.
+fn lines_of(alloc: Global, kind: Kind, tallies: &BTreeMap<u32, Tally>) -> Result<String, AllocError>
+    ensures lines { IfOk result (λ text. string_bytes text ≡ flat_map (tally_line kind) tallies.now.entries) }
+    ensures ordered { OnOk result (IsOrdered nat_cmp tallies.now) }
+{
+    let mut text = String::new(alloc);
+    for (number, tally) in tallies {
+        let name = Name {
+            kind,
+            number: *number,
+        };
+        let line = line_of(alloc, name, *tally)?;
+        text.push_str(line.as_str())?;
+    }
+    Ok(text)
+}
+
+fn line_of(alloc: Global, name: Name, tally: Tally) -> Result<String, AllocError>
+    ensures { IfOk result (λ text. string_bytes text
+        ≡ count_line (name_of name.kind name.number) tally.count tally.clocks) }
+{
+    let Tally { count, clocks } = tally;
+    format!(in alloc; "{name} {count} {clocks}\n")
+}
+
+/// Makes `count` clocks, whatever the stops say, and tells where they went. Refused as `ClockLimit` past the last clock,
+/// and as `Memory`, with the clock that was reached, where there is none.
+pub(crate) fn tell_counts(
+    session: &mut Session,
+    alloc: Global,
+    count: u64,
+) -> Result<Answer, DebugFault>
+    ensures { AnswersMaking count (counts_text session.old.board.plain count) session.old result session.new }
+{
+    let start = session.board().clock();
+    if Clock::LAST - start.get() < count {
+        return Err(DebugFault::ClockLimit);
+    }
+    let end = Clock::new(start.get() + count).unwrap();
+    let mut counts = Counts::new(alloc);
+    'turns: while session.board().clock() < end {
+        let begun = session.run_turn(end)?;
+        if counts.note(begun).is_err() {
+            return Err(lacking(session));
+        }
+    }
+    match counts.text(alloc, start, end) {
+        Ok(text) => Ok(Answer::Text(text)),
+        Err(_) => Err(lacking(session)),
+    }
+}

@@ -1,0 +1,95 @@
+//! Inquiries, and the reading of a line as one.
+ghost use Rattle.std.specs.Prelude.{◌≡◌};
+ghost use Rattle.debugger.specs.Words.{count_of};
+ghost use Rattle.probe.specs.Inquiry.{inquiry_of, list_of, place_of, run_inquiry};
+
+use debugger::command::{Command, break_command, colon_place};
+use debugger::word::{count_of, hex_number, next_word};
+
+/// A place in memory.
+#[derive(Clone, Copy, Debug, PartialEq, Eq)]
+pub struct Place {
+    pub segment: u16,
+    pub offset: u16,
+}
+
+/// What a line inquires of a session's board, beside the debugger's commands.
+#[derive(Clone, Copy, Debug, PartialEq, Eq)]
+pub enum Inquiry {
+    /// What the chips hold.
+    Chips,
+    /// So many instructions, 1 to 4,096, from a place on.
+    List(Place, u16),
+    /// Where so many clocks went, which are made.
+    Counts(u64),
+    /// The changes of wires in so many clocks, which are made.
+    Signals(u64),
+}
+
+/// The inquiry that a line is, if it is one. Its words are parted by spaces, and written in lower case; a place is a
+/// segment and an offset of at most four hexadecimal digits with a colon between them, or a physical address of at most
+/// five; counts are decimal.
+#[tactic(auto, unfolding(crate::specs::Inquiry::inquiry_of))]
+pub fn read_inquiry(line: &str) -> Option<Inquiry>
+    ensures { result ≡ inquiry_of line.now }
+{
+    let (name, rest) = next_word(line.as_bytes())?;
+    let Some((first, rest)) = next_word(rest) else {
+        return if name == b"chips".as_slice() {
+            Some(Inquiry::Chips)
+        } else {
+            None
+        };
+    };
+    let Some((second, rest)) = next_word(rest) else {
+        return run_inquiry(name, first);
+    };
+    if next_word(rest).is_some() || name != b"list".as_slice() {
+        return None;
+    }
+    list(first, second)
+}
+
+/// An inquiry about clocks that are made.
+fn run_inquiry(name: &[u8], count: &[u8]) -> Option<Inquiry>
+    ensures { result ≡ run_inquiry name.now (count_of count.now) }
+{
+    let count = count_of(count)?;
+    if name == b"counts".as_slice() {
+        return Some(Inquiry::Counts(count));
+    }
+    if name == b"signals".as_slice() {
+        return Some(Inquiry::Signals(count));
+    }
+    None
+}
+
+/// So many instructions from a place on.
+fn list(place: &[u8], count: &[u8]) -> Option<Inquiry>
+    ensures { result ≡ list_of (place_of place.now) (count_of count.now) }
+{
+    let place = place_of(place)?;
+    let count = count_of(count)?;
+    if count < 1 || count > 4096 {
+        return None;
+    }
+    Some(Inquiry::List(place, count as u16))
+}
+
+/// A place in memory. A physical address is taken by the segment of its 64 KB.
+#[tactic(auto, unfolding(crate::specs::Inquiry::place_of))]
+fn place_of(word: &[u8]) -> Option<Place>
+    ensures { result ≡ place_of word.now }
+{
+    if colon_place(word).is_some() {
+        return match break_command(word) {
+            Some(Command::Break(segment, offset)) => Some(Place { segment, offset }),
+            _ => None,
+        };
+    }
+    let address = hex_number(5, word)?;
+    Some(Place {
+        segment: (address / 65536 * 4096) as u16,
+        offset: (address % 65536) as u16,
+    })
+}

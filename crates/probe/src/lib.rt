@@ -1,0 +1,16 @@
+//! Inquiries into a session's board beyond the debugger's commands: what its chips hold, and what stands in its memory as
+//! instructions.
+#![tactic(auto)]
+
+mod board_bytes;
+mod chips_text;
+mod controller_text;
+mod counter_text;
+mod counts;
+pub mod inquiry;
+pub mod laws;
+mod list_text;
+mod making;
+pub mod session;
+mod shown;
+mod signals;

@@ -1,0 +1,147 @@
+//! Instructions in memory as text.
+ghost use Rattle.std.specs.Prelude.{◌≡◌, ◌++◌, IfOk, OnOk, Some};
+ghost use Rattle.std.specs.List.{flat_map};
+ghost use Rattle.std.specs.String.{string_bytes};
+ghost use Rattle.board_types.specs.Digits.{hex_byte_text};
+ghost use Rattle.probe.specs.Listing.{bytes_listed, line_of, list_line, list_text, offset_listed_next, size_listed, stands_at, text_listed};
+
+use crate::board_bytes::BoardBytes;
+use crate::inquiry::Place;
+use board::board::Board;
+use board_types::address::physical;
+use board_types::digits::{HexByte, HexWord};
+use decode::decode::decode;
+use decode::decoding::Decoding;
+use disassembler::text::InstrText;
+use std::alloc::{AllocError, Global};
+use std::fmt;
+
+/// An instruction that stands at an offset, or a byte that begins none.
+#[derive(Drop)]
+struct Listed<'a> {
+    stands: &'a Decoding,
+    offset: u16,
+    byte: u8,
+}
+
+impl fmt::Display for Listed<'_> {
+    ghost output = { λ l. Some (text_listed l.stands.now l.offset l.byte) };
+
+    fn fmt<W: fmt::Write>(&self, f: &mut fmt::Formatter<W>) -> fmt::Result {
+        match self.stands {
+            Decoding::Found(instr, _) => {
+                let text = InstrText {
+                    instr,
+                    ip: self.offset,
+                };
+                write!(f, "{text}")
+            }
+            Decoding::NoRow => {
+                let byte = HexByte(self.byte);
+                write!(f, "DB 0{byte}h")
+            }
+        }
+    }
+}
+
+/// `count` instructions from a place on, a line each.
+pub(crate) fn list_text(
+    alloc: Global,
+    board: &Board,
+    place: Place,
+    count: u16,
+) -> Result<String, AllocError>
+    ensures { IfOk result (λ text. string_bytes text ≡ list_text board.now.plain place.segment place.offset count) }
+{
+    let segment = place.segment;
+    let mut offset = place.offset;
+    let mut text = String::new(alloc);
+    for _ in 0..count {
+        offset = push_line(alloc, &mut text, board, segment, offset)?;
+    }
+    Ok(text)
+}
+
+/// Adds the line of what stands at a place, and answers the offset of the next.
+#[tactic(auto, unfolding(crate::specs::Listing::list_line, crate::specs::Listing::offset_listed_next))]
+fn push_line(
+    alloc: Global,
+    text: &mut String,
+    board: &Board,
+    segment: u16,
+    offset: u16,
+) -> Result<u16, AllocError>
+    ensures line { OnOk result (string_bytes text.new ≡ string_bytes text.old ++ list_line board.now.plain segment offset) }
+    ensures next { IfOk result (λ next. next ≡ offset_listed_next board.now.plain segment offset) }
+{
+    let stands = stands_at(board, segment, offset);
+    let line = line_of(alloc, board, segment, offset, &stands)?;
+    text.push_str(line.as_str())?;
+    Ok(offset.wrapping_add(size_listed(&stands)))
+}
+
+/// What stands at a place.
+fn stands_at(board: &Board, segment: u16, offset: u16) -> Decoding
+    ensures { result ≡ stands_at board.now.plain segment offset }
+{
+    decode(&BoardBytes(board), segment, offset).unpack()
+}
+
+/// How many bytes of it are listed.
+fn size_listed(stands: &Decoding) -> u16
+    ensures { result ≡ size_listed stands.now }
+{
+    match stands {
+        Decoding::Found(_, size) => u16::from(*size),
+        Decoding::NoRow => 1,
+    }
+}
+
+/// The line of what stands at a place.
+fn line_of(
+    alloc: Global,
+    board: &Board,
+    segment: u16,
+    offset: u16,
+    stands: &Decoding,
+) -> Result<String, AllocError>
+    ensures { IfOk result (λ text. string_bytes text ≡ line_of board.now.plain segment offset stands.now) }
+{
+    let bytes = bytes_text(alloc, board, segment, offset, size_listed(stands))?;
+    let bytes = bytes.as_str();
+    let listed = Listed {
+        stands,
+        offset,
+        byte: board.byte(physical(segment, offset)),
+    };
+    let segment = HexWord(segment);
+    let offset = HexWord(offset);
+    format!(in alloc; "{segment}:{offset} {bytes} {listed}\n")
+}
+
+/// The `size` bytes from a place on, two digits each.
+fn bytes_text(
+    alloc: Global,
+    board: &Board,
+    segment: u16,
+    offset: u16,
+    size: u16,
+) -> Result<String, AllocError>
+    ensures { IfOk result (λ text. string_bytes text
+        ≡ flat_map hex_byte_text (bytes_listed board.now.plain segment offset size)) }
+{
+    let mut text = String::new(alloc);
+    for passed in 0..size {
+        let byte = board.byte(physical(segment, offset.wrapping_add(passed)));
+        let shown = byte_text(alloc, byte)?;
+        text.push_str(shown.as_str())?;
+    }
+    Ok(text)
+}
+
+fn byte_text(alloc: Global, byte: u8) -> Result<String, AllocError>
+    ensures { IfOk result (λ text. string_bytes text ≡ hex_byte_text byte) }
+{
+    let byte = HexByte(byte);
+    format!(in alloc; "{byte}")
+}

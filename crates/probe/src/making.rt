@@ -1,0 +1,13 @@
+//! Why clocks that are made for an inquiry end too soon.
+ghost use Rattle.std.specs.Prelude.{◌≡◌, Some};
+ghost use Rattle.board_plain.specs.Plain.{clock_of};
+
+use debugger::fault::DebugFault;
+use debugger::session::Session;
+
+/// There is no memory at the clock that was reached.
+pub(crate) fn lacking(session: &Session) -> DebugFault
+    ensures { result ≡ DebugFault.Memory (Some (clock_of session.now.board.plain)) }
+{
+    DebugFault::Memory(Some(session.board().clock()))
+}

@@ -1,0 +1,52 @@
+//! A session that is inquired of.
+ghost use Rattle.std.specs.Prelude.{◌≡◌};
+ghost use Rattle.probe.specs.Chips.{chips_text};
+ghost use Rattle.probe.specs.Listing.{list_text};
+ghost use Rattle.probe.specs.Session.{AnswersInquiry, AnswersProbe};
+ghost use Rattle.debugger.specs.Session.{Shows};
+
+use crate::chips_text::chips_text;
+use crate::counts::tell_counts;
+use crate::inquiry::{Inquiry, Place, read_inquiry};
+use crate::list_text::list_text;
+use crate::signals::tell_signals;
+use debugger::answer::Answer;
+use debugger::fault::DebugFault;
+use debugger::session::Session;
+use std::alloc::Global;
+
+/// Does what the line commands, and answers: an inquiry by itself, and any other line as the session does. An inquiry
+/// changes nothing, and is refused for want of memory alone, as `Memory`.
+pub fn command(session: &mut Session, alloc: Global, line: &str) -> Result<Answer, DebugFault>
+    ensures { AnswersProbe line.now session.old result session.new }
+{
+    match read_inquiry(line) {
+        None => session.command(alloc, line),
+        Some(inquiry) => answer(session, alloc, inquiry),
+    }
+}
+
+fn answer(session: &mut Session, alloc: Global, inquiry: Inquiry) -> Result<Answer, DebugFault>
+    ensures { AnswersInquiry inquiry session.old result session.new }
+{
+    match inquiry {
+        Inquiry::Chips => chips(session, alloc),
+        Inquiry::List(place, count) => list(session, alloc, place, count),
+        Inquiry::Counts(count) => tell_counts(session, alloc, count),
+        Inquiry::Signals(count) => tell_signals(session, alloc, count),
+    }
+}
+
+/// What the board's chips hold.
+fn chips(session: &Session, alloc: Global) -> Result<Answer, DebugFault>
+    ensures { Shows (chips_text session.now.board.plain) result }
+{
+    Ok(Answer::Text(chips_text(alloc, session.board())?))
+}
+
+/// `count` instructions from a place on.
+fn list(session: &Session, alloc: Global, place: Place, count: u16) -> Result<Answer, DebugFault>
+    ensures { Shows (list_text session.now.board.plain place.segment place.offset count) result }
+{
+    Ok(Answer::Text(list_text(alloc, session.board(), place, count)?))
+}

@@ -1,0 +1,59 @@
+//! What lines of text have in common.
+ghost use Rattle.std.specs.Prelude.{◌≡◌, ◌≤◌, Some, if◌then◌else◌};
+ghost use Rattle.board_types.specs.Lines.{is_high};
+ghost use Rattle.probe.specs.Shown.{byte_or_none, word_or_none};
+
+use board_types::digits::{HexByte, HexWord};
+use board_types::line::Line;
+use std::fmt;
+
+/// A byte in two hexadecimal digits, or `none`.
+#[derive(Clone, Copy)]
+pub(crate) struct ByteOrNone(pub(crate) Option<u8>);
+
+impl fmt::Display for ByteOrNone {
+    ghost output = { λ b. Some (byte_or_none b.0) };
+
+    fn fmt<W: fmt::Write>(&self, f: &mut fmt::Formatter<W>) -> fmt::Result {
+        match self.0 {
+            None => f.write_str("none"),
+            Some(byte) => {
+                let byte = HexByte(byte);
+                write!(f, "{byte}")
+            }
+        }
+    }
+}
+
+/// A word in four hexadecimal digits, or `none`.
+#[derive(Clone, Copy)]
+pub(crate) struct WordOrNone(pub(crate) Option<u16>);
+
+impl fmt::Display for WordOrNone {
+    ghost output = { λ w. Some (word_or_none w.0) };
+
+    fn fmt<W: fmt::Write>(&self, f: &mut fmt::Formatter<W>) -> fmt::Result {
+        match self.0 {
+            None => f.write_str("none"),
+            Some(word) => {
+                let word = HexWord(word);
+                write!(f, "{word}")
+            }
+        }
+    }
+}
+
+/// 1 for yes and 0 for no.
+pub(crate) fn digit(yes: bool) -> u8
+    ensures digit { result ≡ (if yes then 1 else 0) }
+    ensures bound { result ≤ 1 }
+{
+    if yes { 1 } else { 0 }
+}
+
+/// 1 for a high line and 0 for a low one.
+pub(crate) fn line_digit(line: Line) -> u8
+    ensures { result ≡ (if is_high line then 1 else 0) }
+{
+    digit(line.is_high())
+}

@@ -1,0 +1,133 @@
+//! The changes of wires while clocks are made.
+ghost use Rattle.std.specs.Prelude.{◌≡◌, ◌++◌, IfOk, OnOk, codes};
+ghost use Rattle.std.specs.Fmt.{decimal};
+ghost use Rattle.std.specs.String.{string_bytes};
+ghost use Rattle.pic8259.specs.Levels.{contains};
+ghost use Rattle.probe.specs.Making.{AnswersMaking};
+ghost use Rattle.probe.specs.Signals.{change_line, changes_between, levels_of, signals_text};
+
+use crate::making::lacking;
+use crate::shown::digit;
+use board::board::Board;
+use board_types::clock::Clock;
+use debugger::answer::Answer;
+use debugger::fault::DebugFault;
+use debugger::session::Session;
+use pic8259::Pic;
+use std::alloc::{AllocError, Global};
+
+/// Whether each of these wires is high.
+#[derive(Clone, Copy)]
+pub(crate) struct Levels {
+    out_0: bool,
+    out_2: bool,
+    ir_0: bool,
+    ir_1: bool,
+    int: bool,
+    speaker: bool,
+}
+
+/// The levels of a board's wires.
+#[tactic(auto, unfolding(crate::specs::Signals::levels_of))]
+fn levels_of(board: &Board) -> Levels
+    ensures { result ≡ levels_of board.now.plain }
+{
+    let timer = board.timer();
+    let controller = board.controller();
+    let (ir_0, ir_1) = lines_of(&controller);
+    Levels {
+        out_0: timer.out(0).is_high(),
+        out_2: timer.out(2).is_high(),
+        ir_0,
+        ir_1,
+        int: controller.request(),
+        speaker: board.speaker().is_high(),
+    }
+}
+
+/// Whether request lines 0 and 1 are high.
+#[tactic(auto, unfolding(pic8259::specs::Image::pic_of))]
+fn lines_of(controller: &Pic) -> (bool, bool)
+    ensures ir_0 { result.0 ≡ contains controller.now.high 0 }
+    ensures ir_1 { result.1 ≡ contains controller.now.high 1 }
+{
+    let lines = controller.image().high;
+    (lines % 2 == 1, lines / 2 % 2 == 1)
+}
+
+/// Adds a line for each wire that a clock has changed.
+#[tactic(auto, unfolding(crate::specs::Signals::changes_between))]
+fn push_changes(
+    alloc: Global,
+    text: &mut String,
+    clock: u64,
+    before: Levels,
+    after: Levels,
+) -> Result<(), AllocError>
+    ensures { OnOk result (string_bytes text.new ≡ string_bytes text.old ++ changes_between clock before after) }
+{
+    push_change(alloc, text, "OUT0", clock, before.out_0, after.out_0)?;
+    push_change(alloc, text, "OUT2", clock, before.out_2, after.out_2)?;
+    push_change(alloc, text, "IR0", clock, before.ir_0, after.ir_0)?;
+    push_change(alloc, text, "IR1", clock, before.ir_1, after.ir_1)?;
+    push_change(alloc, text, "INT", clock, before.int, after.int)?;
+    push_change(alloc, text, "speaker", clock, before.speaker, after.speaker)
+}
+
+/// Adds a line, if the wire has changed.
+fn push_change(
+    alloc: Global,
+    text: &mut String,
+    name: &str,
+    clock: u64,
+    before: bool,
+    after: bool,
+) -> Result<(), AllocError>
+    ensures { OnOk result (string_bytes text.new ≡ string_bytes text.old ++ change_line name.now clock before after) }
+{
+    if before == after {
+        return Ok(());
+    }
+    let level = digit(after);
+    let line = format!(in alloc; "{clock} {name} {level}\n")?;
+    text.push_str(line.as_str())
+}
+
+/// Makes `count` clocks, whatever the stops say, and tells each change of the wires. Refused as `ClockLimit` past the
+/// last clock, and as `Memory`, with the clock that was reached, where there is none.
+pub(crate) fn tell_signals(
+    session: &mut Session,
+    alloc: Global,
+    count: u64,
+) -> Result<Answer, DebugFault>
+    ensures { AnswersMaking count (signals_text session.old.board.plain count) session.old result session.new }
+{
+    let start = session.board().clock();
+    if Clock::LAST - start.get() < count {
+        return Err(DebugFault::ClockLimit);
+    }
+    let end = Clock::new(start.get() + count).unwrap();
+    let mut text = String::new(alloc);
+    let mut levels = levels_of(session.board());
+    'turns: while session.board().clock() < end {
+        let clock = session.board().clock().get() + 1;
+        session.run_turn(end)?;
+        let after = levels_of(session.board());
+        if push_changes(alloc, &mut text, clock, levels, after).is_err() {
+            return Err(lacking(session));
+        }
+        levels = after;
+    }
+    match with_clock(alloc, text.as_str(), end) {
+        Ok(text) => Ok(Answer::Text(text)),
+        Err(_) => Err(lacking(session)),
+    }
+}
+
+/// A text, and behind it the clock that is reached.
+fn with_clock(alloc: Global, text: &str, clock: Clock) -> Result<String, AllocError>
+    ensures { IfOk result (λ whole. string_bytes whole ≡ text.now ++ (codes "clock " ++ (decimal clock ++ codes "\n"))) }
+{
+    let clock = clock.get();
+    format!(in alloc; "{text}clock {clock}\n")
+}
