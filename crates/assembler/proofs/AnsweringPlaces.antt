@@ -1,21 +1,20 @@
 -- A row whose bytes the image holds has no fault of placing.
-use Rattle.std.proofs.Common.{◌≡◌, ◌∙◌, ℕ, ◌+◌, ◌<◌, ◌≤◌, ◌==◌, List, [], ◌∷◌, ◌++◌, length, refl, sym, ap, subst, arith, inl, inr, Bool, true, false, ◌&&◌, ◌||◌, Option, None, Some, is_some, nat_lt, if◌then◌else◌, append_assoc, append-nil, Contains}
+use Rattle.std.proofs.Common.{◌≡◌, ◌∙◌, ℕ, ◌+◌, ◌<◌, ◌≤◌, ◌==◌, List, [], ◌∷◌, ◌++◌, length, refl, sym, ap, subst, arith, inl, inr, Bool, true, false, ◌||◌, Option, None, Some, is_some, nat_lt, append_assoc, append-nil, Contains}
 use Rattle.std.specs.List.{AllByRecursion, IsDistinct, list_all, list_any}
 use Rattle.std.specs.Map.{keys_of}
 use Rattle.std.specs.Ordering.{nat_cmp}
 use Rattle.std.specs.BTreeMap.{is_at}
-use Rattle.std.proofs.lemmas.Bool.{cases_lt}
+use Rattle.std.proofs.lemmas.Bool.{and_from, cases_lt, or_from}
 use Rattle.std.proofs.lemmas.Bool.Decides.{nat_tests}
 use Rattle.std.proofs.lemmas.Grind.{flat_map-append}
 use Rattle.std.proofs.lemmas.List.Elements.{All-contains, Contains-append_left, Contains-append_right}
 use Rattle.std.proofs.lemmas.Map.Views.{Contains-keys_from_lookup}
 use Rattle.board_types.specs.Image.{IsImage, IsLoadable, image_byte}
-use Rattle.assembler.specs.declared.fault.SourceFault.TheVariants.{BadLine, UnknownName, BadForm, TwiceDefined, NoSegment}
 use Rattle.assembler.specs.declared.row.Content.{Content}
 use Rattle.assembler_meaning.specs.declared.symbol.Location.{Location}
 use Rattle.assembler_meaning.specs.Values.{Names}
 use Rattle.assembler.specs.Placement.{content_of, bytes_by, bytes_from, address_behind, addresses_from, placed_at, placed_by, placed_by_all, lacks_name, has_wrong_number, is_past_end, is_loadable, is_placed, fault_at, late_fault, row_fault}
-use Rattle.assembler.specs.Rows.{Row, AreRows, IsCleanRow, names_of, early_fault, has_wrong_constant, has_unknown_constant, opens_within, lacks_form, defines_again, stands_outside}
+use Rattle.assembler.specs.Rows.{Row, AreRows, IsCleanRow, names_of}
 use Rattle.assembler.specs.Gives.{ArePlaced, Fits, FitsAt}
 use Rattle.assembler.proofs.RowLength.{keeps_size}
 
@@ -27,16 +26,10 @@ none_in_nothing : (ys : List ℕ) → NoneIn [] ys
 none_in_nothing [] = tt
 none_in_nothing (y ∷ ys) = (refl, none_in_nothing ys)
 
-neither : (a b : Bool) → a ≡ false → b ≡ false → (a || b) ≡ false
-neither a b left right = rw (left, right) refl
-
-both : (a b : Bool) → a ≡ true → b ≡ true → (a && b) ≡ true
-both a b left right = rw (left, right) refl
-
 none_in_more : (x : ℕ) (xs ys : List ℕ) → AllByRecursion (λ (y : ℕ). (x == y) ≡ false) ys → NoneIn xs ys → NoneIn (x ∷ xs) ys
 none_in_more x xs [] apart none = tt
 none_in_more x xs (y ∷ ys) apart none =
-    (neither (x == y) (list_any (λ (a : ℕ). a == y) xs) apart.0 none.0, none_in_more x xs ys apart.1 none.1)
+    (or_from (x == y) (list_any (λ (a : ℕ). a == y) xs) apart.0 none.0, none_in_more x xs ys apart.1 none.1)
 
 all_behind : (x : ℕ) (xs ys : List ℕ) → AllByRecursion (λ (y : ℕ). (x == y) ≡ false) (xs ++ ys) → AllByRecursion (λ (y : ℕ). (x == y) ≡ false) ys
 all_behind x [] ys apart = apart
@@ -62,7 +55,7 @@ placed_is (entry ∷ placed) address = ap (λ (b : Bool). (entry.0 == address) |
 
 none_taken : (placed : List (ℕ × ℕ)) (ys : List ℕ) → NoneIn (keys_of placed) ys → list_any (is_placed placed) ys ≡ false
 none_taken placed [] none = refl
-none_taken placed (y ∷ ys) none = neither (is_placed placed y) (list_any (is_placed placed) ys) (placed_is placed y ∙ none.0) (none_taken placed ys none.1)
+none_taken placed (y ∷ ys) none = or_from (is_placed placed y) (list_any (is_placed placed) ys) (placed_is placed y ∙ none.0) (none_taken placed ys none.1)
 
 -- the addresses of bytes
 addresses_are : (location : Location) (n : ℕ) (bytes : List ℕ) → keys_of (bytes_from location n bytes) ≡ addresses_from location n (length bytes)
@@ -102,7 +95,7 @@ loadable_in image address byte is at =
 all_loadable : (placed : List (ℕ × ℕ)) → ((address byte : ℕ) → Contains placed (address, byte) → is_loadable address ≡ true) → list_all is_loadable (keys_of placed) ≡ true
 all_loadable [] each = refl
 all_loadable (entry ∷ placed) each =
-    both (is_loadable entry.0) (list_all is_loadable (keys_of placed)) (each entry.0 entry.1 (0, omega arith, refl))
+    and_from (is_loadable entry.0) (list_all is_loadable (keys_of placed)) (each entry.0 entry.1 (0, omega arith, refl))
     (all_loadable placed (λ address byte there. each address byte (Contains-append_right (entry ∷ []) placed (address, byte) there)))
 
 -- what a list of rows places is what those before a row place, what it places, and what those behind it place
@@ -119,7 +112,7 @@ pub record CleanThere (before : List Row) (row : Row) : Type 0 where
   pub text : List ℕ
   pub clean : IsCleanRow before text row
 
-clean_there : (before : List Row) (texts : List (List ℕ)) (front : List Row) (row : Row) (back : List Row) → AreRows before texts (front ++ row ∷ back) → CleanThere (before ++ front) row
+pub clean_there : (before : List Row) (texts : List (List ℕ)) (front : List Row) (row : Row) (back : List Row) → AreRows before texts (front ++ row ∷ back) → CleanThere (before ++ front) row
 clean_there before [] [] row back are = absurd are
 clean_there before (text ∷ texts) [] row back are = record {
   text = text;

@@ -5,6 +5,7 @@ use Rattle.std.specs.List.{AllByRecursion, list_all}
 use Rattle.std.specs.Char.{to_ascii_uppercase}
 use Rattle.std.specs.Option.{option_map, option_map_or}
 use Rattle.std.specs.Str.{IsAscii, bytes_eq}
+use Rattle.std.proofs.lemmas.Bool.{and_parts}
 use Rattle.std.proofs.lemmas.Str.{IsAscii-append}
 use Rattle.isa.specs.declared.form.Prefix.{Prefix as PrefixType}
 use Rattle.dialect.specs.declared.mnemonic.Mnemonic.{Mnemonic as MnemonicType}
@@ -62,10 +63,6 @@ either_way : {A : Type 0} (P : A → Type 0) (test : Bool) (x y : A) → P x →
 either_way P true x y left right = left
 either_way P false x y left right = right
 
-both_of : (a b : Bool) → (a && b) ≡ true → (a ≡ true) × (b ≡ true)
-both_of true b both = (refl, both)
-both_of false b both = absurd (let never : false ≡ true = both in cc)
-
 -- lexemes of ASCII characters
 abbrev AreAscii : List (List ℕ) → Type 0
 AreAscii parts = AllByRecursion IsAscii parts
@@ -81,11 +78,11 @@ lexemes_ascii : (within : Bool) (text : List ℕ) → list_all is_character text
 lexemes_ascii true [] all = (nil_ascii, tt)
 lexemes_ascii false [] all = tt
 lexemes_ascii true (b ∷ bs) all =
-    let parts = both_of (is_character b) (list_all is_character bs) all in
+    let parts = and_parts (is_character b) (list_all is_character bs) all in
     either_way AreAscii (b == 39) ((39 ∷ []) ∷ lexemes_from false bs) (onto_first b (lexemes_from true bs))
     (quote_ascii, lexemes_ascii false bs parts.1) (onto_ascii b (lexemes_from true bs) (character_below b parts.0) (lexemes_ascii true bs parts.1))
 lexemes_ascii false (b ∷ bs) all =
-    let parts = both_of (is_character b) (list_all is_character bs) all in
+    let parts = and_parts (is_character b) (list_all is_character bs) all in
     let low : b < 128 = character_below b parts.0 in
     let outside : AreAscii (lexemes_from false bs) = lexemes_ascii false bs parts.1 in
     either_way AreAscii (b == 59) [] _ tt

@@ -1,9 +1,10 @@
 -- Texts of ASCII characters.
-use Rattle.std.proofs.Common.{◌≡◌, ◌∙◌, ℕ, zero, suc, ◌<◌, List, [], ◌∷◌, refl, ap, arith, Bool, true, false, ◌&&◌, Result, Ok, Err, if◌then◌else◌, MatchResult}
+use Rattle.std.proofs.Common.{◌≡◌, ◌∙◌, ℕ, zero, suc, ◌<◌, List, [], ◌∷◌, refl, ap, arith, Bool, true, false, Result, Ok, Err, if◌then◌else◌, MatchResult}
 use Rattle.std.specs.Borrow.{Bor}
 use Rattle.std.specs.List.{list_all}
 use Rattle.std.specs.Result.{result_unwrap_or}
 use Rattle.std.specs.Str.{IsAscii, IsUtf8}
+use Rattle.std.proofs.lemmas.Bool.{and_parts}
 use Rattle.std.proofs.lemmas.Bool.Decides.{nat_tests}
 use Rattle.std.proofs.lemmas.Str.{IsUtf8-from_ascii}
 use Rattle.assembler_lexeme.specs.declared.fault.SyntaxFault.{SyntaxFault}
@@ -20,18 +21,14 @@ pub text_of_utf8 : {E : Type 0} (r : Result (Bor (List ℕ)) E) (or_else text : 
 text_of_utf8 (Ok s) or_else text bytes Q ascii is made = ap (λ (t : Bor (List ℕ)). t.now) is ∙ made.0
 text_of_utf8 (Err e) or_else text bytes Q ascii is made = absurd (made.0 (IsUtf8-from_ascii bytes ascii))
 
-both_of : (a b : Bool) → (a && b) ≡ true → (a ≡ true) × (b ≡ true)
-both_of true b both = (refl, both)
-both_of false b both = absurd (let never : false ≡ true = both in cc)
-
 pub character_below : (b : ℕ) → is_character b ≡ true → b < 128
 character_below b is = grind (arith, nat_tests)
 
 -- the characters of a line are ASCII
 pub ascii_of : (text : List ℕ) → list_all is_character text ≡ true → IsAscii text
 ascii_of [] all i = omega arith
-ascii_of (b ∷ bs) all zero = character_below b (both_of (is_character b) (list_all is_character bs) all).0
-ascii_of (b ∷ bs) all (suc i) = ascii_of bs (both_of (is_character b) (list_all is_character bs) all).1 i
+ascii_of (b ∷ bs) all zero = character_below b (and_parts (is_character b) (list_all is_character bs) all).0
+ascii_of (b ∷ bs) all (suc i) = ascii_of bs (and_parts (is_character b) (list_all is_character bs) all).1 i
 
 all_passed : (b : Bool) (r : Result Line SyntaxFault) (line : Line) → (if b then r else Err BadCharacter) ≡ Ok line → b ≡ true
 all_passed true r line is = refl

@@ -3,13 +3,12 @@ use Rattle.std.proofs.Common.{zero, suc, ◌≡◌, ◌∙◌, ℕ, ◌+◌, ◌
 use Rattle.std.specs.Prelude.{IsTrue, ◌↔◌}
 use Rattle.std.specs.List.{AllByRecursion, IsDistinct, list_all, list_any}
 use Rattle.std.specs.Map.{keys_of}
-use Rattle.std.proofs.lemmas.Bool.{cases_lt, eqb-true}
+use Rattle.std.proofs.lemmas.Bool.{and_parts, cases_lt, eqb-true, or_parts, or_right}
 use Rattle.std.proofs.lemmas.Bool.Decides.{nat_tests}
 use Rattle.std.proofs.lemmas.Map.Keys.{IsDistinct-cons, IsDistinct-head, IsDistinct-tail}
 use Rattle.board_types.specs.Image.{IsLoadable}
 use Rattle.assembler_meaning.specs.declared.symbol.Location.{Location}
 use Rattle.assembler.specs.Placement.{address_behind, addresses_from, bytes_from, is_loadable, is_placed}
-use Rattle.assembler.proofs.RowLength.{left_false, left_true, right_false, right_true}
 
 -- a test of each address
 any_from : (test : ℕ → Bool) (location : Location) (n k : ℕ) → ((j : ℕ) → n ≤ j → j < n + k → test (address_behind location j) ≡ false) → list_any test (addresses_from location n k) ≡ false
@@ -19,10 +18,6 @@ any_from test location n (suc k) none =
 
 pub any_none : (test : ℕ → Bool) (location : Location) (size : ℕ) → ((j : ℕ) → j < size → test (address_behind location j) ≡ false) → list_any test (addresses_from location 0 size) ≡ false
 any_none test location size none = any_from test location 0 size (λ j low high. none j (omega arith))
-
-or_right : (a b : Bool) → b ≡ true → (a || b) ≡ true
-or_right true b e = refl
-or_right false b e = e
 
 any_there : (test : ℕ → Bool) (location : Location) (n k j : ℕ) → n ≤ j → j < n + k → test (address_behind location j) ≡ true → list_any test (addresses_from location n k) ≡ true
 any_there test location n zero j low high there = absurd (omega arith)
@@ -46,8 +41,8 @@ all_there : (test : ℕ → Bool) (location : Location) (n k j : ℕ) → n ≤ 
 all_there test location n zero j low high all = absurd (omega arith)
 all_there test location n (suc k) j low high all = elim (cases_lt n j) [
   | inl above ↦
-      all_there test location (n + 1) k j (omega arith) (omega arith) (right_true (test (address_behind location n)) (list_all test (addresses_from location (n + 1) k)) all)
-  | inr not_above ↦ let same : j ≡ n = omega arith in rw same (left_true (test (address_behind location n)) (list_all test (addresses_from location (n + 1) k)) all)
+      all_there test location (n + 1) k j (omega arith) (omega arith) (and_parts (test (address_behind location n)) (list_all test (addresses_from location (n + 1) k)) all).1
+  | inr not_above ↦ let same : j ≡ n = omega arith in rw same (and_parts (test (address_behind location n)) (list_all test (addresses_from location (n + 1) k)) all).0
 ]
 
 pub all_at : (test : ℕ → Bool) (location : Location) (size j : ℕ) → list_all test (addresses_from location 0 size) ≡ true → j < size → test (address_behind location j) ≡ true
@@ -120,9 +115,9 @@ all_append P (x ∷ xs) ys all more = (all.0, all_append P xs ys all.1 more)
 none_first : (x : ℕ) (taken : ℕ → Bool) (ys : List ℕ) → list_any (λ y. (x == y) || taken y) ys ≡ false → AllByRecursion (λ y. (x == y) ≡ false) ys × (list_any taken ys ≡ false)
 none_first x taken [] none = (tt, refl)
 none_first x taken (y ∷ ys) none =
-    let head = left_false ((x == y) || taken y) (list_any (λ y. (x == y) || taken y) ys) none in
-    let rest = none_first x taken ys (right_false ((x == y) || taken y) (list_any (λ y. (x == y) || taken y) ys) none) in
-    ((left_false (x == y) (taken y) head, rest.0), rw (right_false (x == y) (taken y) head) rest.1)
+    let head = (or_parts ((x == y) || taken y) (list_any (λ y. (x == y) || taken y) ys) none).0 in
+    let rest = none_first x taken ys (or_parts ((x == y) || taken y) (list_any (λ y. (x == y) || taken y) ys) none).1 in
+    (((or_parts (x == y) (taken y) head).0, rest.0), rw (or_parts (x == y) (taken y) head).1 rest.1)
 
 pub still_differ : (placed : List (ℕ × ℕ)) (ys : List ℕ) → IsDistinct (λ a b. a == b) (keys_of placed) → IsDistinct (λ a b. a == b) ys → list_any (is_placed placed) ys ≡ false
     → IsDistinct (λ a b. a == b) (keys_of placed ++ ys)

@@ -1,6 +1,7 @@
 -- What stands at a location, where it has no fault.
 use Rattle.std.proofs.Common.{◌≡◌, ◌∙◌, ℕ, ◌+◌, ◌<◌, ◌≤◌, ◌&&◌, List, length, refl, sym, ap, subst, arith, Bool, true, false, Option, None, Some, nat_lt, if◌then◌else◌}
 use Rattle.std.specs.List.{list_all, list_any}
+use Rattle.std.proofs.lemmas.Bool.{or_parts}
 use Rattle.std.proofs.lemmas.Bool.Decides.{nat_tests}
 use Rattle.assembler.specs.declared.fault.SourceFault.{SourceFault}
 use Rattle.assembler.specs.declared.fault.SourceFault.TheVariants.{Undefined, OutOfRange, OutOfSegment, Overlap, NotLoadable}
@@ -11,13 +12,12 @@ use Rattle.assembler_meaning.specs.Values.{Names}
 use Rattle.assembler.specs.Placement.{addresses_from, bytes_by, has_wrong_number, is_loadable, is_past_end, lacks_name, late_fault}
 use Rattle.assembler.specs.Kept.{content_in}
 use Rattle.assembler.specs.SecondPass.{CanStand, HasSize, HasSizeAt, KeepsSize, content_fault, kept_fault}
-use Rattle.assembler.proofs.RowLength.{left_false}
 
 pub record IsElse (test : Bool) (rest : Option SourceFault) : Type 0 where
   pub fails : test ≡ false
   pub goes_on : rest ≡ None
 
-is_else : (test : Bool) (fault : SourceFault) (rest : Option SourceFault) → (if test then Some fault else rest) ≡ None → IsElse test rest
+pub is_else : (test : Bool) (fault : SourceFault) (rest : Option SourceFault) → (if test then Some fault else rest) ≡ None → IsElse test rest
 is_else true fault rest none = cc
 is_else false fault rest none = record { fails = refl; goes_on = none }
 
@@ -46,7 +46,7 @@ below_end size last none some = grind (arith, nat_tests)
 
 pub ends_within : (location : Location) (size : ℕ) (has_label : Bool) → is_past_end location size has_label ≡ false → 0 < size → location.offset + size ≤ 65536
 ends_within location size has_label within some =
-    below_end size (location.offset + size) (left_false (nat_lt 0 size && nat_lt 65536 (location.offset + size)) (has_label && nat_lt 65535 location.offset) within) some
+    below_end size (location.offset + size) (or_parts (nat_lt 0 size && nat_lt 65536 (location.offset + size)) (has_label && nat_lt 65535 location.offset) within).0 some
 
 -- of a kept row
 pub kept_stands : (names : Names) (is_taken : ℕ → Bool) (kept : KeptRow) (location : Location) (content : Option Content) → kept.location ≡ Some location → content_in kept ≡ content

@@ -1,7 +1,8 @@
 -- What is within a length is within a greater one, and an instruction that has a form has few prefixes.
-use Rattle.std.proofs.Common.{◌≡◌, ℕ, ◌≤◌, refl, arith, Bool, true, false, ◌&&◌, nat_le, List, [], ◌∷◌, length, Option, None, Some, if◌then◌else◌}
+use Rattle.std.proofs.Common.{◌≡◌, ℕ, ◌≤◌, refl, arith, Bool, true, false, nat_le, List, [], ◌∷◌, length, Option, None, Some, if◌then◌else◌}
 use Rattle.std.specs.List.{list_all}
 use Rattle.std.specs.Option.{option_map}
+use Rattle.std.proofs.lemmas.Bool.{and_from, and_parts}
 use Rattle.std.proofs.lemmas.Bool.Decides.{nat_tests}
 use Rattle.isa.specs.declared.form.Form.{Form}
 use Rattle.assembler_syntax.specs.declared.expression.Term.{Term}
@@ -20,18 +21,11 @@ use Rattle.assembler_meaning.specs.Values.{Names}
 use Rattle.assembler_meaning.specs.Instructions.{IsFormFor, instruction_asked, known_operands, prefixes_of}
 use Rattle.assembler_syntax.specs.Weights.{are_terms_within, is_displacement_within, is_expression_within, is_item_within, is_operand_within, is_piece_within}
 
-and_true : (a b : Bool) → (a && b) ≡ true → (a ≡ true) × (b ≡ true)
-and_true true b both = (refl, both)
-and_true false b both = cc
-
-both_true : (a b : Bool) → a ≡ true → b ≡ true → (a && b) ≡ true
-both_true a b left right = rw left right
-
 all_more : {A : Type 0} (p q : A → Bool) → ((x : A) → p x ≡ true → q x ≡ true) → (xs : List A) → list_all p xs ≡ true → list_all q xs ≡ true
 all_more p q more [] all = refl
 all_more p q more (x ∷ xs) all =
-    let parts = and_true (p x) (list_all p xs) all in
-    both_true (q x) (list_all q xs) (more x parts.0) (all_more p q more xs parts.1)
+    let parts = and_parts (p x) (list_all p xs) all in
+    and_from (q x) (list_all q xs) (more x parts.0) (all_more p q more xs parts.1)
 
 module _ (n m : ℕ) (le : n ≤ m) where
   few_more : (k : ℕ) → nat_le k n ≡ true → nat_le k m ≡ true
@@ -52,8 +46,8 @@ module _ (n m : ℕ) (le : n ≤ m) where
   operand_more (operands.Short terms) few = terms_more terms few
   operand_more (operands.FarLabel name) few = refl
   operand_more (operands.FarPointer s o) few =
-      let parts = and_true (is_expression_within n s) (is_expression_within n o) few in
-      both_true (is_expression_within m s) (is_expression_within m o) (terms_more s parts.0) (terms_more o parts.1)
+      let parts = and_parts (is_expression_within n s) (is_expression_within n o) few in
+      and_from (is_expression_within m s) (is_expression_within m o) (terms_more s parts.0) (terms_more o parts.1)
 
   piece_more : (piece : Piece) → is_piece_within n piece ≡ true → is_piece_within m piece ≡ true
   piece_more (pieces.Value terms) few = terms_more terms few
@@ -62,8 +56,8 @@ module _ (n m : ℕ) (le : n ≤ m) where
   item_more : (item : Item) → is_item_within n item ≡ true → is_item_within m item ≡ true
   item_more (Once piece) few = piece_more piece few
   item_more (Repeated count each) few =
-      let parts = and_true (is_expression_within n count) (list_all (is_piece_within n) each) few in
-      both_true (is_expression_within m count) (list_all (is_piece_within m) each) (terms_more count parts.0) (all_more (is_piece_within n) (is_piece_within m) piece_more each parts.1)
+      let parts = and_parts (is_expression_within n count) (list_all (is_piece_within n) each) few in
+      and_from (is_expression_within m count) (list_all (is_piece_within m) each) (terms_more count parts.0) (all_more (is_piece_within n) (is_piece_within m) piece_more each parts.1)
 
   pub within_more : (statement : Statement) → are_terms_within n statement ≡ true → are_terms_within m statement ≡ true
   within_more Empty few = refl

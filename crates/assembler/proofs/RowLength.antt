@@ -1,5 +1,5 @@
 -- A row has as many bytes as its size says.
-use Rattle.std.proofs.Common.{◌≡◌, ℕ, ◌++◌, [], length, refl, sym, subst, Bool, true, false, not, ◌&&◌, ◌||◌, Option, None, Some, is_none, if◌then◌else◌}
+use Rattle.std.proofs.Common.{◌≡◌, ℕ, ◌++◌, [], length, refl, sym, subst, Bool, true, false, not, ◌||◌, Option, None, Some, is_none, if◌then◌else◌}
 use Rattle.std.specs.Option.{option_map_or}
 use Rattle.isa.specs.declared.form.Form.{Form}
 use Rattle.isa.specs.declared.form.Values.{Values}
@@ -19,22 +19,6 @@ use Rattle.assembler.specs.SecondPass.{HasSizeAt}
 use Rattle.assembler_meaning.proofs.LeavesLength.{code_length, data_length, keeps_behind}
 
 -- tests
-pub left_true : (a b : Bool) → (a && b) ≡ true → a ≡ true
-left_true true b e = refl
-left_true false b e = e
-
-pub right_true : (a b : Bool) → (a && b) ≡ true → b ≡ true
-right_true true b e = e
-right_true false b e = cc
-
-pub left_false : (a b : Bool) → (a || b) ≡ false → a ≡ false
-left_false true b e = e
-left_false false b e = refl
-
-pub right_false : (a b : Bool) → (a || b) ≡ false → b ≡ false
-right_false true b e = cc
-right_false false b e = e
-
 pub not_false : (a : Bool) → not a ≡ false → a ≡ true
 not_false true e = refl
 not_false false e = cc

@@ -60,7 +60,7 @@ field_of_kind kinds.At16 l = refl
 field_of_kind kinds.Far l = refl
 field_of_kind _ l = refl
 
-values_are : (a b c : Option ℕ) (v : Values) → values_with a b c ≡ Some v → (a ≡ Some v.displacement) × (b ≡ Some v.number) × (c ≡ Some v.segment)
+pub values_are : (a b c : Option ℕ) (v : Values) → values_with a b c ≡ Some v → (a ≡ Some v.displacement) × (b ≡ Some v.number) × (c ≡ Some v.segment)
 values_are (Some a) (Some b) (Some c) v e =
     let is : record { displacement = a; number = b; segment = c } ≡ v = cc in
     (ap (λ x. Some x.displacement) is, ap (λ x. Some x.number) is, ap (λ x. Some x.segment) is)

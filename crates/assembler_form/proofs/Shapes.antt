@@ -1,6 +1,7 @@
 -- What a row takes fits its parts. That no row has two operands in one part is computed from a test of one row.
 use Rattle.std.proofs.Common.{ℕ, ◌≡◌, ◌≢◌, ◌+◌, ◌<◌, Bool, true, false, not, ◌&&◌, ◌||◌, cond, List, Contains, refl, sym, subst, ap, arith, rules, lit<, Option, Some, None}
 use Rattle.std.specs.Prelude.{IsTrue, pos, negsuc, slice_get}
+use Rattle.std.proofs.lemmas.Bool.{and_parts}
 use Rattle.std.proofs.lemmas.Bool.Decides.{nat_tests}
 use Rattle.std.proofs.lemmas.Option.{get_or_from_slice_get, slice_get_within}
 use Rattle.std.specs.List.{list_all}
@@ -280,14 +281,6 @@ all_have_their_parts : list_all has_its_parts rows ≡ true
 unfolding rows
 all_have_their_parts = refl
 
-left_true : (s t : Bool) → (s && t) ≡ true → s ≡ true
-left_true true t e = refl
-left_true false t e = cc
-
-right_true : (s t : Bool) → (s && t) ≡ true → t ≡ true
-right_true true t e = e
-right_true false t e = cc
-
 form_fits : (r : Row) (a : Asked) → has_its_parts r ≡ true → Contains rows r → Takes r a → IsForm (form_with r a)
 unfolding form_with
 form_fits r a shape within takes =
@@ -297,19 +290,19 @@ form_fits r a shape within takes =
     let regs : Bool = is_none (kind_reg k) || is_none (kind_reg l) in
     let digits : Bool = is_none_digit r.digit || is_none (first_reg (kind_reg k) (kind_reg l)) in
     let placed : Bool = has_its_place (reg_part r) (has_place k) (has_place l) in
-    let after_codes : (regs && (digits && placed)) ≡ true = right_true codes (regs && (digits && placed)) shape in
-    let after_regs : (digits && placed) ≡ true = right_true regs (digits && placed) after_codes in
+    let after_codes : (regs && (digits && placed)) ≡ true = (and_parts codes (regs && (digits && placed)) shape).1 in
+    let after_regs : (digits && placed) ≡ true = (and_parts regs (digits && placed) after_codes).1 in
     record {
       row = within;
       code = both_codes (kind_code k) (kind_code l) (in_opcode k a.first) (in_opcode l a.second)
-          (left_true codes (regs && (digits && placed)) shape)
+          (and_parts codes (regs && (digits && placed)) shape).0
           (code_fits a.operation k a.first takes.first) (code_fits a.operation l a.second takes.second);
       second = second_fits (reg_part r) k l (in_reg k a.first + in_reg l a.second) (in_place k a.first) (in_place l a.second)
-          (right_true digits placed after_regs)
+          (and_parts digits placed after_regs).1
           (with_digit r.digit (first_reg (kind_reg k) (kind_reg l)) (in_reg k a.first + in_reg l a.second)
-          (left_true digits placed after_regs)
+          (and_parts digits placed after_regs).0
           (both_regs (kind_reg k) (kind_reg l) (in_reg k a.first) (in_reg l a.second)
-          (left_true regs (digits && placed) after_codes)
+          (and_parts regs (digits && placed) after_codes).0
           (reg_fits a.operation k a.first takes.first) (reg_fits a.operation l a.second takes.second)))
           (place_fits a.operation k a.first takes.first) (place_fits a.operation l a.second takes.second);
     }

@@ -1,6 +1,7 @@
 -- The operands of a form that takes what is asked are by value what is asked.
 use Rattle.std.proofs.Common.{◌≡◌, ◌∙◌, ℕ, zero, suc, ◌+◌, ◌-◌, ◌*◌, ◌/◌, ◌%◌, ◌<◌, ◌≤◌, refl, sym, ap, subst, arith, inl, inr, Bool, true, false, ◌&&◌, ◌||◌, nat_lt, nat_le, if◌then◌else◌, Option, None, Some}
 use Rattle.std.specs.Prelude.{ℤ, pos, negsuc, ◌-ℤ◌, ◌⊎◌, IsTrue}
+use Rattle.std.proofs.lemmas.Bool.{and_parts}
 use Rattle.std.proofs.lemmas.Bool.Decides.{nat_tests}
 use Rattle.isa.specs.declared.operation.Operation.{Operation}
 use Rattle.isa.specs.declared.operation.Operation.TheVariants.{Control}
@@ -291,16 +292,12 @@ constant_is_number least greatest known.One is = refl
 constant_is_number least greatest (known.Number (Constant c)) is = refl
 constant_is_number least greatest _ is = cc
 
-both_true : (a b : Bool) → (a && b) ≡ true → (a ≡ true) × (b ≡ true)
-both_true true b e = (refl, e)
-both_true false b e = absurd (let never : false ≡ true = e in cc)
-
 escape_named : (x : KnownOperand) (n : Numbers) (code reg : ℕ) → IsTrue (is_constant_within (pos 0) (pos 63) x) → AreOf x n → code ≡ escape_number x / 8 → reg ≡ escape_number x % 8
     → a_number ((8 * code + reg) % 256) ≡ asked_meant x n
 escape_named known.One n code reg is of code_is reg_is = rw (code_is, reg_is, of) refl
 escape_named (known.Number (Constant (pos c))) n code reg is of code_is reg_is =
     let same : pos c ≡ n.number = let e : Constant (pos c) ≡ Constant n.number = of.1 in cc in
-    let low : nat_le c 63 ≡ true = (both_true (nat_le 0 c) (nat_le c 63) is).1 in
+    let low : nat_le c 63 ≡ true = (and_parts (nat_le 0 c) (nat_le c 63) is).1 in
     let below : nat_lt c 64 ≡ true = grind (arith, nat_tests) in
     let escape : escape_number (known.Number (Constant (pos c))) ≡ c = rw below refl in
     let number : (8 * code + reg) % 256 ≡ c = value c code reg low (code_is ∙ ap (λ (k : ℕ). k / 8) escape) (reg_is ∙ ap (λ (k : ℕ). k % 8) escape) in
@@ -445,7 +442,7 @@ kind_means f v next n kinds.Rel16 x is of puts =
     some_same : (a b : ℕ) → Some b ≡ Some a → a ≡ b
     some_same a b e = let same : b ≡ a = cc in sym same
 kind_means f v next n kinds.At8 x is of puts =
-    let are = both_true (is_direct x) (is_byte_memory x) is in byte_direct x n v.number are.0 are.1 of puts
+    let are = and_parts (is_direct x) (is_byte_memory x) is in byte_direct x n v.number are.0 are.1 of puts
 kind_means f v next n kinds.At16 x is of puts =
-    let are = both_true (is_direct x) (is_word_memory x) is in word_direct x n v.number are.0 are.1 of puts
+    let are = and_parts (is_direct x) (is_word_memory x) is in word_direct x n v.number are.0 are.1 of puts
 kind_means f v next n kinds.Far x is of puts = far_named x n v.segment v.number is of puts.1 puts.0

@@ -1,5 +1,5 @@
 -- No row has two operands in one part, so that each part has what its operand puts there.
-use Rattle.std.proofs.Common.{◌≡◌, ◌∙◌, ℕ, ◌+◌, List, Contains, refl, sym, ap, subst, arith, Bool, true, false, not, ◌&&◌, ◌||◌, Option, None, Some}
+use Rattle.std.proofs.Common.{◌≡◌, ◌∙◌, ℕ, ◌+◌, List, Contains, refl, sym, ap, subst, arith, Bool, true, false, not, ◌&&◌, ◌||◌, Some}
 use Rattle.std.specs.Prelude.{ℤ, pos, slice_get}
 use Rattle.std.specs.List.{list_all}
 use Rattle.std.proofs.lemmas.Option.{get_or_from_slice_get, slice_get_within}
@@ -17,9 +17,10 @@ use Rattle.isa.proofs.Rows.{each}
 use Rattle.assembler_form.specs.declared.operand.KnownOperand.{KnownOperand}
 use Rattle.assembler_form.specs.declared.asked.Asked.{Asked}
 use Rattle.assembler_form.specs.declared.fields.Numbers.{Numbers}
-use Rattle.assembler_form.specs.Fields.{displacement_in, field_kind, field_kind_of, number_in, segment_in, values_of, values_with}
+use Rattle.assembler_form.specs.Fields.{displacement_in, field_kind, field_kind_of, number_in, segment_in, values_of}
 use Rattle.assembler_form.specs.Parts.{first_place, form_with, in_opcode, in_place, in_reg}
 use Rattle.assembler_form.specs.Takes.{is_of, Takes}
+use Rattle.assembler_form.proofs.FieldRanges.{values_are}
 use Rattle.assembler_laws.specs.SameMeaning.{FormsMeanWhatIsAsked}
 use Rattle.assembler_laws.proofs.ChosenForms.{kind_means, Puts}
 
@@ -182,14 +183,6 @@ pub record HasForm (f : Form) (a : Asked) : Type 0 where
 pub has_form : (f : Form) (a : Asked) → f ≡ form_with f.row a → HasForm f a
 unfolding form_with
 has_form f a is = record { code = ap (λ (g : Form). g.code) is; reg = ap (λ (g : Form). g.reg) is; place = ap (λ (g : Form). g.place) is }
-
-values_are : (a b c : Option ℕ) (v : Values) → values_with a b c ≡ Some v → (a ≡ Some v.displacement) × (b ≡ Some v.number) × (c ≡ Some v.segment)
-values_are (Some a) (Some b) (Some c) v e =
-    let is : record { displacement = a; number = b; segment = c } ≡ v = cc in
-    (ap (λ x. Some x.displacement) is, ap (λ x. Some x.number) is, ap (λ x. Some x.segment) is)
-values_are None b c v e = cc
-values_are (Some a) None c v e = cc
-values_are (Some a) (Some b) None v e = cc
 
 fields_are : (f : Form) (next : ℤ) (n : Numbers) (v : Values) → values_of f next n ≡ Some v
     → (displacement_in (displacement_field f.place) n.displacement ≡ Some v.displacement) × (number_in (field_kind f.row) next n ≡ Some v.number) × (segment_in (field_kind f.row) n.segment ≡ Some v.segment)

@@ -2,6 +2,7 @@
 use Rattle.std.proofs.Common.{◌≡◌, ◌∙◌, ℕ, zero, suc, ◌<◌, ◌≤◌, ◌||◌, List, [], ◌∷◌, ◌++◌, length, get_or, Contains, refl, sym, ap, subst, arith, Bool, true, false, Option, None, Some, is_some, is_none, nat_le, if◌then◌else◌}
 use Rattle.std.specs.Prelude.{pos}
 use Rattle.std.specs.List.{AllByRecursion, flat_map}
+use Rattle.std.proofs.lemmas.Bool.{or_parts}
 use Rattle.std.proofs.lemmas.Bool.Decides.{nat_tests}
 use Rattle.std.proofs.lemmas.List.Elements.{Contains-append_left, Contains-append_right}
 use Rattle.isa.specs.declared.form.Form.{Form}
@@ -77,15 +78,11 @@ has_neither known location line form none =
     neither_by (opens_within location line.statement || has_wrong_constant known line.statement) (has_unknown_constant known line.statement)
     (lacks_form line.statement form) (defines_again known line) (stands_outside location line) none
 
-right_false : (a b : Bool) → (a || b) ≡ false → b ≡ false
-right_false false b is = is
-right_false true b is = absurd (let never : true ≡ false = is in cc)
-
 place_there : (location : Option Location) (line : Line) (i : Written) → line.statement ≡ Instruction i → stands_outside location line ≡ false
     → (place : Location) × (location ≡ Some place)
 place_there (Some place) line i is placed = (place, refl)
 place_there None line i is placed =
-    absurd (let never : true ≡ false = sym (ap wants_segment is) ∙ right_false (is_some line.label) (wants_segment line.statement) placed in cc)
+    absurd (let never : true ≡ false = sym (ap wants_segment is) ∙ (or_parts (is_some line.label) (wants_segment line.statement) placed).1 in cc)
 
 form_there : (form : Option Form) (i : Written) → lacks_form (Instruction i) form ≡ false → (f : Form) × (form ≡ Some f)
 form_there (Some f) i formed = (f, refl)

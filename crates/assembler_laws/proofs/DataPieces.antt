@@ -1,8 +1,9 @@
 -- Where the bytes of a piece stand among those of its data line.
-use Rattle.std.proofs.Common.{◌≡◌, ◌∙◌, ℕ, ℤ, zero, suc, ◌+◌, ◌*◌, ◌<◌, ◌&&◌, ◌||◌, List, [], ◌∷◌, ◌++◌, length, get_or, refl, sym, ap, subst, arith, Bool, true, false, Option, None, Some, is_some, append_assoc}
+use Rattle.std.proofs.Common.{◌≡◌, ◌∙◌, ℕ, ℤ, zero, suc, ◌+◌, ◌*◌, ◌<◌, ◌||◌, List, [], ◌∷◌, ◌++◌, length, get_or, refl, sym, ap, subst, arith, Bool, true, false, Option, None, Some, is_some, append_assoc}
 use Rattle.std.specs.Prelude.{sum_by}
 use Rattle.std.specs.Option.{option_map_or}
 use Rattle.std.specs.List.{flat_map, list_all, list_any}
+use Rattle.std.proofs.lemmas.Bool.{and_parts, or_parts}
 use Rattle.std.proofs.lemmas.Grind.{flat_map-append}
 use Rattle.std.proofs.lemmas.List.{get_or_append_left, get_or-append-add, length-append}
 use Rattle.std.proofs.lemmas.List.Folds.{list_all-append, list_any-append}
@@ -15,7 +16,6 @@ use Rattle.assembler_meaning.specs.Data.{are_items_known, data_bytes, do_items_f
 use Rattle.assembler_meaning.specs.Values.{Names, value_of}
 use Rattle.assembler_laws.specs.DataBytes.{item_size, StandsBehind}
 use Rattle.assembler_laws.proofs.DataNumbers.{number_size}
-use Rattle.assembler_laws.proofs.Prefixes.{left_false, right_false}
 
 -- ---- a part of some bytes, so far behind their first
 pub record HasPart (bytes : List ℕ) (start : ℕ) (part : List ℕ) : Type 0 where
@@ -61,16 +61,12 @@ made_there f front x back n long = record {
 }
 
 -- ---- tests of each
-both : (a b : Bool) → (a && b) ≡ true → (a ≡ true) × (b ≡ true)
-both true b is = (refl, is)
-both false b is = absurd (let never : false ≡ true = is in cc)
-
 front_all : {X : Type 0} (p : X → Bool) (front : List X) (x : X) (back : List X) → list_all p (front ++ x ∷ back) ≡ true → list_all p front ≡ true
-front_all p front x back all = (both (list_all p front) (list_all p (x ∷ back)) (sym (list_all-append p front (x ∷ back)) ∙ all)).0
+front_all p front x back all = (and_parts (list_all p front) (list_all p (x ∷ back)) (sym (list_all-append p front (x ∷ back)) ∙ all)).0
 
 pub there_all : {X : Type 0} (p : X → Bool) (front : List X) (x : X) (back : List X) → list_all p (front ++ x ∷ back) ≡ true → p x ≡ true
 there_all p front x back all =
-    (both (p x) (list_all p back) (both (list_all p front) (list_all p (x ∷ back)) (sym (list_all-append p front (x ∷ back)) ∙ all)).1).0
+    (and_parts (p x) (list_all p back) (and_parts (list_all p front) (list_all p (x ∷ back)) (sym (list_all-append p front (x ∷ back)) ∙ all)).1).0
 
 pub there_none : {X Y : Type 0} (f : X → List Y) (p : Y → Bool) (front : List X) (x : X) (back : List X) → list_any p (flat_map f (front ++ x ∷ back)) ≡ false
     → list_any p (f x) ≡ false
@@ -78,8 +74,7 @@ there_none f p front x back none =
     let parts : list_any p (flat_map f (front ++ x ∷ back)) ≡ (list_any p (flat_map f front) || (list_any p (f x) || list_any p (flat_map f back))) =
     ap (list_any p) (flat_map-append f front (x ∷ back)) ∙ list_any-append p (flat_map f front) (f x ++ flat_map f back)
     ∙ ap (λ (b : Bool). list_any p (flat_map f front) || b) (list_any-append p (f x) (flat_map f back)) in
-    left_false (list_any p (f x)) (list_any p (flat_map f back))
-    (right_false (list_any p (flat_map f front)) (list_any p (f x) || list_any p (flat_map f back)) (sym parts ∙ none))
+    (or_parts (list_any p (f x)) (list_any p (flat_map f back)) (or_parts (list_any p (flat_map f front)) (list_any p (f x) || list_any p (flat_map f back)) (sym parts ∙ none)).1).0
 
 -- ---- how many bytes there are
 value_size : (width : DataWidth) (value : Option ℤ) → is_some value ≡ true → length (option_map_or (number_bytes width) value []) ≡ width_size width
@@ -95,7 +90,7 @@ made_count : {X : Type 0} (f : X → List ℕ) (size : X → ℕ) (p : X → Boo
     → (xs : List X) → list_all p xs ≡ true → length (flat_map f xs) ≡ sum_by size xs
 made_count f size p each [] all = refl
 made_count f size p each (x ∷ xs) all =
-    let is = both (p x) (list_all p xs) all in
+    let is = and_parts (p x) (list_all p xs) all in
     let first = each x is.0 in
     let rest = made_count f size p each xs is.1 in
     omega (arith, first, rest, length-append (f x) (flat_map f xs), sum_by-cons size x xs)

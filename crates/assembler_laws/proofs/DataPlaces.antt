@@ -3,6 +3,7 @@ use Rattle.std.proofs.Common.{◌≡◌, ◌∙◌, ℕ, ℤ, zero, suc, pos, �
 use Rattle.std.specs.Prelude.{negsuc, sum_by}
 use Rattle.std.specs.Option.{option_map_or}
 use Rattle.std.specs.List.{AllByRecursion, list_any}
+use Rattle.std.proofs.lemmas.Bool.{or_parts}
 use Rattle.std.proofs.lemmas.Grind.{flat_map-append}
 use Rattle.std.proofs.lemmas.List.{drop_more, length-take-le, map-append, take-append-drop}
 use Rattle.std.proofs.lemmas.List.Elements.{Contains-append_right}
@@ -25,12 +26,12 @@ use Rattle.assembler_meaning.proofs.LeavesLength.{constant_stays, keeps_behind, 
 use Rattle.assembler.specs.Gives.{Fits, FitsAt}
 use Rattle.assembler.specs.Placement.{address_behind, bytes_by, bytes_from, content_of, has_wrong_number, lacks_name, placed_by}
 use Rattle.assembler.specs.Rows.{Row, AreRows, has_unknown_constant, has_wrong_constant, names_of, stands_outside, wants_segment}
-use Rattle.assembler.proofs.AnsweringPlaces.{fits_there, placed_there as bytes_placed, row_length}
+use Rattle.assembler.proofs.AnsweringPlaces.{clean_there, fits_there, placed_there as bytes_placed, row_length, CleanThere}
 use Rattle.assembler_laws.specs.DataBytes.{DataGoesLowByteFirst, HasCount, HasPiece, HasText, HasValue, PlacesData, StandsBehind, item_size}
 use Rattle.assembler_laws.proofs.CleanRows.{placed_there}
 use Rattle.assembler_laws.proofs.DataNumbers.{bytes_are, is_number, number_of, number_size}
 use Rattle.assembler_laws.proofs.DataPieces.{in_order, line_count, part_there, part_within, piece_there, there_none, HasPart, IsInOrder}
-use Rattle.assembler_laws.proofs.Prefixes.{clean_behind, has_none, left_false, right_false, HasNone, IsCleanThere}
+use Rattle.assembler_laws.proofs.Prefixes.{has_none, HasNone}
 
 -- ---- lists
 pub record IsSplit {X : Type 0} (xs : List X) (x : X) : Type 0 where
@@ -117,7 +118,7 @@ has_count : (known all : Names) → Keeps known all → (item : Item) → list_a
 has_count known all keeps (Once piece) wrong unknown = refl
 has_count known all keeps (Repeated count each) wrong unknown =
     count_stays (constant_of known count) (constant_of all count) (constant_stays known all keeps count)
-    (count_is (constant_of known count) (left_false (is_unknown known count) false unknown) (left_false (is_wrong_count known count) false wrong))
+    (count_is (constant_of known count) (or_parts (is_unknown known count) false unknown).0 (or_parts (is_wrong_count known count) false wrong).0)
 
 -- ---- lines of numbers alone
 abbrev number_item : List Term → Item
@@ -184,7 +185,7 @@ copy_behind names width items count terms n i is times within = record {
 placed_in : (here : Option Location) (line : Line) → wants_segment line.statement ≡ true → stands_outside here line ≡ false → (location : Location) × (here ≡ Some location)
 placed_in (Some location) line wants placed = (location, refl)
 placed_in None line wants placed =
-    absurd (let never : true ≡ false = sym wants ∙ right_false (is_some line.label) (wants_segment line.statement) placed in cc)
+    absurd (let never : true ≡ false = sym wants ∙ (or_parts (is_some line.label) (wants_segment line.statement) placed).1 in cc)
 
 not_false : (b : Bool) → not b ≡ false → b ≡ true
 not_false true is = refl
@@ -227,8 +228,8 @@ pub data_goes_low_byte_first : DataGoesLowByteFirst
 data_goes_low_byte_first source image gives row width items within is =
     let names : Names = names_of gives.rows in
     let split = split_there gives.rows row within in
-    let there : IsCleanThere split.front row =
-    clean_behind [] (text_lines source) split.front row split.back (subst (AreRows [] (text_lines source)) split.is gives.are_rows) in
+    let there : CleanThere split.front row =
+    clean_there [] (text_lines source) split.front row split.back (subst (AreRows [] (text_lines source)) split.is gives.are_rows) in
     let none : HasNone (names_of split.front) row.location row.line row.form = has_none (names_of split.front) row.location row.line row.form there.clean.clean in
     let place = placed_in row.location row.line (ap wants_segment is) none.outside in
     let location : Location = place.0 in

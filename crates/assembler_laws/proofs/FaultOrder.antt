@@ -1,6 +1,9 @@
 -- Of the faults of a line the one with the least number is told, and each is of one pass.
-use Rattle.std.proofs.Common.{◌≡◌, ◌∙◌, ℕ, ◌≤◌, ◌||◌, List, refl, ap, subst, arith, inl, inr, Bool, true, false, Option, None, Some, is_some, if◌then◌else◌}
+use Rattle.std.proofs.Common.{◌≡◌, ◌∙◌, ℕ, ◌<◌, ◌≤◌, ◌&&◌, ◌||◌, not, nat_lt, List, refl, ap, subst, arith, inl, inr, Bool, true, false, Option, None, Some, is_some, if◌then◌else◌}
+use Rattle.std.specs.Prelude.{◌⊎◌, ◌↔◌}
 use Rattle.std.specs.List.{list_all, list_any}
+use Rattle.std.proofs.lemmas.Bool.{and_parts}
+use Rattle.std.proofs.lemmas.Bool.Decides.{nat_tests}
 use Rattle.isa.specs.declared.form.Form.{Form}
 use Rattle.assembler_lexeme.specs.declared.fault.SyntaxFault.{SyntaxFault}
 use Rattle.assembler_lexeme.specs.declared.fault.SyntaxFault.TheVariants as line_faults
@@ -11,18 +14,10 @@ use Rattle.assembler.specs.declared.fault.SourceFault.{SourceFault}
 use Rattle.assembler.specs.declared.fault.SourceFault.TheVariants.{BadLine, UnknownName, BadForm, TwiceDefined, Undefined, OutOfRange, OutOfSegment, Overlap, NoSegment, NotLoadable}
 use Rattle.assembler.specs.declared.row.Content.{Content}
 use Rattle.assembler.specs.FirstFault.{HasLateFault, IsTextFault, fault_of_line, source_fault_number}
-use Rattle.assembler.specs.Placement.{addresses_from, content_of, has_wrong_number, is_loadable, is_past_end, is_placed, lacks_name, late_fault, placed_by_all}
+use Rattle.assembler.specs.Placement.{addresses_from, content_of, fault_at, has_wrong_number, is_loadable, is_past_end, is_placed, lacks_name, late_fault, placed_by_all}
 use Rattle.assembler.specs.Rows.{Row, defines_again, early_fault, has_unknown_constant, has_wrong_constant, lacks_form, names_of, opens_within, location_behind, stands_outside}
 use Rattle.assembler_laws.specs.FirstFaults.{FaultsComeInPasses, HasEarly, HasLate, IsLeast, LeastNumbersComeFirst, is_early}
 use Rattle.assembler_laws.proofs.Uniqueness.{never_both}
-
-not_true : (b : Bool) → (b ≡ true → ⊥) → b ≡ false
-not_true true never = absurd (never refl)
-not_true false never = refl
-
-not_false : (b : Bool) → (b ≡ false → ⊥) → b ≡ true
-not_false true never = refl
-not_false false never = absurd (never refl)
 
 no : {X : Type 0} → false ≡ true → X
 no is = absurd (let never : false ≡ true = is in cc)
@@ -30,241 +25,169 @@ no is = absurd (let never : false ≡ true = is in cc)
 some_is : (a b : SourceFault) → Some a ≡ Some b → a ≡ b
 some_is a b is = cc
 
--- ---- the five tests of the first pass, in their order
-abbrev early_of : Bool → Bool → Bool → Bool → Bool → Option SourceFault
-early_of a b c d e =
-    if a then Some BadLine else (if b then Some UnknownName else (if c then Some BadForm else (if d then Some TwiceDefined else (if e then Some NoSegment else None))))
+-- ---- tests in their order, each with the fault that it finds
+data Tests : Type 0 where
+  none : Tests
+  test : Bool → SourceFault → Tests → Tests
 
-abbrev Fails_early : Bool → Bool → Bool → Bool → Bool → SourceFault → Type 0
-Fails_early a b c d e BadLine = a ≡ true
-Fails_early a b c d e UnknownName = b ≡ true
-Fails_early a b c d e BadForm = c ≡ true
-Fails_early a b c d e TwiceDefined = d ≡ true
-Fails_early a b c d e NoSegment = e ≡ true
-Fails_early a b c d e fault = ⊥
+abbrev found_by : Tests → Option SourceFault
+found_by none = None
+found_by (test fails fault more) = if fails then Some fault else found_by more
 
-early_least : (n : ℕ) (a b c d e : Bool) → (a ≡ true → n ≤ 3) → (b ≡ true → n ≤ 4) → (c ≡ true → n ≤ 5) → (d ≡ true → n ≤ 6) → (e ≡ true → n ≤ 11) → (other : SourceFault)
-    → Fails_early a b c d e other → n ≤ source_fault_number other
-early_least n a b c d e one two three four five BadLine is = one is
-early_least n a b c d e one two three four five UnknownName is = two is
-early_least n a b c d e one two three four five BadForm is = three is
-early_least n a b c d e one two three four five TwiceDefined is = four is
-early_least n a b c d e one two three four five NoSegment is = five is
-early_least n a b c d e one two three four five other is = absurd is
+abbrev Finds : Tests → SourceFault → Type 0
+Finds none other = ⊥
+Finds (test fails fault more) other = ((fails ≡ true) × (fault ≡ other)) ⊎ Finds more other
 
-early_first : (a b c d e : Bool) (fault : SourceFault) → early_of a b c d e ≡ Some fault → IsLeast (Fails_early a b c d e) fault
-early_first true b c d e fault is =
-    subst (IsLeast (Fails_early true b c d e)) (some_is BadLine fault is)
-    (record { has = refl; least = early_least 3 true b c d e (λ is. omega arith) (λ is. omega arith) (λ is. omega arith) (λ is. omega arith) (λ is. omega arith) })
-early_first false true c d e fault is =
-    subst (IsLeast (Fails_early false true c d e)) (some_is UnknownName fault is)
-    (record { has = refl; least = early_least 4 false true c d e no (λ is. omega arith) (λ is. omega arith) (λ is. omega arith) (λ is. omega arith) })
-early_first false false true d e fault is =
-    subst (IsLeast (Fails_early false false true d e)) (some_is BadForm fault is)
-    (record { has = refl; least = early_least 5 false false true d e no no (λ is. omega arith) (λ is. omega arith) (λ is. omega arith) })
-early_first false false false true e fault is =
-    subst (IsLeast (Fails_early false false false true e)) (some_is TwiceDefined fault is)
-    (record { has = refl; least = early_least 6 false false false true e no no no (λ is. omega arith) (λ is. omega arith) })
-early_first false false false false true fault is =
-    subst (IsLeast (Fails_early false false false false true)) (some_is NoSegment fault is)
-    (record { has = refl; least = early_least 11 false false false false true no no no no (λ is. omega arith) })
-early_first false false false false false fault is = absurd (let never : None ≡ Some fault = is in cc)
+-- the faults' numbers rise, from above one on
+abbrev rises : ℕ → Tests → Bool
+rises n none = true
+rises n (test fails fault more) = nat_lt n (source_fault_number fault) && rises (source_fault_number fault) more
 
-early_back : (a b c d e : Bool) (fault : SourceFault) → IsLeast (Fails_early a b c d e) fault → early_of a b c d e ≡ Some fault
-early_back a b c d e BadLine is = let has : a ≡ true = is.has in rw has refl
-early_back a b c d e UnknownName is =
-    let has : b ≡ true = is.has in
-    let not_a : a ≡ false = not_true a (λ yes. let few = is.least BadLine yes in omega (arith, few)) in
-    rw (not_a, has) refl
-early_back a b c d e BadForm is =
-    let has : c ≡ true = is.has in
-    let not_a : a ≡ false = not_true a (λ yes. let few = is.least BadLine yes in omega (arith, few)) in
-    let not_b : b ≡ false = not_true b (λ yes. let few = is.least UnknownName yes in omega (arith, few)) in
-    rw (not_a, not_b, has) refl
-early_back a b c d e TwiceDefined is =
-    let has : d ≡ true = is.has in
-    let not_a : a ≡ false = not_true a (λ yes. let few = is.least BadLine yes in omega (arith, few)) in
-    let not_b : b ≡ false = not_true b (λ yes. let few = is.least UnknownName yes in omega (arith, few)) in
-    let not_c : c ≡ false = not_true c (λ yes. let few = is.least BadForm yes in omega (arith, few)) in
-    rw (not_a, not_b, not_c, has) refl
-early_back a b c d e NoSegment is =
-    let has : e ≡ true = is.has in
-    let not_a : a ≡ false = not_true a (λ yes. let few = is.least BadLine yes in omega (arith, few)) in
-    let not_b : b ≡ false = not_true b (λ yes. let few = is.least UnknownName yes in omega (arith, few)) in
-    let not_c : c ≡ false = not_true c (λ yes. let few = is.least BadForm yes in omega (arith, few)) in
-    let not_d : d ≡ false = not_true d (λ yes. let few = is.least TwiceDefined yes in omega (arith, few)) in
-    rw (not_a, not_b, not_c, not_d, has) refl
-early_back a b c d e other is = absurd is.has
+below : (m n : ℕ) → nat_lt m n ≡ true → m < n
+below m n is = grind (arith, nat_tests)
 
--- ---- the five tests of the second pass, in their order
-abbrev late_of : Bool → Bool → Bool → Bool → Bool → Option SourceFault
-late_of a b c d e =
-    if a then Some Undefined else (if b then Some OutOfRange else (if c then Some OutOfSegment else (if d then Some Overlap else (if e then None else Some NotLoadable))))
+above_by : (n : ℕ) (fails : Bool) (fault : SourceFault) (more : Tests) (other : SourceFault) → n < source_fault_number fault
+    → (Finds more other → source_fault_number fault < source_fault_number other) → Finds (test fails fault more) other → n < source_fault_number other
+above_by n fails fault more other first rest (inl is) = subst (λ (f : SourceFault). n < source_fault_number f) is.1 first
+above_by n fails fault more other first rest (inr later) = let next = rest later in omega (arith, first, next)
 
-abbrev Fails_late : Bool → Bool → Bool → Bool → Bool → SourceFault → Type 0
-Fails_late a b c d e Undefined = a ≡ true
-Fails_late a b c d e OutOfRange = b ≡ true
-Fails_late a b c d e OutOfSegment = c ≡ true
-Fails_late a b c d e Overlap = d ≡ true
-Fails_late a b c d e NotLoadable = e ≡ false
-Fails_late a b c d e fault = ⊥
+above : (n : ℕ) (tests : Tests) (other : SourceFault) → rises n tests ≡ true → Finds tests other → n < source_fault_number other
+above n none other up found = absurd found
+above n (test fails fault more) other up found =
+    let parts = and_parts (nat_lt n (source_fault_number fault)) (rises (source_fault_number fault) more) up in
+    above_by n fails fault more other (below n (source_fault_number fault) parts.0) (above (source_fault_number fault) more other parts.1) found
 
-late_least : (n : ℕ) (a b c d e : Bool) → (a ≡ true → n ≤ 7) → (b ≡ true → n ≤ 8) → (c ≡ true → n ≤ 9) → (d ≡ true → n ≤ 10) → (e ≡ false → n ≤ 12) → (other : SourceFault)
-    → Fails_late a b c d e other → n ≤ source_fault_number other
-late_least n a b c d e one two three four five Undefined is = one is
-late_least n a b c d e one two three four five OutOfRange is = two is
-late_least n a b c d e one two three four five OutOfSegment is = three is
-late_least n a b c d e one two three four five Overlap is = four is
-late_least n a b c d e one two three four five NotLoadable is = five is
-late_least n a b c d e one two three four five other is = absurd is
+behind : (n : ℕ) (fault : SourceFault) (more : Tests) → rises n (test false fault more) ≡ true → rises (source_fault_number fault) more ≡ true
+behind n fault more up = (and_parts (nat_lt n (source_fault_number fault)) (rises (source_fault_number fault) more) up).1
 
-late_first : (a b c d e : Bool) (fault : SourceFault) → late_of a b c d e ≡ Some fault → IsLeast (Fails_late a b c d e) fault
-late_first true b c d e fault is =
-    subst (IsLeast (Fails_late true b c d e)) (some_is Undefined fault is)
-    (record { has = refl; least = late_least 7 true b c d e (λ is. omega arith) (λ is. omega arith) (λ is. omega arith) (λ is. omega arith) (λ is. omega arith) })
-late_first false true c d e fault is =
-    subst (IsLeast (Fails_late false true c d e)) (some_is OutOfRange fault is)
-    (record { has = refl; least = late_least 8 false true c d e no (λ is. omega arith) (λ is. omega arith) (λ is. omega arith) (λ is. omega arith) })
-late_first false false true d e fault is =
-    subst (IsLeast (Fails_late false false true d e)) (some_is OutOfSegment fault is)
-    (record { has = refl; least = late_least 9 false false true d e no no (λ is. omega arith) (λ is. omega arith) (λ is. omega arith) })
-late_first false false false true e fault is =
-    subst (IsLeast (Fails_late false false false true e)) (some_is Overlap fault is)
-    (record { has = refl; least = late_least 10 false false false true e no no no (λ is. omega arith) (λ is. omega arith) })
-late_first false false false false false fault is =
-    subst (IsLeast (Fails_late false false false false false)) (some_is NotLoadable fault is)
-    (record { has = refl; least = late_least 12 false false false false false no no no no (λ is. omega arith) })
-late_first false false false false true fault is = absurd (let never : None ≡ Some fault = is in cc)
+found_is_least : (n : ℕ) (tests : Tests) (fault : SourceFault) → rises n tests ≡ true → found_by tests ≡ Some fault → IsLeast (Finds tests) fault
+found_is_least n none fault up is = absurd (let never : None ≡ Some fault = is in cc)
+found_is_least n (test true first more) fault up is =
+    subst (IsLeast (Finds (test true first more))) (some_is first fault is) (record { has = inl (refl, refl); least = least })
+  where
+    least : (other : SourceFault) → Finds (test true first more) other → source_fault_number first ≤ source_fault_number other
+    least other (inl same) = let number = ap source_fault_number same.1 in omega (arith, number)
+    least other (inr later) = let over = above (source_fault_number first) more other (behind n first more up) later in omega (arith, over)
+found_is_least n (test false first more) fault up is =
+    let least = found_is_least (source_fault_number first) more fault (behind n first more up) is in
+    record { has = inr least.has; least = over least.least }
+  where
+    over : ((other : SourceFault) → Finds more other → source_fault_number fault ≤ source_fault_number other)
+        → (other : SourceFault) → Finds (test false first more) other → source_fault_number fault ≤ source_fault_number other
+    over each other (inl same) = no same.0
+    over each other (inr later) = each other later
 
-late_back : (a b c d e : Bool) (fault : SourceFault) → IsLeast (Fails_late a b c d e) fault → late_of a b c d e ≡ Some fault
-late_back a b c d e Undefined is = let has : a ≡ true = is.has in rw has refl
-late_back a b c d e OutOfRange is =
-    let has : b ≡ true = is.has in
-    let not_a : a ≡ false = not_true a (λ yes. let few = is.least Undefined yes in omega (arith, few)) in
-    rw (not_a, has) refl
-late_back a b c d e OutOfSegment is =
-    let has : c ≡ true = is.has in
-    let not_a : a ≡ false = not_true a (λ yes. let few = is.least Undefined yes in omega (arith, few)) in
-    let not_b : b ≡ false = not_true b (λ yes. let few = is.least OutOfRange yes in omega (arith, few)) in
-    rw (not_a, not_b, has) refl
-late_back a b c d e Overlap is =
-    let has : d ≡ true = is.has in
-    let not_a : a ≡ false = not_true a (λ yes. let few = is.least Undefined yes in omega (arith, few)) in
-    let not_b : b ≡ false = not_true b (λ yes. let few = is.least OutOfRange yes in omega (arith, few)) in
-    let not_c : c ≡ false = not_true c (λ yes. let few = is.least OutOfSegment yes in omega (arith, few)) in
-    rw (not_a, not_b, not_c, has) refl
-late_back a b c d e NotLoadable is =
-    let has : e ≡ false = is.has in
-    let not_a : a ≡ false = not_true a (λ yes. let few = is.least Undefined yes in omega (arith, few)) in
-    let not_b : b ≡ false = not_true b (λ yes. let few = is.least OutOfRange yes in omega (arith, few)) in
-    let not_c : c ≡ false = not_true c (λ yes. let few = is.least OutOfSegment yes in omega (arith, few)) in
-    let not_d : d ≡ false = not_true d (λ yes. let few = is.least Overlap yes in omega (arith, few)) in
-    rw (not_a, not_b, not_c, not_d, has) refl
-late_back a b c d e other is = absurd is.has
+least_is_found : (n : ℕ) (tests : Tests) (fault : SourceFault) → rises n tests ≡ true → IsLeast (Finds tests) fault → found_by tests ≡ Some fault
+least_is_found n none fault up is = absurd is.has
+least_is_found n (test true first more) fault up is = by is.has
+  where
+    by : Finds (test true first more) fault → Some first ≡ Some fault
+    by (inl same) = ap Some same.1
+    by (inr later) =
+        let over = above (source_fault_number first) more fault (behind n first more up) later in
+        let least = is.least first (inl (refl, refl)) in
+        absurd (omega (arith, over, least))
+least_is_found n (test false first more) fault up is =
+    least_is_found (source_fault_number first) more fault (behind n first more up) (record { has = by is.has; least = λ other later. is.least other (inr later) })
+  where
+    by : Finds (test false first more) fault → Finds more fault
+    by (inl same) = no same.0
+    by (inr later) = later
 
--- ---- what a line has
-least_so : (P Q : SourceFault → Type 0) (fault : SourceFault) → ((other : SourceFault) → P other → Q other) → ((other : SourceFault) → Q other → P other)
-    → IsLeast P fault → IsLeast Q fault
-least_so P Q fault there back is = record { has = there fault is.has; least = λ other has. is.least other (back other has) }
+-- what each of the tests' faults has
+abbrev Each : (SourceFault → Type 0) → Tests → Type 0
+Each P none = Unit {0}
+Each P (test fails fault more) = (fails ≡ true → P fault) × Each P more
 
-abbrev FailsLine : Names → Option Location → Line → Option Form → SourceFault → Type 0
-FailsLine known location line form =
-    Fails_early (opens_within location line.statement || has_wrong_constant known line.statement) (has_unknown_constant known line.statement)
-    (lacks_form line.statement form) (defines_again known line) (stands_outside location line)
+each_has : (P : SourceFault → Type 0) (tests : Tests) (fault : SourceFault) → Each P tests → Finds tests fault → P fault
+each_has P none fault each found = absurd found
+each_has P (test fails first more) fault each (inl is) = subst P is.1 (each.0 is.0)
+each_has P (test fails first more) fault each (inr later) = each_has P more fault each.1 later
 
-line_has : (known : Names) (location : Option Location) (line : Line) (form : Option Form) (fault : SourceFault) → FailsLine known location line form fault → HasEarly known location line form fault
-line_has known location line form BadLine is = is
-line_has known location line form fault is = is
+found_least : (P : SourceFault → Type 0) (tests : Tests) (fault : SourceFault) → rises 0 tests ≡ true → Each P tests → ((other : SourceFault) → P other → Finds tests other)
+    → (found_by tests ≡ Some fault) ↔ IsLeast P fault
+found_least P tests fault up each finds = (
+  (λ is. let least = found_is_least 0 tests fault up is in record { has = each_has P tests fault each least.has; least = λ other has. least.least other (finds other has) }),
+  (λ is. least_is_found 0 tests fault up (record { has = finds fault is.has; least = λ other found. is.least other (each_has P tests other each found) })),
+)
 
-line_fails : (known : Names) (location : Option Location) (line : Line) (form : Option Form) (fault : SourceFault) → HasEarly known location line form fault → FailsLine known location line form fault
-line_fails known location line form BadLine is = is
-line_fails known location line form fault is = is
+-- ---- those of the first pass
+abbrev early_tests : Names → Option Location → Line → Option Form → Tests
+early_tests known location line form =
+    test (opens_within location line.statement || has_wrong_constant known line.statement) BadLine (test (has_unknown_constant known line.statement) UnknownName
+    (test (lacks_form line.statement form) BadForm (test (defines_again known line) TwiceDefined (test (stands_outside location line) NoSegment none))))
 
-early_is_least : (known : Names) (location : Option Location) (line : Line) (form : Option Form) (fault : SourceFault) → early_fault known location line form ≡ Some fault
-    → IsLeast (HasEarly known location line form) fault
+early_finds : (known : Names) (location : Option Location) (line : Line) (form : Option Form) (fault : SourceFault) → HasEarly known location line form fault → Finds (early_tests known location line form) fault
+early_finds known location line form BadLine is = inl (is, refl)
+early_finds known location line form UnknownName is = inr (inl (is, refl))
+early_finds known location line form BadForm is = inr (inr (inl (is, refl)))
+early_finds known location line form TwiceDefined is = inr (inr (inr (inl (is, refl))))
+early_finds known location line form NoSegment is = inr (inr (inr (inr (inl (is, refl)))))
+early_finds known location line form fault is = absurd is
+
+early_least : (known : Names) (location : Option Location) (line : Line) (form : Option Form) (fault : SourceFault)
+    → (early_fault known location line form ≡ Some fault) ↔ IsLeast (HasEarly known location line form) fault
 unfolding early_fault
-early_is_least known location line form fault is =
-    least_so (FailsLine known location line form) (HasEarly known location line form) fault (line_has known location line form) (line_fails known location line form)
-    (early_first (opens_within location line.statement || has_wrong_constant known line.statement) (has_unknown_constant known line.statement)
-    (lacks_form line.statement form) (defines_again known line) (stands_outside location line) fault is)
+early_least known location line form fault =
+    found_least (HasEarly known location line form) (early_tests known location line form) fault refl ((λ is. is), ((λ is. is), ((λ is. is), ((λ is. is), ((λ is. is), tt))))) (early_finds known location line form)
 
-least_is_early : (known : Names) (location : Option Location) (line : Line) (form : Option Form) (fault : SourceFault) → IsLeast (HasEarly known location line form) fault
-    → early_fault known location line form ≡ Some fault
-unfolding early_fault
-least_is_early known location line form fault is =
-    early_back (opens_within location line.statement || has_wrong_constant known line.statement) (has_unknown_constant known line.statement)
-    (lacks_form line.statement form) (defines_again known line) (stands_outside location line) fault
-    (least_so (HasEarly known location line form) (FailsLine known location line form) fault (line_fails known location line form) (line_has known location line form) is)
+-- ---- and of the second
+not_true : (b : Bool) → not b ≡ true → b ≡ false
+not_true true is = no is
+not_true false is = refl
 
-abbrev FailsPlace : Names → (ℕ → Bool) → Bool → Location → ℕ → Option Content → SourceFault → Type 0
-FailsPlace names is_taken has_label location size content =
-    Fails_late (lacks_name names location content) (has_wrong_number names location size content) (is_past_end location size has_label)
+abbrev late_by : Bool → Bool → Bool → Bool → Bool → Tests
+late_by a b c d e = test a Undefined (test b OutOfRange (test c OutOfSegment (test d Overlap (test (not e) NotLoadable none))))
+
+late_same : (a b c d e : Bool) → found_by (late_by a b c d e)
+    ≡ (if a then Some Undefined else (if b then Some OutOfRange else (if c then Some OutOfSegment else (if d then Some Overlap else (if e then None else Some NotLoadable)))))
+late_same a b c d true = refl
+late_same a b c d false = refl
+
+abbrev late_tests : Names → (ℕ → Bool) → Bool → Location → ℕ → Option Content → Tests
+late_tests names is_taken has_label location size content =
+    late_by (lacks_name names location content) (has_wrong_number names location size content) (is_past_end location size has_label)
     (list_any is_taken (addresses_from location 0 size)) (list_all is_loadable (addresses_from location 0 size))
 
-place_has : (names : Names) (is_taken : ℕ → Bool) (has_label : Bool) (location : Location) (size : ℕ) (content : Option Content) (fault : SourceFault)
-    → FailsPlace names is_taken has_label location size content fault → HasLate names is_taken has_label location size content fault
-place_has names is_taken has_label location size content Undefined is = is
-place_has names is_taken has_label location size content fault is = is
+late_finds : (names : Names) (is_taken : ℕ → Bool) (has_label : Bool) (location : Location) (size : ℕ) (content : Option Content) (fault : SourceFault)
+    → HasLate names is_taken has_label location size content fault → Finds (late_tests names is_taken has_label location size content) fault
+late_finds names is_taken has_label location size content Undefined is = inl (is, refl)
+late_finds names is_taken has_label location size content OutOfRange is = inr (inl (is, refl))
+late_finds names is_taken has_label location size content OutOfSegment is = inr (inr (inl (is, refl)))
+late_finds names is_taken has_label location size content Overlap is = inr (inr (inr (inl (is, refl))))
+late_finds names is_taken has_label location size content NotLoadable is = inr (inr (inr (inr (inl (ap not is, refl)))))
+late_finds names is_taken has_label location size content fault is = absurd is
 
-place_fails : (names : Names) (is_taken : ℕ → Bool) (has_label : Bool) (location : Location) (size : ℕ) (content : Option Content) (fault : SourceFault)
-    → HasLate names is_taken has_label location size content fault → FailsPlace names is_taken has_label location size content fault
-place_fails names is_taken has_label location size content Undefined is = is
-place_fails names is_taken has_label location size content fault is = is
+late_least : (names : Names) (is_taken : ℕ → Bool) (has_label : Bool) (location : Location) (size : ℕ) (content : Option Content) (fault : SourceFault)
+    → (fault_at names is_taken has_label location size content ≡ Some fault) ↔ IsLeast (HasLate names is_taken has_label location size content) fault
+late_least names is_taken has_label location size content fault =
+    subst (λ (o : Option SourceFault). (o ≡ Some fault) ↔ IsLeast (HasLate names is_taken has_label location size content) fault) (late_same _ _ _ _ _)
+    (found_least (HasLate names is_taken has_label location size content) (late_tests names is_taken has_label location size content) fault refl
+    ((λ is. is), ((λ is. is), ((λ is. is), ((λ is. is), (not_true _, tt))))) (late_finds names is_taken has_label location size content))
 
 pub least_numbers_come_first : LeastNumbersComeFirst
-least_numbers_come_first = record {
-  early = λ known location line form fault. (early_is_least known location line form fault, least_is_early known location line form fault);
-  late = λ names is_taken has_label location size content fault. (
-    (λ is. least_so (FailsPlace names is_taken has_label location size content) (HasLate names is_taken has_label location size content) fault
-        (place_has names is_taken has_label location size content) (place_fails names is_taken has_label location size content)
-        (late_first (lacks_name names location content) (has_wrong_number names location size content) (is_past_end location size has_label)
-        (list_any is_taken (addresses_from location 0 size)) (list_all is_loadable (addresses_from location 0 size)) fault is)),
-    (λ is. late_back (lacks_name names location content) (has_wrong_number names location size content) (is_past_end location size has_label)
-        (list_any is_taken (addresses_from location 0 size)) (list_all is_loadable (addresses_from location 0 size)) fault
-        (least_so (HasLate names is_taken has_label location size content) (FailsPlace names is_taken has_label location size content) fault
-        (place_fails names is_taken has_label location size content) (place_has names is_taken has_label location size content) is)),
-  );
-}
+least_numbers_come_first = record { early = early_least; late = late_least }
 
 -- ---- the two passes
-of_first_pass : (a b c d e : Bool) (fault : SourceFault) → Fails_early a b c d e fault → is_early fault ≡ true
-of_first_pass a b c d e BadLine is = refl
-of_first_pass a b c d e UnknownName is = refl
-of_first_pass a b c d e BadForm is = refl
-of_first_pass a b c d e TwiceDefined is = refl
-of_first_pass a b c d e NoSegment is = refl
-of_first_pass a b c d e fault is = absurd is
-
-of_second_pass : (a b c d e : Bool) (fault : SourceFault) → Fails_late a b c d e fault → is_early fault ≡ false
-of_second_pass a b c d e Undefined is = refl
-of_second_pass a b c d e OutOfRange is = refl
-of_second_pass a b c d e OutOfSegment is = refl
-of_second_pass a b c d e Overlap is = refl
-of_second_pass a b c d e NotLoadable is = refl
-of_second_pass a b c d e fault is = absurd is
-
 of_reading : (found : SyntaxFault) → is_early (fault_of_line found) ≡ true
 of_reading line_faults.BadCharacter = refl
 of_reading line_faults.BadLine = refl
 of_reading line_faults.UnknownName = refl
 
 text_is_early : (names : Names) (location : Option Location) (text : List ℕ) (fault : SourceFault) → IsTextFault names location text fault → is_early fault ≡ true
-unfolding early_fault
 text_is_early names location text fault (inl read) = ap is_early read.2 ∙ of_reading read.0
 text_is_early names location text fault (inr found) =
     let row : Row = found.0 in
-    of_first_pass _ _ _ _ _ fault
-    (early_first (opens_within row.location row.line.statement || has_wrong_constant names row.line.statement) (has_unknown_constant names row.line.statement)
-    (lacks_form row.line.statement row.form) (defines_again names row.line) (stands_outside row.location row.line) fault found.2).has
+    each_has (λ f. is_early f ≡ true) (early_tests names row.location row.line row.form) fault ((λ is. refl), ((λ is. refl), ((λ is. refl), ((λ is. refl), ((λ is. refl), tt)))))
+    (early_finds names row.location row.line row.form fault ((early_least names row.location row.line row.form fault).0 found.2).has)
 
 late_is_late : (names : Names) (is_taken : ℕ → Bool) (has_label : Bool) (here : Option Location) (size : ℕ) (content : Option Content) (fault : SourceFault)
     → late_fault names is_taken has_label here size content ≡ Some fault → is_early fault ≡ false
 unfolding late_fault
 late_is_late names is_taken has_label None size content fault is = absurd (let never : None ≡ Some fault = is in cc)
 late_is_late names is_taken has_label (Some location) size content fault is =
-    of_second_pass _ _ _ _ _ fault
-    (late_first (lacks_name names location content) (has_wrong_number names location size content) (is_past_end location size has_label)
-    (list_any is_taken (addresses_from location 0 size)) (list_all is_loadable (addresses_from location 0 size)) fault is).has
+    each_has (λ f. is_early f ≡ false) (late_tests names is_taken has_label location size content) fault ((λ is. refl), ((λ is. refl), ((λ is. refl), ((λ is. refl), ((λ is. refl), tt)))))
+    (late_finds names is_taken has_label location size content fault ((late_least names is_taken has_label location size content fault).0 is).has)
 
 row_is_late : (rows : List Row) (fault : SourceFault) (number : ℕ) → HasLateFault rows fault number → is_early fault ≡ false
 row_is_late rows fault number late =

@@ -1,5 +1,5 @@
 -- The form that the text of an instruction takes gets its numbers.
-use Rattle.std.proofs.Common.{◌≡◌, ◌∙◌, ℕ, ◌+◌, ◌%◌, List, [], Contains, refl, sym, ap, subst, Bool, true, false, if◌then◌else◌, Some}
+use Rattle.std.proofs.Common.{◌≡◌, ◌∙◌, ℕ, ◌+◌, ◌%◌, Contains, refl, sym, ap, subst, Bool, true, false, if◌then◌else◌, Some}
 use Rattle.std.specs.Prelude.{ℤ, pos, negsuc, ◌-ℤ◌}
 use Rattle.isa.specs.declared.operation.Operation.{Operation}
 use Rattle.isa.specs.declared.operation.Operation.TheVariants.{Arithmetic, Control, Transfer}
@@ -20,34 +20,29 @@ use Rattle.disassembler.specs.Text.{is_nop}
 use Rattle.disassembler.specs.Written.{written_operand}
 use Rattle.dialect.specs.declared.register.Register.{Register}
 use Rattle.dialect.specs.declared.register.Register.TheVariants as registers
-use Rattle.disassembler.specs.declared.written.Written.{Written}
-use Rattle.dialect.specs.declared.mnemonic.Mnemonic.{Mnemonic}
-use Rattle.dialect.specs.declared.mnemonic.Mnemonic.TheVariants as mnemonics
-use Rattle.assembler_syntax.specs.declared.operand.Operand.{Operand}
 use Rattle.assembler_form.specs.declared.asked.Asked.{Asked}
 use Rattle.assembler_form.specs.declared.fields.Numbers.{Numbers}
 use Rattle.assembler_form.specs.declared.operand.KnownOperand.{KnownOperand}
 use Rattle.assembler_form.specs.declared.operand.KnownOperand.TheVariants as known
-use Rattle.assembler_form.specs.Asked.{asked, asked_in_order, asked_of, is_exchanged, is_memory, is_register_and_ax, sized}
+use Rattle.assembler_form.specs.Asked.{asked_in_order, is_exchanged, is_memory, is_register_and_ax, sized}
 use Rattle.assembler_form.specs.Choice.{IsChosen}
 use Rattle.assembler_form.specs.Fields.{field_kind}
 use Rattle.assembler_form.specs.Takes.{is_near, is_of, is_within, Takes}
 use Rattle.assembler_form.proofs.Shapes.{form_of_first}
 use Rattle.assembler_meaning.specs.declared.symbol.Location.{Location}
-use Rattle.assembler_meaning.specs.Instructions.{instruction_asked, instruction_size, no_numbers, override_of, prefixes_of, IsFormFor}
+use Rattle.assembler_meaning.specs.Instructions.{instruction_asked, instruction_size, no_numbers, prefixes_of, IsFormFor}
 use Rattle.assembler_meaning.specs.Values.{Names}
 use Rattle.assembler.specs.Placement.{fields_for, fields_of}
 use Rattle.assembler_laws.specs.Fitting.{FitsByte}
 use Rattle.assembler_laws.specs.NearTargets.{HasNearTarget, TextsGetNumbers}
-use Rattle.assembler_laws.specs.SaidTexts.{first_written, mnemonic_in, next_of, operands_in, said_instruction, said_mnemonic, said_operands, second_written}
+use Rattle.assembler_laws.specs.SaidTexts.{first_written, next_of, said_instruction, second_written}
 use Rattle.assembler_laws.specs.SameMeaning.{AreOf}
 use Rattle.assembler_laws.proofs.AskedTexts.{asked_by, Has}
-use Rattle.assembler_laws.proofs.CleanRows.{chosen_there}
 use Rattle.assembler_laws.proofs.ChosenRows.{first_field, has_field, second_field}
 use Rattle.assembler_laws.proofs.FittingTexts.{numbers_fit}
 use Rattle.assembler_laws.proofs.GivenTexts.{in_order_fits, never, rel_length, rel_number, row_tight}
 use Rattle.assembler_laws.proofs.TakenTexts.{xchg_registers}
-use Rattle.assembler_laws.proofs.TextForms.{ask_both, asked_is, ax, both_said, exchanged_is, nop_asked, nop_said, numbers_said, plain_asked, prefixes_same, row_agrees, AreBoth, AskBoth, SaysOperands}
+use Rattle.assembler_laws.proofs.TextForms.{ask_both, ax, chosen_said, exchanged_is, first_asked, nop_says, numbers_said, plain_says, row_agrees, second_asked, AskBoth, Says}
 
 -- the text of an instruction, but NOP and XCHG with AX second, in the order in which it is written
 same_size : (i : Instr) (ip : ℕ) (f : Form) → IsInstr i → IsForm f → prefixes_of (said_instruction i ip) ≡ i.prefixes.items → first_of i.form.row ≡ kinds.Rel8 → first_of f.row ≡ kinds.Rel8
@@ -74,17 +69,14 @@ registers_fit s op r t from n takes = by (has_field (first_of s)) refl
         subst (λ (k : Kind). FitsByte k from n) (sym (second_field (first_of s) (second_of s) e)) (register_fits op (second_of s) t from n takes.second)
 
 -- ---- the law
-given : (before names : Names) (location : Location) (size : ℕ) (i : Instr) (f : Form) (x y : KnownOperand) (n : Numbers)
-    → SaysOperands before names location.offset (operands_in i.form i.values (next_of i location.offset)) x y n
-    → AreOf (asked (mnemonic_in i.form) x y).first n → AreOf (asked (mnemonic_in i.form) x y).second n
+given : (before names : Names) (location : Location) (size : ℕ) (i : Instr) (f : Form) (x y : KnownOperand) (n : Numbers) (a : Asked)
+    → Says before names location.offset i x y n a → AreOf a.first n → AreOf a.second n
     → IsFormFor (instruction_asked before (said_instruction i location.offset)) (Some f)
-    → (IsChosen (asked (mnemonic_in i.form) x y) f → FitsByte (field_kind f.row) (location.offset + size) n)
+    → (IsChosen a f → FitsByte (field_kind f.row) (location.offset + size) n)
     → (v : Values) × (fields_of names location size f (said_instruction i location.offset) ≡ Some v)
-given before names location size i f x y n says one two formed fits =
-    let chosen = chosen_there (instruction_asked before (said_instruction i location.offset)) f formed in
-    let is : asked (mnemonic_in i.form) x y ≡ chosen.0 = asked_is before names location.offset i location.offset x y n chosen.0 says chosen.1 in
-    let choice : IsChosen (asked (mnemonic_in i.form) x y) f = subst (λ (a : Asked). IsChosen a f) (sym is) chosen.2 in
-    let found = numbers_fit (asked (mnemonic_in i.form) x y) f (location.offset + size) n choice one two (fits choice) in
+given before names location size i f x y n a says one two formed fits =
+    let choice : IsChosen a f = chosen_said before names location.offset i f x y n a says formed in
+    let found = numbers_fit a f (location.offset + size) n choice one two (fits choice) in
     (found.0, ap (fields_for f (location.offset + size)) says.numbers ∙ found.1)
 
 chosen_form : (a : Asked) (f : Form) → IsChosen a f → IsForm f
@@ -100,13 +92,8 @@ nop_given : (before names : Names) (location : Location) (i : Instr) (f : Form) 
 nop_given before names location i f nop formed =
     let ip : ℕ = location.offset in
     let size : ℕ = instruction_size f (said_instruction i ip) in
-    let none : operands_in i.form i.values (next_of i ip) ≡ [] = ap (λ (b : Bool). if b then [] else said_operands (first_written i.form i.values (next_of i ip)) (second_written i.form i.values (next_of i ip))) nop in
-    let mnemonic : mnemonic_in i.form ≡ mnemonics.Nop = ap (λ (b : Bool). if b then mnemonics.Nop else said_mnemonic (operation_of i.form.row)) nop in
-    let is_asked : asked (mnemonic_in i.form) known.Nothing known.Nothing ≡ asked_in_order (Transfer transfer.Xchg) ax ax = ap (λ (m : Mnemonic). asked m known.Nothing known.Nothing) mnemonic ∙ nop_asked in
-    given before names location size i f known.Nothing known.Nothing no_numbers
-    (subst (λ (os : List Operand). SaysOperands before names ip os known.Nothing known.Nothing no_numbers) (sym none) (nop_said before names ip))
-    (subst (λ (a : Asked). AreOf a.first no_numbers) (sym is_asked) tt) (subst (λ (a : Asked). AreOf a.second no_numbers) (sym is_asked) tt) formed
-    (λ choice. registers_fit f.row (Transfer transfer.Xchg) (registers.Word Ax) (registers.Word Ax) (ip + size) no_numbers (subst (λ (a : Asked). IsChosen a f) is_asked choice).first.takes)
+    given before names location size i f known.Nothing known.Nothing no_numbers (asked_in_order (Transfer transfer.Xchg) ax ax) (nop_says before names ip i nop) tt tt formed
+    (λ choice. registers_fit f.row (Transfer transfer.Xchg) (registers.Word Ax) (registers.Word Ax) (ip + size) no_numbers choice.first.takes)
 
 ax_registers : (x y : KnownOperand) → is_register_and_ax x y ≡ true → (r : Register) × (t : Register) × (x ≡ known.Register r) × (y ≡ known.Register t)
 ax_registers (known.Register (registers.Word r)) (known.Register (registers.Word Ax)) e = (registers.Word r, registers.Word Ax, refl, refl)
@@ -144,26 +131,14 @@ plain_given before names location i f is near plain formed =
     let next : ℕ = next_of i ip in
     let size : ℕ = instruction_size f (said_instruction i ip) in
     let op : Operation = operation_of i.form.row in
-    let one : Written = first_written i.form i.values next in
-    let two : Written = second_written i.form i.values next in
-    let x : KnownOperand = asked_by one in
-    let y : KnownOperand = asked_by two in
+    let x : KnownOperand = first_asked i ip in
+    let y : KnownOperand = second_asked i ip in
     let n : Numbers = numbers_said i.form i.values next in
     let both : AskBoth i.form i.values next n = ask_both i.form i.values next is.form is.values in
-    let are : AreBoth names ip one two = both_said names ip i.form i.values next is.form is.values in
-    let known_are : AreBoth before ip one two = both_said before ip i.form i.values next is.form is.values in
-    let operands : operands_in i.form i.values next ≡ said_operands one two = ap (λ (b : Bool). if b then [] else said_operands one two) plain in
-    let mnemonic : mnemonic_in i.form ≡ said_mnemonic op = ap (λ (b : Bool). if b then mnemonics.Nop else said_mnemonic op) plain in
-    let says : SaysOperands before names ip (operands_in i.form i.values next) x y n =
-    subst (λ (os : List Operand). SaysOperands before names ip os x y n) (sym operands) (record { asked = known_are.asked; numbers = are.numbers }) in
-    let is_asked : asked (mnemonic_in i.form) x y ≡ asked_of op x y = ap (λ (m : Mnemonic). asked m x y) mnemonic ∙ plain_asked op x y both.far in
-    let prefixes = prefixes_same names ip i ip (ap override_of operands ∙ are.override) in
+    let says = plain_says before names ip i is plain in
     by_order (is_exchanged op x y) op x y n refl both.order both.first.0 both.second.0 (λ e. xchg_registers i.form i.values next is.form e)
-    (λ a a_is first second fits.
-    let same : asked (mnemonic_in i.form) x y ≡ a = is_asked ∙ a_is in
-    given before names location size i f x y n says (subst (λ (b : Asked). AreOf b.first n) (sym same) first) (subst (λ (b : Asked). AreOf b.second n) (sym same) second) formed
-    (λ choice. fits (subst (λ (b : Asked). IsChosen b f) same choice)))
-    (λ choice. order_fits location i f is near prefixes (chosen_form (asked_in_order op x y) f choice) choice.first.takes)
+    (λ a a_is first second fits. given before names location size i f x y n a (subst (Says before names ip i x y n) a_is says) first second formed fits)
+    (λ choice. order_fits location i f is near says.prefixes (chosen_form (asked_in_order op x y) f choice) choice.first.takes)
   where
     by_order : (b : Bool) (op : Operation) (x y : KnownOperand) (n : Numbers) → is_exchanged op x y ≡ b → (op ≡ Arithmetic Test → is_memory y ≡ false) → AreOf (sized op x y) n → AreOf (sized op y x) n
         → (is_exchanged op x y ≡ true → op ≡ Transfer transfer.Xchg → is_register_and_ax x y ≡ true) → ((a : Asked) → (if b then asked_in_order op y x else asked_in_order op x y) ≡ a → AreOf a.first n → AreOf a.second n

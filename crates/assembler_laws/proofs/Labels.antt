@@ -3,6 +3,7 @@ use Rattle.std.proofs.Common.{◌≡◌, ◌∙◌, ℕ, ℤ, ◌+◌, List, [],
 use Rattle.std.specs.Option.{option_map_or}
 use Rattle.std.specs.List.{AllByRecursion}
 use Rattle.std.specs.Str.{bytes_eq}
+use Rattle.std.proofs.lemmas.Bool.{or_parts}
 use Rattle.std.proofs.lemmas.Grind.{flat_map-append}
 use Rattle.std.proofs.lemmas.Slice.Eq.{bytes_eq-Decides}
 use Rattle.isa.specs.declared.form.Form.{Form}
@@ -19,9 +20,9 @@ use Rattle.assembler_meaning.specs.Values.{Names, constant_of, is_defined, meani
 use Rattle.assembler.specs.Gives.{Fits}
 use Rattle.assembler.specs.Placement.{bytes_by, bytes_from, content_of, placed_at, placed_by}
 use Rattle.assembler.specs.Rows.{Row, AreRows, constant_definition, defines_again, has_unknown_constant, is_same, label_definition, names_of, size_of, location_behind, statement_definition, statement_name, stands_outside, wants_segment}
-use Rattle.assembler.proofs.AnsweringPlaces.{fits_there, placed_there, row_length}
+use Rattle.assembler.proofs.AnsweringPlaces.{clean_there, fits_there, placed_there, row_length, CleanThere}
 use Rattle.assembler_laws.specs.Places.{LinesStandWhereCounted, StandsWhereCounted, said_constant}
-use Rattle.assembler_laws.proofs.Prefixes.{along, clean_behind, has_none, left_false, right_false, HasNone, IsCleanThere}
+use Rattle.assembler_laws.proofs.Prefixes.{along, has_none, HasNone}
 use Rattle.assembler_laws.proofs.Standing.{stands_at, told_behind, told_of_none, AreClean, IsTold}
 
 -- ---- what a label stands for
@@ -46,7 +47,7 @@ labelled : (here : Option Location) (line : Line) (name : Name) → line.label �
     → (location : Location) × (here ≡ Some location)
 labelled (Some location) line name is placed = (location, refl)
 labelled None line name is placed =
-    absurd (let never : true ≡ false = sym (ap is_some is) ∙ left_false (is_some line.label) (wants_segment line.statement) placed in cc)
+    absurd (let never : true ≡ false = sym (ap is_some is) ∙ (or_parts (is_some line.label) (wants_segment line.statement) placed).0 in cc)
 
 label_there : (known rest : Names) (here : Option Location) (line : Line) (name : Name) (location : Location) → line.label ≡ Some name → here ≡ Some location
     → is_defined known name ≡ false
@@ -121,12 +122,12 @@ constant_there : (known rest : Names) (here : Option Location) (line : Line) (na
 constant_there known rest here line name terms is unknown again =
     let first = constant_first known line.statement rest name terms is unknown in
     let news : (option_map_or (is_defined known) (statement_name line.statement) false || is_same line.label (statement_name line.statement)) ≡ false =
-    right_false (option_map_or (is_defined known) line.label false) _ again in
+    (or_parts (option_map_or (is_defined known) line.label false) _ again).1 in
     let new : is_defined known name ≡ false =
-    not_known known (statement_name line.statement) name first.0 (left_false (option_map_or (is_defined known) (statement_name line.statement) false) _ news) in
+    not_known known (statement_name line.statement) name first.0 (or_parts (option_map_or (is_defined known) (statement_name line.statement) false) _ news).0 in
     let differ : is_same line.label (Some name) ≡ false =
     sym (ap (λ (o : Option Name). is_same line.label o) first.0)
-    ∙ right_false (option_map_or (is_defined known) (statement_name line.statement) false) (is_same line.label (statement_name line.statement)) news in
+    ∙ (or_parts (option_map_or (is_defined known) (statement_name line.statement) false) (is_same line.label (statement_name line.statement)) news).1 in
     let own : Names = statement_definition known line.statement in (
       first.1.0,
       first.1.1,
@@ -153,7 +154,7 @@ placed_nowhere : (names : Names) (row : Row) → row.location ≡ None → place
 unfolding placed_by
 placed_nowhere names row at = ap (λ (o : Option Location). placed_at names o row.size (content_of row.line.statement row.form)) at
 
-counted_at : (front : List Row) (row : Row) (back : List Row) → IsCleanThere front row → Fits (names_of (front ++ row ∷ back)) row
+counted_at : (front : List Row) (row : Row) (back : List Row) → CleanThere front row → Fits (names_of (front ++ row ∷ back)) row
     → (here : Option Location) → row.location ≡ here → length (placed_by (names_of (front ++ row ∷ back)) row) ≡ row.size
 counted_at front row back there fits (Some location) at =
     ap length (placed_there (names_of (front ++ row ∷ back)) row location at)
@@ -162,8 +163,7 @@ counted_at front row back there fits (Some location) at =
 counted_at front row back there fits None at =
     let none : HasNone (names_of front) row.location row.line row.form = has_none (names_of front) row.location row.line row.form there.clean.clean in
     let wants : wants_segment row.line.statement ≡ false =
-    right_false (is_some row.line.label) (wants_segment row.line.statement)
-    (ap (λ (o : Option Location). stands_outside o row.line) (sym at) ∙ none.outside) in
+    (or_parts (is_some row.line.label) (wants_segment row.line.statement) (ap (λ (o : Option Location). stands_outside o row.line) (sym at) ∙ none.outside)).1 in
     ap length (placed_nowhere (names_of (front ++ row ∷ back)) row at)
     ∙ sym (there.clean.is_row.size ∙ nothing_outside (names_of front) row.form row.line.statement wants)
 
@@ -171,7 +171,7 @@ counted_at front row back there fits None at =
 stands_so : (texts : List (List ℕ)) (front : List Row) (row : Row) (back : List Row) → AreRows [] texts (front ++ row ∷ back)
     → Fits (names_of (front ++ row ∷ back)) row → AreClean front → StandsWhereCounted (names_of (front ++ row ∷ back)) front row
 stands_so texts front row back are fits clean =
-    let there : IsCleanThere front row = clean_behind [] texts front row back are in
+    let there : CleanThere front row = clean_there [] texts front row back are in
     let none : HasNone (names_of front) row.location row.line row.form = has_none (names_of front) row.location row.line row.form there.clean.clean in
     let told : IsTold front = along IsTold told_behind [] texts front row back are told_of_none in
     let at : row.location ≡ location_behind front = there.clean.is_row.location in
@@ -185,7 +185,7 @@ stands_so texts front row back are fits clean =
                 ∙ ap (λ (ns : Names). meaning (names_of front ++ (ns ++ names_of back)) name) there.clean.is_row.names
                 ∙ label_there (names_of front) (names_of back) (location_behind front) row.line name location.0 is (sym at ∙ location.1)
                 (not_known (names_of front) row.line.label name is
-                (left_false (option_map_or (is_defined (names_of front)) row.line.label false) _ none.again)),
+                (or_parts (option_map_or (is_defined (names_of front)) row.line.label false) _ none.again).0),
           );
       constant = λ name terms is.
           let named = constant_there (names_of front) (names_of back) (location_behind front) row.line name terms is none.unknown none.again in (
@@ -203,7 +203,7 @@ lines_stand_where_counted source image gives front row back split =
     let are : AreRows [] texts (front ++ row ∷ back) = subst (AreRows [] texts) split gives.are_rows in
     let fits : Fits (names_of gives.rows) row = fits_there (names_of gives.rows) front row back (subst (AllByRecursion (Fits (names_of gives.rows))) split gives.placed.fit) in
     let clean : AreClean front = λ b r a is.
-    clean_behind [] texts b r (a ++ row ∷ back)
+    clean_there [] texts b r (a ++ row ∷ back)
     (subst (AreRows [] texts) (split ∙ ap (λ (rs : List Row). rs ++ row ∷ back) is ∙ append_assoc b (r ∷ a) (row ∷ back)) gives.are_rows) in
     subst (λ (rows : List Row). StandsWhereCounted (names_of rows) front row) (sym split)
     (stands_so texts front row back are (subst (λ (rows : List Row). Fits (names_of rows) row) split fits) clean)

@@ -1,32 +1,17 @@
 -- What holds of the lines before each line of a source that is accepted.
-use Rattle.std.proofs.Common.{◌≡◌, ℕ, ◌||◌, List, [], ◌∷◌, ◌++◌, refl, sym, subst, Bool, true, false, Option, None, Some, append_assoc, append-nil, if◌then◌else◌}
+use Rattle.std.proofs.Common.{◌≡◌, ℕ, ◌||◌, List, [], ◌∷◌, ◌++◌, sym, subst, false, Option, None, append_assoc, append-nil}
+use Rattle.std.proofs.lemmas.Bool.{or_parts}
 use Rattle.isa.specs.declared.form.Form.{Form}
 use Rattle.assembler_syntax.specs.declared.statement.Line.{Line}
 use Rattle.assembler_meaning.specs.declared.symbol.Location.{Location}
 use Rattle.assembler_meaning.specs.Values.{Names}
-use Rattle.assembler.specs.declared.fault.SourceFault.{SourceFault}
 use Rattle.assembler.specs.declared.fault.SourceFault.TheVariants.{BadLine, UnknownName, BadForm, TwiceDefined, NoSegment}
-use Rattle.assembler.specs.Rows.{Row, AreRows, IsCleanRow, early_fault, defines_again, has_unknown_constant, has_wrong_constant, lacks_form, opens_within, stands_outside}
-
--- a line that the texts make is clean behind those before it
-pub record IsCleanThere (before : List Row) (row : Row) : Type 0 where
-  pub text : List ℕ
-  pub clean : IsCleanRow before text row
-
-pub clean_behind : (before : List Row) (texts : List (List ℕ)) (front : List Row) (row : Row) (back : List Row)
-    → AreRows before texts (front ++ row ∷ back) → IsCleanThere (before ++ front) row
-clean_behind before [] [] row back are = absurd are
-clean_behind before (text ∷ texts) [] row back are = record {
-  text = text;
-  clean = subst (λ (rs : List Row). IsCleanRow rs text row) (sym (append-nil before)) are.0;
-}
-clean_behind before [] (first ∷ front) row back are = absurd are
-clean_behind before (text ∷ texts) (first ∷ front) row back are =
-    subst (λ (rs : List Row). IsCleanThere rs row) (append_assoc before (first ∷ []) front)
-    (clean_behind (before ++ first ∷ []) texts front row back are.1)
+use Rattle.assembler.specs.Rows.{Row, AreRows, early_fault, defines_again, has_unknown_constant, has_wrong_constant, lacks_form, opens_within, stands_outside}
+use Rattle.assembler.proofs.AnsweringPlaces.{CleanThere}
+use Rattle.assembler.proofs.PlacingRows.{is_else}
 
 -- what holds of no lines, and with the lines before a line of those with it, holds of the lines before each
-pub along : (P : List Row → Type 0) → ((before : List Row) (row : Row) → IsCleanThere before row → P before → P (before ++ row ∷ []))
+pub along : (P : List Row → Type 0) → ((before : List Row) (row : Row) → CleanThere before row → P before → P (before ++ row ∷ []))
     → (before : List Row) (texts : List (List ℕ)) (front : List Row) (row : Row) (back : List Row) → AreRows before texts (front ++ row ∷ back)
     → P before → P (before ++ front)
 along P more before [] [] row back are there = absurd are
@@ -45,22 +30,6 @@ pub record HasNone (known : Names) (location : Option Location) (line : Line) (f
   pub again : defines_again known line ≡ false
   pub outside : stands_outside location line ≡ false
 
-pub left_false : (a b : Bool) → (a || b) ≡ false → a ≡ false
-left_false true b is = cc
-left_false false b is = refl
-
-pub right_false : (a b : Bool) → (a || b) ≡ false → b ≡ false
-right_false true b is = cc
-right_false false b is = is
-
-record IsElse (test : Bool) (rest : Option SourceFault) : Type 0 where
-  pub fails : test ≡ false
-  pub goes_on : rest ≡ None
-
-is_else : (test : Bool) (fault : SourceFault) (rest : Option SourceFault) → (if test then Some fault else rest) ≡ None → IsElse test rest
-is_else true fault rest none = cc
-is_else false fault rest none = record { fails = refl; goes_on = none }
-
 pub has_none : (known : Names) (location : Option Location) (line : Line) (form : Option Form) → early_fault known location line form ≡ None
     → HasNone known location line form
 unfolding early_fault
@@ -71,8 +40,8 @@ has_none known location line form none =
     let fourth = is_else (defines_again known line) TwiceDefined _ third.goes_on in
     let fifth = is_else (stands_outside location line) NoSegment None fourth.goes_on in
     record {
-      opens = left_false (opens_within location line.statement) (has_wrong_constant known line.statement) first.fails;
-      wrong = right_false (opens_within location line.statement) (has_wrong_constant known line.statement) first.fails;
+      opens = (or_parts (opens_within location line.statement) (has_wrong_constant known line.statement) first.fails).0;
+      wrong = (or_parts (opens_within location line.statement) (has_wrong_constant known line.statement) first.fails).1;
       unknown = second.fails;
       lacks = third.fails;
       again = fourth.fails;

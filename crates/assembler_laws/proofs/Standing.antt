@@ -3,6 +3,7 @@ use Rattle.std.proofs.Common.{◌≡◌, ◌∙◌, ℕ, ℤ, ◌+◌, ◌||◌,
 use Rattle.std.specs.Prelude.{pos, negsuc, ◌⊎◌, sum_by}
 use Rattle.std.specs.Option.{option_map}
 use Rattle.std.specs.List.{AllByRecursion}
+use Rattle.std.proofs.lemmas.Bool.{or_parts}
 use Rattle.std.proofs.lemmas.List.Sums.{fold-append, sum_by_push}
 use Rattle.assembler_syntax.specs.declared.statement.Statement.{Statement}
 use Rattle.assembler_syntax.specs.declared.statement.Statement.TheVariants.{Empty, Segment, Ends, Equ, Org, Data, Instruction}
@@ -11,7 +12,8 @@ use Rattle.assembler_meaning.specs.Values.{Names, constant_of}
 use Rattle.assembler_meaning.specs.Data.{is_other, natural}
 use Rattle.assembler.specs.Rows.{Row, has_unknown_constant, has_wrong_constant, names_of, opened_at, set_to, location_after, location_behind, stands_outside, wants_segment}
 use Rattle.assembler_laws.specs.Places.{IsCountedTo, IsOpenAt, SaysOffset, SaysParagraph, changes_segment, sets_location}
-use Rattle.assembler_laws.proofs.Prefixes.{has_none, right_false, HasNone, IsCleanThere}
+use Rattle.assembler.proofs.AnsweringPlaces.{CleanThere}
+use Rattle.assembler_laws.proofs.Prefixes.{has_none, HasNone}
 
 abbrev pub size_of_row : Row → ℕ
 size_of_row row = row.size
@@ -23,7 +25,7 @@ at_place paragraph offset = record { segment = paragraph; offset = offset }
 pub behind_more : (before : List Row) (row : Row) → location_behind (before ++ row ∷ []) ≡ row.next
 behind_more before row = fold-append (λ (location : Option Location) (r : Row). r.next) None before (row ∷ [])
 
-pub next_is : (before : List Row) (row : Row) → IsCleanThere before row
+pub next_is : (before : List Row) (row : Row) → CleanThere before row
     → location_behind (before ++ row ∷ []) ≡ location_after (names_of before) (location_behind before) row.line.statement row.size
 next_is before row there = behind_more before row ∙ there.clean.is_row.next
 
@@ -163,7 +165,7 @@ told_more before row location is (inr (inr moves)) =
       subst (IsCountedTo (before ++ row ∷ [])) moves.moved (counted_more before row moves.from.offset moves.counts was.1),
     )
 
-pub told_behind : (before : List Row) (row : Row) → IsCleanThere before row → IsTold before → IsTold (before ++ row ∷ [])
+pub told_behind : (before : List Row) (row : Row) → CleanThere before row → IsTold before → IsTold (before ++ row ∷ [])
 told_behind before row there is location at =
     let none : HasNone (names_of before) row.location row.line row.form =
     has_none (names_of before) row.location row.line row.form there.clean.clean in
@@ -175,11 +177,11 @@ told_of_none location at = absurd (let never : None ≡ Some location = at in cc
 
 -- ---- and back
 abbrev pub AreClean : List Row → Type 0
-AreClean lines = (before : List Row) (row : Row) (after : List Row) → lines ≡ before ++ row ∷ after → IsCleanThere before row
+AreClean lines = (before : List Row) (row : Row) (after : List Row) → lines ≡ before ++ row ∷ after → CleanThere before row
 
 -- what holds where none of the lines was passed, and with the lines that were passed of one more, holds behind all
 walked : (P : List Row → Type 0) (before : List Row) (test : Row → Bool)
-    → ((passed : List Row) (row : Row) → IsCleanThere (before ++ passed) row → test row ≡ false → P passed → P (passed ++ row ∷ []))
+    → ((passed : List Row) (row : Row) → CleanThere (before ++ passed) row → test row ≡ false → P passed → P (passed ++ row ∷ []))
     → (passed since : List Row) → AreClean (before ++ (passed ++ since)) → AllByRecursion (λ row. test row ≡ false) since
     → P passed → P (passed ++ since)
 walked P before test more passed [] clean stays there = subst P (sym (append-nil passed)) there
@@ -255,7 +257,7 @@ set_at o (Some from) offset placed says = (from.segment, ap (option_and_then (λ
 place_wanted : (here : Option Location) (labelled wants : Bool) → wants ≡ true → (outside : Option Location → Bool)
     → outside None ≡ (labelled || wants) → outside here ≡ false → is_some here ≡ true
 place_wanted (Some location) labelled wants is outside at none = refl
-place_wanted None labelled wants is outside at none = absurd (let never : true ≡ false = sym is ∙ right_false labelled wants (sym at ∙ none) in cc)
+place_wanted None labelled wants is outside at none = absurd (let never : true ≡ false = sym is ∙ (or_parts labelled wants (sym at ∙ none)).1 in cc)
 
 to_first : (known : Names) (here : Option Location) (statement : Statement) (size offset : ℕ) → has_unknown_constant known statement ≡ false
     → (wants_segment statement ≡ true → is_some here ≡ true) → SaysOffset known statement offset
@@ -268,7 +270,7 @@ to_first known here (Org n) size offset unknown placed says = set_at (constant_o
 to_first known here (Data width items) size offset unknown placed says = absurd says
 to_first known here (Instruction i) size offset unknown placed says = absurd says
 
-none_of : (before : List Row) (row : Row) → IsCleanThere before row → HasNone (names_of before) row.location row.line row.form
+none_of : (before : List Row) (row : Row) → CleanThere before row → HasNone (names_of before) row.location row.line row.form
 none_of before row there = has_none (names_of before) row.location row.line row.form there.clean.clean
 
 opened_location : (lines : List Row) (paragraph : ℕ) → AreClean lines → IsOpenAt lines paragraph → IsIn paragraph (location_behind lines)

@@ -1,5 +1,5 @@
 -- Some row takes what the text of an instruction asks.
-use Rattle.std.proofs.Common.{◌≡◌, ◌≢◌, ◌∙◌, ℕ, zero, suc, ◌+◌, ◌*◌, ◌%◌, ◌<◌, ◌≤◌, List, [], length, Contains, refl, sym, ap, subst, arith, lit<, Bool, true, false, not, ◌&&◌, nat_le, nat_lt, if◌then◌else◌, Option, None, Some}
+use Rattle.std.proofs.Common.{◌≡◌, ◌≢◌, ◌∙◌, ℕ, zero, suc, ◌+◌, ◌*◌, ◌%◌, ◌<◌, ◌≤◌, List, length, Contains, refl, sym, ap, subst, arith, lit<, Bool, true, false, not, ◌&&◌, nat_le, nat_lt, if◌then◌else◌, Option, None, Some}
 use Rattle.std.specs.Prelude.{pos, negsuc}
 use Rattle.std.specs.List.{list_all}
 use Rattle.std.proofs.lemmas.Bool.{and_parts}
@@ -34,28 +34,26 @@ use Rattle.isa.specs.Encoding.{sign_extended, FitsCode, FitsForm, FitsSecond, Is
 use Rattle.isa.proofs.Rows.{each}
 use Rattle.dialect.specs.declared.keyword.Keyword.{Keyword}
 use Rattle.dialect.specs.declared.keyword.Keyword.TheVariants as keywords
-use Rattle.dialect.specs.declared.mnemonic.Mnemonic.{Mnemonic}
-use Rattle.dialect.specs.declared.mnemonic.Mnemonic.TheVariants as mnemonics
 use Rattle.dialect.specs.declared.register.Register.TheVariants as registers
 use Rattle.dialect.specs.declared.size.Size.{Size}
 use Rattle.dialect.specs.declared.size.Size.TheVariants as sizes
-use Rattle.disassembler.specs.declared.written.Written.{Written}
 use Rattle.disassembler.specs.Text.{is_nop}
 use Rattle.disassembler.specs.Written.{byte_operand, far_size, size_beside as written_size, target_operand, word_operand, written_operand}
 use Rattle.assembler_form.specs.declared.operand.Number.{Number as NumberType}
 use Rattle.assembler_form.specs.declared.operand.KnownOperand.{KnownOperand}
 use Rattle.assembler_form.specs.declared.operand.KnownOperand.TheVariants as known
 use Rattle.assembler_form.specs.declared.asked.Asked.{Asked}
+use Rattle.assembler_form.specs.declared.fields.Numbers.{Numbers}
 use Rattle.assembler_form.specs.Asked.{asked, asked_in_order, asked_of, is_exchanged, is_far_size, is_memory, is_register_and_ax, size_beside, size_or, sized}
 use Rattle.assembler_form.specs.Takes.{is_byte_size, is_near, is_of, is_pointer, is_segment_not_cs, is_within, is_word_size, Takes}
-use Rattle.assembler_meaning.specs.Instructions.{instruction_asked, known_operands, override_of, prefixes_of, IsFormFor}
+use Rattle.assembler_meaning.specs.Instructions.{instruction_asked, known_operands, no_numbers, prefixes_of, IsFormFor}
 use Rattle.assembler_meaning.specs.Values.{Names}
-use Rattle.assembler_laws.specs.SaidTexts.{first_written, mnemonic_in, next_of, operands_in, said_instruction, said_mnemonic, said_operands, said_size, second_written}
+use Rattle.assembler_laws.specs.SaidTexts.{first_written, mnemonic_in, next_of, operands_in, said_instruction, said_size, second_written}
 use Rattle.assembler_laws.specs.SameMeaning.{pointer_size}
 use Rattle.assembler_laws.specs.TextsTaken.{TextsTakeAForm}
 use Rattle.assembler_laws.proofs.AskedTexts.{asked_by, FitsKind, HasSize}
 use Rattle.assembler_laws.proofs.Outcome.{form_for}
-use Rattle.assembler_laws.proofs.TextForms.{ask_both, ax, both_said, exchanged_is, has_memory, has_size, kind_fits, nop_asked, not_true, plain_asked, prefixes_same, remembered_is, row_agrees, unremembered, AreBoth, RowAgrees}
+use Rattle.assembler_laws.proofs.TextForms.{ask_both, ax, exchanged_is, first_asked, has_memory, has_size, kind_fits, nop_says, not_true, numbers_said, plain_says, remembered_is, row_agrees, second_asked, unremembered, RowAgrees, Says}
 
 -- ---- an operand that is written is one of its kind
 byte_size_is : (s : Option Size) → s ≡ Some sizes.Byte → is_byte_size s ≡ true
@@ -368,29 +366,17 @@ says_asked : (before : Names) (i : Instr) (ip : ℕ) (x y : KnownOperand) → le
 unfolding instruction_asked
 says_asked before i ip x y few is = rw (few_enough (length (prefixes_of (said_instruction i ip))) few, is) refl
 
-text_by : (before : Names) (i : Instr) (ip : ℕ) (x y : KnownOperand) → IsInstr i → override_of (operands_in i.form i.values (next_of i ip)) ≡ None
-    → known_operands before (operands_in i.form i.values (next_of i ip)) ≡ Some (x, y) → Taken (asked (mnemonic_in i.form) x y) → (f : Form) × IsFormFor (instruction_asked before (said_instruction i ip)) (Some f)
-text_by before i ip x y is none known_is taken =
-    let few : length (prefixes_of (said_instruction i ip)) ≤ 7 = subst (λ (ps : List Prefix). length ps ≤ 7) (sym (prefixes_same before ip i ip none)) is.few in
-    form_taken (instruction_asked before (said_instruction i ip)) (asked (mnemonic_in i.form) x y) (says_asked before i ip x y few known_is) taken
+text_by : (before : Names) (i : Instr) (ip : ℕ) (x y : KnownOperand) (n : Numbers) (a : Asked) → IsInstr i → Says before before ip i x y n a → Taken a
+    → (f : Form) × IsFormFor (instruction_asked before (said_instruction i ip)) (Some f)
+text_by before i ip x y n a is says taken =
+    let few : length (prefixes_of (said_instruction i ip)) ≤ 7 = subst (λ (ps : List Prefix). length ps ≤ 7) (sym says.prefixes) is.few in
+    form_taken (instruction_asked before (said_instruction i ip)) a (says_asked before i ip x y few says.known_are ∙ ap Some says.asks) taken
 
 pub texts_take_a_form : TextsTakeAForm
 texts_take_a_form before i ip is = by (is_nop i.form) refl
   where
     by : (b : Bool) → is_nop i.form ≡ b → (f : Form) × IsFormFor (instruction_asked before (said_instruction i ip)) (Some f)
-    by true nop =
-        let none : operands_in i.form i.values (next_of i ip) ≡ [] = ap (λ (b : Bool). if b then [] else said_operands (first_written i.form i.values (next_of i ip)) (second_written i.form i.values (next_of i ip))) nop in
-        let mnemonic : mnemonic_in i.form ≡ mnemonics.Nop = ap (λ (b : Bool). if b then mnemonics.Nop else said_mnemonic (operation_of i.form.row)) nop in
-        text_by before i ip known.Nothing known.Nothing is (ap override_of none) (ap (known_operands before) none)
-        (subst Taken (sym (ap (λ (m : Mnemonic). asked m known.Nothing known.Nothing) mnemonic ∙ nop_asked)) nop_taken)
+    by true nop = text_by before i ip known.Nothing known.Nothing no_numbers (asked_in_order (Transfer transfer.Xchg) ax ax) is (nop_says before before ip i nop) nop_taken
     by false plain =
-        let next : ℕ = next_of i ip in
-        let op : Operation = operation_of i.form.row in
-        let one : Written = first_written i.form i.values next in
-        let two : Written = second_written i.form i.values next in
-        let are : AreBoth before ip one two = both_said before ip i.form i.values next is.form is.values in
-        let operands : operands_in i.form i.values next ≡ said_operands one two = ap (λ (b : Bool). if b then [] else said_operands one two) plain in
-        let mnemonic : mnemonic_in i.form ≡ said_mnemonic op = ap (λ (b : Bool). if b then mnemonics.Nop else said_mnemonic op) plain in
-        text_by before i ip (asked_by one) (asked_by two) is (ap override_of operands ∙ are.override) (ap (known_operands before) operands ∙ are.asked)
-        (subst Taken (sym (ap (λ (m : Mnemonic). asked m (asked_by one) (asked_by two)) mnemonic ∙ plain_asked op (asked_by one) (asked_by two) (ask_both i.form i.values next is.form is.values).far))
-        (asked_taken i.form i.values next is.form is.values))
+        text_by before i ip (first_asked i ip) (second_asked i ip) (numbers_said i.form i.values (next_of i ip)) (asked_of (operation_of i.form.row) (first_asked i ip) (second_asked i ip))
+        is (plain_says before before ip i is plain) (asked_taken i.form i.values (next_of i ip) is.form is.values)

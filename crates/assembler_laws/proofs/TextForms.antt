@@ -27,7 +27,6 @@ use Rattle.isa.specs.Layout.{field_part, second_part}
 use Rattle.isa.specs.Encoding.{displacement_field, instr_length, FitsForm, FitsSecond, IsForm, IsInstr, IsMemory, IsPlace}
 use Rattle.isa.proofs.Rows.{each}
 use Rattle.dialect.specs.declared.keyword.Keyword.TheVariants as keywords
-use Rattle.dialect.specs.declared.mnemonic.Mnemonic.{Mnemonic}
 use Rattle.dialect.specs.declared.mnemonic.Mnemonic.TheVariants as mnemonics
 use Rattle.dialect.specs.declared.register.Register.TheVariants as registers
 use Rattle.dialect.specs.declared.size.Size.{Size}
@@ -684,39 +683,83 @@ chosen_by false o a e = absurd (let never : None ≡ Some a = e in cc)
 some_asked : (a b : Asked) → Some a ≡ Some b → a ≡ b
 some_asked a b e = cc
 
--- with the operands that are said, in the light of any names
-pub record SaysOperands (before names : Names) (here : ℕ) (os : List Operand) (x y : KnownOperand) (n : Numbers) : Type 0 where
-  pub asked : known_operands before os ≡ Some (x, y)
-  pub numbers : numbers_of names here os ≡ Some n
-
-pub asked_is : (before names : Names) (here : ℕ) (i : Instr) (ip : ℕ) (x y : KnownOperand) (n : Numbers) (a : Asked) → SaysOperands before names here (operands_in i.form i.values (next_of i ip)) x y n
+asked_is : (before : Names) (i : Instr) (ip : ℕ) (x y : KnownOperand) (a : Asked) → known_operands before (operands_in i.form i.values (next_of i ip)) ≡ Some (x, y)
     → instruction_asked before (said_instruction i ip) ≡ Some a → asked (mnemonic_in i.form) x y ≡ a
 unfolding instruction_asked
-asked_is before names here i ip x y n a says is =
+asked_is before i ip x y a known_are is =
     some_asked (asked (mnemonic_in i.form) x y) a
-    (sym (ap (option_map (λ os. asked (mnemonic_in i.form) os.0 os.1)) says.asked)
+    (sym (ap (option_map (λ os. asked (mnemonic_in i.form) os.0 os.1)) known_are)
     ∙ chosen_by (nat_le (length (prefixes_of (said_instruction i ip))) 7) (option_map (λ os. asked (mnemonic_in i.form) os.0 os.1) (known_operands before (operands_in i.form i.values (next_of i ip)))) a is)
 
--- the operands of the form that is chosen, by value
-values_meant : (before names : Names) (location : Location) (size : ℕ) (i : Instr) (f : Form) (v : Values) (x y : KnownOperand) (n : Numbers)
-    → SaysOperands before names location.offset (operands_in i.form i.values (next_of i location.offset)) x y n
-    → AreOf (asked (mnemonic_in i.form) x y).first n → AreOf (asked (mnemonic_in i.form) x y).second n
-    → IsFormFor (instruction_asked before (said_instruction i location.offset)) (Some f) → fields_of names location size f (said_instruction i location.offset) ≡ Some v
-    → IsOfValues (asked (mnemonic_in i.form) x y) n f v ((location.offset + size) % 65536)
-values_meant before names location size i f v x y n says one two formed fields =
-    let chosen = chosen_there (instruction_asked before (said_instruction i location.offset)) f formed in
-    let is : asked (mnemonic_in i.form) x y ≡ chosen.0 = asked_is before names location.offset i location.offset x y n chosen.0 says chosen.1 in
-    forms_mean_what_is_asked (asked (mnemonic_in i.form) x y) f v (location.offset + size) n (subst (λ (a : Asked). IsChosen a f) (sym is) chosen.2)
-    (sym (ap (fields_for f (location.offset + size)) says.numbers) ∙ fields) one two
-
-pub plain_asked : (op : Operation) (x y : KnownOperand) → IsFarAs op (is_far x) → asked (said_mnemonic op) x y ≡ asked_of op x y
+plain_asked : (op : Operation) (x y : KnownOperand) → IsFarAs op (is_far x) → asked (said_mnemonic op) x y ≡ asked_of op x y
 unfolding asked
 plain_asked op x y far = rw (operation_as_said op x far, operand_as_said op x, operand_as_said op y) refl
 
--- ---- the same meaning
-pub prefixes_same : (names : Names) (here : ℕ) (i : Instr) (ip : ℕ) → override_of (operands_in i.form i.values (next_of i ip)) ≡ None → prefixes_of (said_instruction i ip) ≡ i.prefixes.items
+prefixes_same : (i : Instr) (ip : ℕ) → override_of (operands_in i.form i.values (next_of i ip)) ≡ None → prefixes_of (said_instruction i ip) ≡ i.prefixes.items
 unfolding prefixes_of
-prefixes_same names here i ip none = ap (λ o. i.prefixes.items ++ override_prefix o) none ∙ append-nil i.prefixes.items
+prefixes_same i ip none = ap (λ o. i.prefixes.items ++ override_prefix o) none ∙ append-nil i.prefixes.items
+
+-- ---- what the text of an instruction says
+-- these operands, in the light of the names before it, with these numbers, in the light of all; and this is what they ask
+pub record Says (before names : Names) (here : ℕ) (i : Instr) (x y : KnownOperand) (n : Numbers) (a : Asked) : Type 0 where
+  pub known_are : known_operands before (operands_in i.form i.values (next_of i here)) ≡ Some (x, y)
+  pub numbers : numbers_of names here (operands_in i.form i.values (next_of i here)) ≡ Some n
+  pub asks : asked (mnemonic_in i.form) x y ≡ a
+  pub prefixes : prefixes_of (said_instruction i here) ≡ i.prefixes.items
+
+pub chosen_said : (before names : Names) (here : ℕ) (i : Instr) (f : Form) (x y : KnownOperand) (n : Numbers) (a : Asked) → Says before names here i x y n a
+    → IsFormFor (instruction_asked before (said_instruction i here)) (Some f) → IsChosen a f
+chosen_said before names here i f x y n a says formed =
+    let chosen = chosen_there (instruction_asked before (said_instruction i here)) f formed in
+    subst (λ (b : Asked). IsChosen b f) (sym (asked_is before i here x y chosen.0 says.known_are chosen.1) ∙ says.asks) chosen.2
+
+-- the text of XCHG AX,AX
+abbrev pub ax : KnownOperand
+ax = known.Register (registers.Word Ax)
+
+pub nop_says : (before names : Names) (here : ℕ) (i : Instr) → is_nop i.form ≡ true → Says before names here i known.Nothing known.Nothing no_numbers (asked_in_order (Transfer transfer.Xchg) ax ax)
+unfolding asked numbers_of
+nop_says before names here i nop =
+    let none : operands_in i.form i.values (next_of i here) ≡ [] = ap (λ (b : Bool). if b then [] else said_operands (first_written i.form i.values (next_of i here)) (second_written i.form i.values (next_of i here))) nop in
+    record {
+      known_are = ap (known_operands before) none;
+      numbers = ap (numbers_of names here) none;
+      asks = ap (λ (b : Bool). asked (if b then mnemonics.Nop else said_mnemonic (operation_of i.form.row)) known.Nothing known.Nothing) nop;
+      prefixes = prefixes_same i here (ap override_of none);
+    }
+
+-- and of any other instruction
+abbrev pub first_asked : Instr → ℕ → KnownOperand
+first_asked i ip = asked_by (first_written i.form i.values (next_of i ip))
+
+abbrev pub second_asked : Instr → ℕ → KnownOperand
+second_asked i ip = asked_by (second_written i.form i.values (next_of i ip))
+
+pub plain_says : (before names : Names) (here : ℕ) (i : Instr) → IsInstr i → is_nop i.form ≡ false
+    → Says before names here i (first_asked i here) (second_asked i here) (numbers_said i.form i.values (next_of i here)) (asked_of (operation_of i.form.row) (first_asked i here) (second_asked i here))
+plain_says before names here i is plain =
+    let next : ℕ = next_of i here in
+    let op : Operation = operation_of i.form.row in
+    let one : Written = first_written i.form i.values next in
+    let two : Written = second_written i.form i.values next in
+    let are : AreBoth names here one two = both_said names here i.form i.values next is.form is.values in
+    let operands : operands_in i.form i.values next ≡ said_operands one two = ap (λ (b : Bool). if b then [] else said_operands one two) plain in
+    record {
+      known_are = ap (known_operands before) operands ∙ (both_said before here i.form i.values next is.form is.values).asked;
+      numbers = ap (numbers_of names here) operands ∙ are.numbers;
+      asks = ap (λ (b : Bool). asked (if b then mnemonics.Nop else said_mnemonic op) (asked_by one) (asked_by two)) plain ∙ plain_asked op (asked_by one) (asked_by two) (ask_both i.form i.values next is.form is.values).far;
+      prefixes = prefixes_same i here (ap override_of operands ∙ are.override);
+    }
+
+-- ---- the same meaning
+-- the operands of the form that is chosen, by value
+values_meant : (before names : Names) (location : Location) (size : ℕ) (i : Instr) (f : Form) (v : Values) (x y : KnownOperand) (n : Numbers) (a : Asked)
+    → Says before names location.offset i x y n a → AreOf a.first n → AreOf a.second n
+    → IsFormFor (instruction_asked before (said_instruction i location.offset)) (Some f) → fields_of names location size f (said_instruction i location.offset) ≡ Some v
+    → IsOfValues a n f v ((location.offset + size) % 65536)
+values_meant before names location size i f v x y n a says one two formed fields =
+    forms_mean_what_is_asked a f v (location.offset + size) n (chosen_said before names location.offset i f x y n a says formed)
+    (sym (ap (fields_for f (location.offset + size)) says.numbers) ∙ fields) one two
 
 -- an operand that is asked, and what it means
 abbrev Asks' : Operation → KnownOperand → KnownOperand → Numbers → Meant → Type 0
@@ -740,18 +783,7 @@ exchanged op i j ip n x y is op_is xchg prefixes first second = record {
   operands = inr (sym op_is ∙ xchg, is.first ∙ sym second, is.second ∙ sym first);
 }
 
--- the text of XCHG AX,AX
-abbrev pub ax : KnownOperand
-ax = known.Register (registers.Word Ax)
-
-pub nop_asked : asked mnemonics.Nop known.Nothing known.Nothing ≡ asked_in_order (Transfer transfer.Xchg) ax ax
-unfolding asked
-nop_asked = refl
-
-pub nop_said : (before names : Names) (here : ℕ) → SaysOperands before names here [] known.Nothing known.Nothing no_numbers
-unfolding numbers_of
-nop_said before names here = record { asked = refl; numbers = refl }
-
+-- ---- NOP
 pub record IsNop (f : Form) : Type 0 where
   pub operation : operation_of f.row ≡ Transfer transfer.Xchg
   pub first : first_of f.row ≡ kinds.Ax
@@ -800,16 +832,10 @@ nop_means before names location i f v is nop formed fields =
     let said = said_instruction i ip in
     let size : ℕ = instruction_size f said in
     let isnop : IsNop i.form = nop_is i.form nop in
-    let none : operands_in i.form i.values (next_of i ip) ≡ [] = ap (λ (b : Bool). if b then [] else said_operands (first_written i.form i.values (next_of i ip)) (second_written i.form i.values (next_of i ip))) nop in
-    let mnemonic : mnemonic_in i.form ≡ mnemonics.Nop = ap (λ (b : Bool). if b then mnemonics.Nop else said_mnemonic (operation_of i.form.row)) nop in
-    let says = subst (λ (os : List Operand). SaysOperands before names ip os known.Nothing known.Nothing no_numbers) (sym none) (nop_said before names ip) in
-    let is_asked : asked (mnemonic_in i.form) known.Nothing known.Nothing ≡ asked_in_order (Transfer transfer.Xchg) ax ax =
-    ap (λ (m : Mnemonic). asked m known.Nothing known.Nothing) mnemonic ∙ nop_asked in
-    let meant = values_meant before names location size i f v known.Nothing known.Nothing no_numbers says
-    (subst (λ (a : Asked). AreOf a.first no_numbers) (sym is_asked) tt) (subst (λ (a : Asked). AreOf a.second no_numbers) (sym is_asked) tt) formed fields in
+    let says = nop_says before names ip i nop in
     in_order (Transfer transfer.Xchg) i (instr_of f said v) ip no_numbers ax ax
-    (subst (λ (a : Asked). IsOfValues a no_numbers f v ((ip + size) % 65536)) is_asked meant) (sym isnop.operation)
-    (prefixes_same names ip i ip (ap override_of none)) (nop_first_meant i.form i.values (next_of i ip) isnop) (nop_second_meant i.form i.values (next_of i ip) is.form isnop)
+    (values_meant before names location size i f v known.Nothing known.Nothing no_numbers (asked_in_order (Transfer transfer.Xchg) ax ax) says tt tt formed fields) (sym isnop.operation)
+    says.prefixes (nop_first_meant i.form i.values (next_of i ip) isnop) (nop_second_meant i.form i.values (next_of i ip) is.form isnop)
 
 -- the two orders
 by_order : (b : Bool) (op : Operation) (i j : Instr) (ip : ℕ) (n : Numbers) (x y : KnownOperand) → is_exchanged op x y ≡ b → op ≡ operation_of i.form.row → (op ≡ Arithmetic Test → is_memory y ≡ false)
@@ -830,25 +856,14 @@ plain_means before names location i f v is plain formed fields =
     let said = said_instruction i ip in
     let size : ℕ = instruction_size f said in
     let op : Operation = operation_of i.form.row in
-    let one : Written = first_written i.form i.values next in
-    let two : Written = second_written i.form i.values next in
-    let x : KnownOperand = asked_by one in
-    let y : KnownOperand = asked_by two in
+    let x : KnownOperand = first_asked i ip in
+    let y : KnownOperand = second_asked i ip in
     let n : Numbers = numbers_said i.form i.values next in
     let both : AskBoth i.form i.values next n = ask_both i.form i.values next is.form is.values in
-    let are : AreBoth names ip one two = both_said names ip i.form i.values next is.form is.values in
-    let known_are : AreBoth before ip one two = both_said before ip i.form i.values next is.form is.values in
-    let operands : operands_in i.form i.values next ≡ said_operands one two = ap (λ (b : Bool). if b then [] else said_operands one two) plain in
-    let mnemonic : mnemonic_in i.form ≡ said_mnemonic op = ap (λ (b : Bool). if b then mnemonics.Nop else said_mnemonic op) plain in
-    let says : SaysOperands before names ip (operands_in i.form i.values next) x y n =
-    subst (λ (os : List Operand). SaysOperands before names ip os x y n) (sym operands) (record { asked = known_are.asked; numbers = are.numbers }) in
-    let is_asked : asked (mnemonic_in i.form) x y ≡ asked_of op x y = ap (λ (m : Mnemonic). asked m x y) mnemonic ∙ plain_asked op x y both.far in
+    let says = plain_says before names ip i is plain in
     by_order (is_exchanged op x y) op i (instr_of f said v) ip n x y refl refl both.order
-    (λ a a_is first second.
-    let same : asked (mnemonic_in i.form) x y ≡ a = is_asked ∙ a_is in
-    subst (λ (b : Asked). IsOfValues b n f v ((ip + size) % 65536)) same
-    (values_meant before names location size i f v x y n says (subst (λ (b : Asked). AreOf b.first n) (sym same) first) (subst (λ (b : Asked). AreOf b.second n) (sym same) second) formed fields))
-    (prefixes_same names ip i ip (ap override_of operands ∙ are.override)) both.first both.second
+    (λ a a_is first second. values_meant before names location size i f v x y n a (subst (Says before names ip i x y n) a_is says) first second formed fields)
+    says.prefixes both.first both.second
 
 pub texts_mean_the_same : TextsMeanTheSame
 texts_mean_the_same before names location i f v is formed fields = by (is_nop i.form) refl

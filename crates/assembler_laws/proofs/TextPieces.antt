@@ -1,8 +1,9 @@
 -- How pieces of a text are read as tokens, whatever stands behind them.
-use Rattle.std.proofs.Common.{◌≡◌, ◌∙◌, ℕ, suc, ◌+◌, ◌*◌, ◌/◌, ◌%◌, ◌<◌, List, [], ◌∷◌, ◌++◌, length, append_assoc, refl, sym, ap, subst, arith, Bool, true, false, ◌==◌, ◌&&◌, if◌then◌else◌, Option, None, Some, Ok, option_and_then, nat_lt, nat_le}
+use Rattle.std.proofs.Common.{◌≡◌, ◌∙◌, ℕ, suc, ◌+◌, ◌*◌, ◌/◌, ◌%◌, ◌<◌, List, [], ◌∷◌, ◌++◌, length, append_assoc, refl, sym, ap, subst, arith, Bool, true, false, ◌&&◌, if◌then◌else◌, Option, None, Some, Ok, option_and_then, nat_lt, nat_le}
 use Rattle.std.specs.List.{list_all}
 use Rattle.std.specs.Option.{option_map}
 use Rattle.std.specs.Fmt.{digit_glyph}
+use Rattle.std.proofs.lemmas.Bool.{and_from, and_parts}
 use Rattle.std.proofs.lemmas.Bool.Decides.{nat_tests}
 use Rattle.dialect.specs.declared.meaning.Meaning.{Meaning}
 use Rattle.dialect.specs.Words.{meaning_of}
@@ -10,9 +11,10 @@ use Rattle.board_types.specs.Digits.{digit_of, spelled}
 use Rattle.board_types.specs.TextLines.{begins_with, onto_first}
 use Rattle.assembler_lexeme.specs.declared.token.Token.{Token}
 use Rattle.assembler_lexeme.specs.declared.token.Token.TheVariants.{Number, Word}
-use Rattle.assembler_lexeme.specs.Lexemes.{is_blank, is_character, is_letter, is_word_byte, lexemes_from}
+use Rattle.assembler_lexeme.specs.Lexemes.{is_character, is_letter, is_word_byte, lexemes_from}
 use Rattle.assembler_lexeme.specs.Numbers.{in_bounds, number_of, number_to}
 use Rattle.assembler_lexeme.specs.Tokens.{number_token, token_of, tokens_of, word_token}
+use Rattle.assembler_lexeme.proofs.Scanning.{word_start}
 use Rattle.disassembler.specs.Text.{byte_text, word_text}
 
 -- a text of characters that has these tokens
@@ -77,72 +79,30 @@ IsMarkAt b t = (rest : List ℕ) → lexemes_from false (b ∷ rest) ≡ (b ∷ 
 pub opens_mark : (b : ℕ) (t : Token) → ((rest : List ℕ) → lexemes_from false (b ∷ rest) ≡ (b ∷ []) ∷ lexemes_from false rest)
     → is_character b ≡ true → token_of (b ∷ []) ≡ Some t → Opens (b ∷ []) (t ∷ [])
 opens_mark b t alone character is rest us reads = record {
-  characters = both_true (is_character b) (list_all is_character rest) character reads.characters;
+  characters = and_from (is_character b) (list_all is_character rest) character reads.characters;
   tokens = ap tokens_of (alone rest) ∙ token_more (b ∷ []) (lexemes_from false rest) t us is reads.tokens;
 }
-  where
-    both_true : (x y : Bool) → x ≡ true → y ≡ true → (x && y) ≡ true
-    both_true x y p q = rw (p, q) refl
 
 -- ---- words
 all_characters : (w rest : List ℕ) → list_all is_word_byte w ≡ true → list_all is_character rest ≡ true → list_all is_character (w ++ rest) ≡ true
 all_characters [] rest all more = more
 all_characters (b ∷ bs) rest all more =
-    let here : is_word_byte b ≡ true = left_true (is_word_byte b) (list_all is_word_byte bs) all in
-    let later : list_all is_word_byte bs ≡ true = right_true (is_word_byte b) (list_all is_word_byte bs) all in
-    let character : is_character b ≡ true = a_character b here in
-    let rest_are : list_all is_character (bs ++ rest) ≡ true = all_characters bs rest later more in
-    rw (character, rest_are) refl
+    let parts = and_parts (is_word_byte b) (list_all is_word_byte bs) all in
+    and_from (is_character b) (list_all is_character (bs ++ rest)) (a_character b parts.0) (all_characters bs rest parts.1 more)
   where
-    left_true : (x y : Bool) → (x && y) ≡ true → x ≡ true
-    left_true true y e = refl
-    left_true false y e = e
-
-    right_true : (x y : Bool) → (x && y) ≡ true → y ≡ true
-    right_true true y e = e
-    right_true false y e = absurd (let never : false ≡ true = e in cc)
-
     a_character : (b : ℕ) → is_word_byte b ≡ true → is_character b ≡ true
     a_character b word = grind (arith, nat_tests)
 
-no_comment : (b : ℕ) → is_word_byte b ≡ true → (b == 59) ≡ false
-no_comment b word = grind (arith, nat_tests)
-
-no_blank : (b : ℕ) → is_word_byte b ≡ true → is_blank b ≡ false
-no_blank b word = grind (arith, nat_tests)
-
-no_quote : (b : ℕ) → is_word_byte b ≡ true → (b == 39) ≡ false
-no_quote b word = grind (arith, nat_tests)
-
-word_start : (b : ℕ) (bs : List ℕ) → is_word_byte b ≡ true → lexemes_from false (b ∷ bs) ≡ (if begins_with is_word_byte bs then onto_first b (lexemes_from false bs) else (b ∷ []) ∷ lexemes_from false bs)
-word_start b bs word =
-    chosen (b == 59) (is_blank b) (b == 39) (is_word_byte b) (begins_with is_word_byte bs) (lexemes_from false bs) _ _ _ (no_comment b word) (no_blank b word) (no_quote b word) word
-  where
-    chosen : (comment blank quote word more : Bool) (skipped quoted joined parted : List (List ℕ)) → comment ≡ false → blank ≡ false → quote ≡ false → word ≡ true
-        → (if comment then [] else (if blank then skipped else (if quote then quoted else (if word && more then joined else parted)))) ≡ (if more then joined else parted)
-    chosen comment blank quote word more skipped quoted joined parted p q r s = rw (p, q, r, s) refl
-
 word_alone : (b : ℕ) (bs rest : List ℕ) → list_all is_word_byte (b ∷ bs) ≡ true → stops rest → lexemes_from false ((b ∷ bs) ++ rest) ≡ (b ∷ bs) ∷ lexemes_from false rest
-word_alone b [] rest all here = word_start b rest (first_true (is_word_byte b) true all) ∙ ap (λ (more : Bool). if more then onto_first b (lexemes_from false rest) else (b ∷ []) ∷ lexemes_from false rest) here
-  where
-    first_true : (x y : Bool) → (x && y) ≡ true → x ≡ true
-    first_true true y e = refl
-    first_true false y e = e
+word_alone b [] rest all here =
+    word_start b rest (and_parts (is_word_byte b) true all).0
+    ∙ ap (λ (more : Bool). if more then onto_first b (lexemes_from false rest) else (b ∷ []) ∷ lexemes_from false rest) here
 word_alone b (c ∷ cs) rest all here =
-    let one : is_word_byte b ≡ true = first_true (is_word_byte b) (list_all is_word_byte (c ∷ cs)) all in
-    let more : list_all is_word_byte (c ∷ cs) ≡ true = then_true (is_word_byte b) (list_all is_word_byte (c ∷ cs)) all in
-    let next : is_word_byte c ≡ true = first_true (is_word_byte c) (list_all is_word_byte cs) more in
-    word_start b ((c ∷ cs) ++ rest) one
-    ∙ ap (λ (goes : Bool). if goes then onto_first b (lexemes_from false ((c ∷ cs) ++ rest)) else (b ∷ []) ∷ lexemes_from false ((c ∷ cs) ++ rest)) next
-    ∙ ap (onto_first b) (word_alone c cs rest more here)
-  where
-    first_true : (x y : Bool) → (x && y) ≡ true → x ≡ true
-    first_true true y e = refl
-    first_true false y e = e
-
-    then_true : (x y : Bool) → (x && y) ≡ true → y ≡ true
-    then_true true y e = e
-    then_true false y e = absurd (let never : false ≡ true = e in cc)
+    let parts = and_parts (is_word_byte b) (list_all is_word_byte (c ∷ cs)) all in
+    let next = and_parts (is_word_byte c) (list_all is_word_byte cs) parts.1 in
+    word_start b ((c ∷ cs) ++ rest) parts.0
+    ∙ ap (λ (goes : Bool). if goes then onto_first b (lexemes_from false ((c ∷ cs) ++ rest)) else (b ∷ []) ∷ lexemes_from false ((c ∷ cs) ++ rest)) next.0
+    ∙ ap (onto_first b) (word_alone c cs rest parts.1 here)
 
 pub says_word : (b : ℕ) (bs : List ℕ) (t : Token) → list_all is_word_byte (b ∷ bs) ≡ true → token_of (b ∷ bs) ≡ Some t → Says (b ∷ bs) (t ∷ [])
 says_word b bs t all is rest us here reads = record {
@@ -159,20 +119,15 @@ meant_token : (w : List ℕ) (m : Meaning) → begins_with is_letter w ≡ true 
 unfolding token_of word_token
 meant_token w m letter short means = rw (letter, short, means) refl
 
-three : (x y z : Bool) → (x && (y && z)) ≡ true → (x ≡ true) × (y ≡ true) × (z ≡ true)
-three true true true e = (refl, refl, refl)
-three true true false e = absurd (let never : false ≡ true = e in cc)
-three true false z e = absurd (let never : false ≡ true = e in cc)
-three false y z e = absurd (let never : false ≡ true = e in cc)
-
 short_word : (n : ℕ) → nat_le n 30 ≡ true → nat_lt 31 (suc n) ≡ false
 short_word n small = grind (arith, nat_tests)
 
 pub says_meant : (w : List ℕ) (m : Meaning) → is_plain w ≡ true → meaning_of w ≡ Some m → Says w (Word m ∷ [])
 says_meant [] m plain means = absurd (let never : false ≡ true = plain in cc)
 says_meant (b ∷ bs) m plain means =
-    let are = three (is_letter b) (list_all is_word_byte (b ∷ bs)) (nat_le (length bs) 30) plain in
-    says_word b bs (Word m) are.1 (meant_token (b ∷ bs) m are.0 (short_word (length bs) are.2) means)
+    let one = and_parts (is_letter b) (list_all is_word_byte (b ∷ bs) && nat_le (length bs) 30) plain in
+    let two = and_parts (list_all is_word_byte (b ∷ bs)) (nat_le (length bs) 30) one.1 in
+    says_word b bs (Word m) two.0 (meant_token (b ∷ bs) m one.0 (short_word (length bs) two.1) means)
 
 -- ---- numbers
 glyph_digit : (d : ℕ) → d < 16 → digit_of (digit_glyph true d) ≡ d

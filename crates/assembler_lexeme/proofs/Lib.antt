@@ -1,5 +1,5 @@
-mod Scanning
 mod Wording
 pub mod Gathering
 pub mod Folding
 pub mod Weights
+pub mod Scanning

@@ -18,7 +18,7 @@ one_more : (n : ℕ) → 1 + n ≡ suc n
 one_more n = omega arith
 
 -- the first lexeme of a text that begins with a byte of a word
-word_start : (b : ℕ) (bs : List ℕ) → is_word_byte b ≡ true → lexemes_from false (b ∷ bs) ≡ (if begins_with is_word_byte bs then onto_first b (lexemes_from false bs) else (b ∷ []) ∷ lexemes_from false bs)
+pub word_start : (b : ℕ) (bs : List ℕ) → is_word_byte b ≡ true → lexemes_from false (b ∷ bs) ≡ (if begins_with is_word_byte bs then onto_first b (lexemes_from false bs) else (b ∷ []) ∷ lexemes_from false bs)
 word_start b bs word =
     chosen (b == 59) (is_blank b) (b == 39) (is_word_byte b) (begins_with is_word_byte bs) (lexemes_from false bs) _ _ _ (no_comment b word) (no_blank b word) (no_quote b word) word
   where

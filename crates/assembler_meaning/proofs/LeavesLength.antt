@@ -1,8 +1,9 @@
 -- A line places as many bytes as the first pass counts, though it knows fewer names.
-use Rattle.std.proofs.Common.{◌≡◌, ℕ, ℤ, zero, suc, ◌*◌, Bool, true, false, ◌||◌, ◌&&◌, if◌then◌else◌, cond, List, [], ◌∷◌, ◌++◌, length, map, Option, None, Some, is_some, is_none, refl, sym, ap, ◌∙◌, arith}
+use Rattle.std.proofs.Common.{◌≡◌, ℕ, ℤ, zero, suc, ◌*◌, Bool, true, false, ◌||◌, if◌then◌else◌, cond, List, [], ◌∷◌, ◌++◌, length, map, Option, None, Some, is_some, is_none, refl, sym, ap, ◌∙◌, arith}
 use Rattle.std.specs.List.{list_all, list_any, flat_map}
 use Rattle.std.specs.Map.{lookup}
 use Rattle.std.specs.Option.{option_map, option_map_or}
+use Rattle.std.proofs.lemmas.Bool.{and_parts, or_parts}
 use Rattle.std.proofs.lemmas.List.{length-append, length-map}
 use Rattle.std.proofs.lemmas.List.Folds.{list_any-append}
 use Rattle.isa.specs.declared.form.Form.{Form}
@@ -50,14 +51,6 @@ pub keeps_behind : (before more : Names) → Keeps before (before ++ more)
 keeps_behind before more = record { stays = λ name symbol is. found_stays (same_name name) before more symbol is }
 
 -- a constant keeps its value
-both : (a b : Bool) → (a && b) ≡ true → (a ≡ true) × (b ≡ true)
-both true b is = (refl, is)
-both false b is = (cc, cc)
-
-neither : (a b : Bool) → (a || b) ≡ false → (a ≡ false) × (b ≡ false)
-neither false b is = (refl, is)
-neither true b is = (cc, cc)
-
 symbol_stays : (old new : Option Symbol) → ((symbol : Symbol) → old ≡ Some symbol → new ≡ Some symbol)
     → is_constant_symbol old ≡ true → new ≡ old
 symbol_stays (Some symbol) new stays is = stays symbol refl
@@ -77,7 +70,7 @@ terms_stay : (before all : Names) → Keeps before all → (terms : List Term) �
 unfolding value_of
 terms_stay before all keeps [] is = (refl, refl)
 terms_stay before all keeps (term ∷ terms) is =
-    let parts = both (is_constant_atom before term.atom) (list_all (λ (term : Term). is_constant_atom before term.atom) terms) is in
+    let parts = and_parts (is_constant_atom before term.atom) (list_all (λ (term : Term). is_constant_atom before term.atom) terms) is in
     let first = atom_stays before all keeps term.atom parts.0 in
     let rest = terms_stay before all keeps terms parts.1 in
     (rw (first.0, rest.0) refl, ap (λ v. added (option_map (signed term.is_negative) v) (value_of all 0 terms)) first.1 ∙ ap (added (term_value before 0 term)) rest.1)
@@ -124,7 +117,7 @@ pieces_length : (names : Names) (here : ℕ) (width : DataWidth) (pieces : List 
     → length (flat_map (piece_bytes names here width) pieces) ≡ pieces_size width pieces
 pieces_length names here width [] known = refl
 pieces_length names here width (piece ∷ pieces) known =
-    let parts = both (is_piece_known names here piece) (list_all (is_piece_known names here) pieces) known in
+    let parts = and_parts (is_piece_known names here piece) (list_all (is_piece_known names here) pieces) known in
     let first = piece_length names here width piece parts.0 in
     let rest = pieces_length names here width pieces parts.1 in
     omega (arith, first, rest, length-append (piece_bytes names here width piece) (flat_map (piece_bytes names here width) pieces))
@@ -138,8 +131,8 @@ items_length : (before all : Names) → Keeps before all → (here : ℕ) (width
     → length (flat_map (item_bytes all here width) items) ≡ data_size before width items
 items_length before all keeps here width [] counts known = refl
 items_length before all keeps here width (item ∷ items) counts known =
-    let parts = both (list_all (is_piece_known all here) (pieces_of item)) (list_all (λ (item : Item). list_all (is_piece_known all here) (pieces_of item)) items) known in
-    let rights = neither (list_any (is_unknown before) (item_counts item)) (list_any (is_unknown before) (counts_of items)) (sym (list_any-append (is_unknown before) (item_counts item) (counts_of items)) ∙ counts) in
+    let parts = and_parts (list_all (is_piece_known all here) (pieces_of item)) (list_all (λ (item : Item). list_all (is_piece_known all here) (pieces_of item)) items) known in
+    let rights = or_parts (list_any (is_unknown before) (item_counts item)) (list_any (is_unknown before) (counts_of items)) (sym (list_any-append (is_unknown before) (item_counts item) (counts_of items)) ∙ counts) in
     let times = times_stay before all keeps item rights.0 in
     let each = pieces_length all here width (pieces_of item) parts.0 in
     let first : length (item_bytes all here width item) ≡ times_of before item * pieces_size width (pieces_of item) =

@@ -2,6 +2,7 @@
 use Rattle.std.proofs.Common.{◌≡◌, ℕ, ℤ, pos, negsuc, ◌+◌, ◌*◌, ◌^◌, ◌<◌, ◌≤◌, Bool, true, false, ◌||◌, ◌&&◌, List, length, get_or, drop, Option, None, Some, refl, sym, ap, ◌∙◌, arith}
 use Rattle.std.specs.List.{list_all, list_any}
 use Rattle.std.specs.Option.{option_map_or}
+use Rattle.std.proofs.lemmas.Bool.{or_parts}
 use Rattle.std.proofs.Math.Nat.{mul-le-mul}
 use Rattle.std.proofs.lemmas.Bool.Decides.{nat_tests}
 use Rattle.std.proofs.lemmas.List.{at_drop_more}
@@ -27,11 +28,6 @@ weight_of_pieces : (item : Item) → pieces_weight (pieces_of item) ≡ item_wei
 weight_of_pieces (Once piece) = omega arith
 weight_of_pieces (Repeated count each) = refl
 
-neither : (a b : Bool) → (a || b) ≡ false → (a ≡ false) × (b ≡ false)
-neither false false is = (refl, refl)
-neither false true is = (refl, is)
-neither true b is = (is, cc)
-
 -- the item at a place, and those behind it
 pub counts_right : (names : Names) (items : List Item) (i : ℕ) (d : Item) → i < length items
     → list_any (is_wrong_count names) (counts_of (drop i items)) ≡ false
@@ -40,7 +36,7 @@ pub counts_right : (names : Names) (items : List Item) (i : ℕ) (d : Item) → 
 counts_right names items i d within right =
     let split = at_drop_more (λ (is : List Item). list_any (is_wrong_count names) (counts_of is)) items i d within in
     let parts = list_any-append (is_wrong_count names) (item_counts (get_or items i d)) (counts_of (drop (i + 1) items)) in
-    neither _ _ (sym parts ∙ sym split ∙ right)
+    or_parts _ _ (sym parts ∙ sym split ∙ right)
 
 pub item_room : (names : Names) (item : Item) (size : ℕ) → list_any (is_wrong_count names) (item_counts item) ≡ false
     → size ≤ 4 * pieces_weight (pieces_of item) → times_of names item * size ≤ 2 ^ 18 * item_weight item
