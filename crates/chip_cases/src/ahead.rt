@@ -1,12 +1,12 @@
 //! A counter, or the raster, any number of ticks ahead, and when its output changes next.
-use anyhow::{Context, Result, bail, ensure};
+use anyhow::{Context, Result, ensure};
 use board_types::choice::TimerKind;
 use board_types::line::Line;
 use board_types::timed::Timed;
 use mda_text::mda::{Mda, STATUS_PORT};
 use pit8253::pit::Pit;
 use std::alloc::Global;
-use std::str::SplitWhitespace;
+use std::str::{Split, SplitWhitespace};
 
 /// A control word for counter 0: mode 0, two bytes, binary. It leaves the count, which then reads low byte first.
 const READS_BOTH: u8 = 0x30;
@@ -19,53 +19,80 @@ const READS_STATUS: u8 = 0xE2;
 pub fn follow_counter(kind: TimerKind, case: &str) -> Result<()> {
     let mut parts = case.split('|');
     let mut pit = Pit::with(kind);
-    for operation in parts.next().context("no operations")?.split_whitespace() {
-        operate(&mut pit, operation).context("operation")?;
-    }
+    operate(&mut pit, parts.next().context("no operations")?)?;
     let now = parts.next().context("no state")?;
-    compare(kind, &pit, now, now.split_whitespace())?;
+    compare(kind, pit, now, now.split_whitespace())?;
+    compare_ahead(kind, pit, parts)
+}
+
+/// Compares a counter, so many ticks ahead, with what each part says behind their number.
+fn compare_ahead(kind: TimerKind, pit: Pit, parts: Split<char>) -> Result<()> {
     for part in parts {
-        compare_ahead(kind, pit, part)?;
+        let mut words = part.split_whitespace();
+        let ticks = decimal(words.next()).context("no ticks")?;
+        compare(kind, ahead(pit, ticks), part, words)?;
     }
     Ok(())
 }
 
-/// Compares a counter so many ticks ahead with what the part says behind their number.
-fn compare_ahead(kind: TimerKind, mut pit: Pit, part: &str) -> Result<()> {
-    let mut words = part.split_whitespace();
-    pit.advance(decimal(words.next()).context("no ticks")?);
-    compare(kind, &pit, part, words)
+fn ahead(mut pit: Pit, ticks: u64) -> Pit {
+    pit.advance(ticks);
+    pit
 }
 
-/// Makes an operation: a control word or a read-back, a byte written or read, a level of the gate, ticks, or none.
-fn operate(pit: &mut Pit, operation: &str) -> Result<()> {
-    let (name, value) = operation.split_at_checked(1).context("no name")?;
-    let byte = u8::from_str_radix(value, 16);
+/// Makes the operations in their order.
+fn operate(pit: &mut Pit, operations: &str) -> Result<()> {
+    for operation in operations.split_whitespace() {
+        ensure!(comes_out(pit, operation) == Some(true), "{operation}");
+    }
+    Ok(())
+}
+
+/// Makes an operation, and tells whether it came out as it says: a level of the gate, ticks, an access of a byte, or none.
+/// `None` where it can't be read.
+fn comes_out(pit: &mut Pit, operation: &str) -> Option<bool> {
+    let (name, value) = operation.split_at_checked(1)?;
     match name {
-        "C" | "B" => pit.write(3, byte?),
-        "W" => pit.write(0, byte?),
-        "R" => ensure!(pit.read(0) == byte?, "another byte"),
         "G" => pit.set_gate(0, Line::from_bool(value == "1")),
-        "T" => pit.advance(decimal(Some(value)).context("no ticks")?),
-        "P" => (),
-        _ => bail!("no such operation"),
+        "T" => pit.advance(decimal(Some(value))?),
+        "P" => {}
+        _ => return access(pit, name, u8::from_str_radix(value, 16).ok()?),
     }
-    Ok(())
+    Some(true)
+}
+
+/// A control word or a read-back, or a byte that is written or read.
+fn access(pit: &mut Pit, name: &str, byte: u8) -> Option<bool> {
+    match name {
+        "C" | "B" => pit.write(3, byte),
+        "W" => pit.write(0, byte),
+        "R" => return Some(pit.read(0) == byte),
+        _ => return None,
+    }
+    Some(true)
 }
 
 /// Compares counter 0 with what the words say: OUT, the count as it reads, the status of an 8254, and the ticks until OUT
 /// changes.
-fn compare(kind: TimerKind, pit: &Pit, part: &str, mut words: SplitWhitespace) -> Result<()> {
-    let out = words.next().context("no level")? == "1";
-    ensure!(pit.out(0).is_high() == out, "OUT at {part}");
-    let count = hexadecimal(words.next()).context("no count")?;
-    let found = count_of(*pit);
-    ensure!(found == count, "{found:04X} at {part}");
-    if kind == TimerKind::I8254 {
-        let status = hexadecimal(words.next()).context("no status")?;
-        ensure!(status_of(*pit) == status, "the status at {part}");
-    }
-    judge_change(pit.until_change(0), words.next(), part)
+fn compare(kind: TimerKind, pit: Pit, part: &str, words: SplitWhitespace) -> Result<()> {
+    let count = count_of(pit);
+    ensure!(
+        shows(kind, pit, count, words) == Some(true),
+        "count {count:04X} at {part}"
+    );
+    Ok(())
+}
+
+/// Whether these words tell of counter 0; `None` where one isn't there.
+fn shows(kind: TimerKind, pit: Pit, count: u16, mut words: SplitWhitespace) -> Option<bool> {
+    let high = words.next()? == "1";
+    let same = hexadecimal(words.next())? == count;
+    let status = match kind {
+        TimerKind::I8253 => true,
+        TimerKind::I8254 => hexadecimal(words.next())? == status_of(pit),
+    };
+    let told = is_told(pit.until_change(0), words.next());
+    Some(pit.out(0).is_high() == high && same && status && told)
 }
 
 fn count_of(mut pit: Pit) -> u16 {
@@ -98,15 +125,18 @@ fn follow_parts(mda: &mut Mda, case: &str) -> Result<()> {
 fn follow_part(mda: &mut Mda, part: &str) -> Result<()> {
     let mut words = part.split_whitespace();
     mda.advance(decimal(words.next()).context("no clocks")?);
-    let status = hexadecimal(words.next()).context("no status")?;
-    let found = u16::from(mda.read_port(STATUS_PORT));
-    ensure!(found == status, "the status at {part}");
-    judge_change(mda.until_change(), words.next(), part)
+    let status = mda.read_port(STATUS_PORT);
+    ensure!(
+        stands(mda, status, words) == Some(true),
+        "status {status:02X} at {part}"
+    );
+    Ok(())
 }
 
-fn judge_change(turn: Option<u64>, word: Option<&str>, part: &str) -> Result<()> {
-    ensure!(is_told(turn, word), "the next change at {part}");
-    Ok(())
+/// Whether these words tell of the raster; `None` where one isn't there.
+fn stands(mda: &Mda, status: u8, mut words: SplitWhitespace) -> Option<bool> {
+    let same = hexadecimal(words.next())? == u16::from(status);
+    Some(same && is_told(mda.until_change(), words.next()))
 }
 
 fn is_told(turn: Option<u64>, word: Option<&str>) -> bool {

@@ -23,17 +23,36 @@ fn follow_on<B: Bench>(bench: &mut B, steps: &str) -> Result<()> {
 
 /// Makes a step: an access for each of its values, or the one of a verb that has none.
 fn make<B: Bench>(bench: &mut B, step: &str) -> Result<()> {
-    let (name, operands) = first_word(step);
-    let (verb, place_radix, radix) = verb_of(name).context("no such verb")?;
-    let (place, values) = place_in(operands, place_radix).context("no such place")?;
+    let (verb, place, values, radix) = read(step).context("no such verb or place")?;
+    ensure!(
+        values.is_empty() == (radix == 0),
+        "values, or a value is missing"
+    );
     if radix == 0 {
-        ensure!(values.is_empty(), "no values");
         bench.access(verb, place, 0).context("refused")?;
         return Ok(());
     }
-    ensure!(!values.is_empty(), "a value is missing");
+    make_accesses(bench, verb, place, values, radix)
+}
+
+/// A step's verb, its place, its values, and their radix, 0 of a verb that has none.
+fn read(step: &str) -> Option<(Verb, u64, &str, u32)> {
+    let (name, operands) = first_word(step);
+    let (verb, place_radix, radix) = verb_of(name)?;
+    let (place, values) = place_in(operands, place_radix)?;
+    Some((verb, place, values, radix))
+}
+
+fn make_accesses<B: Bench>(
+    bench: &mut B,
+    verb: Verb,
+    place: u64,
+    values: &str,
+    radix: u32,
+) -> Result<()> {
     for word in values.split_whitespace() {
-        make_access(bench, verb, place, number(word, radix), word)?;
+        let value = number(word, radix).context("no such value")?;
+        make_access(bench, verb, place, value, word)?;
     }
     Ok(())
 }
@@ -52,10 +71,9 @@ fn make_access<B: Bench>(
     bench: &mut B,
     verb: Verb,
     place: u64,
-    value: Option<u64>,
+    value: u64,
     word: &str,
 ) -> Result<()> {
-    let value = value.context("no such value")?;
     let came = bench.access(verb, place, value).context("refused")?;
     ensure!(came == value, "wanted {word}, came {came:02X}");
     Ok(())

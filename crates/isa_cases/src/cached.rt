@@ -1,15 +1,13 @@
 //! Memory and the cache of its instructions, to which each write is told.
 ghost use Rattle.std.specs.Prelude.{◌<◌, ◌^◌};
 
-use crate::judge::judge;
+use crate::judge::{judge, judge_found};
 use crate::memory::Memory;
-use anyhow::{Context, Result, bail};
+use anyhow::{Context, Result, ensure};
 use board_types::address::ADDRESS_COUNT;
 use cases::Judged;
 use decode::decoded::Decoded;
-use decode::decoding::Decoding;
 use decode_cache::cache::Cache;
-use disassembler::text::InstrText;
 use std::alloc::{AllocError, Global};
 use std::marker::Model;
 
@@ -43,25 +41,32 @@ impl CachedMemory {
     /// Does what a line says. Fails with what differs then, or with why the line can't be read.
     pub fn follow_line(&mut self, alloc: Global, line: &str) -> Result<Judged> {
         let words: Vec<&str> = line.split_whitespace().collect(alloc)?;
+        self.follow(alloc, line, &words)
+    }
+
+    fn follow(&mut self, alloc: Global, line: &str, words: &[&str]) -> Result<Judged> {
         match *words {
-            ["new", ..] => {
-                self.clear(alloc)?;
-                return Ok(Judged::Setting);
+            ["new", ..] => self.clear(alloc)?,
+            ["set", start, digits] => self.set(start, digits)?,
+            _ => {
+                self.judge(alloc, line, words)?;
+                return Ok(Judged::Case);
             }
-            ["set", start, digits] => {
-                self.set(start, digits)?;
-                return Ok(Judged::Setting);
-            }
+        }
+        Ok(Judged::Setting)
+    }
+
+    fn judge(&mut self, alloc: Global, line: &str, words: &[&str]) -> Result<()> {
+        match *words {
             ["fetch", cs, ip, length, ..] => {
                 let text = line.splitn(5, ' ').nth(4).unwrap_or("");
-                self.judge_fetch(alloc, cs, ip, length, text)?;
+                self.judge_fetch(alloc, cs, ip, length, text)
             }
             ["rounds", rounds, most, cs, ref offsets @ ..] => {
-                self.judge_reads(rounds.parse()?, most.parse()?, cs, offsets)?;
+                self.judge_reads(rounds.parse()?, most.parse()?, cs, offsets)
             }
-            _ => judge(alloc, line)?,
+            _ => judge(alloc, line, words),
         }
-        Ok(Judged::Case)
     }
 
     /// Makes the memory clear, with an empty cache.
@@ -110,17 +115,7 @@ impl CachedMemory {
         let cs = u16::from_str_radix(cs, 16)?;
         let ip = u16::from_str_radix(ip, 16)?;
         for _ in 0..2 {
-            match self.fetch(cs, ip).unpack() {
-                Decoding::NoRow if length == "none" => {}
-                Decoding::NoRow => bail!("no row"),
-                Decoding::Found(instr, found) => {
-                    let shown = InstrText { instr: &instr, ip };
-                    let shown = shown.to_string(alloc)?;
-                    if found != length.parse()? || shown.as_str() != text {
-                        bail!("found {found} bytes, shown as {shown}");
-                    }
-                }
-            }
+            judge_found(alloc, &self.fetch(cs, ip).unpack(), ip, length, Some(text))?;
         }
         Ok(())
     }
@@ -130,14 +125,18 @@ impl CachedMemory {
         let cs = u16::from_str_radix(cs, 16)?;
         let before = self.memory.reads();
         for _ in 0..rounds {
-            for offset in offsets {
-                let _ = self.fetch(cs, u16::from_str_radix(offset, 16)?);
-            }
+            self.fetch_each(cs, offsets).context("no offset")?;
         }
         let reads = self.memory.reads().saturating_sub(before);
-        if reads > most {
-            bail!("{reads} bytes read");
-        }
+        ensure!(reads <= most, "{reads} bytes read");
         Ok(())
+    }
+
+    /// Fetches what stands at each offset; `None` where one can't be read.
+    fn fetch_each(&mut self, cs: u16, offsets: &[&str]) -> Option<()> {
+        for offset in offsets {
+            let _ = self.fetch(cs, u16::from_str_radix(offset, 16).ok()?);
+        }
+        Some(())
     }
 }

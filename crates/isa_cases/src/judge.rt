@@ -1,81 +1,93 @@
 //! Whether a case's values are those of the program.
+ghost use Rattle.isa.specs.Encoding.{FitsForm, IsForm};
 
 use crate::code::{Code, SEGMENT};
-use anyhow::{Context, Result, bail};
+use anyhow::{Result, bail, ensure};
 use board_types::choice::ClockTable;
 use decode::decode::decode;
 use decode::decoding::Decoding;
 use disassembler::text::InstrText;
 use isa::clocks::cost;
 use isa::encoding::encode;
+use isa::form::{Instr, Prefix};
 use isa::outcome::Outcome;
 use std::alloc::Global;
 
-/// Fails with what differs in a case, or with why it can't be read.
-pub fn judge(alloc: Global, case: &str) -> Result<()> {
-    let words: Vec<&str> = case.split_whitespace().collect(alloc)?;
+/// Fails with what differs in a case of these words, or with why it can't be read.
+pub fn judge(alloc: Global, case: &str, words: &[&str]) -> Result<()> {
     match *words {
         ["cost", bytes, cl, found, clocks] => judge_cost(bytes, cl, found, clocks),
-        [ip, bytes, "none"] => judge_none(&Code::read(ip, bytes)?),
-        [ip, bytes, length] => judge_found(&Code::read(ip, bytes)?, length),
-        [ip, bytes, length, ..] => {
+        [ip, bytes, length, ref more @ ..] => {
             let code = Code::read(ip, bytes)?;
-            judge_found(&code, length)?;
-            judge_text(alloc, &code, case.splitn(4, ' ').nth(3).context("no text")?)
+            let text = case.splitn(4, ' ').nth(3).filter(|_| !more.is_empty());
+            judge_code(alloc, &code, length, text)
         }
         _ => bail!("no such case"),
     }
 }
 
-fn judge_none(code: &Code) -> Result<()> {
-    match decode(code, SEGMENT, code.ip).unpack() {
-        Decoding::NoRow => Ok(()),
-        Decoding::Found(_, length) => bail!("found {length} bytes"),
+fn judge_code(alloc: Global, code: &Code, length: &str, text: Option<&str>) -> Result<()> {
+    let found = decode(code, SEGMENT, code.ip).unpack();
+    if let Decoding::Found(instr, size) = &found {
+        ensure!(is_encoded(instr, *size, code), "encoded as other bytes");
+    }
+    judge_found(alloc, &found, code.ip, length, text)
+}
+
+/// Whether an instruction of this length, encoded again, gives the bytes.
+fn is_encoded(instr: &Instr, length: u8, code: &Code) -> bool
+    requires form { IsForm instr.now.form }
+    requires values { FitsForm instr.now.form instr.now.values }
+{
+    let prefixes = instr.prefixes.as_slice();
+    let again = encode(&instr.form, instr.values);
+    prefixes.len() + again.len() == usize::from(length)
+        && has_prefixes(code, prefixes)
+        && has_bytes(code, prefixes.len(), again.as_slice())
+}
+
+fn has_prefixes(code: &Code, prefixes: &[Prefix]) -> bool {
+    for (i, prefix) in prefixes.iter().enumerate() {
+        if prefix.byte() != code.at(i) {
+            return false;
+        }
+    }
+    true
+}
+
+fn has_bytes(code: &Code, start: usize, bytes: &[u8]) -> bool {
+    for (i, byte) in bytes.iter().enumerate() {
+        if *byte != code.at(start.saturating_add(i)) {
+            return false;
+        }
+    }
+    true
+}
+
+/// Fails unless what was found at an offset has this length and, where one is wanted, this text, or is `none`.
+pub fn judge_found(
+    alloc: Global,
+    found: &Decoding,
+    ip: u16,
+    length: &str,
+    text: Option<&str>,
+) -> Result<()> {
+    let Decoding::Found(instr, size) = found else {
+        let none = length == "none" && text.unwrap_or("").is_empty();
+        ensure!(none, "no row");
+        return Ok(());
+    };
+    ensure!(length.parse().ok() == Some(*size), "found {size} bytes");
+    match text {
+        Some(text) => judge_text(alloc, &InstrText { instr, ip }, text),
+        None => Ok(()),
     }
 }
 
-fn judge_found(code: &Code, length: &str) -> Result<()> {
-    match decode(code, SEGMENT, code.ip).unpack() {
-        Decoding::NoRow => bail!("no row"),
-        Decoding::Found(instr, found) => {
-            if found != length.parse()? {
-                bail!("found {found} bytes");
-            }
-            let prefixes = instr.prefixes.as_slice();
-            for (i, prefix) in prefixes.iter().enumerate() {
-                if prefix.byte() != code.at(i) {
-                    bail!("another prefix {i}");
-                }
-            }
-            let again = encode(&instr.form, instr.values);
-            for (i, byte) in again.as_slice().iter().enumerate() {
-                if *byte != code.at(prefixes.len() + i) {
-                    bail!("another byte {i} behind the prefixes");
-                }
-            }
-            if prefixes.len() + again.len() != usize::from(found) {
-                bail!("encoded with another length");
-            }
-            Ok(())
-        }
-    }
-}
-
-fn judge_text(alloc: Global, code: &Code, text: &str) -> Result<()> {
-    match decode(code, SEGMENT, code.ip).unpack() {
-        Decoding::NoRow => bail!("no row"),
-        Decoding::Found(instr, _) => {
-            let shown = InstrText {
-                instr: &instr,
-                ip: code.ip,
-            };
-            let found = shown.to_string(alloc)?;
-            if found.as_str() != text {
-                bail!("shown as {found}");
-            }
-            Ok(())
-        }
-    }
+fn judge_text(alloc: Global, shown: &InstrText, text: &str) -> Result<()> {
+    let shown = shown.to_string(alloc)?;
+    ensure!(shown.as_str() == text, "shown as {shown}");
+    Ok(())
 }
 
 fn judge_cost(bytes: &str, cl: &str, found: &str, clocks: &str) -> Result<()> {

@@ -1,5 +1,5 @@
 //! Eight parts of the board, each used alone: the interrupt controller, the timer, the parallel port, the keyboard, the
-//! text adapter, the memory, the assembler and the board itself. A module each, written to be copied; docs/PARTS.md
+//! text adapter, the memory, the assembler and the board itself. A module each, written to be copied; docs/parts.md
 //! goes with them.
 #![tactic(auto)]
 

@@ -1,4 +1,5 @@
 //! Fronts of a source.
+use crate::placed::push_bytes;
 use anyhow::{Context, Result};
 use assembler::assembly::assemble;
 use assembler::fault::AsmFault;
@@ -9,37 +10,49 @@ use std::alloc::{AllocError, Global};
 const SOURCE: &str =
     "SEGMENT M AT 0F000h\ngo: MOV AX,0B000h\n MOV ES,AX\n MOV DI,0\n MOV AX,0748h\n STOSW\n MOV AX,0749h\n STOSW\n MOV DX,3B8h\n MOV AL,8\n OUT DX,AL\n HLT\nENDS\nSEGMENT R AT 0FFFFh\n JMP FAR go\nENDS\n";
 
-/// Where its bytes stand, and at most so many from there on.
-const PLACES: [u32; 2] = [0xF_0000, 0xF_FFF0];
-
-const ROOM: u32 = 64;
+/// Where its bytes stand: the first address of each run, and one that lies behind it.
+const PLACES: [(u32, u32); 2] = [(0xF_0000, 0xF_0040), (0xF_FFF0, 0x10_0030)];
 
 /// What the assembler makes of the first bytes of the source, as many as the text says.
 pub fn answer_to(alloc: Global, text: &str) -> Result<String> {
-    let digits = text.strip_prefix("front ").context("no front")?;
-    let size = usize::from(digits.parse::<u8>().ok().context("no size")?);
-    let front = SOURCE.as_bytes().get(..size).context("too long")?;
-    Ok(match assemble(alloc, front) {
-        Ok(listing) => image_text(alloc, listing.image())?,
-        Err(fault) => fault_text(alloc, fault)?,
-    })
+    let front = front_in(text).context("no front")?;
+    Ok(assembled(alloc, front)?)
+}
+
+/// The first bytes of the source, as many as `front SIZE` says.
+fn front_in(text: &str) -> Option<&'static [u8]> {
+    let digits = text.strip_prefix("front ")?;
+    let size = digits.parse::<u8>().ok()?;
+    SOURCE.as_bytes().get(..usize::from(size))
+}
+
+fn assembled(alloc: Global, source: &[u8]) -> Result<String, AllocError> {
+    match assemble(alloc, source) {
+        Ok(listing) => image_text(alloc, listing.image()),
+        Err(fault) => fault_text(alloc, fault),
+    }
 }
 
 /// The bytes at each place up to the first address without one.
 fn image_text(alloc: Global, image: &Image) -> Result<String, AllocError> {
     let mut text = String::from_str(alloc, "front")?;
-    for place in PLACES {
+    for (place, end) in PLACES {
         if image.get(place).is_some() {
-            text.push_str(format!(in alloc; " {place:05X}:")?.as_str())?;
-        }
-        for n in 0..ROOM {
-            let Some(byte) = image.get(place + n) else {
-                break;
-            };
-            text.push_str(format!(in alloc; "{byte:02X}")?.as_str())?;
+            push_run(alloc, &mut text, image, place, end)?;
         }
     }
     Ok(text)
+}
+
+fn push_run(
+    alloc: Global,
+    text: &mut String,
+    image: &Image,
+    place: u32,
+    end: u32,
+) -> Result<(), AllocError> {
+    text.push_str(format!(in alloc; " {place:05X}:")?.as_str())?;
+    push_bytes(alloc, text, image, place, end)
 }
 
 fn fault_text(alloc: Global, fault: AsmFault) -> Result<String, AllocError> {

@@ -1,5 +1,6 @@
 //! What a HEX text gives.
 use anyhow::Result;
+use board_types::image::Image;
 use loader::hex_fault::HexFault;
 use loader::hex_reader::read_hex;
 use loader::hex_writer::write_hex;
@@ -7,15 +8,17 @@ use std::alloc::{AllocError, Global};
 
 /// The HEX text that is written of the image that the text gives, or the text's fault. In the answer `|` stands for a
 /// line feed.
-pub fn answer_to(alloc: Global, text: &str) -> Result<String> {
+pub fn answer_to(alloc: Global, text: String) -> Result<String> {
     match read_hex(alloc, text.as_bytes()) {
-        Ok(image) => {
-            let mut written = Vec::new(alloc);
-            write_hex(&image, &mut written)?;
-            Ok(std::str::from_utf8(written.as_slice())?.replace(alloc, '\n', "|")?)
-        }
+        Ok(image) => written(alloc, &image),
         Err(fault) => Ok(fault_text(alloc, fault)?),
     }
+}
+
+fn written(alloc: Global, image: &Image) -> Result<String> {
+    let mut text = Vec::new(alloc);
+    write_hex(image, &mut text)?;
+    Ok(std::str::from_utf8(text.as_slice())?.replace(alloc, '\n', "|")?)
 }
 
 fn fault_text(alloc: Global, fault: HexFault) -> Result<String, AllocError> {

@@ -55,23 +55,29 @@ fn main(rt: HostRuntime) -> io::Result<()> {
 /// Fails where a case's answer is another one, or the case can't be read.
 fn judge(alloc: Global, case: &str) -> Result<()> {
     let (text, wanted) = case.split_once(" => ").context("no answer")?;
-    let answer = if let Some(text) = text.strip_prefix("hex: ") {
-        hex_text::answer_to(alloc, &unfolded(alloc, text)?)?
-    } else if let Some(text) = text.strip_prefix("run: ") {
-        run_text::answer_to(alloc, &unfolded(alloc, text)?)?
-    } else if let Some(text) = text.strip_prefix("read: ") {
-        reads::answer_to(alloc, text)?
-    } else if wanted.starts_with("alone ") {
-        alone::answer_to(alloc, text)?
-    } else if wanted.starts_with("front") {
-        front::answer_to(alloc, text)?
-    } else if wanted.starts_with("same ") {
-        back::answer_to(alloc, text)?
-    } else {
-        placed::answer_to(alloc, text)?
-    };
+    let answer = answer_to(alloc, text, wanted)?;
     ensure!(answer.as_str() == wanted, "{answer}");
     Ok(())
+}
+
+/// The answer to a case's text, whose form the text or the wanted answer tells.
+fn answer_to(alloc: Global, text: &str, wanted: &str) -> Result<String> {
+    match text.split_once(": ") {
+        Some(("hex", text)) => hex_text::answer_to(alloc, unfolded(alloc, text)?),
+        Some(("run", text)) => Ok(run_text::answer_to(alloc, unfolded(alloc, text)?)?),
+        Some(("read", text)) => reads::answer_to(alloc, text),
+        _ => source_answer(alloc, text, wanted),
+    }
+}
+
+/// The assembler's answer.
+fn source_answer(alloc: Global, text: &str, wanted: &str) -> Result<String> {
+    match wanted.split(' ').next() {
+        Some("alone") => alone::answer_to(alloc, text),
+        Some("front") => front::answer_to(alloc, text),
+        Some("same") => back::answer_to(alloc, text),
+        _ => Ok(placed::answer_to(alloc, text)?),
+    }
 }
 
 /// The text whose lines a case has in one.

@@ -32,16 +32,28 @@ pub fn answer_to(alloc: Global, line: &str) -> Result<String, AllocError> {
 /// The bytes from the case's place on, up to the first address without one.
 fn code_text(alloc: Global, image: &Image) -> Result<String, AllocError> {
     let mut text = String::new(alloc);
-    for addr in PLACE..END {
+    push_bytes(alloc, &mut text, image, PLACE, END)?;
+    if text.is_empty() {
+        text.push_str("none")?;
+    }
+    Ok(text)
+}
+
+/// Adds the bytes from an address on, up to `end` or the first address without one.
+pub fn push_bytes(
+    alloc: Global,
+    text: &mut String,
+    image: &Image,
+    place: u32,
+    end: u32,
+) -> Result<(), AllocError> {
+    for addr in place..end {
         let Some(byte) = image.get(addr) else {
             break;
         };
         text.push_str(format!(in alloc; "{byte:02X}")?.as_str())?;
     }
-    if text.is_empty() {
-        text.push_str("none")?;
-    }
-    Ok(text)
+    Ok(())
 }
 
 /// The fault's number, and its line where it isn't the case's.

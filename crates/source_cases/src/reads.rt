@@ -9,25 +9,35 @@ const PIECE: usize = 4096;
 
 /// How many bytes are read, and by how many reads. Fails where one of these reads fails and the whole isn't refused.
 pub fn answer_to(alloc: Global, text: &str) -> Result<String> {
-    let mut numbers = text.split(' ');
-    let size = number(numbers.next())?;
-    let most = number(numbers.next())?;
-    let limit = number(numbers.next())?;
+    let (size, most, limit) = numbers(text).context("no numbers")?;
     let bytes = counted(alloc, size)?;
-    let mut input = Pieces::new(bytes.as_slice(), most as usize, u64::MAX);
+    let (count, reads) = judge_reads(alloc, bytes.as_slice(), most as usize, limit)?;
+    Ok(format!(in alloc; "{count} {reads}")?)
+}
+
+fn judge_reads(alloc: Global, bytes: &[u8], most: usize, limit: u64) -> Result<(usize, u64)> {
+    let (count, reads) = count_reads(alloc, bytes, most, limit)?;
+    for failing in 0..reads {
+        judge_failure(alloc, bytes, most, limit, failing)?;
+    }
+    Ok((count, reads))
+}
+
+fn numbers(text: &str) -> Option<(u64, u64, u64)> {
+    let mut words = text.split(' ');
+    let size = words.next()?.parse().ok()?;
+    let most = words.next()?.parse().ok()?;
+    let limit = words.next()?.parse().ok()?;
+    Some((size, most, limit))
+}
+
+/// How many of the bytes are read, and by how many reads, where none fails.
+fn count_reads(alloc: Global, bytes: &[u8], most: usize, limit: u64) -> Result<(usize, u64)> {
+    let mut input = Pieces::new(bytes, most, u64::MAX);
     let read = read_all(alloc, &mut input, limit)?;
     ensure!(bytes.starts_with(read.as_slice()), "other bytes");
     let reads = u64::MAX.saturating_sub(input.reads_left());
-    for failing in 0..reads {
-        judge_failure(alloc, bytes.as_slice(), most as usize, limit, failing)?;
-    }
-    Ok(format!(in alloc; "{} {reads}", read.len())?)
-}
-
-fn number(word: Option<&str>) -> Result<u64> {
-    word.context("no number")?
-        .parse::<u64>()
-        .context("no number")
+    Ok((read.len(), reads))
 }
 
 /// So many bytes, which no shift leaves as they are.

@@ -3,6 +3,7 @@
 use crate::code::{Code, OFFSET};
 use anyhow::Result;
 use assembler::assembly::assemble;
+use board_types::image::Image;
 use disassembler::text::InstrText;
 use isa::form::Instr;
 use std::alloc::Global;
@@ -16,15 +17,35 @@ pub fn text_of(alloc: Global, instr: &Instr) -> Result<String> {
 /// Whether the text, assembled at the offset, gives an instruction of the same text.
 pub fn is_same_behind(alloc: Global, text: &str) -> Result<bool> {
     let source = format!(in alloc; "SEGMENT CODE AT 1000h\nORG 4000h\n{text}\n")?;
-    let Ok(listing) = assemble(alloc, source.as_bytes()) else {
-        return Ok(false);
-    };
-    let Some(instr) = Code::of_image(listing.image()).instruction() else {
-        return Ok(false);
-    };
-    let again = text_of(alloc, &instr)?;
-    let (before, after) = (plain(alloc, text)?, plain(alloc, &again)?);
-    Ok(before == after || exchanged(alloc, &before)? == after)
+    match instruction_of(alloc, source.as_bytes()) {
+        Some(instr) => is_text_of(alloc, text, &instr),
+        None => Ok(false),
+    }
+}
+
+/// The instruction that a source places at the offset.
+fn instruction_of(alloc: Global, source: &[u8]) -> Option<Instr> {
+    let image = image_of(alloc, source)?;
+    Code::of_image(&image).instruction()
+}
+
+fn image_of(alloc: Global, source: &[u8]) -> Option<Image> {
+    match assemble(alloc, source) {
+        Ok(listing) => Some(listing.into_image()),
+        Err(_) => None,
+    }
+}
+
+fn is_text_of(alloc: Global, text: &str, instr: &Instr) -> Result<bool> {
+    let again = text_of(alloc, instr)?;
+    let before = plain(alloc, text)?;
+    let after = plain(alloc, again.as_str())?;
+    is_same(alloc, before.as_str(), after.as_str())
+}
+
+/// Whether two texts are the same but for the order of exchanged operands.
+fn is_same(alloc: Global, before: &str, after: &str) -> Result<bool> {
+    Ok(before == after || exchanged(alloc, before)?.as_str() == after)
 }
 
 /// The text without a displacement of 0, and with NOP as the exchange that it is.

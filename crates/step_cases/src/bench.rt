@@ -2,8 +2,8 @@
 
 use crate::judge::{Wanted, judge, judge_kept, judge_registers};
 use crate::ram::Ram;
-use crate::words::{read_bytes, read_cell, read_regs, words_in};
-use anyhow::{Context, Result, bail};
+use crate::words::{cell_in, read_bytes, read_regs, words_in};
+use anyhow::{Context, Result, bail, ensure};
 use arrayvec::ArrayVec;
 use board_types::address::physical;
 use board_types::choice::ClockTable;
@@ -49,38 +49,31 @@ impl Bench {
     pub fn follow_line(&mut self, alloc: Global, line: &str) -> Result<Judged> {
         let (name, rest) = line.split_once(' ').context("no such line")?;
         match name {
-            "begin" => {
-                self.begin(read_regs(rest)?);
-                judge_kept(self, "none")?;
-                return Ok(Judged::Setting);
+            "begin" => self.begin_at(rest)?,
+            "table" => self.table = table_named(rest.trim()).context("no such table")?,
+            "memory" => self.fill(alloc, rest)?,
+            _ => {
+                self.follow_case(alloc, name, rest)?;
+                return Ok(Judged::Case);
             }
-            "table" => {
-                self.table = match rest.trim() {
-                    "C1" => ClockTable::C1,
-                    "C2" => ClockTable::C2,
-                    _ => bail!("no such table"),
-                };
-                return Ok(Judged::Setting);
-            }
-            "memory" => {
-                self.fill(alloc, rest)?;
-                return Ok(Judged::Setting);
-            }
-            _ => {}
         }
+        Ok(Judged::Setting)
+    }
+
+    fn follow_case(&mut self, alloc: Global, name: &str, rest: &str) -> Result<()> {
         let fields: Vec<&str> = rest.split('|').collect(alloc)?;
         match name {
-            "at" => self.pass_boundary(alloc, &fields)?,
-            "kept" => self.keep(alloc, &fields)?,
-            "calls" => {
-                let table = self.table;
-                let judged = self.count_calls(alloc, &fields);
-                self.table = table;
-                judged?
-            }
-            _ => self.make_step(alloc, name, &fields)?,
+            "at" => self.pass_boundary(alloc, &fields),
+            "kept" => self.keep(alloc, &fields),
+            "calls" => self.count_calls(alloc, &fields),
+            _ => self.make_step(alloc, name, &fields),
         }
-        Ok(Judged::Case)
+    }
+
+    /// A new processor with the registers of the text, which keeps nothing.
+    fn begin_at(&mut self, text: &str) -> Result<()> {
+        self.begin(read_regs(text)?);
+        judge_kept(self, "none")
     }
 
     /// A new processor with these registers, over clear memory.
@@ -105,22 +98,15 @@ impl Bench {
         let [place, taken, rest @ ..] = fields else {
             bail!("no such line");
         };
-        let wanted = Wanted::read(rest)?;
-        let (request, kind) = place.split_once(' ').context("no type")?;
-        let boundary = match request {
-            "0" => self.cpu.may_take(false),
-            "1" => self.cpu.may_take(true),
-            _ => bail!("neither 0 nor 1"),
-        };
-        if boundary_name(boundary) != taken.trim() {
-            bail!("takes {}", boundary_name(boundary));
-        }
+        let (requested, kind) = request_in(place).context("no request")?;
+        let boundary = self.cpu.may_take(requested);
+        let name = boundary_name(boundary);
+        ensure!(name == taken.trim(), "takes {name}");
         let kind = match boundary {
-            Boundary::Request => u8::from_str_radix(kind.trim(), 16)?,
+            Boundary::Request => u8::from_str_radix(kind, 16)?,
             _ => SINGLE_STEP,
         };
-        let done = self.make(boundary, kind);
-        judge(alloc, self, &done, &wanted)
+        self.make_and_judge(alloc, boundary, kind, rest)
     }
 
     /// `OP REGS | CODE | READ | ..`
@@ -128,18 +114,39 @@ impl Bench {
         let [regs, code, read, rest @ ..] = fields else {
             bail!("no such line");
         };
-        let wanted = Wanted::read(rest)?;
-        let regs = read_regs(regs)?;
-        let code = read_bytes(alloc, code)?;
-        let boundary = boundary_named(name)?;
+        let boundary = boundary_named(name).context("no such line")?;
+        let kind = self.set_up(alloc, boundary, read_regs(regs)?, code)?;
+        self.put_cells(alloc, read)?;
+        self.make_and_judge(alloc, boundary, kind, rest)
+    }
+
+    /// What a boundary finds: registers, but where an iteration is done, and an instruction's code. Answers the code's
+    /// first byte, which is an interrupt's type.
+    fn set_up(&mut self, alloc: Global, boundary: Boundary, regs: Regs, code: &str) -> Result<u8> {
         if boundary != Boundary::Iteration {
             self.begin(regs);
         }
+        self.put_next(alloc, boundary, code)
+    }
+
+    /// Puts an instruction's code at CS:IP, and answers its first byte.
+    fn put_next(&mut self, alloc: Global, boundary: Boundary, code: &str) -> Result<u8> {
+        let code = read_bytes(alloc, code)?;
         if boundary == Boundary::Instruction {
-            self.put_code(regs.cs, regs.ip, &code)?;
+            self.put_code(&code)?;
         }
-        self.put_cells(alloc, read)?;
-        let kind = code.first().copied().unwrap_or(SINGLE_STEP);
+        Ok(code.first().copied().unwrap_or(SINGLE_STEP))
+    }
+
+    /// Does what stands at a boundary, and judges by these fields what came of it.
+    fn make_and_judge(
+        &mut self,
+        alloc: Global,
+        boundary: Boundary,
+        kind: u8,
+        fields: &[&str],
+    ) -> Result<()> {
+        let wanted = Wanted::read(fields)?;
         let done = self.make(boundary, kind);
         judge(alloc, self, &done, &wanted)
     }
@@ -149,26 +156,38 @@ impl Bench {
         let [regs, code, read, wanted, ..] = *fields else {
             bail!("no such line");
         };
-        let regs = read_regs(regs)?;
-        let code = read_bytes(alloc, code)?;
-        let (words, bytes) = wanted.trim().split_once(' ').context("no bytes")?;
-        let (words, bytes): (usize, usize) = (words.parse()?, bytes.parse()?);
-        let mut clocks = [0u16; 2];
-        for (i, &table) in [ClockTable::C1, ClockTable::C2].iter().enumerate() {
-            self.table = table;
-            self.begin(regs);
-            self.put_code(regs.cs, regs.ip, &code)?;
-            self.put_cells(alloc, read)?;
-            clocks[i] = self.make(Boundary::Instruction, SINGLE_STEP).clocks;
-            if self.ram.calls() != words.saturating_mul(2).saturating_add(bytes) {
-                bail!("{} calls", self.ram.calls());
-            }
-        }
-        let more = usize::from(clocks[1].saturating_sub(clocks[0]));
-        if more != words.saturating_mul(4) {
-            bail!("{more} clocks more");
-        }
+        let (words, bytes) = calls_in(wanted).context("no calls")?;
+        let calls = words.saturating_mul(2).saturating_add(bytes);
+        let few = self.clocks_by(alloc, ClockTable::C1, [regs, code, read], calls)?;
+        let many = self.clocks_by(alloc, ClockTable::C2, [regs, code, read], calls)?;
+        let more = usize::from(many.saturating_sub(few));
+        ensure!(more == words.saturating_mul(4), "{more} clocks more");
         Ok(())
+    }
+
+    /// The clocks of a step by this table, which must make so many calls.
+    fn clocks_by(
+        &mut self,
+        alloc: Global,
+        table: ClockTable,
+        fields: [&str; 3],
+        calls: usize,
+    ) -> Result<u16> {
+        let kept = self.table;
+        self.table = table;
+        let clocks = self.clocks_of(alloc, fields);
+        self.table = kept;
+        let clocks = clocks?;
+        let found = self.ram.calls();
+        ensure!(found == calls, "{found} calls");
+        Ok(clocks)
+    }
+
+    fn clocks_of(&mut self, alloc: Global, fields: [&str; 3]) -> Result<u16> {
+        let [regs, code, read] = fields;
+        self.set_up(alloc, Boundary::Instruction, read_regs(regs)?, code)?;
+        self.put_cells(alloc, read)?;
+        Ok(self.make(Boundary::Instruction, SINGLE_STEP).clocks)
     }
 
     /// `kept OP CODE | KEPT | ..`
@@ -177,35 +196,26 @@ impl Bench {
             bail!("no such line");
         };
         let (name, code) = done.trim().split_once(' ').context("no code")?;
-        let boundary = boundary_named(name)?;
-        let code = read_bytes(alloc, code)?;
-        if boundary == Boundary::Instruction {
-            let (cs, ip) = self.next_place();
-            self.put_code(cs, ip, &code)?;
-        }
-        let kind = code.first().copied().unwrap_or(SINGLE_STEP);
+        let boundary = boundary_named(name).context("no such line")?;
+        let kind = self.put_next(alloc, boundary, code)?;
         let _done = self.make(boundary, kind);
         judge_registers(self, after)?;
         judge_kept(self, kept)
     }
 
-    /// CS and IP.
-    fn next_place(&self) -> (u16, u16) {
-        (self.cpu.cs(), self.cpu.ip())
-    }
-
     /// Puts the bytes of a list `AAAAA=VV ..` there.
     fn put_cells(&mut self, alloc: Global, list: &str) -> Result<()> {
         for word in &words_in(alloc, list)? {
-            let (addr, byte) = read_cell(word)?;
+            let (addr, byte) = cell_in(word).context("no byte")?;
             self.ram.put(addr, byte)?;
         }
         Ok(())
     }
 
     /// Puts an instruction's bytes at CS:IP.
-    fn put_code(&mut self, cs: u16, ip: u16, code: &[u8]) -> Result<()> {
-        let mut offset = ip;
+    fn put_code(&mut self, code: &[u8]) -> Result<()> {
+        let cs = self.cpu.cs();
+        let mut offset = self.cpu.ip();
         for &byte in code {
             self.ram.put(physical(cs, offset), byte)?;
             offset = offset.wrapping_add(1);
@@ -246,15 +256,39 @@ impl Bench {
     }
 }
 
+fn table_named(name: &str) -> Option<ClockTable> {
+    match name {
+        "C1" => Some(ClockTable::C1),
+        "C2" => Some(ClockTable::C2),
+        _ => None,
+    }
+}
+
+/// Whether there is a request, and what its type is, in `R TYPE`.
+fn request_in(place: &str) -> Option<(bool, &str)> {
+    let (request, kind) = place.split_once(' ')?;
+    match request {
+        "0" => Some((false, kind.trim())),
+        "1" => Some((true, kind.trim())),
+        _ => None,
+    }
+}
+
+/// The calls of words and of bytes in `WORDS BYTES`.
+fn calls_in(text: &str) -> Option<(usize, usize)> {
+    let (words, bytes) = text.trim().split_once(' ')?;
+    Some((words.parse().ok()?, bytes.parse().ok()?))
+}
+
 /// The boundary at which a line's OP is done.
-fn boundary_named(name: &str) -> Result<Boundary> {
-    Ok(match name {
-        "step" => Boundary::Instruction,
-        "again" => Boundary::Iteration,
-        "request" => Boundary::Request,
-        "single" => Boundary::SingleStep,
-        _ => bail!("no such line"),
-    })
+fn boundary_named(name: &str) -> Option<Boundary> {
+    match name {
+        "step" => Some(Boundary::Instruction),
+        "again" => Some(Boundary::Iteration),
+        "request" => Some(Boundary::Request),
+        "single" => Some(Boundary::SingleStep),
+        _ => None,
+    }
 }
 
 /// What a boundary is, as lines name it.

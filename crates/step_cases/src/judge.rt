@@ -2,8 +2,8 @@
 
 use crate::bench::{Bench, Done, boundary_name};
 use crate::ram::{Access, Ram};
-use crate::words::{NAMES, read_access, read_cell, read_words, words_in, words_of};
-use anyhow::{Context, Result, bail};
+use crate::words::{NAMES, access_in, cell_in, read_words, words_in, words_of};
+use anyhow::{Result, bail, ensure};
 use board_types::state::State;
 use execute::cpu::Cpu;
 use std::alloc::Global;
@@ -43,7 +43,7 @@ pub fn judge(alloc: Global, bench: &Bench, done: &Done, wanted: &Wanted) -> Resu
     if done.clocks != wanted.cost.trim().parse()? {
         bail!("costs {}", done.clocks);
     }
-    judge_due(alloc, &bench.cpu, wanted.due)
+    judge_due(&bench.cpu, wanted.due)
 }
 
 /// The registers and the flags word are these.
@@ -60,92 +60,126 @@ pub fn judge_registers(bench: &Bench, text: &str) -> Result<()> {
 
 /// The processor keeps these operands and this result, or `none`.
 pub fn judge_kept(bench: &Bench, text: &str) -> Result<()> {
-    let text = text.trim();
-    let Some((first, second, value)) = bench.cpu.kept() else {
-        if text != "none" {
-            bail!("nothing is kept");
-        }
-        return Ok(());
-    };
-    let mut words = text.split_whitespace();
-    for found in [first, second, value] {
-        let word = words.next().context("fewer than three numbers")?;
-        if u16::from_str_radix(word, 16)? != found {
-            bail!("keeps {first:04X} {second:04X} {value:04X}");
-        }
+    match bench.cpu.kept() {
+        Some((first, second, value)) => ensure!(
+            are_kept([first, second, value], text) == Some(true),
+            "keeps {first:04X} {second:04X} {value:04X}"
+        ),
+        None => ensure!(text.trim() == "none", "nothing is kept"),
     }
     Ok(())
+}
+
+fn are_kept(kept: [u16; 3], text: &str) -> Option<bool> {
+    let mut words = text.split_whitespace();
+    for found in kept {
+        if u16::from_str_radix(words.next()?, 16).ok()? != found {
+            return Some(false);
+        }
+    }
+    Some(true)
 }
 
 /// Each byte in the list was written, and no other.
 fn judge_written(alloc: Global, ram: &Ram, list: &str) -> Result<()> {
     let words = words_in(alloc, list)?;
-    let mut wanted = Vec::with_capacity(alloc, words.len())?;
-    for word in &words {
-        let (addr, byte) = read_cell(word)?;
-        if !ram.written().contains(&addr) || !ram.holds(addr, byte) {
-            bail!("{word} isn't written");
-        }
-        wanted.push(addr)?;
+    if let Some(word) = unwritten(ram, &words) {
+        bail!("{word} isn't written");
     }
-    for addr in ram.written() {
-        if !wanted.contains(addr) {
-            bail!("{addr:05X} is written");
-        }
+    if let Some(addr) = unnamed(ram, &words) {
+        bail!("{addr:05X} is written");
     }
     Ok(())
+}
+
+/// The first of the words whose byte wasn't written.
+fn unwritten<'a>(ram: &Ram, words: &[&'a str]) -> Option<&'a str> {
+    for word in words {
+        match cell_in(word) {
+            Some((addr, byte)) if ram.written().contains(&addr) && ram.holds(addr, byte) => {}
+            _ => return Some(*word),
+        }
+    }
+    None
+}
+
+/// The first address that was written and is in none of the words.
+fn unnamed(ram: &Ram, words: &[&str]) -> Option<u32> {
+    for addr in ram.written() {
+        if !names(words, *addr) {
+            return Some(*addr);
+        }
+    }
+    None
+}
+
+fn names(words: &[&str], addr: u32) -> bool {
+    for word in words {
+        if let Some((place, _)) = cell_in(word)
+            && place == addr
+        {
+            return true;
+        }
+    }
+    false
 }
 
 /// The port accesses are those in the list, in order.
 fn judge_accesses(alloc: Global, found: &[Access], list: &str) -> Result<()> {
     let words = words_in(alloc, list)?;
-    if found.len() != words.len() {
-        bail!("{} port accesses", found.len());
-    }
-    for (access, word) in found.iter().zip(&words) {
-        if *access != read_access(word)? {
-            bail!("another port access than {word}");
+    let same = found.len() == words.len() && are_accesses(found, &words);
+    ensure!(same, "{} port accesses, or others", found.len());
+    Ok(())
+}
+
+fn are_accesses(found: &[Access], words: &[&str]) -> bool {
+    for (access, word) in found.iter().zip(words) {
+        if access_in(word) != Some(*access) {
+            return false;
         }
     }
-    Ok(())
+    true
 }
 
 /// The port writes are those that were told, in order.
 fn judge_told(found: &[Access], told: &[(u16, u8)]) -> Result<()> {
+    ensure!(are_told(found, told), "other port writes than told");
+    Ok(())
+}
+
+fn are_told(found: &[Access], told: &[(u16, u8)]) -> bool {
     let mut told = told.iter();
     for access in found {
         if let Access::Write(port, byte) = *access {
             match told.next() {
                 Some(write) if write.0 == port && write.1 == byte => {}
-                _ => bail!("a port write that wasn't told"),
+                _ => return false,
             }
         }
     }
-    match told.next() {
-        Some(_) => bail!("fewer port writes than told"),
-        None => Ok(()),
-    }
+    told.next().is_none()
 }
 
 /// `STATE MARKS` and what the next boundary is without a request and with one. The marks aren't seen by
 /// themselves.
-fn judge_due(alloc: Global, cpu: &Cpu, text: &str) -> Result<()> {
-    let words: Vec<&str> = text.split_whitespace().collect(alloc)?;
-    let [state, _marks, alone, requested] = *words else {
-        bail!("no four words");
-    };
-    if state_name(cpu.state()) != state {
-        bail!("{}", state_name(cpu.state()));
-    }
-    let found = boundary_name(cpu.may_take(false));
-    if found != alone {
-        bail!("then {found}");
-    }
-    let found = boundary_name(cpu.may_take(true));
-    if found != requested {
-        bail!("then {found} at a request");
-    }
+fn judge_due(cpu: &Cpu, text: &str) -> Result<()> {
+    let state = state_name(cpu.state());
+    let alone = boundary_name(cpu.may_take(false));
+    let requested = boundary_name(cpu.may_take(true));
+    ensure!(
+        are_due([state, alone, requested], text) == Some(true),
+        "{state}, then {alone}, {requested} at a request"
+    );
     Ok(())
+}
+
+fn are_due(found: [&str; 3], text: &str) -> Option<bool> {
+    let mut words = text.split_whitespace();
+    let state = words.next()? == found[0];
+    let _marks = words.next()?;
+    let alone = words.next()? == found[1];
+    let requested = words.next()? == found[2];
+    Some(state && alone && requested && words.next().is_none())
 }
 
 fn state_name(state: State) -> &'static str {

@@ -122,21 +122,21 @@ pub fn read_bytes(alloc: Global, digits: &str) -> Result<Vec<u8>> {
 }
 
 /// The address and the byte in `AAAAA=VV`.
-pub fn read_cell(word: &str) -> Result<(u32, u8)> {
-    let (address, byte) = word.split_once('=').context("no =")?;
-    Ok((
-        u32::from_str_radix(address, 16)?,
-        u8::from_str_radix(byte, 16)?,
-    ))
+pub fn cell_in(word: &str) -> Option<(u32, u8)> {
+    let (address, byte) = word.split_once('=')?;
+    let address = u32::from_str_radix(address, 16).ok()?;
+    Some((address, u8::from_str_radix(byte, 16).ok()?))
 }
 
 /// The access in `I0040=C3` or `O0040=C3`.
-pub fn read_access(word: &str) -> Result<Access> {
-    let (place, byte) = word.split_once('=').context("no =")?;
-    let byte = u8::from_str_radix(byte, 16)?;
-    if let Some(port) = place.strip_prefix('I') {
-        return Ok(Access::Read(u16::from_str_radix(port, 16)?, byte));
+pub fn access_in(word: &str) -> Option<Access> {
+    let (place, byte) = word.split_once('=')?;
+    let (kind, port) = place.split_at_checked(1)?;
+    let port = u16::from_str_radix(port, 16).ok()?;
+    let byte = u8::from_str_radix(byte, 16).ok()?;
+    match kind {
+        "I" => Some(Access::Read(port, byte)),
+        "O" => Some(Access::Write(port, byte)),
+        _ => None,
     }
-    let port = place.strip_prefix('O').context("neither I nor O")?;
-    Ok(Access::Write(u16::from_str_radix(port, 16)?, byte))
 }
