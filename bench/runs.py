@@ -44,8 +44,17 @@ def run_file(folder: str, loop: str, budget: int) -> str:
 def processor_time(words: list[str], limit: float, folder: str, changed: dict[str, str] | None = None) -> tuple[float, str] | None:
     """User and system time in seconds of a command with all that it starts, and what it printed; None past the limit."""
     before = resource.getrusage(resource.RUSAGE_CHILDREN)
-    with subprocess.Popen(words, stdin=subprocess.DEVNULL, stdout=subprocess.PIPE, stderr=subprocess.DEVNULL, text=True,
-                          errors='replace', start_new_session=True, cwd=folder, env=os.environ | (changed or {})) as started:
+    with subprocess.Popen(
+        words,
+        stdin=subprocess.DEVNULL,
+        stdout=subprocess.PIPE,
+        stderr=subprocess.DEVNULL,
+        text=True,
+        errors='replace',
+        start_new_session=True,
+        cwd=folder,
+        env=os.environ | (changed or {}),
+    ) as started:
         try:
             printed, _ = started.communicate(timeout=limit)
         except subprocess.TimeoutExpired:

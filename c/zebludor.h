@@ -226,7 +226,7 @@ typedef struct zebludor_outcome {
     uint8_t status;  /* 0: `out` begins with the report, and is as it was behind it
                         1: refused; `out` is as it was
                         2: the report is longer than `out`, which is as it was */
-    uint8_t fault;   /* at status 1 the fault's number (docs/FORMATS.md); else 0 */
+    uint8_t fault;   /* at status 1 the fault's number (docs/formats.md); else 0 */
 } zebludor_outcome;
 
 ZEBLUDOR_ASSERT(sizeof(zebludor_outcome) == 24);

@@ -11,7 +11,7 @@
 Runs, sessions and the assembler are the built program's, which PCBOARD names, else the one that the launcher
 of the repository takes that this file stands in. Pit, Pic and Ppi are the chips by themselves: timer, interrupt controller and parallel port. They are calls of
 the static library, laid out as c/zebludor.h says. Nothing here decides a fact. A refusal is raised as Fault, with the number
-and the name that docs/FORMATS.md explains; what isn't there, or isn't such a thing, as Unfit."""
+and the name that docs/formats.md explains; what isn't there, or isn't such a thing, as Unfit."""
 from __future__ import annotations
 
 import contextlib
@@ -64,9 +64,11 @@ def fault_in(text: str) -> Fault | None:
 
 # Reports.
 
+
 @dataclass(frozen=True)
 class Report:
     """A report: what a run came to."""
+
     clock: int
     registers: dict[str, int]
     state: str
@@ -86,6 +88,7 @@ class Report:
     def _repr_html_(self) -> str:
         """The screen, as a notebook shows it."""
         import html
+
         style = 'background:#101810;color:#50e070;padding:8px;line-height:1.1;display:inline-block'
         return f'<pre style="{style}">{html.escape(chr(10).join(self.screen))}</pre>'
 
@@ -110,7 +113,7 @@ def _value(line: str, name: str) -> str:
 
 
 def read_report(text: str) -> Report:
-    """A report's text, as docs/FORMATS.md tells it, as a report. A refusal's is raised."""
+    """A report's text, as docs/formats.md tells it, as a report. A refusal's is raised."""
     lines = text.split('\n')
     fault = fault_in(lines[0])
     if fault:
@@ -123,18 +126,19 @@ def read_report(text: str) -> Report:
         for at in range(6, 6 + count):
             when, level = lines[at].split()
             changes.append((int(when), int(level)))
-        screen = lines[7 + count:7 + count + ROWS]
+        screen = lines[7 + count : 7 + count + ROWS]
         if lines[6 + count] != 'screen' or [len(it) for it in screen] != [COLUMNS] * ROWS:
             raise ValueError
     except (ValueError, IndexError):
-        raise Unfit('the text is no report of pcboard run (docs/FORMATS.md, "Report")') from None
+        raise Unfit('the text is no report of pcboard run (docs/formats.md, "Report")') from None
     return Report(clock, registers, state, lost, changes, screen)
 
 
 # Run files.
 
+
 def run_file(fields: dict[str, Any]) -> str:
-    """A run file's text in one line, the fields in the order of docs/FORMATS.md."""
+    """A run file's text in one line, the fields in the order of docs/formats.md."""
     ordered = {name: fields[name] for name in (*DEFAULTS, *CHOICES) if name in fields}
     return json.dumps(ordered | fields, separators=(',', ':')) + '\n'
 
@@ -150,9 +154,11 @@ def _fields(given: dict[str, Any]) -> dict[str, Any]:
 
 # The program.
 
+
 @dataclass(frozen=True)
 class Ran:
     """What a run of the program came to."""
+
     status: int
     out: str
     err: str
@@ -239,8 +245,10 @@ def listing(source: Source) -> str:
 
 # Sessions.
 
+
 class Event(NamedTuple):
     """A line of the trail: an instruction's start, or the entry of an interrupt (then its type, and no bytes)."""
+
     clock: int
     segment: int
     offset: int
@@ -255,7 +263,7 @@ class Event(NamedTuple):
 
 
 def event_of(line: str | bytes) -> Event:
-    """A line of the trail, as docs/DEBUGGER.md tells it."""
+    """A line of the trail, as docs/debugger.md tells it."""
     clock, _, rest = (line if isinstance(line, bytes) else line.encode()).partition(b' ')
     return tuple.__new__(Event, (int(clock),) + _place_of(rest))
 
@@ -276,8 +284,9 @@ class Dialogue:
     it, so that what talks with it can end a long run and go on."""
 
     def __init__(self, words: list[str]) -> None:
-        self._process = subprocess.Popen([program(), *words], stdin=subprocess.PIPE, stdout=subprocess.PIPE,
-                                         stderr=subprocess.PIPE, bufsize=0, start_new_session=True)
+        self._process = subprocess.Popen(
+            [program(), *words], stdin=subprocess.PIPE, stdout=subprocess.PIPE, stderr=subprocess.PIPE, bufsize=0, start_new_session=True
+        )
         assert self._process.stdout
         self._out = os.fdopen(os.dup(self._process.stdout.fileno()), 'rb')
         self.clock, self.is_idle = 0, True
@@ -356,7 +365,7 @@ class Dialogue:
             if not piece:
                 self._ended()
             octets += piece
-            last = octets[octets.rfind(b'\n', 0, -1) + 1:]
+            last = octets[octets.rfind(b'\n', 0, -1) + 1 :]
         _, *parts = bytes(octets).split(b'\nclock ')
         if len(parts) <= len(clocks):
             odd = next(it for it in octets.decode('ascii', 'replace').splitlines() if re.match(r'(?!clock )\D', it))
@@ -378,7 +387,7 @@ class Dialogue:
 class Session:
     """A session of the debugger, as a context manager: a board at clock 0 that goes forth and back. Stops are numbered from 1,
     and stay for the whole session; what goes to a stop answers the number of the one that holds, or None. Its commands are
-    those of docs/DEBUGGER.md; a refused one is raised as Fault."""
+    those of docs/debugger.md; a refused one is raised as Fault."""
 
     def __init__(self, source: Source, *, is_hex: bool = False, **fields: Any) -> None:
         with _files(source, _fields(fields)) as names:
@@ -481,24 +490,28 @@ class Session:
 
 # The chips.
 
+
 class Header:
     """The structs and calls that a header declares, as ctypes has them."""
 
     def __init__(self, text: str) -> None:
         import ctypes
-        self._numbers = {'void': None, 'uint8_t': ctypes.c_uint8, 'uint16_t': ctypes.c_uint16, 'uint64_t': ctypes.c_uint64,
-                         'size_t': ctypes.c_size_t}
+
+        self._numbers = {'void': None, 'uint8_t': ctypes.c_uint8, 'uint16_t': ctypes.c_uint16, 'uint64_t': ctypes.c_uint64, 'size_t': ctypes.c_size_t}
         text = re.sub(r'/\*.*?\*/', '', text, flags=re.S)
         self.structs: dict[str, type[ctypes.Structure]] = {}
         for body, name in re.findall(r'typedef struct \w+ \{(.*?)\} (\w+);', text, re.S):
             fields = [(field.strip(), self._type(kind)) for kind, names in re.findall(r'(\w+) ([^;]+);', body) for field in names.split(',')]
             self.structs[name] = type(name, (ctypes.Structure,), {'_fields_': fields})
-        self.calls = {name: (self._type(answer), [self._type(re.sub(r'\w+$', '', it.strip())) for it in words.split(',')])
-                      for answer, name, words in re.findall(r'^(\w+) (zebludor_\w+)\(([^)]*)\);', text, re.M)}
+        self.calls = {
+            name: (self._type(answer), [self._type(re.sub(r'\w+$', '', it.strip())) for it in words.split(',')])
+            for answer, name, words in re.findall(r'^(\w+) (zebludor_\w+)\(([^)]*)\);', text, re.M)
+        }
 
     def _type(self, text: str) -> Any:
         """A type as C writes it."""
         import ctypes
+
         name = text.replace('const', '').replace('*', '').strip()
         kind = self._numbers[name] if name in self._numbers else self.structs[name]
         return ctypes.POINTER(kind) if '*' in text else kind
@@ -507,6 +520,7 @@ class Header:
 def _shared(archive: str) -> ctypes.CDLL:
     """A static library as a shared one, which the C compiler makes of it."""
     import ctypes
+
     with tempfile.TemporaryDirectory() as room:
         path = f'{room}/chips.so'
         words = ['cc', '-shared', '-o', path, '-Wl,--whole-archive', archive, '-Wl,--no-whole-archive', '-Wl,--no-undefined']
@@ -524,6 +538,7 @@ class Chips:
 
     def __init__(self) -> None:
         import ctypes
+
         with open(f'{TOP}/c/zebludor.h', encoding='utf-8') as file:
             header = Header(file.read())
         path = os.environ.get('ZEBLUDOR_CHIPS') or next(filter(os.path.exists, CHIPS), CHIPS[-1])
@@ -551,6 +566,7 @@ def chips() -> Chips:
 class Chip:
     """A chip by itself. `state` has its fields, which the header explains: they may be read, written, compared, kept as `bytes`.
     Any bytes are some chip, so no call can fail; a number of a port, a counter or a level counts modulo how many there are."""
+
     name = ''
 
     def __init__(self, state: bytes | None = None) -> None:
@@ -581,6 +597,7 @@ class Chip:
 
 class Pit(Chip):
     """A timer, Intel 8253 or 8254, from power-on."""
+
     name = 'pit'
 
     def __init__(self, kind: str = '8253') -> None:
@@ -616,6 +633,7 @@ class Pit(Chip):
 
 class Pic(Chip):
     """An interrupt controller, Intel 8259A, from power-on."""
+
     name = 'pic'
 
     def __init__(self) -> None:
@@ -645,6 +663,7 @@ class Pic(Chip):
 
 class Ppi(Chip):
     """A parallel port, Intel 8255A in mode 0, from reset, with the switches on its pins."""
+
     name = 'ppi'
 
     def __init__(self, sw1: int = 0, sw2: int = 0) -> None:

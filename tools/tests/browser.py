@@ -16,10 +16,16 @@ from typing import Any
 SECONDS = 60
 # Of each key that the tests press: its name, its place, its number for Windows, and what it types.
 KEYS: dict[str, tuple[str, str, int, str]] = {
-    'Enter': ('Enter', 'Enter', 13, '\r'), 'Tab': ('Tab', 'Tab', 9, ''), 'ArrowLeft': ('ArrowLeft', 'ArrowLeft', 37, ''),
-    'ArrowRight': ('ArrowRight', 'ArrowRight', 39, ''), 'Home': ('Home', 'Home', 36, ''), 'End': ('End', 'End', 35, ''), 'Space': (' ', 'Space', 32, ' '),
+    'Enter': ('Enter', 'Enter', 13, '\r'),
+    'Tab': ('Tab', 'Tab', 9, ''),
+    'ArrowLeft': ('ArrowLeft', 'ArrowLeft', 37, ''),
+    'ArrowRight': ('ArrowRight', 'ArrowRight', 39, ''),
+    'Home': ('Home', 'Home', 36, ''),
+    'End': ('End', 'End', 35, ''),
+    'Space': (' ', 'Space', 32, ' '),
     **{f'F{n}': (f'F{n}', f'F{n}', 111 + n, '') for n in range(1, 13)},
-    **{it: (it, f'Key{it.upper()}', ord(it.upper()), it) for it in 'abcdefghijklmnopqrstuvwxyz'}}
+    **{it: (it, f'Key{it.upper()}', ord(it.upper()), it) for it in 'abcdefghijklmnopqrstuvwxyz'},
+}
 CONTROL, SHIFT = 2, 8
 # Chromium reads its commands from file descriptor 3, and writes answers to 4.
 START = 'import os, sys; os.dup2(int(sys.argv[1]), 3); os.dup2(int(sys.argv[2]), 4); os.execvp(sys.argv[3], sys.argv[3:])'
@@ -37,12 +43,31 @@ class Browser:
         to_browser, self._write = os.pipe()
         self._read, from_browser = os.pipe()
         ends = [fcntl.fcntl(it, fcntl.F_DUPFD, 20) for it in (to_browser, from_browser)]
-        words = [path() or '', '--headless', '--no-sandbox', '--disable-gpu', '--no-first-run', '--disable-extensions', '--mute-audio',
-                 '--disable-background-networking', '--disable-dev-shm-usage', '--force-color-profile=srgb', '--hide-scrollbars',
-                 '--autoplay-policy=no-user-gesture-required', '--remote-debugging-pipe', f'--user-data-dir={room}/browser']
-        self.process = subprocess.Popen([sys.executable, '-S', '-c', START, *map(str, ends), *words], pass_fds=ends, stdin=subprocess.DEVNULL,
-                                        stdout=subprocess.DEVNULL, stderr=subprocess.DEVNULL, start_new_session=True,
-                                        env=os.environ | {'HOME': room})
+        words = [
+            path() or '',
+            '--headless',
+            '--no-sandbox',
+            '--disable-gpu',
+            '--no-first-run',
+            '--disable-extensions',
+            '--mute-audio',
+            '--disable-background-networking',
+            '--disable-dev-shm-usage',
+            '--force-color-profile=srgb',
+            '--hide-scrollbars',
+            '--autoplay-policy=no-user-gesture-required',
+            '--remote-debugging-pipe',
+            f'--user-data-dir={room}/browser',
+        ]
+        self.process = subprocess.Popen(
+            [sys.executable, '-S', '-c', START, *map(str, ends), *words],
+            pass_fds=ends,
+            stdin=subprocess.DEVNULL,
+            stdout=subprocess.DEVNULL,
+            stderr=subprocess.DEVNULL,
+            start_new_session=True,
+            env=os.environ | {'HOME': room},
+        )
         for it in (to_browser, from_browser, *ends):
             os.close(it)
         self._kept, self._count = b'', 0
@@ -121,8 +146,10 @@ class Browser:
 
     def click(self, selector: str) -> None:
         """A click into the middle of an element."""
-        x, y = self.run(f'(()=>{{const it=document.querySelector({json.dumps(selector)});it.scrollIntoView({{block:"nearest"}});'
-                        'const r=it.getBoundingClientRect();return [r.x+r.width/2,r.y+r.height/2]})()')
+        x, y = self.run(
+            f'(()=>{{const it=document.querySelector({json.dumps(selector)});it.scrollIntoView({{block:"nearest"}});'
+            'const r=it.getBoundingClientRect();return [r.x+r.width/2,r.y+r.height/2]})()'
+        )
         for kind in ('mousePressed', 'mouseReleased'):
             self.call('Input.dispatchMouseEvent', type=kind, x=x, y=y, button='left', clickCount=1)
 

@@ -50,8 +50,7 @@ class Repository(ToolCase):
     def start(self, *words: str, has_rt: bool = True) -> subprocess.CompletedProcess[str]:
         """Runs a command with a cache in the folder, and with the kit on the path or without."""
         path = f'{self.room}/bin:/usr/bin:/bin' if has_rt else '/usr/bin:/bin'
-        return subprocess.run(words, capture_output=True, text=True, check=False,
-                              env={'PATH': path, 'XDG_CACHE_HOME': f'{self.room}/cache'})
+        return subprocess.run(words, capture_output=True, text=True, check=False, env={'PATH': path, 'XDG_CACHE_HOME': f'{self.room}/cache'})
 
     def change_text(self, path: str) -> Callable[[], None]:
         """Adds a byte to a file of the repository, or makes it, and returns what takes that back."""
@@ -67,6 +66,7 @@ class Repository(ToolCase):
                 self.file(f'top/{path}', was)
             else:
                 os.remove(full)
+
         return put_back
 
     def touch(self, path: str) -> None:

@@ -100,8 +100,7 @@ class ToolCase(unittest.TestCase):
     def tool(self, name: str, *words: str, given: str = '', status: int | None = 0) -> tuple[str, str]:
         """What a tool prints on its two streams, where it ends with this status. One of another folder is named with it."""
         path = f'{TOP}/{name}' if '/' in name else f'{TOOLS}/{name}'
-        ran = subprocess.run([sys.executable, '-S', path, *words], input=given, capture_output=True, text=True,
-                             cwd=self.room, check=False)
+        ran = subprocess.run([sys.executable, '-S', path, *words], input=given, capture_output=True, text=True, cwd=self.room, check=False)
         if status is not None:
             self.assertEqual(ran.returncode, status, ran.stderr or ran.stdout)
         self.assertNotIn('Traceback', ran.stderr)
@@ -110,4 +109,5 @@ class ToolCase(unittest.TestCase):
     def pcboard(self, *words: str, given: str = '') -> subprocess.CompletedProcess[str]:
         """A run of the program itself. That it isn't there is a failure."""
         from toolbox import program
+
         return subprocess.run([program.path(), *words], input=given, capture_output=True, text=True, check=False)

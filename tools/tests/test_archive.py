@@ -23,10 +23,17 @@ class Archive(ToolCase):
     def run_it(self, kind: str, octets: bytes) -> dict[str, str]:
         """What the report of these bytes tells."""
         from toolbox import program
+
         with open(f'{self.room}/it.bin', 'wb') as file:
             file.write(octets)
-        done = subprocess.run([f'{EXAMPLES}/archive/place.sh', kind, 'it.bin'], cwd=self.room, env=os.environ | {'PCBOARD': program.path()},
-                              capture_output=True, text=True, check=False)
+        done = subprocess.run(
+            [f'{EXAMPLES}/archive/place.sh', kind, 'it.bin'],
+            cwd=self.room,
+            env=os.environ | {'PCBOARD': program.path()},
+            capture_output=True,
+            text=True,
+            check=False,
+        )
         self.assertEqual((done.returncode, done.stderr), (0, ''))
         run = self.file('it.json', '{"version":1,"ram":128,"sw1":0,"sw2":0,"budget":5000,"keys":[]}')
         report = self.pcboard('run', '--hex', self.file('it.hex', done.stdout), run).stdout

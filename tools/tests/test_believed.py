@@ -47,21 +47,24 @@ class Believed(ToolCase):
                 self.file(f'crates/{crate}/specs/{name}.antt', text)
 
     def run_it(self, *words: str) -> tuple[int, str, str]:
-        ran = subprocess.run([sys.executable, f'{self.room}/dev/believed', *words], capture_output=True, text=True,
-                             check=False, timeout=20)
+        ran = subprocess.run([sys.executable, f'{self.room}/dev/believed', *words], capture_output=True, text=True, check=False, timeout=20)
         return ran.returncode, ran.stdout, ran.stderr
 
     def test_a_file_that_nothing_names_serves_proofs_alone(self) -> None:
-        files = {'Told': f'-- A number.\n{HEADLINE}\n\nabbrev pub told : ℕ\ntold = 1\n',
-                 'Planted': f'-- Another.\n{HEADLINE}\n\nabbrev pub planted : ℕ\nplanted = 2\n'}
+        files = {
+            'Told': f'-- A number.\n{HEADLINE}\n\nabbrev pub told : ℕ\ntold = 1\n',
+            'Planted': f'-- Another.\n{HEADLINE}\n\nabbrev pub planted : ℕ\nplanted = 2\n',
+        }
         self.repository(debugger=('Told', files))
         self.assertEqual(self.run_it('--check'), (1, '', 'debugger/specs/Planted.antt: proofs\n'))
 
     def test_a_file_that_a_contract_names_is_believed(self) -> None:
         told = '-- A number.\n{}\nuse Rattle.{}.specs.Base.{{base}}\n\nabbrev pub told : ℕ\ntold = base\n'
         base = '-- A base.\n{}\n\nabbrev pub base : ℕ\nbase = 1\n'
-        self.repository(debugger=('Told', {'Told': told.format(HEADLINE, 'debugger'), 'Base': base.format(PROOFS)}),
-                        other=('Told', {'Told': told.format(HEADLINE, 'other'), 'Base': base.format(CALLERS)}))
+        self.repository(
+            debugger=('Told', {'Told': told.format(HEADLINE, 'debugger'), 'Base': base.format(PROOFS)}),
+            other=('Told', {'Told': told.format(HEADLINE, 'other'), 'Base': base.format(CALLERS)}),
+        )
         said = 'other/specs/Told.antt: callers\ndebugger/specs/Base.antt: headline\n'
         self.assertEqual(self.run_it('--check'), (1, '', said))
         order = 'crates/other/specs/Told.antt\ncrates/other/specs/Base.antt\n'
@@ -70,8 +73,7 @@ class Believed(ToolCase):
 
     def test_definitions_that_name_each_other(self) -> None:
         text = '-- One of two.\n{}\nuse Rattle.debugger.specs.{}.{{{}}}\n\nunfoldable pub {} : ℕ\n{} = {}\n'
-        files = {'Told': text.format(HEADLINE, 'Back', 'back', 'told', 'told', 'back'),
-                 'Back': text.format(HEADLINE, 'Told', 'told', 'back', 'back', 'told')}
+        files = {'Told': text.format(HEADLINE, 'Back', 'back', 'told', 'told', 'back'), 'Back': text.format(HEADLINE, 'Told', 'told', 'back', 'back', 'told')}
         self.repository(debugger=('Told', files))
         self.assertEqual(self.run_it('--check'), (0, '', ''))
         self.assertEqual(self.run_it('--order')[1], 'crates/debugger/specs/Told.antt\ncrates/debugger/specs/Back.antt\n')

@@ -62,17 +62,17 @@ class Count(ToolCase):
 
     def test_a_line(self) -> None:
         line_of = module('count').line_of
-        self.assertEqual(line_of('a', 64303962, 130434, 'a step'),
-                         ('a              64,303,962     130,434           493.0  a step', True))
+        self.assertEqual(line_of('a', 64303962, 130434, 'a step'), ('a              64,303,962     130,434           493.0  a step', True))
         self.assertFalse(line_of('a', 1201, 10, 'a step', 120.0)[1])
         self.assertTrue(line_of('a', 1200, 10, 'a step', 120.0)[1])
 
     def test_the_difference_of_two_budgets(self) -> None:
         self.with_valgrind()
         out, _ = self.count('--only', 'a,f')
-        self.assertEqual([it.split() for it in out.splitlines()[1:]],
-                         [['a', '60,000,000', '130,434', '460.0', 'a', 'step'],
-                          ['f', '59,982,000,000', '3,813', '15,730,920.5', 'a', 'wake']])
+        self.assertEqual(
+            [it.split() for it in out.splitlines()[1:]],
+            [['a', '60,000,000', '130,434', '460.0', 'a', 'step'], ['f', '59,982,000,000', '3,813', '15,730,920.5', 'a', 'wake']],
+        )
 
     def test_limits(self) -> None:
         self.with_valgrind()
@@ -105,13 +105,20 @@ class Count(ToolCase):
 
     def test_refusals(self) -> None:
         self.assertIn("valgrind, which counts, isn't there", self.count('--only', 'a', status=2)[1])
-        for words, told in ((['--only', 'x'], 'x is no loop'), (['--only', ''], 'nothing is no loop'),
-                            (['--limit', 'a'], 'a is no limit'), (['--limit', 'a=-1'], 'a=-1 is no limit'),
-                            (['--limit', 'x=1'], 'x is no loop'), (['--limit', 'a=1,a=2'], 'two limits'),
-                            (['--only', 'b', '--limit', 'a=1'], "a has a limit and isn't counted"),
-                            (['--steps', '--only', 'f'], '--steps counts'), (['--steps', '--limit', 'a=1'], '--limit goes'),
-                            ([f'{TOP}/pcboard'], 'is no built program'), (['nowhere'], "can't be read"),
-                            (['--nonsense'], 'unrecognized')):
+        for words, told in (
+            (['--only', 'x'], 'x is no loop'),
+            (['--only', ''], 'nothing is no loop'),
+            (['--limit', 'a'], 'a is no limit'),
+            (['--limit', 'a=-1'], 'a=-1 is no limit'),
+            (['--limit', 'x=1'], 'x is no loop'),
+            (['--limit', 'a=1,a=2'], 'two limits'),
+            (['--only', 'b', '--limit', 'a=1'], "a has a limit and isn't counted"),
+            (['--steps', '--only', 'f'], '--steps counts'),
+            (['--steps', '--limit', 'a=1'], '--limit goes'),
+            ([f'{TOP}/pcboard'], 'is no built program'),
+            (['nowhere'], "can't be read"),
+            (['--nonsense'], 'unrecognized'),
+        ):
             self.assertIn(told, self.count(*words, status=2)[1])
         self.assertIn('--limit', self.count('--help')[0])
 
@@ -123,7 +130,7 @@ class Race(ToolCase):
         """The registers and the state of Zebludor's board after a boot sector, which a far jump at reset starts."""
         sector = module('race').boot_sector(body, end)[:512]
         self.assertEqual(sector[510:], b'\x55\xaa')
-        records = [(0x7C00 + at, sector[at:at + 16]) for at in range(0, 512, 16)]
+        records = [(0x7C00 + at, sector[at : at + 16]) for at in range(0, 512, 16)]
         lines = [hex_record(0, at, content) for at, content in records]
         lines += [hex_record(2, 0, b'\xff\xff'), hex_record(0, 0, b'\xea\x00\x7c\x00\x00'), hex_record(1, 0, b'')]
         code = self.file('it.hex', ''.join(lines))
@@ -144,16 +151,16 @@ class Race(ToolCase):
             ax = (ax + bx) % 65536
             bx ^= ax
         found = self.run_code(race.with_an_end(self.code('a'), 3, 2), race.TO_SHUT_BOCHS)
-        self.assertEqual((found['AX'][:2], found['BX'], found['CX'], found['BP'], found['state']),
-                         (f'{ax:04X}'[:2], f'{bx:04X}', '0000', '0000', 'state halted'))
+        self.assertEqual(
+            (found['AX'][:2], found['BX'], found['CX'], found['BP'], found['state']), (f'{ax:04X}'[:2], f'{bx:04X}', '0000', '0000', 'state halted')
+        )
         self.assertEqual(found['DX'], '8900')
 
     def test_loop_b_with_an_end(self) -> None:
         race = module('race')
         found = self.run_code(race.with_an_end(self.code('b'), 5, 3), race.TO_SHUT_BOCHS)
         # a round moves 64 words and then 32 bytes from and to the next places
-        self.assertEqual((found['SI'], found['DI'], found['SP'], found['BP'], found['state']),
-                         ('10A0', '20A0', '8F00', '0000', 'state halted'))
+        self.assertEqual((found['SI'], found['DI'], found['SP'], found['BP'], found['state']), ('10A0', '20A0', '8F00', '0000', 'state halted'))
 
     def test_the_rounds(self) -> None:
         race = module('race')
@@ -179,9 +186,10 @@ class Race(ToolCase):
         self.assertEqual(told.getvalue(), 'DOSBox: it stands still\n')
         self.assertEqual(turns, ['Zebludor', 'Bochs', 'DOSBox', 'Zebludor', 'Bochs'])
         self.assertFalse(are_all_done)
-        self.assertEqual([it.split() for it in race.table(each)][:2],
-                         [['a', 'Zebludor', '2.00', 'ns'],
-                          ['a', 'Bochs', '3.00', 'ns', 'Zebludor', 'is', '1.50', 'times', 'as', 'fast']])
+        self.assertEqual(
+            [it.split() for it in race.table(each)][:2],
+            [['a', 'Zebludor', '2.00', 'ns'], ['a', 'Bochs', '3.00', 'ns', 'Zebludor', 'is', '1.50', 'times', 'as', 'fast']],
+        )
 
     def test_who_is_not_there(self) -> None:
         race = module('race')
@@ -189,8 +197,12 @@ class Race(ToolCase):
             self.assertFalse(any(it.is_there() for it in race.PEERS))
 
     def test_refusals(self) -> None:
-        for words, told in ((['--rounds', '0'], '0 is no number of rounds'), (['--rounds', 'x'], 'x is no number'),
-                            ([f'{TOP}/pcboard'], 'is no built program'), (['--nonsense'], 'unrecognized')):
+        for words, told in (
+            (['--rounds', '0'], '0 is no number of rounds'),
+            (['--rounds', 'x'], 'x is no number'),
+            ([f'{TOP}/pcboard'], 'is no built program'),
+            (['--nonsense'], 'unrecognized'),
+        ):
             self.assertIn(told, self.tool('bench/race', *words, status=2)[1])
         self.assertIn('--rounds', self.tool('bench/race', '--help')[0])
 

@@ -16,6 +16,7 @@ from tests.support import TOP
 from toolbox import building, sources
 from toolbox.crates import Crates
 
+
 def kit_of_readme() -> tuple[str, str]:
     """The kit and the logic with which it was proved, by README's end."""
     with open(f'{TOP}/README.md', encoding='utf-8') as page:
@@ -127,8 +128,10 @@ class Build(Repository):
 
     def test_a_crate_is_proved_again_where_it_or_one_below_has_changed(self) -> None:
         proved = f'{self.room}/bin/proved'
-        for path, text, crates in (('low/src/lib.rt', '// more', 'low pcboard low pcboard'),
-                                   ('pcboard/src/main.rt', '// more', 'low pcboard low pcboard pcboard')):
+        for path, text, crates in (
+            ('low/src/lib.rt', '// more', 'low pcboard low pcboard'),
+            ('pcboard/src/main.rt', '// more', 'low pcboard low pcboard pcboard'),
+        ):
             self.launch()
             self.file(f'top/crates/{path}', text)
             self.launch()
@@ -149,11 +152,13 @@ class Build(Repository):
 
     def test_the_version(self) -> None:
         """It is told without a program, and its sum changes with what the program is made of alone."""
+
         def told() -> list[str]:
             ran = self.launch('--version', has_rt=False)
             self.assertEqual((ran.returncode, ran.stderr), (0, ''))
             self.assertRegex(ran.stdout, r'\Apcboard \d+\.\d+\.\d+\nkit \S+\nlogic [0-9a-f]{16}\nsources [0-9a-f]{64}\nprogram none\n\Z')
             return ran.stdout.splitlines()
+
         first = told()
         self.assertEqual(tuple(it.split()[-1] for it in first[1:3]), kit_of_readme())
         self.change_text('crates/other/src/lib.rt')
@@ -179,11 +184,11 @@ class Build(Repository):
         here, pipe, missing = self.file('here it is', ''), f'{self.room}/pipe', f'{self.room}/no such'
         os.mkfifo(pipe)
         for words, told in (
-                (['run', here, missing], [f"{missing} can't be opened: it isn't there"]),
-                (['run', '--hex', self.room, missing], [f"{self.room} can't be read: it is a folder",
-                                                        f"{missing} can't be opened: it isn't there"]),
-                (['asm', '--list', here], ["the answer couldn't be written, or what it is made from couldn't be read"]),
-                (['run', pipe, here], ["the answer couldn't be written, or what it is made from couldn't be read"])):
+            (['run', here, missing], [f"{missing} can't be opened: it isn't there"]),
+            (['run', '--hex', self.room, missing], [f"{self.room} can't be read: it is a folder", f"{missing} can't be opened: it isn't there"]),
+            (['asm', '--list', here], ["the answer couldn't be written, or what it is made from couldn't be read"]),
+            (['run', pipe, here], ["the answer couldn't be written, or what it is made from couldn't be read"]),
+        ):
             ran = self.launch(*words)
             self.assertEqual((ran.returncode, ran.stdout), (3, 'out\n'))
             self.assertEqual(ran.stderr, 'err\n' + ''.join(f'pcboard: {it}\n' for it in told))
@@ -199,8 +204,7 @@ class Build(Repository):
         with contextlib.suppress(OSError):  # the terminal's end
             while part := os.read(terminal, 1000):
                 shown += part
-        self.assertEqual(shown.decode().splitlines(),
-                         ['fault 3 BadLine line 1', r'pcboard: tools/why asm my\ file tells more'])
+        self.assertEqual(shown.decode().splitlines(), ['fault 3 BadLine line 1', r'pcboard: tools/why asm my\ file tells more'])
         os.close(terminal)
 
     def test_standard_input_is_the_program_s(self) -> None:

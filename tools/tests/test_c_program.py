@@ -81,9 +81,34 @@ class Debugged(ToolCase):
         if not GDB:
             print("not run: gdb isn't installed")
             return
-        typed = ('break *_sum', 'continue', 'monitor go 0', 'x/i $pc', 'reverse-stepi', 'monitor go 0', 'x/i $pc', 'stepi', 'continue', 'monitor go 0',
-                 'backtrace', 'delete', 'finish', 'x/i $pc', 'next', 'x/i $pc', 'tbreak *_main', 'reverse-continue', 'monitor go 0', 'nexti 25',
-                 'x/i $pc', 'nexti', 'x/i $pc', 'x/4cb &_text', 'x/dh &_total', 'info symbol 0xf0050')
+        typed = (
+            'break *_sum',
+            'continue',
+            'monitor go 0',
+            'x/i $pc',
+            'reverse-stepi',
+            'monitor go 0',
+            'x/i $pc',
+            'stepi',
+            'continue',
+            'monitor go 0',
+            'backtrace',
+            'delete',
+            'finish',
+            'x/i $pc',
+            'next',
+            'x/i $pc',
+            'tbreak *_main',
+            'reverse-continue',
+            'monitor go 0',
+            'nexti 25',
+            'x/i $pc',
+            'nexti',
+            'x/i $pc',
+            'x/4cb &_text',
+            'x/dh &_total',
+            'info symbol 0xf0050',
+        )
         out, err = self.tool('gdb', HEX, self.run_file, '--hex', '--symbols', MAP, '-nx', '-batch', *(it for line in typed for it in ('-ex', line)))
         told = out + err
         clocks = self.clocks(f'break {SUM}', 'go 20000', 'back step', 'step', 'go 20000', f'break {MAIN}', 'back stop', 'back stop')
@@ -91,10 +116,16 @@ class Debugged(ToolCase):
         found = re.findall(r'^clock (\d+)$', told, re.M)
         self.assertEqual(found[:5], [it for them in wanted for it in them])
         self.assertIn(clocks[5], found)
-        for line in ('=> 0xf0044 <_sum>:\tpush   bp', '=> 0xf009e <_main+55>:\tcall   0xf0044 <_sum>',
-                     '#0  0x000f0044 in _sum ()\n#1  0x000f005e in _sum ()\n#2  0x000f00a1 in _main ()\n#3  0x000f002a in _start ()\n',
-                     '=> 0xf005e <_sum+26>:\tinc    sp', '=> 0xf00a1 <_main+58>:\tinc    sp', "0x500 <_text>:\t83 'S'\t85 'U'\t77 'M'\t32 ' '",
-                     '<_total>:\t', '_sum + 12 in section .text'):
+        for line in (
+            '=> 0xf0044 <_sum>:\tpush   bp',
+            '=> 0xf009e <_main+55>:\tcall   0xf0044 <_sum>',
+            '#0  0x000f0044 in _sum ()\n#1  0x000f005e in _sum ()\n#2  0x000f00a1 in _main ()\n#3  0x000f002a in _start ()\n',
+            '=> 0xf005e <_sum+26>:\tinc    sp',
+            '=> 0xf00a1 <_main+58>:\tinc    sp',
+            "0x500 <_text>:\t83 'S'\t85 'U'\t77 'M'\t32 ' '",
+            '<_total>:\t',
+            '_sum + 12 in section .text',
+        ):
             self.assertIn(line, told)
 
     def test_dap(self) -> None:

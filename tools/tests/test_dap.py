@@ -32,8 +32,14 @@ class Client:
 
     def __init__(self, room: str) -> None:
         os.makedirs(f'{room}/tmp', exist_ok=True)
-        self.adapter = subprocess.Popen([sys.executable, '-S', f'{TOOLS}/dap'], stdin=subprocess.PIPE, stdout=subprocess.PIPE,
-                                        stderr=subprocess.PIPE, cwd=room, env=os.environ | {'TMPDIR': f'{room}/tmp'})
+        self.adapter = subprocess.Popen(
+            [sys.executable, '-S', f'{TOOLS}/dap'],
+            stdin=subprocess.PIPE,
+            stdout=subprocess.PIPE,
+            stderr=subprocess.PIPE,
+            cwd=room,
+            env=os.environ | {'TMPDIR': f'{room}/tmp'},
+        )
         self.count, self.events = 0, list[Fields]()
         assert self.adapter.stdout
         self.reader = Reader(self.adapter.stdout.fileno())
@@ -146,21 +152,35 @@ class Words(unittest.TestCase):
     """What needs no board."""
 
     def test_operations(self) -> None:
-        self.assertEqual([operation_of(it) for it in ('REP MOVSW', 'ES: INC BYTE [00000h]', 'HLT', 'LOCK XCHG AX,BX')],
-                         ['MOVSW', 'INC', 'HLT', 'XCHG'])
+        self.assertEqual([operation_of(it) for it in ('REP MOVSW', 'ES: INC BYTE [00000h]', 'HLT', 'LOCK XCHG AX,BX')], ['MOVSW', 'INC', 'HLT', 'XCHG'])
         self.assertEqual([is_repeated(it) for it in ('REP ES: MOVSW', 'MOVSW', 'REPNE SCASB')], [True, False, True])
         self.assertEqual([number_in(it) for it in ('0B8h', '0x10', '101b', '17')], [0xB8, 0x10, 5, 17])
 
     def test_calls(self) -> None:
-        for octets, wanted in (('90E80000', True), ('9090FFD0', True), ('90FF5702', True), ('FF970002', True), ('FF160002', True), ('FFFFFFFF', False),
-                               ('9090FF17', True), ('90909090', False), ('90FF1702', False), ('00000000', False), ('9090FF16', False)):
+        for octets, wanted in (
+            ('90E80000', True),
+            ('9090FFD0', True),
+            ('90FF5702', True),
+            ('FF970002', True),
+            ('FF160002', True),
+            ('FFFFFFFF', False),
+            ('9090FF17', True),
+            ('90909090', False),
+            ('90FF1702', False),
+            ('00000000', False),
+            ('9090FF16', False),
+        ):
             self.assertEqual(ends_with_call(bytes.fromhex(octets)), wanted, octets)
 
     def test_messages(self) -> None:
         with tempfile.TemporaryFile() as file:
-            file.write(b'Content-Length: 2\r\n\r\n{}Content-Length: 1\r\n\r\n[X: 1\r\n\r\nContent-Length: 3000000\r\n\r\n'
-                       + b' ' * 3000000 + b'Content-Length: 2\r\n\r\n[]Content-Length: 2\r\nX: y\r\n\r\n{}' + b'x' * 9000
-                       + b'\r\nContent-Length: 2\r\n\r\n{}Content-Length: 9\r\n\r\n{')
+            file.write(
+                b'Content-Length: 2\r\n\r\n{}Content-Length: 1\r\n\r\n[X: 1\r\n\r\nContent-Length: 3000000\r\n\r\n'
+                + b' ' * 3000000
+                + b'Content-Length: 2\r\n\r\n[]Content-Length: 2\r\nX: y\r\n\r\n{}'
+                + b'x' * 9000
+                + b'\r\nContent-Length: 2\r\n\r\n{}Content-Length: 9\r\n\r\n{'
+            )
             file.seek(0)
             reader = Reader(file.fileno())
             found = [reader.next() for _ in range(8)]
@@ -228,8 +248,10 @@ class Sessions(ToolCase):
         self.assertEqual(client.leave(), 0)
 
     def test_calls_interrupts_and_repeats(self) -> None:
-        lines = ('        MOV SP,400h\n        MOV DI,0\n        MOV CX,900\n        CALL some\n        REP STOSB\n        HLT\n'
-                 'some:   MOV AX,5\nagain:  DEC AX\n        JNZ again\n        RET')
+        lines = (
+            '        MOV SP,400h\n        MOV DI,0\n        MOV CX,900\n        CALL some\n        REP STOSB\n        HLT\n'
+            'some:   MOV AX,5\nagain:  DEC AX\n        JNZ again\n        RET'
+        )
         source, run = self.program(lines, 100000)
         client = self.client()
         client.launch(source, 6, run=run)
@@ -248,8 +270,10 @@ class Sessions(ToolCase):
 
     def test_callers_by_the_chain(self) -> None:
         """Behind a long loop the trail tells no caller; BP does, and where it doesn't there is none."""
-        lines = ('        MOV SP,400h\n        CALL outer\n        HLT\nouter:  PUSH BP\n        MOV BP,SP\n        CALL inner\n        POP BP\n        RET\n'
-                 'inner:  PUSH BP\n        MOV BP,SP\n        MOV CX,100\nhere:   LOOP here\n        NOP\n        POP BP\n        RET')
+        lines = (
+            '        MOV SP,400h\n        CALL outer\n        HLT\nouter:  PUSH BP\n        MOV BP,SP\n        CALL inner\n        POP BP\n        RET\n'
+            'inner:  PUSH BP\n        MOV BP,SP\n        MOV CX,100\nhere:   LOOP here\n        NOP\n        POP BP\n        RET'
+        )
         source, run = self.program(lines, 10000)
         client = self.client()
         client.launch(source, 15, run=run)
@@ -268,17 +292,26 @@ class Sessions(ToolCase):
         client, (source, run) = self.client(), example('ticks')
         client.launch(source, 25, run=run)
         client.event('stopped')
-        for text, wanted in (('AX', '0B000h'), ('tick', '0002Eh (46)'), ('BYTE ES:[0]', "030h (48) '0'"), ('AX+2*3', '0B006h'),
-                             ('WORD CS:[tick]', '0FE26h'), ('IF', '000h (0)'), ('-1+tick', '0002Dh'), ("'A'", '041h')):
+        for text, wanted in (
+            ('AX', '0B000h'),
+            ('tick', '0002Eh (46)'),
+            ('BYTE ES:[0]', "030h (48) '0'"),
+            ('AX+2*3', '0B006h'),
+            ('WORD CS:[tick]', '0FE26h'),
+            ('IF', '000h (0)'),
+            ('-1+tick', '0002Dh'),
+            ("'A'", '041h'),
+        ):
             self.assertIn(wanted, client.ask('evaluate', expression=text, context='watch')['result'], text)
         for text in ('nope', '', '1 2', '[', 'BYTE', '(1', '@', '1+', '((((' * 80):
             client.refused('evaluate', expression=text, context='hover')
         self.assertIn('AX=B000', client.ask('evaluate', expression='regs', context='repl')['result'])
         self.assertEqual(client.variables(2)['IF'], '0')
         rows = client.ask('disassemble', memoryReference='0xF002E', instructionOffset=-2, instructionCount=5)['instructions']
-        self.assertEqual([(it['address'], it['instruction']) for it in rows],
-                         [('0xF002B', 'HLT'), ('0xF002C', 'JMP SHORT idle'), ('0xF002E', 'INC BYTE ES:[0]'), ('0xF0033', 'MOV AL,20h'),
-                          ('0xF0035', 'OUT 20h,AL')])
+        self.assertEqual(
+            [(it['address'], it['instruction']) for it in rows],
+            [('0xF002B', 'HLT'), ('0xF002C', 'JMP SHORT idle'), ('0xF002E', 'INC BYTE ES:[0]'), ('0xF0033', 'MOV AL,20h'), ('0xF0035', 'OUT 20h,AL')],
+        )
         last = client.ask('readMemory', memoryReference='0xFFFFF', count=4)
         self.assertEqual((len(base64.b64decode(last['data'])), last['unreadableBytes']), (1, 3))
         told = client.ask('setInstructionBreakpoints', breakpoints=[{'instructionReference': '0xF0035'}, {'instructionReference': '0x00400'}])
@@ -370,18 +403,30 @@ class Sessions(ToolCase):
 
     def test_broken_requests(self) -> None:
         client, (source, run) = self.client(), example('hello')
-        for octets in (b'Content-Length: 3\r\n\r\n{a}', b'Nothing: 1\r\n\r\n', b'Content-Length: 2\r\n\r\n[]',
-                       b'Content-Length: 10000000\r\n\r\n' + b'a' * 10000000, b'Content-Length: 4\r\n\r\n\xff\xfe\xff\xff'):
+        for octets in (
+            b'Content-Length: 3\r\n\r\n{a}',
+            b'Nothing: 1\r\n\r\n',
+            b'Content-Length: 2\r\n\r\n[]',
+            b'Content-Length: 10000000\r\n\r\n' + b'a' * 10000000,
+            b'Content-Length: 4\r\n\r\n\xff\xfe\xff\xff',
+        ):
             client.raw(octets)
             self.assertFalse(client.response(0)['success'])
         self.assertIn('no request that is known', client.refused('frobnicate'))
         self.assertIn('no board', client.refused('stackTrace', threadId=1))
         client.launch(source, run=run, stopOnEntry=True)
         client.event('stopped')
-        for command, given in (('setBreakpoints', {}), ('setBreakpoints', {'source': 3}), ('readMemory', {'memoryReference': 3}),
-                               ('readMemory', {'memoryReference': '0x0', 'count': -1}), ('variables', {'variablesReference': 'x'}),
-                               ('disassemble', {'memoryReference': '0x0', 'instructionCount': 10 ** 9}), ('launch', {'program': source}),
-                               ('setFunctionBreakpoints', {'breakpoints': 3}), ('evaluate', {'expression': ['x']})):
+        for command, given in (
+            ('setBreakpoints', {}),
+            ('setBreakpoints', {'source': 3}),
+            ('readMemory', {'memoryReference': 3}),
+            ('readMemory', {'memoryReference': '0x0', 'count': -1}),
+            ('variables', {'variablesReference': 'x'}),
+            ('disassemble', {'memoryReference': '0x0', 'instructionCount': 10**9}),
+            ('launch', {'program': source}),
+            ('setFunctionBreakpoints', {'breakpoints': 3}),
+            ('evaluate', {'expression': ['x']}),
+        ):
             client.refused(command, **given)
         self.assertFalse(client.lines(source, 99999)[0]['verified'])
         self.assertFalse(client.lines('/nothing.asm', 1)[0]['verified'])

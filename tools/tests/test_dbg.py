@@ -54,10 +54,13 @@ class Sessions(ToolCase):
 
     def test_stops_are_cleared(self) -> None:
         told = self.dbg('ticks', 'break tick', 'byte b0000 31', 'go', 'clear 2', 'go', 'stops', 'go')
-        self.assertEqual(told[:3], ['stop 1: break F000:002E tick', 'stop 2: byte B0000 31',
-                                    'stop 1 (break F000:002E tick), clock 204: F000:002E tick | 25: tick:   INC BYTE ES:[0]'])
-        self.assertEqual([it.split(': ')[0] for it in told[3:]],
-                         ['stop 1', 'stop 1 (break F000:002E tick), clock 593', 'stop 1', 'stop 1 (break F000:002E tick), clock 993'])
+        self.assertEqual(
+            told[:3],
+            ['stop 1: break F000:002E tick', 'stop 2: byte B0000 31', 'stop 1 (break F000:002E tick), clock 204: F000:002E tick | 25: tick:   INC BYTE ES:[0]'],
+        )
+        self.assertEqual(
+            [it.split(': ')[0] for it in told[3:]], ['stop 1', 'stop 1 (break F000:002E tick), clock 593', 'stop 1', 'stop 1 (break F000:002E tick), clock 993']
+        )
 
     def test_goes_back(self) -> None:
         told = self.dbg('ticks', 'to 993', 'back', 'to 29', 'step', 'back 2')
@@ -65,7 +68,7 @@ class Sessions(ToolCase):
 
     def test_goes_back_beyond_the_trail(self) -> None:
         told = self.dbg('fibonacci', 'step 100', 'back 90', 'back 11', 'where', 'sound', 'back 11', 'where', 'back 10', 'back')
-        tenth, = self.dbg('fibonacci', 'step 10')
+        (tenth,) = self.dbg('fibonacci', 'step 10')
         none = 'only {} instructions and interrupts began before this clock'
         self.assertEqual(told[1:7], [tenth, none.format(10), tenth, 'stop 1: sound', none.format(10), tenth])
         self.assertEqual([it.split(': ')[0] for it in told[7:]], ['clock 0', 'no instruction began before this clock'])
@@ -80,8 +83,10 @@ class Sessions(ToolCase):
     def test_the_last_stop_has_its_number_here(self) -> None:
         """At 593 two hold, of which the least is told."""
         told = self.dbg('ticks', 'halted', 'byte b0000 31', 'break tick', 'clear 1', 'to 594', 'last', 'clear 2', 'to 594', 'last')
-        self.assertEqual([it.split(': ')[0] for it in told[5:]],
-                         ['clock 594', 'stop 2 (byte B0000 31), clock 593', 'stop 3', 'clock 594', 'stop 3 (break F000:002E tick), clock 593'])
+        self.assertEqual(
+            [it.split(': ')[0] for it in told[5:]],
+            ['clock 594', 'stop 2 (byte B0000 31), clock 593', 'stop 3', 'clock 594', 'stop 3 (break F000:002E tick), clock 593'],
+        )
 
     def test_a_session_goes_back_by_itself(self) -> None:
         """It is begun anew where a stop is cleared, and for a later clock past stops."""
@@ -89,8 +94,12 @@ class Sessions(ToolCase):
         counted = self.file('pcboard', f'#!/bin/sh\ncase $1 in debug) echo >> {count};; esac\nexec {path()} "$@"\n')
         os.chmod(counted, 0o755)
         with mock.patch.dict(os.environ, {'PCBOARD': counted}):
-            for commands, wanted in ((('to 993', 'back', 'to 3', 'back 9'), 1), (('break tick', 'go', 'go', 'last', 'back', 'to 3'), 1),
-                                     (('halted', 'to 993'), 2), (('halted', 'go', 'clear 1', 'clear all'), 2)):
+            for commands, wanted in (
+                (('to 993', 'back', 'to 3', 'back 9'), 1),
+                (('break tick', 'go', 'go', 'last', 'back', 'to 3'), 1),
+                (('halted', 'to 993'), 2),
+                (('halted', 'go', 'clear 1', 'clear all'), 2),
+            ):
                 self.file('count', '')
                 self.dbg('ticks', *commands)
                 with open(count, encoding='ascii') as file:
@@ -101,7 +110,7 @@ class Sessions(ToolCase):
         self.assertIn('clock 100: F000:0017', told[0])
         self.assertEqual(told[3], 'HI')
         self.assertEqual(told[5:8], ['clock 100: halted since clock 72', '0 keys lost', 'speaker low, 0 changes'])
-        self.assertIn('the run file ends at clock 100', told[8])
+        self.assertIn('the run file ends at clock 100', told[-1])
 
     def test_keeps_the_clock_table(self) -> None:
         out, _ = self.tool('dbg', *self.hello_by_c2(), given='go\nstate\nback\nto 70\nback\n')
@@ -169,8 +178,7 @@ class Terminal(ToolCase):
         super().setUp()
         self.pid, self.terminal = pty.fork()
         if not self.pid:
-            os.execve(sys.executable, [sys.executable, '-S', f'{TOOLS}/dbg', *self.program('again: JMP SHORT again')],
-                      os.environ | {'TERM': 'dumb'})
+            os.execve(sys.executable, [sys.executable, '-S', f'{TOOLS}/dbg', *self.program('again: JMP SHORT again')], os.environ | {'TERM': 'dumb'})
         self.shown = ''
         self.addCleanup(self.leave)
         self.wait_for('dbg> ')

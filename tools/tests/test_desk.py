@@ -18,6 +18,7 @@ from typing import Any
 
 from tests.support import EXAMPLES, TOOLS, TOP, ToolCase, children, example
 
+from toolbox.chips import chip_lines, probe
 from toolbox.desk_http import LONGEST_BODY, MOST_CONNECTIONS, Server, policy_of
 from toolbox.desk_pages import as_html, examples, page_of
 from toolbox.desk_words import MOST_BOARDS, Desk, Given
@@ -155,7 +156,7 @@ class Hostile(Served):
             for method in ('GET', 'POST'):
                 self.assertEqual(self.status(method, f'/{token}/{rest}', b'{}' if method == 'POST' else None), 404, rest)
         self.assertEqual(self.status('GET', f'/{token}'), 404)
-        for name in ('../README.md', '/etc/passwd', '..', 'CONTRACTS', 'pictures/fibonacci.svg'):
+        for name in ('../README.md', '/etc/passwd', '..', 'no-such-page', 'pictures/fibonacci.svg'):
             self.assertIn('no page', self.client.ask('page', name=name)['sorry'])
             self.assertIn('no example', self.client.ask('example', name=name)['sorry'])
 
@@ -165,13 +166,29 @@ class Hostile(Served):
 
     def test_bodies(self) -> None:
         path, good = f'/{self.client.token}/do', b'{"do":"hello"}'
-        for wanted, body, headers in ((415, good, {'Content_Type': 'text/plain'}), (415, good, {'Content_Type': None}), (411, None, {}),
-                                      (411, b'e\r\n' + good + b'\r\n0\r\n\r\n', {'Transfer_Encoding': 'chunked'}), (411, good, {'Content_Length': '-1'}),
-                                      (411, good, {'Content_Length': '1e9'}), (400, b'[]', {}), (400, b'{', {}), (400, b'\xff', {}), (400, b'[' * 100000, {}),
-                                      (400, b'{}', {}), (400, b'{"do":1}', {}), (404, b'{"do":"x"}', {}), (400, b'{"do":"example"}', {}),
-                                      (400, b'{"do":"open","source":1}', {}), (400, b'{"do":"open","source":"","run":[]}', {}), (400, b'{"do":"run"}', {})):
-            self.assertEqual(self.client.request('POST', path, body, **{name.replace('_', '-'): it for name, it in headers.items()})[0], wanted, (body or b'')[:40])
-        for length in (LONGEST_BODY + 1, 10 << 20, 10 ** 11):
+        for wanted, body, headers in (
+            (415, good, {'Content_Type': 'text/plain'}),
+            (415, good, {'Content_Type': None}),
+            (411, None, {}),
+            (411, b'e\r\n' + good + b'\r\n0\r\n\r\n', {'Transfer_Encoding': 'chunked'}),
+            (411, good, {'Content_Length': '-1'}),
+            (411, good, {'Content_Length': '1e9'}),
+            (400, b'[]', {}),
+            (400, b'{', {}),
+            (400, b'\xff', {}),
+            (400, b'[' * 100000, {}),
+            (400, b'{}', {}),
+            (400, b'{"do":1}', {}),
+            (404, b'{"do":"x"}', {}),
+            (400, b'{"do":"example"}', {}),
+            (400, b'{"do":"open","source":1}', {}),
+            (400, b'{"do":"open","source":"","run":[]}', {}),
+            (400, b'{"do":"run"}', {}),
+        ):
+            self.assertEqual(
+                self.client.request('POST', path, body, **{name.replace('_', '-'): it for name, it in headers.items()})[0], wanted, (body or b'')[:40]
+            )
+        for length in (LONGEST_BODY + 1, 10 << 20, 10**11):
             self.assertEqual(self.status('POST', path, b' ' * 100, **{'Content-Length': str(length)}), 413)
         self.assertEqual(self.status('POST', path, b' ' * (10 << 20)), 413)
         self.assertEqual(self.status('POST', path, good + b' ' * (LONGEST_BODY - len(good))), 200)
@@ -242,12 +259,31 @@ class Hostile(Served):
     def test_what_is_asked_of_a_board(self) -> None:
         board = self.client.open('hello')['board']
         path = f'/{self.client.token}/do'
-        for fields in ({'do': 'go to', 'clock': '1'}, {'do': 'go to', 'clock': True}, {'do': 'type', 'codes': [0]}, {'do': 'type', 'codes': [128]}, {'do': 'type', 'codes': [212]},
-                       {'do': 'type', 'codes': ['a']}, {'do': 'type', 'codes': [1] * 20_000}, {'do': 'stops', 'places': 'x'}, {'do': 'stops', 'places': [1]},
-                       {'do': 'drop keys', 'keys': [-1]}, {'do': 'memory', 'place': 5}, {'do': 'run', 'ms': None}, {'do': 'step', 'seen': []}):
+        for fields in (
+            {'do': 'go to', 'clock': '1'},
+            {'do': 'go to', 'clock': True},
+            {'do': 'type', 'codes': [0]},
+            {'do': 'type', 'codes': [128]},
+            {'do': 'type', 'codes': [212]},
+            {'do': 'type', 'codes': ['a']},
+            {'do': 'type', 'codes': [1] * 20_000},
+            {'do': 'stops', 'places': 'x'},
+            {'do': 'stops', 'places': [1]},
+            {'do': 'drop keys', 'keys': [-1]},
+            {'do': 'memory', 'place': 5},
+            {'do': 'run', 'ms': None},
+            {'do': 'step', 'seen': []},
+        ):
             self.assertEqual(self.status('POST', path, json.dumps(fields | {'board': board}).encode()), 400, fields)
-        for fields in ({'do': 'go to', 'clock': -1}, {'do': 'go to', 'clock': 1 << 41}, {'do': 'memory', 'place': 'nowhere'}, {'do': 'stops', 'places': ['F000:0\nquit']},
-                       {'do': 'type', 'text': '{no such key}'}, {'do': 'type', 'text': '{wait 9999999999999}a'}, {'do': 'last'}):
+        for fields in (
+            {'do': 'go to', 'clock': -1},
+            {'do': 'go to', 'clock': 1 << 41},
+            {'do': 'memory', 'place': 'nowhere'},
+            {'do': 'stops', 'places': ['F000:0\nquit']},
+            {'do': 'type', 'text': '{no such key}'},
+            {'do': 'type', 'text': '{wait 9999999999999}a'},
+            {'do': 'last'},
+        ):
             rest = {name: it for name, it in fields.items() if name != 'do'}
             self.assertIn('sorry', self.client.ask(str(fields['do']), board=board, **rest), fields)
         self.assertIn('gone', self.client.ask('step', board='x'))
@@ -266,7 +302,9 @@ class Boards(Served):
             report = report_of(self.pcboard('run', *example(it.name)).stdout)
             self.assertEqual((shown['clock'], text_of_screen(shown['screen']), shown['registers']), (report.clock, report.screen, report.registers), it.name)
             marks = self.client.ask('marks', board=board)
-            self.assertEqual((marks['state'], marks['lost'], [tuple(change) for change in marks['changes']]), (report.state, report.lost, report.changes), it.name)
+            self.assertEqual(
+                (marks['state'], marks['lost'], [tuple(change) for change in marks['changes']]), (report.state, report.lost, report.changes), it.name
+            )
             self.assertTrue(shown['state'].startswith(report.state), it.name)
             entries = [[one.clock, one.entry] for one in events(Files(*example(it.name)), 0, report.clock) if one.entry is not None]
             self.assertEqual((marks['interrupts'], marks['interrupts up to']), (entries, report.clock), it.name)
@@ -289,8 +327,12 @@ class Boards(Served):
             for clock in (5000, 123, 0, 9999):
                 session.go_to(clock)
                 shown = self.client.ask('go to', board=board, clock=clock)
-                self.assertEqual((shown['clock'], shown['registers'], text_of_screen(shown['screen'])), (clock, registers_of(session.many('regs')), session.many('screen')))
+                self.assertEqual(
+                    (shown['clock'], shown['registers'], text_of_screen(shown['screen'])), (clock, registers_of(session.many('regs')), session.many('screen'))
+                )
             self.assertEqual(self.client.ask('memory', board=board, place='0FFE0', count=32)['bytes'], session.dump(0xFFE0, 32).hex())
+        if probe():
+            self.assertEqual(self.client.ask('chips', board=board), {'lines': chip_lines(Files(*example('fibonacci')), 9999), 'facts': []})
         self.assertEqual(self.client.ask('stops', board=board, places=[':28'])['stops'][0][2], 28)
         self.client.ask('go to', board=board, clock=0)
         met = self.client.ask('run', board=board, ms=200)
@@ -310,11 +352,20 @@ class Boards(Served):
 
     def test_refusals(self) -> None:
         source = 'SEGMENT MAIN AT 0F000h\n        MOV AX,0xB000\n        MVO AX,BX\nENDS\n'
-        self.assertEqual([(it['line'], it['text'].partition(':')[0]) for it in self.client.ask('open', source=source, run=RUN)['refused']],
-                         [(2, 'BadLine'), (3, 'UnknownName')])
+        self.assertEqual(
+            [(it['line'], it['text'].partition(':')[0]) for it in self.client.ask('open', source=source, run=RUN)['refused']],
+            [(2, 'BadLine'), (3, 'UnknownName')],
+        )
         self.assertIn('0B800h for 0xB800', self.client.ask('open', source=source, run=RUN)['refused'][0]['text'])
         self.assertIn('BadRecord', self.client.ask('open', source=':0', run=RUN, hex=True)['refused'][0]['text'])
-        for fields, name in (({'ram': 'x'}, 'BadField'), ({'ram': 17}, 'RamSize'), ({'keys': [[0, 0]]}, 'BadScan'), ({'keys': 5}, 'BadField'), ({'budget': 1 << 41}, 'BudgetTooLarge'), ({'more': 1}, 'BadField')):
+        for fields, name in (
+            ({'ram': 'x'}, 'BadField'),
+            ({'ram': 17}, 'RamSize'),
+            ({'keys': [[0, 0]]}, 'BadScan'),
+            ({'keys': 5}, 'BadField'),
+            ({'budget': 1 << 41}, 'BudgetTooLarge'),
+            ({'more': 1}, 'BadField'),
+        ):
             answer = self.client.ask('open', source=FOREVER, run=RUN | fields)
             self.assertIn(name, answer['refused'][0]['text'], fields)
         self.assertEqual(os.listdir(self.room), [])
@@ -333,12 +384,17 @@ class Boards(Served):
         text, listing = source.replace('.asm', '.hex'), self.file('monitor.lst', self.pcboard('asm', '--list', source).stdout)
         self.desk.given = Given(text, run_file, True, listing)
         with open(source, encoding='utf-8') as of_source, open(run_file, encoding='utf-8') as fields:
-            them = [{'source': it, 'run': run, 'hex': is_hex} for run in [json.load(fields)] for it, is_hex in
-                    ((of_source.read(), False), (self.desk.answer({'do': 'hello'})['given']['source'], True))]
+            them = [
+                {'source': it, 'run': run, 'hex': is_hex}
+                for run in [json.load(fields)]
+                for it, is_hex in ((of_source.read(), False), (self.desk.answer({'do': 'hello'})['given']['source'], True))
+            ]
         shown = list[Fields]()
         for one in them:
             board = self.client.ask('open', **one)['board']
-            shown.append(self.client.ask('go to', board=board, clock=5000) | {'trail without lines': [it[:4] for it in self.client.ask('look', board=board)['trail']]})
+            shown.append(
+                self.client.ask('go to', board=board, clock=5000) | {'trail without lines': [it[:4] for it in self.client.ask('look', board=board)['trail']]}
+            )
             label = shown[0]['label'].partition('+')[0]
             shown[-1]['stops'] = [it[:2] for it in self.client.ask('stops', board=board, places=[label])['stops']]
         for name in ('label', 'trail without lines', 'stack', 'stops'):
@@ -376,7 +432,10 @@ class Boards(Served):
         """Whether a run of what is saved gives what is shown."""
         saved = self.client.ask('save', board=board)
         report = report_of(self.pcboard('run', self.file('it.asm', saved['source']), self.file('it.json', saved['run'])).stdout)
-        self.assertEqual((report.clock, report.registers, report.screen), (shown['clock'], shown['registers'], text_of_screen(self.client.ask('look', board=board)['screen'])))
+        self.assertEqual(
+            (report.clock, report.registers, report.screen),
+            (shown['clock'], shown['registers'], text_of_screen(self.client.ask('look', board=board)['screen'])),
+        )
 
     def test_a_long_run_is_paused(self) -> None:
         board = self.client.ask('open', source=FOREVER, run=RUN)['board']
@@ -452,6 +511,7 @@ class Boards(Served):
     def test_how_fast_it_is(self) -> None:
         """On a run of ten million clocks a step is shown within 50 ms, and one back within 150: of processor time, which others on
         the machine take least from."""
+
         def spent() -> float:
             used = 0
             for one in children(os.getpid()):
@@ -460,8 +520,8 @@ class Boards(Served):
             return time.process_time() + used / os.sysconf('SC_CLK_TCK')
 
         with open(f'{TOP}/bench/loops/a.asm', encoding='utf-8') as file:
-            board = self.client.ask('open', source=file.read(), run=RUN | {'budget': 10 ** 7})['board']
-        self.client.ask('go to', board=board, clock=10 ** 7)
+            board = self.client.ask('open', source=file.read(), run=RUN | {'budget': 10**7})['board']
+        self.client.ask('go to', board=board, clock=10**7)
         for word, most in (('step', 0.05), ('back', 0.15)):
             before = spent()
             for _ in range(8):
@@ -474,8 +534,14 @@ class Started(ToolCase):
 
     def begin(self, *words: str) -> tuple[subprocess.Popen[str], Client]:
         """Starts it."""
-        process = subprocess.Popen([sys.executable, '-S', f'{TOOLS}/desk', '--no-open', *words], stdout=subprocess.PIPE, stderr=subprocess.PIPE, text=True,
-                                   cwd=self.room, env=os.environ | {'TMPDIR': self.room})
+        process = subprocess.Popen(
+            [sys.executable, '-S', f'{TOOLS}/desk', '--no-open', *words],
+            stdout=subprocess.PIPE,
+            stderr=subprocess.PIPE,
+            text=True,
+            cwd=self.room,
+            env=os.environ | {'TMPDIR': self.room},
+        )
         self.addCleanup(process.kill)
         assert process.stdout
         return process, Client(process.stdout.readline().split()[1])
@@ -530,7 +596,9 @@ class Pages(unittest.TestCase):
         with open(f'{TOOLS}/toolbox/desk.html', encoding='utf-8') as file:
             page = file.read()
         self.assertNotRegex(page, r'https?:|//\w+\.|@import|url\(')
-        self.assertEqual((page.count('<script>'), page.count('<style>'), page.count('<script'), page.count(' style="'), page.count(' onclick=')), (1, 1, 1, 0, 0))
+        self.assertEqual(
+            (page.count('<script>'), page.count('<style>'), page.count('<script'), page.count(' style="'), page.count(' onclick=')), (1, 1, 1, 0, 0)
+        )
 
     def test_all_pages_can_be_shown(self) -> None:
         for name in sorted(os.listdir(f'{TOP}/docs')):
@@ -539,7 +607,7 @@ class Pages(unittest.TestCase):
 
     def test_text_is_text(self) -> None:
         self.assertEqual(as_html('<b>`<i>` [x](javascript:y) [z](http://a) **w**'), '<p>&lt;b&gt;<code>&lt;i&gt;</code> x z <b>w</b></p>')
-        self.assertIn('data-page="MACHINE.md" data-anchor="memory-map"', as_html('[m](MACHINE.md#memory-map)'))
+        self.assertIn('data-page="machine.md" data-anchor="memory-map"', as_html('[m](machine.md#memory-map)'))
         self.assertNotIn('<x', as_html('# <x\n- <x\n|<x|\n|-|\n```\n<x\n```'))
 
     def test_each_example_has_its_page(self) -> None:

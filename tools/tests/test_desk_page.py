@@ -25,8 +25,9 @@ class Page:
     """A desk, and a browser that shows it."""
 
     def __init__(self, room: str, *words: str) -> None:
-        self.desk = subprocess.Popen([sys.executable, '-S', f'{TOOLS}/desk', '--no-open', *words], stdout=subprocess.PIPE, text=True, cwd=room,
-                                     env=os.environ | {'TMPDIR': room})
+        self.desk = subprocess.Popen(
+            [sys.executable, '-S', f'{TOOLS}/desk', '--no-open', *words], stdout=subprocess.PIPE, text=True, cwd=room, env=os.environ | {'TMPDIR': room}
+        )
         assert self.desk.stdout
         self.address = self.desk.stdout.readline().split()[1]
         self.browser = Browser(room)
@@ -76,6 +77,7 @@ class Page:
 
 class OnePage(ToolCase):
     """The page in a browser, which the tests share."""
+
     page: Page | None = None
 
     @classmethod
@@ -123,11 +125,13 @@ class OnePage(ToolCase):
         page.write(source.replace('DIV BX', 'DVI BX'))
         browser.press('Enter', CONTROL)
         browser.until("!$('hint').hidden")
-        self.assertEqual(browser.run("[$('hint').textContent, refused[0].line, document.querySelector('#gutter .bad').textContent]"),
-                         ['28: UnknownName: is DIV meant?', 28, '28'])
+        self.assertEqual(
+            browser.run("[$('hint').textContent, refused[0].line, document.querySelector('#gutter .bad').textContent]"),
+            ['28: UnknownName: is DIV meant?', 28, '28'],
+        )
         page.write(source)
         browser.press('F8')
-        page.settled(f"view.clock===runFile.budget&&$('hint').hidden&&refused.length===0")
+        page.settled("view.clock===runFile.budget&&$('hint').hidden&&refused.length===0")
         # To the start, step, a stop by the margin, run to it, back to it.
         page.click('#start', 'view.clock===0')
         self.assertEqual(browser.run('view.line'), browser.run("$('source').value.split('\\n').findIndex(it=>it.includes('JMP FAR'))") + 1)
@@ -195,8 +199,10 @@ class OnePage(ToolCase):
         for name in ('Ctrl', 'F1'):
             browser.run(f"[...document.querySelectorAll('#board-keys button')].find(it=>it.textContent==='{name}').click()")
         page.settled('view.keys.length===7&&codes.length===0')
-        self.assertEqual(browser.run("$('key-list').textContent.split('\\n').slice(3).map(it=>it.split(/ +/).slice(2,4).join(' '))"),
-                         ['ctrl down', 'f1 down', 'f1 up', 'ctrl up'])
+        self.assertEqual(
+            browser.run("$('key-list').textContent.split('\\n').slice(3).map(it=>it.split(/ +/).slice(2,4).join(' '))"),
+            ['ctrl down', 'f1 down', 'f1 up', 'ctrl up'],
+        )
         page.click('#keys-drop-later')
         page.settled("view.keys.every(it=>it[0]<=view.clock)")
         browser.run("$('text').value='o';$('type').click();queue")
@@ -225,7 +231,9 @@ class OnePage(ToolCase):
         for _ in range(60):
             browser.press('Tab')
             reached.add(browser.run("document.activeElement.id||document.activeElement.parentNode.id||''"))
-        wanted = browser.run("[...document.querySelectorAll('button[id],select,input,textarea,#screen')].filter(it=>it.offsetParent&&it.tabIndex===0).map(it=>it.id)")
+        wanted = browser.run(
+            "[...document.querySelectorAll('button[id],select,input,textarea,#screen')].filter(it=>it.offsetParent&&it.tabIndex===0).map(it=>it.id)"
+        )
         self.assertEqual(set(wanted) - reached, set())
         self.assertGreater(len(wanted), 20)
         browser.run("$('source').focus();$('source').setSelectionRange(0,0)")
@@ -267,7 +275,9 @@ class OnePage(ToolCase):
         with open(f'{TOOLS}/tests/attributes.asm', encoding='utf-8') as file:
             page.write(file.read())
         page.click('#assemble', 'assembled.includes("attrib")||view.clock>0')
-        looks = browser.run("[...document.querySelectorAll('#screen>div:first-child span')].slice(0,4).map(it=>[it.textContent,it.className,getComputedStyle(it).fontWeight,getComputedStyle(it).textDecorationLine,getComputedStyle(it).backgroundColor])")
+        looks = browser.run(
+            "[...document.querySelectorAll('#screen>div:first-child span')].slice(0,4).map(it=>[it.textContent,it.className,getComputedStyle(it).fontWeight,getComputedStyle(it).textDecorationLine,getComputedStyle(it).backgroundColor])"
+        )
         self.assertEqual([it[1] for it in looks], ['b1', 'b2', 'b1 b2', 'b4'])
         self.assertEqual([looks[0][2], looks[1][3], looks[3][4]], ['700', 'underline', 'rgb(93, 255, 127)'])
         self.assertEqual(browser.run("(()=>{const s=getSelection();s.selectAllChildren($('screen'));return s.toString().slice(0,5)})()"), 'ABCDE')
@@ -294,7 +304,9 @@ class OnePage(ToolCase):
             for is_dark in (False, True):
                 browser.window(*window, is_dark)
                 time.sleep(0.1)
-                self.assertEqual(browser.run('[document.documentElement.scrollWidth, $("screen").getBoundingClientRect().right<=innerWidth]'), [window[0], True])
+                self.assertEqual(
+                    browser.run('[document.documentElement.scrollWidth, $("screen").getBoundingClientRect().right<=innerWidth]'), [window[0], True]
+                )
                 self.assertEqual(browser.run("getComputedStyle(document.body).backgroundColor"), 'rgb(18, 21, 24)' if is_dark else 'rgb(239, 236, 228)')
         self.assertTrue(browser.run("$('tab-chips').hidden===!pages.chips"))
         self.fine(page)
@@ -367,7 +379,12 @@ def pictures(folder: str) -> None:
             page.settled(f"view.line==={line}&&marks&&marks.clock===view.clock")
             page.browser.run('document.activeElement.blur()')
             page.browser.picture(f'{folder}/desk.webp', format='webp', quality=45)
-            for name, window in {'wide-light': (1280, 720, False), 'wide-dark': (1280, 720, True), 'narrow-light': (390, 800, False), 'narrow-dark': (390, 800, True)}.items():
+            for name, window in {
+                'wide-light': (1280, 720, False),
+                'wide-dark': (1280, 720, True),
+                'narrow-light': (390, 800, False),
+                'narrow-dark': (390, 800, True),
+            }.items():
                 page.browser.window(*window)
                 time.sleep(0.3)
                 page.browser.picture(f'{folder}/{name}.png')

@@ -27,8 +27,9 @@ def has_dap_mode() -> bool:
 def batch(room: str, *words: str) -> list[str]:
     """What Emacs prints, with a home of its own."""
     os.makedirs(f'{room}/tmp')
-    done = subprocess.run(['emacs', '--batch', *words], capture_output=True, text=True, check=False, timeout=300,
-                          env=os.environ | {'HOME': room, 'TMPDIR': f'{room}/tmp'})
+    done = subprocess.run(
+        ['emacs', '--batch', *words], capture_output=True, text=True, check=False, timeout=300, env=os.environ | {'HOME': room, 'TMPDIR': f'{room}/tmp'}
+    )
     assert done.returncode == 0, done.stderr
     return done.stdout.splitlines()
 
@@ -53,10 +54,21 @@ class Folder(ToolCase):
         return next((name for name, rule in self.rules if re.match(re.sub(r'^\(\?i\)', '', rule), word, re.I)), '')
 
     def test_the_grammar_colours(self) -> None:
-        for word, wanted in (('mov', 'keyword.mnemonic'), ('REPNE', 'keyword.prefix'), ('ax', 'variable.language.register'), ('DB', 'keyword.directive'),
-                             ('short', 'keyword.operator'), ('0B8h', 'constant.numeric.hexadecimal'), ('101b', 'constant.numeric.binary'),
-                             ('17', 'constant.numeric.decimal'), ('start: NOP', 'entity.name.label'), ("'a;b'", 'string.quoted.single'), ('; x', 'comment.line.semicolon'),
-                             ('ES: MOVSB', 'variable.language.register'), ('movable', '')):
+        for word, wanted in (
+            ('mov', 'keyword.mnemonic'),
+            ('REPNE', 'keyword.prefix'),
+            ('ax', 'variable.language.register'),
+            ('DB', 'keyword.directive'),
+            ('short', 'keyword.operator'),
+            ('0B8h', 'constant.numeric.hexadecimal'),
+            ('101b', 'constant.numeric.binary'),
+            ('17', 'constant.numeric.decimal'),
+            ('start: NOP', 'entity.name.label'),
+            ("'a;b'", 'string.quoted.single'),
+            ('; x', 'comment.line.semicolon'),
+            ('ES: MOVSB', 'variable.language.register'),
+            ('movable', ''),
+        ):
             self.assertEqual(self.name_of(word), wanted, word)
 
     def test_what_it_names_is_there(self) -> None:
@@ -105,7 +117,9 @@ class Editors(ToolCase):
         source, _ = self.program(' FROB\n MOV AX,0x10')
         if shutil.which('vim'):
             self.file('it.vim', f"let &makeprg = '{TOOLS}/why --lines %'\nsilent! make\ncall writefile(map(getqflist(), 'v:val.lnum'), 'found')\nqa!\n")
-            subprocess.run(['vim', '-u', 'NONE', '-es', '-S', 'it.vim', source], cwd=self.room, stdin=subprocess.DEVNULL, capture_output=True, check=False, timeout=100)
+            subprocess.run(
+                ['vim', '-u', 'NONE', '-es', '-S', 'it.vim', source], cwd=self.room, stdin=subprocess.DEVNULL, capture_output=True, check=False, timeout=100
+            )
             with open(f'{self.room}/found', encoding='ascii') as file:
                 self.assertEqual(file.read().split(), ['3', '4'])
         else:
@@ -113,10 +127,11 @@ class Editors(ToolCase):
         if not shutil.which('emacs'):
             print('not run: Emacs')
             return
-        text = ("(progn (require 'compile) (let ((b (compilation-start \"%s/why --lines %s\"))) (while (get-buffer-process b) (accept-process-output nil 0.1))"
-                "(with-current-buffer b (compilation--ensure-parse (point-max)) (princ compilation-num-errors-found))))")
+        text = (
+            "(progn (require 'compile) (let ((b (compilation-start \"%s/why --lines %s\"))) (while (get-buffer-process b) (accept-process-output nil 0.1))"
+            "(with-current-buffer b (compilation--ensure-parse (point-max)) (princ compilation-num-errors-found))))"
+        )
         self.assertEqual(batch(self.room, '--eval', text % (TOOLS, source)), ['2'])
-
 
     def test_neovim(self) -> None:
         """Its settings, with a stand-in for nvim-dap, and its quickfix."""
@@ -126,15 +141,25 @@ class Editors(ToolCase):
         source, _ = self.program(' FROB\n MOV AX,0x10')
         os.makedirs(f'{self.room}/lua')
         self.file('lua/dap.lua', 'return { adapters = {}, configurations = {} }')
-        script = self.file('it.lua', f"""dofile('{TOP}/editors/nvim.lua')
+        script = self.file(
+            'it.lua',
+            f"""dofile('{TOP}/editors/nvim.lua')
             vim.cmd('edit {source}')
             vim.bo.filetype = 'asm'
             vim.cmd('silent make')
             local dap, lines = require('dap'), {{}}
             for _, it in ipairs(vim.fn.getqflist()) do table.insert(lines, it.lnum) end
-            vim.fn.writefile({{ vim.json.encode({{ dap.adapters.zebludor.command, dap.configurations.asm[1].type, lines }}) }}, 'found')""")
-        done = subprocess.run(['nvim', '--headless', '-u', 'NONE', '--cmd', f'set rtp+={self.room}', '-c', f'luafile {script}', '-c', 'qa!'], cwd=self.room,
-                              stdin=subprocess.DEVNULL, capture_output=True, text=True, check=False, timeout=100)
+            vim.fn.writefile({{ vim.json.encode({{ dap.adapters.zebludor.command, dap.configurations.asm[1].type, lines }}) }}, 'found')""",
+        )
+        done = subprocess.run(
+            ['nvim', '--headless', '-u', 'NONE', '--cmd', f'set rtp+={self.room}', '-c', f'luafile {script}', '-c', 'qa!'],
+            cwd=self.room,
+            stdin=subprocess.DEVNULL,
+            capture_output=True,
+            text=True,
+            check=False,
+            timeout=100,
+        )
         with open(f'{self.room}/found', encoding='utf-8') as file:
             self.assertEqual(json.load(file), [f'{TOP}/tools/dap', 'zebludor', [3, 4]], done.stderr)
 

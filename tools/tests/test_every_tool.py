@@ -16,12 +16,31 @@ from tests.support import EXAMPLES, TOP, ToolCase
 FOLDERS = ('tools', 'dev', 'bench')
 SECONDS = 60  # so long nothing takes, on a busy machine too; a proof takes longer
 # Words with a path, `{}`, beyond those that are tried of each tool: one path, two and three.
-WORDS = ('tools/judge --same all {} {}', 'tools/judge --class {} {}', 'tools/judge {} - --run {}', 'tools/keys a --run {}',
-         'tools/moments {} hello.asm hello.json --key 1E --at 1..9', 'tools/moments {} {} {} --key 1E --at 1..9',
-         'tools/keys --read {}', 'tools/picture it.svg --of {} {}', 'tools/runfile --from {}', 'tools/sound {}',
-         'tools/trace --vcd {} hello.asm hello.json', 'tools/trace --hex {} hello.json', 'tools/try hello.asm --run {}',
-         'tools/try hello.asm --write {}', 'tools/why run {} hello.json', 'tools/why run hello.asm {}', 'tools/why --all {}',
-         'tools/why fault {}', 'dev/build --seen {} {}', 'dev/release --into {}', 'tools/dbg hello.asm {}', 'tools/desk hello.asm {}', 'bench/count {} --steps')
+WORDS = (
+    'tools/judge --same all {} {}',
+    'tools/judge --class {} {}',
+    'tools/judge {} - --run {}',
+    'tools/keys a --run {}',
+    'tools/moments {} hello.asm hello.json --key 1E --at 1..9',
+    'tools/moments {} {} {} --key 1E --at 1..9',
+    'tools/keys --read {}',
+    'tools/picture it.svg --of {} {}',
+    'tools/runfile --from {}',
+    'tools/sound {}',
+    'tools/trace --vcd {} hello.asm hello.json',
+    'tools/trace --hex {} hello.json',
+    'tools/try hello.asm --run {}',
+    'tools/try hello.asm --write {}',
+    'tools/why run {} hello.json',
+    'tools/why run hello.asm {}',
+    'tools/why --all {}',
+    'tools/why fault {}',
+    'dev/build --seen {} {}',
+    'dev/release --into {}',
+    'tools/dbg hello.asm {}',
+    'tools/desk hello.asm {}',
+    'bench/count {} --steps',
+)
 MAY_SUCCEED = {'tools/why fault', 'tools/trace --vcd', 'tools/try hello.asm --write'}
 
 
@@ -39,12 +58,21 @@ class EveryTool(ToolCase):
         for name in ('hello.asm', 'hello.json'):
             os.symlink(f'{EXAMPLES}/{name}', f'{self.room}/{name}')
         from toolbox import program
+
         self.environment = {'PATH': '/usr/bin:/bin', 'HOME': self.room, 'PCBOARD': program.path()}
 
     def begin(self, tool: str, *words: str, out: int = subprocess.PIPE) -> subprocess.Popen[str]:
         """Starts a tool, whose standard input is empty."""
-        return subprocess.Popen(['env', '--default-signal=INT', f'{TOP}/{tool}', *words], stdin=subprocess.DEVNULL, stdout=out,
-                                stderr=subprocess.PIPE, text=True, cwd=self.room, env=self.environment, start_new_session=True)
+        return subprocess.Popen(
+            ['env', '--default-signal=INT', f'{TOP}/{tool}', *words],
+            stdin=subprocess.DEVNULL,
+            stdout=out,
+            stderr=subprocess.PIPE,
+            text=True,
+            cwd=self.room,
+            env=self.environment,
+            start_new_session=True,
+        )
 
     def run_tool(self, line: str, out: int = subprocess.PIPE) -> tuple[int, str, str]:
         """Its status and what it prints. It neither ends in a traceback nor begins to prove."""
@@ -78,6 +106,7 @@ class EveryTool(ToolCase):
             self.assertEqual((status, told), (0, ''), tool)
             self.assertIn(os.path.basename(tool), printed, tool)
             self.assertGreater(len(printed), 200, tool)
+
         self.each(check, tools())
 
     def test_unknown_words_are_refused(self) -> None:
@@ -85,6 +114,7 @@ class EveryTool(ToolCase):
             status, printed, told = self.run_tool(f'{tool} --nonsense')
             self.assertEqual((status, printed), (2, ''), tool)
             self.assertIn(os.path.basename(tool), told, tool)
+
         self.each(check, tools())
 
     def test_a_closed_pipe(self) -> None:
@@ -96,6 +126,7 @@ class EveryTool(ToolCase):
             finally:
                 os.close(writing)
             self.assertEqual((status, told), (0, ''), tool)
+
         self.each(check, tools())
 
     def test_a_missing_file_and_a_folder_for_a_file(self) -> None:
@@ -104,14 +135,23 @@ class EveryTool(ToolCase):
             if not any(line.startswith(it) for it in MAY_SUCCEED):
                 self.assertGreater(status, 0, line)
                 self.assertNotEqual(told, '', line)
+
         lines = [*WORDS, *(f'{tool} {{}} {{}}' for tool in tools())]
         self.each(check, [it.replace('{}', path) for it in lines for path in (f'{self.room}/none/none', self.room)])
 
     def test_control_c(self) -> None:
         """As the terminal sends it, where a tool waits for a file."""
         os.mkfifo(f'{self.room}/waits')
-        for line in ('tools/judge waits', 'tools/keys --read waits', 'tools/table waits', 'tools/try hello.asm --run waits',
-                     'tools/why run waits hello.json', 'tools/runfile --from waits', 'tools/trace hello.asm waits', 'tools/dbg hello.asm waits'):
+        for line in (
+            'tools/judge waits',
+            'tools/keys --read waits',
+            'tools/table waits',
+            'tools/try hello.asm --run waits',
+            'tools/why run waits hello.json',
+            'tools/runfile --from waits',
+            'tools/trace hello.asm waits',
+            'tools/dbg hello.asm waits',
+        ):
             with self.subTest(line=line), self.begin(*line.split()) as process:
                 writing = self.opened(process, f'{self.room}/waits')
                 told = self.interrupted(process)

@@ -71,25 +71,38 @@ class Words(unittest.TestCase):
     def test_numbers(self) -> None:
         """The examples of the DWARF 3 standard, 7.6."""
         self.assertEqual([uleb(it).hex() for it in (2, 127, 128, 129, 12857)], ['02', '7f', '8001', '8101', 'b964'])
-        self.assertEqual([sleb(it).hex() for it in (2, -2, 127, -127, 128, -128, -129)],
-                         ['02', '7e', 'ff00', '817f', '8001', '807f', 'ff7e'])
+        self.assertEqual([sleb(it).hex() for it in (2, -2, 127, -127, 128, -128, -129)], ['02', '7e', 'ff00', '817f', '8001', '807f', 'ff7e'])
 
     def test_places(self) -> None:
         line = Line(1, 'a: NOP', (0xF000, 0x10), b'\x90')
         listing = Listing([line], {0xF0010: line}, {'b': (0x50, 4)})
-        for address, wanted in ((0xF0010, (0xF000, 0x10, True)), (0x504, (0x50, 4, True)), (0xFFFF2, (0xFFFF, 2, False)),
-                                (0xF0123, (0xF000, 0x123, False))):
+        for address, wanted in ((0xF0010, (0xF000, 0x10, True)), (0x504, (0x50, 4, True)), (0xFFFF2, (0xFFFF, 2, False)), (0xF0123, (0xF000, 0x123, False))):
             self.assertEqual(far_of_address(listing, address, 0xFFFF), wanted)
 
-
     def test_what_calls(self) -> None:
-        for octets, wanted in (('E80000', True), ('E800', False), ('9A000000F0', True), ('FFD0', True), ('FF5E02', True), ('FFE0', False), ('CD10', True),
-                               ('2EFF1E0001', True), ('90', False), ('', False)):
+        for octets, wanted in (
+            ('E80000', True),
+            ('E800', False),
+            ('9A000000F0', True),
+            ('FFD0', True),
+            ('FF5E02', True),
+            ('FFE0', False),
+            ('CD10', True),
+            ('2EFF1E0001', True),
+            ('90', False),
+            ('', False),
+        ):
             self.assertEqual(is_call(bytes.fromhex(octets)), wanted, octets)
-        for event, place, wanted in (('9 F000:0010 E80D00 CALL 00020h', (0xF000, 0x20), 2), ('9 F000:0010 9A200000F0 CALL FAR 0F000h:00020h', (0xF000, 0x20), 4),
-                                     ('9 F000:0010 CD21 INT 021h', (0xF000, 0x20), 6), ('9 F000:0010 entry 08', (0xF000, 0x20), 6),
-                                     ('9 F000:0010 F7F3 DIV BX', (0xF000, 0x12), 0), ('9 F000:0010 F7F3 DIV BX', (0xF000, 0x20), 6),
-                                     ('9 F000:0010 CE INTO', (0xF000, 0x11), 0), ('9 F000:0010 EB0E JMP SHORT 00020h', (0xF000, 0x20), 0)):
+        for event, place, wanted in (
+            ('9 F000:0010 E80D00 CALL 00020h', (0xF000, 0x20), 2),
+            ('9 F000:0010 9A200000F0 CALL FAR 0F000h:00020h', (0xF000, 0x20), 4),
+            ('9 F000:0010 CD21 INT 021h', (0xF000, 0x20), 6),
+            ('9 F000:0010 entry 08', (0xF000, 0x20), 6),
+            ('9 F000:0010 F7F3 DIV BX', (0xF000, 0x12), 0),
+            ('9 F000:0010 F7F3 DIV BX', (0xF000, 0x20), 6),
+            ('9 F000:0010 CE INTO', (0xF000, 0x11), 0),
+            ('9 F000:0010 EB0E JMP SHORT 00020h', (0xF000, 0x20), 0),
+        ):
             self.assertEqual(pushed_by(event_of(event), place), wanted, event)
 
 
@@ -142,7 +155,7 @@ class Client:
 
     def registers(self) -> list[int]:
         text = bytes.fromhex(self.ask('g'))
-        return [int.from_bytes(text[at:at + 4], 'little') for at in range(0, len(text), 4)]
+        return [int.from_bytes(text[at : at + 4], 'little') for at in range(0, len(text), 4)]
 
 
 def told_as(lines: list[str]) -> list[int]:
@@ -159,8 +172,13 @@ class Served(ToolCase):
     def serve(self, file: str, run: str, *words: str) -> tuple[subprocess.Popen[str], int]:
         """The tool as it serves, with its port."""
         os.makedirs(f'{self.room}/tmp', exist_ok=True)
-        tool = subprocess.Popen([sys.executable, '-S', f'{TOOLS}/gdb', '--serve', file, run, *words], stdout=subprocess.PIPE,
-                                stderr=subprocess.PIPE, text=True, env=os.environ | {'TMPDIR': f'{self.room}/tmp'})
+        tool = subprocess.Popen(
+            [sys.executable, '-S', f'{TOOLS}/gdb', '--serve', file, run, *words],
+            stdout=subprocess.PIPE,
+            stderr=subprocess.PIPE,
+            text=True,
+            env=os.environ | {'TMPDIR': f'{self.room}/tmp'},
+        )
         self.addCleanup(self.leave, tool)
         assert tool.stdout
         script = tool.stdout.readline().split()[-1]
@@ -193,10 +211,15 @@ class Served(ToolCase):
         client = self.client(*example('ticks'))
         self.assertIn('ReverseContinue+', client.ask('qSupported:swbreak+'))
         self.assertEqual(client.ask('Z0,f002e,1'), 'OK')
-        for request, wanted, shown in (('c', 'T05swbreak:;thread:1;', 'clock 204\n'), ('c', 'T05swbreak:;thread:1;', 'clock 593\n'),
-                                       ('bs', 'T05thread:1;', ''), ('bc', 'T05swbreak:;thread:1;', 'clock 204\n'),
-                                       ('bc', 'T05replaylog:begin;thread:1;', 'clock 0: the beginning\n'),
-                                       ('bs', 'T05replaylog:begin;thread:1;', ''), ('s', 'T05thread:1;', '')):
+        for request, wanted, shown in (
+            ('c', 'T05swbreak:;thread:1;', 'clock 204\n'),
+            ('c', 'T05swbreak:;thread:1;', 'clock 593\n'),
+            ('bs', 'T05thread:1;', ''),
+            ('bc', 'T05swbreak:;thread:1;', 'clock 204\n'),
+            ('bc', 'T05replaylog:begin;thread:1;', 'clock 0: the beginning\n'),
+            ('bs', 'T05replaylog:begin;thread:1;', ''),
+            ('s', 'T05thread:1;', ''),
+        ):
             client.shown = ''
             self.assertEqual((client.ask(request), client.shown), (wanted, shown), request)
         self.assertEqual(client.registers()[8], 0xF0000)
@@ -250,6 +273,13 @@ class Served(ToolCase):
         client = self.client(*self.program('        NOP\n        DB 0Fh', 1000))
         self.assertEqual(client.ask('c'), 'T04thread:1;')
         self.assertIn('the processor is jammed', client.shown)
+
+    def test_clocks_before_a_boundary(self) -> None:
+        """What is left of a step, and the next one, aren't steps of a jammed processor."""
+        for budget in range(182, 187):
+            client = self.client(*self.program(BUSY, budget))
+            client.ask('c')
+            self.assertIn('the processor is running', client.shown)
 
     def test_hostile_clients(self) -> None:
         client = self.client(*example('hello'))
@@ -397,12 +427,39 @@ class Gdb(ToolCase):
         return out + err
 
     def test_a_session(self) -> None:
-        told = self.gdb(example('ticks'), 'break tick', 'continue', 'x/i $pc', 'stepi', 'p/x $pc', 'reverse-stepi', 'continue', 'list',
-                        'reverse-continue', 'reverse-continue', 'x/2xb 0xf002e', 'monitor regs', 'set {char}0x500 = 1', 'set $eax = 1',
-                        'monitor go 0')
-        for wanted in (('Breakpoint 1, tick () at', '=> 0xf002e <tick>:	inc    BYTE PTR es:0x0', '= 0xf0033', '25\ttick:   INC BYTE ES:[0]',
-                        'No more reverse-execution history.', '0xf002e <tick>:	0x26	0xfe', 'CS=FFFF DS=0000 ES=0000 SS=0000 IP=0000',
-                        'Writing to memory is not allowed', 'Writing to registers is not allowed') if GDB else ()):
+        told = self.gdb(
+            example('ticks'),
+            'break tick',
+            'continue',
+            'x/i $pc',
+            'stepi',
+            'p/x $pc',
+            'reverse-stepi',
+            'continue',
+            'list',
+            'reverse-continue',
+            'reverse-continue',
+            'x/2xb 0xf002e',
+            'monitor regs',
+            'set {char}0x500 = 1',
+            'set $eax = 1',
+            'monitor go 0',
+        )
+        for wanted in (
+            (
+                'Breakpoint 1, tick () at',
+                '=> 0xf002e <tick>:	inc    BYTE PTR es:0x0',
+                '= 0xf0033',
+                '25\ttick:   INC BYTE ES:[0]',
+                'No more reverse-execution history.',
+                '0xf002e <tick>:	0x26	0xfe',
+                'CS=FFFF DS=0000 ES=0000 SS=0000 IP=0000',
+                'Writing to memory is not allowed',
+                'Writing to registers is not allowed',
+            )
+            if GDB
+            else ()
+        ):
             self.assertIn(wanted, told)
 
     def started(self, *commands: str) -> subprocess.Popen[str]:
@@ -410,8 +467,14 @@ class Gdb(ToolCase):
         os.makedirs(f'{self.room}/tmp')
         given = [it for command in (*commands, 'echo ready\\n', 'continue', 'monitor go 0') for it in ('-ex', command)]
         files = self.program(BUSY)[0], self.file('long.json', LONG)
-        tool = subprocess.Popen([sys.executable, '-S', f'{TOOLS}/gdb', *files, '-nx', '-batch', *given], stdout=subprocess.PIPE, stderr=subprocess.STDOUT,
-                                text=True, start_new_session=True, env=os.environ | {'TMPDIR': f'{self.room}/tmp'})
+        tool = subprocess.Popen(
+            [sys.executable, '-S', f'{TOOLS}/gdb', *files, '-nx', '-batch', *given],
+            stdout=subprocess.PIPE,
+            stderr=subprocess.STDOUT,
+            text=True,
+            start_new_session=True,
+            env=os.environ | {'TMPDIR': f'{self.room}/tmp'},
+        )
         self.addCleanup(Served.leave, tool)
         assert tool.stdout
         while 'ready' not in tool.stdout.readline():
@@ -454,8 +517,17 @@ class Gdb(ToolCase):
     def test_each_answer(self) -> None:
         """What gdb comes to is what the debugger's own commands come to."""
         files = example('ticks')
-        moves = (('break *0xf002e', 'break F000:2E'), ('continue', 'go 100000'), ('stepi', 'step'), ('stepi', 'step'), ('reverse-stepi', 'back step'),
-                 ('continue', 'go 100000'), ('reverse-continue', 'back stop'), ('monitor back 10', 'back 10'), ('monitor step', 'step'))
+        moves = (
+            ('break *0xf002e', 'break F000:2E'),
+            ('continue', 'go 100000'),
+            ('stepi', 'step'),
+            ('stepi', 'step'),
+            ('reverse-stepi', 'back step'),
+            ('continue', 'go 100000'),
+            ('reverse-continue', 'back stop'),
+            ('monitor back 10', 'back 10'),
+            ('monitor step', 'step'),
+        )
         typed = [it for move, _ in moves for it in (move, 'monitor go 0', 'monitor regs', 'x/16xb 0xb0000')]
         told = self.gdb(files, *typed)
         found, wanted = re.findall(r'^clock (\d+)\n(AX=.*)\n(CS=.*)$', told, re.M), list[tuple[str, ...]]()
@@ -494,8 +566,7 @@ class Gdb(ToolCase):
         chance = random.Random(8086)
         for walk in range(20 if GDB else 0):
             files = example(('ticks', 'fibonacci', 'nested', 'keys')[walk % 4])
-            steps = [chance.choice(('stepi', 'stepi', 'stepi', 'reverse-stepi', 'reverse-stepi', 'continue', 'reverse-continue'))
-                     for _ in range(40)]
+            steps = [chance.choice(('stepi', 'stepi', 'stepi', 'reverse-stepi', 'reverse-stepi', 'continue', 'reverse-continue')) for _ in range(40)]
             told = self.gdb(files, 'break *0xf0020', *steps, 'monitor go 0', 'p/x $pc', 'p/x $esp', 'x/16xb 0x400', 'monitor regs')
             clock = int(re.findall(r'^clock (\d+)$', told, re.M)[-1])
             with Session(Files(*files)) as direct:
@@ -510,7 +581,7 @@ class Gdb(ToolCase):
     def test_hex(self) -> None:
         source, run = example('monitor')
         told = self.gdb((source.replace('.asm', '.hex'), run), 'break *0xf0000', 'continue', 'p/x $pc', words=('--hex',))
-        for wanted in (('where CS:IP is F000:0000; by another CS it is passed', '= 0xf0000') if GDB else ()):
+        for wanted in ('where CS:IP is F000:0000; by another CS it is passed', '= 0xf0000') if GDB else ():
             self.assertIn(wanted, told)
 
     def test_over_calls(self) -> None:

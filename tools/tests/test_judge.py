@@ -31,24 +31,50 @@ class Reports(ToolCase):
         return self.tool('judge', self.file('page', page), f'{STORED}/{report}.report', status=status)[0].splitlines()
 
     def test_all_met(self) -> None:
-        page = "# HI\n\nline 1 = HI\nline 1 = 'HI'\nshows = H\nAX = 0708\nAL = 8\nAH=07\nZF = 0\nstate = halted\nlost = 0\nclock = 100\nsound = 0\nline 2 = ''\n"
+        page = (
+            "# HI\n\nline 1 = HI\nline 1 = 'HI'\nshows = H\nAX = 0708\nAL = 8\nAH=07\nZF = 0\nstate = halted\nlost = 0\nclock = 100\nsound = 0\nline 2 = ''\n"
+        )
         self.assertEqual(self.judge(page, 'hello', 0)[-1], '12 met, 0 not')
 
     def test_not_met(self) -> None:
         told = self.judge('line 1 = HO\nshows = XY\nAX = 0709\nal = 9\nIF = 1\nstate = running\nline 1 = I\n', 'hello', 1)
-        self.assertEqual(told, ["no  line 1 = HO: came 'HI'", "no  shows = XY: came a screen with 1 lines, the first 'HI'",
-                                'no  AX = 0709: came 0708', 'no  al = 9: came 08', 'no  IF = 1: came 0',
-                                'no  state = running: came halted', "no  line 1 = I: came 'HI'", '0 met, 7 not'])
+        self.assertEqual(
+            told,
+            [
+                "no  line 1 = HO: came 'HI'",
+                "no  shows = XY: came a screen with 1 lines, the first 'HI'",
+                'no  AX = 0709: came 0708',
+                'no  al = 9: came 08',
+                'no  IF = 1: came 0',
+                'no  state = running: came halted',
+                "no  line 1 = I: came 'HI'",
+                '0 met, 7 not',
+            ],
+        )
 
     def test_speaker(self) -> None:
         page = 'sound = 12\nspeaker at 73 = 0\nspeaker at 74 = 1\nspeaker at 95 = 1\nspeaker at 96 = 0\n'
         self.assertEqual(self.judge(page, 'tone', 0)[-1], '5 met, 0 not')
 
     def test_pages_that_are_none(self) -> None:
-        for page, wanted in (('AX 5\n', 'no expectation'), ('', 'no expectations'), ('line 26 = x\n', '1 to 25'), ('AX = zz\n', 'hexadecimal'), ('state = haltd\n', 'none of running'), ('runs = 5 6\n', 'is no label'), ('halted before = soon\n', 'decimal'),
-                             ('memory x = 5,6\n', 'hexadecimal byte'), ('run = a\nlost = 0\nrun = b\n', 'of the run b'), ('lost = 0\nram = 64\n', 'run = ITS NAME'),
-                             ('keys = {nokey}\nlost = 0\n', 'page, line 1'), ('ram = x\nlost = 0\n', 'x is no number'), ('not shown =\n', 'no expectation'),
-                             ('lost = x\n', 'decimal'), ('speaker at 5 = 2\n', '0 and 1'), ('memory 0 = 1\n', 'has no memory')):
+        for page, wanted in (
+            ('AX 5\n', 'no expectation'),
+            ('', 'no expectations'),
+            ('line 26 = x\n', '1 to 25'),
+            ('AX = zz\n', 'hexadecimal'),
+            ('state = haltd\n', 'none of running'),
+            ('runs = 5 6\n', 'is no label'),
+            ('halted before = soon\n', 'decimal'),
+            ('memory x = 5,6\n', 'hexadecimal byte'),
+            ('run = a\nlost = 0\nrun = b\n', 'of the run b'),
+            ('lost = 0\nram = 64\n', 'run = ITS NAME'),
+            ('keys = {nokey}\nlost = 0\n', 'page, line 1'),
+            ('ram = x\nlost = 0\n', 'x is no number'),
+            ('not shown =\n', 'no expectation'),
+            ('lost = x\n', 'decimal'),
+            ('speaker at 5 = 2\n', '0 and 1'),
+            ('memory 0 = 1\n', 'has no memory'),
+        ):
             told = self.tool('judge', self.file('page', page), f'{STORED}/hello.report', status=2)[1]
             self.assertIn(wanted, told)
         self.assertIn('is no report', self.tool('judge', self.file('page', 'lost = 0'), self.file('r', 'x'), status=2)[1])
@@ -110,7 +136,9 @@ class Runs(ToolCase):
         files = self.program(' STI\n HLT\nbehind: NOP\n HLT', 5000)
         self.assertEqual(self.lines('never runs = behind\nruns = start\n', *files)[-1], '2 met, 0 not')
         self.assertEqual(self.lines('runs = idle+1\nruns = tick\n', *example('ticks'))[-1], '2 met, 0 not')
-        self.assertEqual(self.lines('halted before = 1000\n', *self.program('over: JMP over'), status=1)[0], 'no  halted before = 1000: came no halt up to clock 1000')
+        self.assertEqual(
+            self.lines('halted before = 1000\n', *self.program('over: JMP over'), status=1)[0], 'no  halted before = 1000: came no halt up to clock 1000'
+        )
 
     def test_several_runs(self) -> None:
         source, _ = example('keys')
@@ -152,8 +180,13 @@ class Runs(ToolCase):
         endless = self.file('endless.asm', 'SEGMENT A AT 0FFFFh\nnothing: JMP nothing\n')
         page = self.file('page', 'budget = 1,099,511,627,776\nlost = 0\n')
         for words in (['--class'], []):
-            with subprocess.Popen([sys.executable, '-S', f'{TOOLS}/judge', *words, page, endless], stdout=subprocess.PIPE, stderr=subprocess.PIPE,
-                                  text=True, start_new_session=True) as process:
+            with subprocess.Popen(
+                [sys.executable, '-S', f'{TOOLS}/judge', *words, page, endless],
+                stdout=subprocess.PIPE,
+                stderr=subprocess.PIPE,
+                text=True,
+                start_new_session=True,
+            ) as process:
                 time.sleep(1.3)  # so that it runs, on a busy machine too, and doesn't tell yet how long
                 process.send_signal(signal.SIGINT)
                 _, err = process.communicate(timeout=10)

@@ -50,8 +50,11 @@ class Tools(ToolCase):
 
     def test_run_files_of_version_2(self) -> None:
         rest = '"ram":64,"sw1":0,"sw2":0,"budget":100000,"keys":[]'
-        for words, wanted in ((['--timer', '8254'], '"timer":"8254","clocks":"C1"'), (['--clocks', 'c2'], '"timer":"8253","clocks":"C2"'),
-                              (['--timer', '8253'], '"timer":"8253","clocks":"C1"')):
+        for words, wanted in (
+            (['--timer', '8254'], '"timer":"8254","clocks":"C1"'),
+            (['--clocks', 'c2'], '"timer":"8253","clocks":"C2"'),
+            (['--timer', '8253'], '"timer":"8253","clocks":"C1"'),
+        ):
             out, _ = self.tool('runfile', *words)
             self.assertEqual(out, f'{{"version":2,{rest},{wanted}}}\n')
         two = self.file('two.json', self.tool('runfile', '--timer', '8254', '--clocks', 'C2')[0])
@@ -68,8 +71,14 @@ class Tools(ToolCase):
         self.assertEqual(out.splitlines()[1].split(), ['700', 'h', 'up'])
 
     def test_refusals(self) -> None:
-        for words, wanted in ((['\u00e9'], 'no key types'), (['{frob}'], 'neither a key'), (['a{'], 'stands alone'), ([], 'no text'),
-                              (['a', '--gap', '-1'], '0 or more'), (['a', '--run', 'no.json'], "can't be read")):
+        for words, wanted in (
+            (['\u00e9'], 'no key types'),
+            (['{frob}'], 'neither a key'),
+            (['a{'], 'stands alone'),
+            ([], 'no text'),
+            (['a', '--gap', '-1'], '0 or more'),
+            (['a', '--run', 'no.json'], "can't be read"),
+        ):
             self.assertIn(wanted, self.tool('keys', *words, status=2)[1])
         for words, wanted in ((['--ram', '40'], '16, 32'), (['--sw2', '32'], '0 to 31'), (['--budget', 'x'], 'no number')):
             self.assertIn(wanted, self.tool('runfile', *words, status=2)[1])

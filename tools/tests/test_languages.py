@@ -19,9 +19,9 @@ class Languages(ToolCase):
         if not all(is_there(command, f'examples/{name}', package) for command, package in packages.items()):
             return None
         from toolbox import program
+
         folder = shutil.copytree(f'{EXAMPLES}/{name}', f'{self.room}/{name}')
-        done = subprocess.run(['make', '-s', 'run'], cwd=folder, env=os.environ | {'PCBOARD': program.path()}, capture_output=True, text=True,
-                              check=False)
+        done = subprocess.run(['make', '-s', 'run'], cwd=folder, env=os.environ | {'PCBOARD': program.path()}, capture_output=True, text=True, check=False)
         self.assertEqual(done.returncode, 0, done.stderr)
         self.assertEqual(done.stdout.splitlines()[7].rstrip(), 'ticks  12, keys   2' if name == 'nasm' else 'ticks  10, keys   2')
         return folder

@@ -46,8 +46,17 @@ class StandIn(ToolCase):
 
     def test_ranges_and_the_first_run_file(self) -> None:
         out, _ = self.tool('moments', *self.begin('0', '[[105,2],[115,3]]'), '--key', '1e', '--at', '105..125', status=1)
-        self.assertEqual(out.splitlines(), ['20 of 20 moments tried, 6 failed', "first 110: line 1 = T: came 'a'", "last 122: line 1 = T: came 'a'",
-                                            'failing 110 to 112', 'failing 120 to 122', 'it.failing.json is the run file of the first: pcboard run, debug and tools/dbg show it'])
+        self.assertEqual(
+            out.splitlines(),
+            [
+                '20 of 20 moments tried, 6 failed',
+                "first 110: line 1 = T: came 'a'",
+                "last 122: line 1 = T: came 'a'",
+                'failing 110 to 112',
+                'failing 120 to 122',
+                'it.failing.json is the run file of the first: pcboard run, debug and tools/dbg show it',
+            ],
+        )
         with open(f'{self.room}/it.failing.json', encoding='utf-8') as file:
             self.assertEqual(json.load(file)['keys'], [[105, 2], [110, 30], [115, 3]])
         self.assertIn([[105, 2], [105, 30], [115, 3]], self.listed())
@@ -55,8 +64,10 @@ class StandIn(ToolCase):
     def test_pairs_and_samples(self) -> None:
         files, pairs = self.begin('0'), ('--key', '1E', '--at', '103..106', '--key', '9E', '--at', '207..211')
         out, _ = self.tool('moments', *files, *pairs, status=1)
-        self.assertEqual([it for it in out.splitlines() if it.startswith(('12 of', 'failing'))],
-                         ['12 of 12 moments tried, 3 failed', 'failing 103 210', 'failing 104 210', 'failing 105 210'])
+        self.assertEqual(
+            [it for it in out.splitlines() if it.startswith(('12 of', 'failing'))],
+            ['12 of 12 moments tried, 3 failed', 'failing 103 210', 'failing 104 210', 'failing 105 210'],
+        )
         runs = self.listed()
         self.assertEqual(len(runs), 13)  # one of them without the keys
         self.assertEqual(runs[1], [[103, 0x1E], [207, 0x9E]])
@@ -69,14 +80,21 @@ class StandIn(ToolCase):
         page, source, _ = self.begin('0')
         self.file('page', 'run = one\nbudget = 900\nline 1 = T\nrun = two\nbudget = 900\nlost = 1\n')
         out, _ = self.tool('moments', page, source, '--key', '1E', '--at', '113', status=1)
-        self.assertEqual(out.splitlines()[:3], ['without the key too: two: lost = 1: came 0', '1 of 1 moments tried, 1 failed', 'first 113: two: lost = 1: came 0'])
+        self.assertEqual(
+            out.splitlines()[:3], ['without the key too: two: lost = 1: came 0', '1 of 1 moments tried, 1 failed', 'first 113: two: lost = 1: came 0']
+        )
 
     def test_what_cant_be_tried(self) -> None:
         files = self.begin('0')
-        for words, wanted in (([], 'has its --at'), (['--key', 'EE', '--at', '1..9'], 'no scan code'), (['--key', '1E', '--at', '9..9'], 'no clock'),
-                              (['--key', '1E', '--at', 'soon'], '1000..9000'), (['--key', '1E', '--at', '890..901'], 'never comes'),
-                              (['--key', '1E', '--at', '1..9', '--sample', '9'], 'there are 8 moments'),
-                              (['--key', '1E', '--at', '1..9', '--symbols', 'x'], 'goes with --hex')):
+        for words, wanted in (
+            ([], 'has its --at'),
+            (['--key', 'EE', '--at', '1..9'], 'no scan code'),
+            (['--key', '1E', '--at', '9..9'], 'no clock'),
+            (['--key', '1E', '--at', 'soon'], '1000..9000'),
+            (['--key', '1E', '--at', '890..901'], 'never comes'),
+            (['--key', '1E', '--at', '1..9', '--sample', '9'], 'there are 8 moments'),
+            (['--key', '1E', '--at', '1..9', '--symbols', 'x'], 'goes with --hex'),
+        ):
             self.assertIn(wanted, self.tool('moments', *files, *words, status=2)[1])
         self.assertIn('give its name', self.tool('moments', '-', *files[1:], '--key', '1E', '--at', '1..9', status=2)[1])
         self.file('it.moments', '{}')
@@ -84,8 +102,9 @@ class StandIn(ToolCase):
 
     def test_goes_on_behind_an_interrupt(self) -> None:
         words = [*self.begin('0.05'), '--key', '1E', '--at', '103..163', '--jobs', '2']
-        with subprocess.Popen([sys.executable, '-S', f'{TOOLS}/moments', *words], stdout=subprocess.PIPE, stderr=subprocess.PIPE, text=True,
-                              cwd=self.room, start_new_session=True) as process:
+        with subprocess.Popen(
+            [sys.executable, '-S', f'{TOOLS}/moments', *words], stdout=subprocess.PIPE, stderr=subprocess.PIPE, text=True, cwd=self.room, start_new_session=True
+        ) as process:
             until = time.monotonic() + 60
             while process.poll() is None and time.monotonic() < until and not (os.path.exists(f'{self.room}/list') and len(self.listed()) > 8):
                 time.sleep(0.02)

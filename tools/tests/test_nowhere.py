@@ -12,14 +12,15 @@ from toolbox.program import Files, Session, answer_of
 from toolbox.report import report_of
 
 VECTOR = 'ENDS\nSEGMENT VECTORS AT 0\n ORG {:X}h\n DW own,SEG own\n'
-TICK = (' MOV AL,13h\n OUT 20h,AL\n MOV AL,8\n OUT 21h,AL\n MOV AL,1\n OUT 21h,AL\n MOV AL,34h\n OUT 43h,AL\n MOV AL,100\n'
-        ' OUT 40h,AL\n MOV AL,0\n OUT 40h,AL\n STI\nidle: HLT\n JMP SHORT idle\nown: IRET\n')
+TICK = (
+    ' MOV AL,13h\n OUT 20h,AL\n MOV AL,8\n OUT 21h,AL\n MOV AL,1\n OUT 21h,AL\n MOV AL,34h\n OUT 43h,AL\n MOV AL,100\n'
+    ' OUT 40h,AL\n MOV AL,0\n OUT 40h,AL\n STI\nidle: HLT\n JMP SHORT idle\nown: IRET\n'
+)
 CODE_IN_RAM = 'JMP FAR there\nENDS\nSEGMENT CODE AT 50h\nthere: '
 
 # A mistake's name, its program behind `start:`, what is told, and a program that misses it narrowly and isn't told so.
 CASES: tuple[tuple[str, str, str, str], ...] = (
-    ('DOS', ' MOV AH,9\n INT 21h\n HLT', 'enters interrupt 21; its vector, at 00084h, is 0000:0000',
-     ' INT 21h\n HLT\nown: IRET\n' + VECTOR.format(0x84)),
+    ('DOS', ' MOV AH,9\n INT 21h\n HLT', 'enters interrupt 21; its vector, at 00084h, is 0000:0000', ' INT 21h\n HLT\nown: IRET\n' + VECTOR.format(0x84)),
     ('BIOS video', ' MOV AX,0E41h\n INT 10h\n HLT', 'at 00040h, is 0000:0000', ' INT 10h\n HLT\nown: IRET\n' + VECTOR.format(0x40)),
     ('BIOS keyboard', ' MOV AH,0\n INT 16h\n HLT', 'at 00058h, is 0000:0000', ' INT 16h\n HLT\nown: IRET\n' + VECTOR.format(0x58)),
     ('a tick without a handler', TICK, 'interrupt 08 came; its vector, at 00020h, is 0000:0000', TICK + VECTOR.format(0x20)),
@@ -29,23 +30,45 @@ CASES: tuple[tuple[str, str, str, str], ...] = (
     ('a flag that nothing sets', 'over: CMP BYTE [500h],0\n JZ over', 'off: nothing leads out', 'over: INC BYTE [500h]\n CMP BYTE [500h],0\n JMP over'),
     ('a counter set anew', 'over: MOV CX,10\n LOOP over', 'off: nothing leads out', ' MOV CX,0\nover: LOOP over'),
     ('a port that is none', 'over: IN AL,64h\n TEST AL,1\n JNZ over', 'nothing answers at port 64h', ' MOV CX,200\nover: IN AL,64h\n LOOP over'),
-    ('a key that is polled', 'over: IN AL,60h\n CMP AL,1\n JNZ over', 'nothing leads out but what port 60h reads', 'over: IN AL,60h\n INC BX\n CMP BX,5000\n JNZ over'),
+    (
+        'a key that is polled',
+        'over: IN AL,60h\n CMP AL,1\n JNZ over',
+        'nothing leads out but what port 60h reads',
+        'over: IN AL,60h\n INC BX\n CMP BX,5000\n JNZ over',
+    ),
     ('no STI', ' CLI\n MOV WORD [24h],5\nidle: HLT\n JMP SHORT idle', 'with interrupts off', ' STI\nidle: HLT\n JMP SHORT idle'),
     ('no STI before a handler', TICK.replace(' STI\n', '') + VECTOR.format(0x20), 'with interrupts off', 'done: HLT\n JMP SHORT done'),
     ('past the end', CODE_IN_RAM + 'MOV AX,1\n MOV BX,AX', 'were 00 00', CODE_IN_RAM + 'ADD [BX+SI],AL\n ADD [BX+SI],AL\n ADD [BX+SI],AL\n HLT'),
     ('into data', CODE_IN_RAM + 'MOV AX,1\nroom: DW 500 DUP(0)', 'were 00 00', CODE_IN_RAM + 'ADD [BX+SI],AL\n JMP there'),
     ('colour memory by ES', ' MOV AX,0B800h\n MOV ES,AX\n MOV WORD ES:[0],741h\n HLT', 'ES is B800h', ' MOV AX,0B000h\n MOV ES,AX\n HLT'),
     ('colour memory by DS', ' MOV AX,0B800h\n MOV DS,AX\n MOV WORD [0],741h\n HLT', 'DS is B800h', ' MOV AX,0B800h\n HLT'),
-    ('a label in ROM', ' MOV AX,CS\n MOV DS,AX\n INC BYTE [n]\n HLT\nn: DB 0', 'ROM: what is written there is lost',
-     ' MOV AX,CS\n MOV DS,AX\n MOV AL,[n]\n CMP BYTE [n],1\n HLT\nn: DB 0'),
+    (
+        'a label in ROM',
+        ' MOV AX,CS\n MOV DS,AX\n INC BYTE [n]\n HLT\nn: DB 0',
+        'ROM: what is written there is lost',
+        ' MOV AX,CS\n MOV DS,AX\n MOV AL,[n]\n CMP BYTE [n],1\n HLT\nn: DB 0',
+    ),
     ('a label in ROM by CS', ' MOV CS:[n],AX\n HLT\nn: DW 0', 'writes to F00', ' MOV AX,CS:[n]\n HLT\nn: DW 0'),
-    ('a string in ROM', ' MOV AX,0F000h\n MOV ES,AX\n STOSB\n HLT', 'ROM: what is written there is lost',
-     ' MOV AX,0F000h\n MOV ES,AX\n STOSB\n XOR AX,AX\n MOV ES,AX\n HLT'),
+    (
+        'a string in ROM',
+        ' MOV AX,0F000h\n MOV ES,AX\n STOSB\n HLT',
+        'ROM: what is written there is lost',
+        ' MOV AX,0F000h\n MOV ES,AX\n STOSB\n XOR AX,AX\n MOV ES,AX\n HLT',
+    ),
     ('no RAM there', ' MOV AX,2000h\n MOV ES,AX\n MOV ES:[BX],AX\n HLT', 'nothing answers there', ' MOV AX,0FFFh\n MOV ES,AX\n MOV ES:[0],AX\n HLT'),
-    ('a string of many', ' MOV AX,0F000h\n MOV ES,AX\n MOV CX,2\nover: STOSB\n LOOP over\n HLT', 'which is ROM', ' MOV AX,0F000h\n MOV ES,AX\n REP STOSB\n HLT'),
+    (
+        'a string of many',
+        ' MOV AX,0F000h\n MOV ES,AX\n MOV CX,2\nover: STOSB\n LOOP over\n HLT',
+        'which is ROM',
+        ' MOV AX,0F000h\n MOV ES,AX\n REP STOSB\n HLT',
+    ),
     ('a stack in ROM', ' MOV AX,CS\n MOV SS,AX\n MOV SP,100h\n PUSH AX\n HLT', 'a push goes to F00FCh', ' MOV AX,CS\n MOV SS,AX\n MOV SP,100h\n HLT'),
-    ('a stack in code', CODE_IN_RAM + 'MOV AX,50h\n MOV SS,AX\n MOV SP,room\n PUSH AX\n PUSH AX\n HLT\nroom: DW 0,0', 'the source placed',
-     CODE_IN_RAM + 'MOV AX,50h\n MOV SS,AX\n MOV SP,room+4\n PUSH AX\n PUSH AX\n HLT\nroom: DW 0,0'),
+    (
+        'a stack in code',
+        CODE_IN_RAM + 'MOV AX,50h\n MOV SS,AX\n MOV SP,room\n PUSH AX\n PUSH AX\n HLT\nroom: DW 0,0',
+        'the source placed',
+        CODE_IN_RAM + 'MOV AX,50h\n MOV SS,AX\n MOV SP,room+4\n PUSH AX\n PUSH AX\n HLT\nroom: DW 0,0',
+    ),
 )
 WAITING = ('instructions were the same', 'nothing leads out but what port')
 
@@ -99,8 +122,13 @@ class Nowhere(ToolCase):
 
     def test_ends_that_are_none(self) -> None:
         """A loop that leaves after a while, and one that writes as it goes, aren't said never to end."""
-        for lines in (' MOV CX,900\nover: NOP\n NOP\n LOOP over\n HLT', 'over: MOV BYTE [500h],1\n JMP over', 'over: OUT 61h,AL\n JMP over',
-                      'over: PUSH AX\n POP AX\n JMP over', 'over: CALL sub1\n JMP over\nsub1: RET'):
+        for lines in (
+            ' MOV CX,900\nover: NOP\n NOP\n LOOP over\n HLT',
+            'over: MOV BYTE [500h],1\n JMP over',
+            'over: OUT 61h,AL\n JMP over',
+            'over: PUSH AX\n POP AX\n JMP over',
+            'over: CALL sub1\n JMP over\nsub1: RET',
+        ):
             told = ' '.join(self.told(Files(*self.program(lines, 3000))))
             self.assertIn('the last 32 instructions were the same', told)
             self.assertNotIn('off: nothing leads out', told)

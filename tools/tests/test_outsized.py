@@ -17,9 +17,11 @@ MEMORY = 600 << 20
 
 def plain(text: str) -> bytes:
     """The bytes of a text in which a backslash stands before two hexadecimal digits, a count of blanks or a backslash."""
+
     def byte(found: re.Match[str]) -> str:
         blanks, number = found[1], found[2]
         return ' ' * int(blanks, 16) if blanks else chr(int(number, 16)) if number else '\\'
+
     return re.sub(r'\\(?:_(..)|([0-9A-F]{2})|\\)', byte, text).encode('latin-1')
 
 
@@ -58,12 +60,20 @@ class Outsized(ToolCase):
     def answer(self, case: Case) -> tuple[int, bytes, bytes]:
         """What the program says, in so much time and memory."""
         from toolbox import program
+
         for name, text in case.texts.items():
             if name.startswith('file '):
                 with open(f'{self.room}/{name[5:]}', 'wb') as file:
                     file.write(text)
-        ran = subprocess.run([program.path(), *case.words], input=case.texts.get('stdin', b''), capture_output=True, cwd=self.room,
-                             timeout=SECONDS, check=False, preexec_fn=lambda: resource.setrlimit(resource.RLIMIT_AS, (MEMORY, MEMORY)))
+        ran = subprocess.run(
+            [program.path(), *case.words],
+            input=case.texts.get('stdin', b''),
+            capture_output=True,
+            cwd=self.room,
+            timeout=SECONDS,
+            check=False,
+            preexec_fn=lambda: resource.setrlimit(resource.RLIMIT_AS, (MEMORY, MEMORY)),
+        )
         for name in case.texts:
             if name.startswith('file '):
                 os.remove(f'{self.room}/{name[5:]}')

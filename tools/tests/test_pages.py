@@ -8,22 +8,40 @@ import unittest
 
 from tests.support import EXAMPLES, TOOLS, TOP, ToolCase
 
-PAGES = ('README.md', 'docs/editors.md', 'docs/first-program.md', 'docs/for-archivists.md', 'docs/for-teachers.md', 'docs/for-firmware.md', 'docs/EXAMPLES.md',
-         'docs/DEBUGGER.md', 'docs/sweeps.md')
+from toolbox.chips import probe
+
+PAGES = (
+    'README.md',
+    'docs/editors.md',
+    'docs/first-program.md',
+    'docs/for-archivists.md',
+    'docs/for-teachers.md',
+    'docs/for-firmware.md',
+    'docs/examples.md',
+    'docs/debugger.md',
+    'docs/sweeps.md',
+)
 SESSION = r'((?:break|byte|sound|halted|go|step|back|regs|screen|dump|trail|quit)\b.*)'  # what is typed in a session of debug
 MINE = 'SEGMENT MAIN AT 0F000h\nstart:  MOV AX,0xB000\n        MOV ES,AX\n        HLT\nENDS\nSEGMENT RESET AT 0FFFFh\n        JMP FAR start\nENDS\n'
 RUN = '{"version":1,"ram":64,"sw1":0,"sw2":0,"budget":100000,"keys":[]}'
 
 # An example, a part of it, what stands in its place, and what is seen then.
-MISTAKES = (('first', 'JMP FAR start', 'DW 0FFFFh', 'FFFF:0000 has FF FF'), ('hello', ' HLT', '', 'has FF FF'),
-            ('first', 'done:   RET', 'done:   JMP top', 'were 00 00'),
-            ('first', 'OUT DX,AL', 'NOP', 'text memory has characters'), ('first', '0B000h', '0B800h', 'no colour adapter is here'),
-            ('first', '        HLT', '        INT 21h', 'its vector, at 00084h, is 0000:0000'),
-            ('first', 'MOV AH,7', 'MOV AH,0', 'with the attribute 00h'),
-            ('first', 'MOV DS,AX', 'NOP', '(halted after 10,000 clocks, the screen is blank)'), ('first', 'AT 50h', 'AT 0F000h', 'which is ROM'),
-            ('first', 'SP,top', 'SP,count', 'Hello from RA.'), ('clock', ' STI', ' NOP', 'with interrupts off'),
-            ('clock', 'DW tick,SEG tick', 'DW 0', 'interrupt 08 came; its vector'), ('clock', 'MOV AL,20h', 'MOV AL,0', '1\n(halted'),
-            ('poll', 'MOV AL,0C0h', 'MOV AL,40h', 'HHH'))
+MISTAKES = (
+    ('first', 'JMP FAR start', 'DW 0FFFFh', 'FFFF:0000 has FF FF'),
+    ('hello', ' HLT', '', 'has FF FF'),
+    ('first', 'done:   RET', 'done:   JMP top', 'were 00 00'),
+    ('first', 'OUT DX,AL', 'NOP', 'text memory has characters'),
+    ('first', '0B000h', '0B800h', 'no colour adapter is here'),
+    ('first', '        HLT', '        INT 21h', 'its vector, at 00084h, is 0000:0000'),
+    ('first', 'MOV AH,7', 'MOV AH,0', 'with the attribute 00h'),
+    ('first', 'MOV DS,AX', 'NOP', '(halted after 10,000 clocks, the screen is blank)'),
+    ('first', 'AT 50h', 'AT 0F000h', 'which is ROM'),
+    ('first', 'SP,top', 'SP,count', 'Hello from RA.'),
+    ('clock', ' STI', ' NOP', 'with interrupts off'),
+    ('clock', 'DW tick,SEG tick', 'DW 0', 'interrupt 08 came; its vector'),
+    ('clock', 'MOV AL,20h', 'MOV AL,0', '1\n(halted'),
+    ('poll', 'MOV AL,0C0h', 'MOV AL,40h', 'HHH'),
+)
 
 
 def blocks(page: str) -> list[str]:
@@ -54,10 +72,16 @@ def anchors(path: str) -> set[str]:
 
 
 class Links(unittest.TestCase):
-    """The pages' links."""
+    """The pages' names and links."""
 
     def test_each_link_leads_somewhere(self) -> None:
-        pages = ['README.md', 'CHANGELOG.md', *(f'docs/{it}' for it in sorted(os.listdir(f'{TOP}/docs')) if it.endswith('.md'))]
+        pages = [
+            'README.md',
+            'CHANGELOG.md',
+            'CONTRIBUTING.md',
+            'editors/README.md',
+            *(f'docs/{it}' for it in sorted(os.listdir(f'{TOP}/docs')) if it.endswith('.md')),
+        ]
         for page in pages:
             with open(f'{TOP}/{page}', encoding='utf-8') as file:
                 links = re.findall(r'\]\(([^)\s]+)\)', file.read())
@@ -68,6 +92,10 @@ class Links(unittest.TestCase):
                 if anchor:
                     self.assertIn(anchor, anchors(target), f'{page}: {link}')
 
+    def test_names_are_in_lower_case(self) -> None:
+        for name in os.listdir(f'{TOP}/docs'):
+            self.assertRegex(name, r'\A[a-z0-9-]+(\.md)?\Z')
+
 
 class Pages(ToolCase):
     """The commands are run in a folder that has what the pages speak of."""
@@ -77,6 +105,7 @@ class Pages(ToolCase):
         os.symlink(EXAMPLES, f'{self.room}/examples')
         os.symlink(TOOLS, f'{self.room}/tools')
         from toolbox import program
+
         os.symlink(program.path(), f'{self.room}/pcboard')
         with open(f'{EXAMPLES}/fibonacci.asm', encoding='utf-8') as file:
             model = file.read()
@@ -88,24 +117,32 @@ class Pages(ToolCase):
         self.file('rom0.hex', ':01000000906F\n:00000001FF\n')
         self.file('fibonacci.page', 'shows = 1 1 2 3 5 8 13 21\nstate = halted\nSP = 0\n')
         self.file('echo.page', 'run = small letters\nplain keys = hello\nshows = HELLO\nrun = others\nplain keys = zebra\nshows = ZEBRA\n')
+        with open(f'{EXAMPLES}/ticks.asm', encoding='utf-8') as file:
+            self.file('mute.asm', file.read().replace('MOV AL,20h', 'MOV AL,0'))
+        self.file('chips.page', 'chip controller ISR = 0\nchip counter 0 newest = 0064\n')
         for name in ('model', 'solution'):
             self.file(f'{name}.txt', self.pcboard('run', f'{self.room}/{name}.asm', f'{self.room}/run.json').stdout)
 
-    def shell(self, command: str, typed: str = '') -> str:
-        """What a command prints, on both streams."""
-        return subprocess.run(command, shell=True, input=typed, stdout=subprocess.PIPE, stderr=subprocess.STDOUT, text=True,
-                              cwd=self.room, check=False).stdout
+    def shell(self, command: str, typed: str = '', has_probe: bool = False) -> str:
+        """What a command prints, on both streams; without the probe, as in a clone where it isn't built."""
+        environment = os.environ if has_probe else os.environ | {'PCPROBE': os.devnull}
+        return subprocess.run(
+            command, shell=True, input=typed, stdout=subprocess.PIPE, stderr=subprocess.STDOUT, text=True, cwd=self.room, check=False, env=environment
+        ).stdout
 
     def check(self, page: str) -> int:
         """Runs a page's commands, and returns how many there were."""
         count = 0
         for command, typed, printed in (it for block in blocks(page) for it in commands(block)):
-            if not command.startswith(('tools/', './pcboard run', './pcboard debug')) or command.startswith('tools/moments'):  # which takes too long: test_moments has some of them
+            if not command.startswith(('tools/', './pcboard run', './pcboard debug', 'sed ')) or command.startswith(
+                'tools/moments'
+            ):  # which takes too long: test_moments has some of them
                 continue
             if 'mine.asm' in command and '"ram"' in printed:
                 self.file('mine.asm', MINE.replace('0xB000', '0B000h'))
             wanted = re.escape(printed.rstrip()).replace('\n\\.\\.', '\n(.*\n)*.*')  # a line `..` stands for any
-            self.assertRegex(self.shell(command, typed).rstrip(), f'\\A{wanted}\\Z', f'{page}: {command}')
+            printed = self.shell(command, typed, has_probe=page == 'docs/probe.md').rstrip()
+            self.assertRegex(printed, f'\\A{wanted}\\Z', f'{page}: {command}')
             count += 1
         return count
 
@@ -114,6 +151,12 @@ class Pages(ToolCase):
         for page in PAGES[:-1]:
             count += self.check(page)
         self.assertGreater(count, 14)
+
+    def test_the_probe(self) -> None:
+        if probe():
+            self.assertEqual(self.check('docs/probe.md'), 3)
+        else:
+            print('not run: the commands of docs/probe.md; dev/build pcprobe', flush=True)
 
     def test_the_ten_mistakes(self) -> None:
         """What the page says one sees, in examples with a line changed."""

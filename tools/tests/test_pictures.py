@@ -24,8 +24,7 @@ class Cells(unittest.TestCase):
     """What a cell shows."""
 
     def test_attributes(self) -> None:
-        wanted = {0x07: (0, 0, 0), 0x0F: (1, 0, 0), 0x01: (0, 1, 0), 0x09: (1, 1, 0), 0x70: (0, 0, 1), 0x78: (1, 0, 1),
-                  0x81: (0, 1, 0), 0x77: (0, 0, 0)}
+        wanted = {0x07: (0, 0, 0), 0x0F: (1, 0, 0), 0x01: (0, 1, 0), 0x09: (1, 1, 0), 0x70: (0, 0, 1), 0x78: (1, 0, 1), 0x81: (0, 1, 0), 0x77: (0, 0, 0)}
         for attribute, look in wanted.items():
             self.assertEqual(cell_of('x', attribute), Cell('x', *map(bool, look)), hex(attribute))
 
@@ -72,8 +71,13 @@ class Pictures(ToolCase):
     def test_attributes(self) -> None:
         run = self.file('r.json', '{"version":1,"ram":64,"sw1":0,"sw2":0,"budget":1000,"keys":[]}')
         text = self.svg('--of', ATTRIBUTES, run)
-        self.assertEqual([text.count(it) for it in ('>A</text>', 'fill="#d6ffdf" xml:space="preserve" textLength="9">B<', 'height="1.5"',
-                                                    'height="18" fill="#5dff7f"', 'fill="#2c7a3e"')], [1, 1, 2, 2, 1])
+        self.assertEqual(
+            [
+                text.count(it)
+                for it in ('>A</text>', 'fill="#d6ffdf" xml:space="preserve" textLength="9">B<', 'height="1.5"', 'height="18" fill="#5dff7f"', 'fill="#2c7a3e"')
+            ],
+            [1, 1, 2, 2, 1],
+        )
         out, _ = self.tool('picture', '--of', ATTRIBUTES, run, '--ansi')
         self.assertTrue(out.startswith('\033[32mA\033[0m\033[32;1mB\033[0m\033[32;4mC\033[0m\033[32;1;4mD\033[0m\033[32;7mE\033[0m'))
         self.assertEqual(self.tool('picture', '--of', ATTRIBUTES, run, '--ansi', '--at', '10')[0], '\n')
@@ -86,8 +90,12 @@ class Pictures(ToolCase):
         for word in ('0', '0720h', '0758h'):
             files = self.program(fill.format(word), 30000)
             before = resource.getrusage(resource.RUSAGE_CHILDREN)
-            subprocess.run([sys.executable, '-S', f'{TOOLS}/picture', '--of', *files, 'it.svg'], cwd=self.room, check=True, preexec_fn=lambda:
-                           resource.setrlimit(resource.RLIMIT_DATA, (50 << 20, 50 << 20)))
+            subprocess.run(
+                [sys.executable, '-S', f'{TOOLS}/picture', '--of', *files, 'it.svg'],
+                cwd=self.room,
+                check=True,
+                preexec_fn=lambda: resource.setrlimit(resource.RLIMIT_DATA, (50 << 20, 50 << 20)),
+            )
             after = resource.getrusage(resource.RUSAGE_CHILDREN)
             self.assertLess(after.ru_utime - before.ru_utime, 1)
 
@@ -115,7 +123,7 @@ class Sounds(ToolCase):
             self.assertEqual((file.getframerate(), file.getnchannels(), file.getsampwidth()), (48000, 1, 2))
             self.assertEqual(file.getnframes(), int(500 * 1000 * 48000 / (14318180 / 3)) + 1)
             frames = file.readframes(file.getnframes())
-        levels = [int.from_bytes(frames[it:it + 2], 'little', signed=True) for it in range(0, len(frames), 2)]
+        levels = [int.from_bytes(frames[it : it + 2], 'little', signed=True) for it in range(0, len(frames), 2)]
         rises = [n for n in range(1, len(levels)) if levels[n] - levels[n - 1] > 12000]
         # A rise each 40 clocks: at a thousandth of the speed each 402 samples.
         self.assertEqual({b - a for a, b in zip(rises[1:], rises[2:])} - {402, 403}, set())

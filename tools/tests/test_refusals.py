@@ -29,8 +29,14 @@ FORTH = 'regs\ngo 70\nsound\ngo 70\n'
 FORTH_REPLIES = REGS + STOPS + 'stop 1 clock 72\n'
 
 # The refusals of each task, as the refused allocation comes later.
-ORDERS = {'asm': '41 13', 'listing': '41 13', 'run': '41 13 37 13 37 41', 'run of HEX': '41 27 37 27 37 41', 'stored run': '41 13 37 41',
-          'session': '41 13 37 13 37 41 53 41'}
+ORDERS = {
+    'asm': '41 13',
+    'listing': '41 13',
+    'run': '41 13 37 13 37 41',
+    'run of HEX': '41 27 37 27 37 41',
+    'stored run': '41 13 37 41',
+    'session': '41 13 37 13 37 41 53 41',
+}
 
 
 def replies_to(_: object, commands: str) -> str:
@@ -43,34 +49,53 @@ class Judging(unittest.TestCase):
 
     def test_answers_of_a_run(self) -> None:
         for ran, is_true in (
-                (WHOLE, True), (Ran(1, '', 'fault 41 Memory\n'), True), (Ran(1, '', 'fault 13 Memory\n'), True),
-                (Ran(1, '', ''), False), (Ran(1, '', 'fault 3 BadLine line 1\n'), False),
-                (Ran(1, REGS, 'fault 41 Memory\n'), False), (Ran(0, REGS, ''), False), (Ran(3, '', ''), False),
-                (Ran(0, WHOLE.out, 'fault 41 Memory\n'), False), (Ran(-11, '', ''), False)):
+            (WHOLE, True),
+            (Ran(1, '', 'fault 41 Memory\n'), True),
+            (Ran(1, '', 'fault 13 Memory\n'), True),
+            (Ran(1, '', ''), False),
+            (Ran(1, '', 'fault 3 BadLine line 1\n'), False),
+            (Ran(1, REGS, 'fault 41 Memory\n'), False),
+            (Ran(0, REGS, ''), False),
+            (Ran(3, '', ''), False),
+            (Ran(0, WHOLE.out, 'fault 41 Memory\n'), False),
+            (Ran(-11, '', ''), False),
+        ):
             self.assertEqual(REFUSALS.is_true(RUN, WHOLE, ran), is_true, ran)
 
     def test_replies_of_a_session(self) -> None:
         want = 'fault 53 Memory\n'
         with unittest.mock.patch.object(REFUSALS, 'replies_to', replies_to):
             for out, is_true in (
-                    (CUT_REPLIES.replace('clock 68', 'fault 53 Memory clock 68'), True),
-                    (CUT_REPLIES.replace('clock 68', 'fault 53 Memory clock 69'), False),
-                    (CUT_REPLIES.replace('clock 68', 'fault 53 Memory'), False),
-                    (REGS + STOPS + 3 * want + 'stop 1 clock 72\n', True),
-                    (REGS + STOPS + 3 * want + 'stop 1 clock 62\n', False),
-                    (REGS + STOPS + 'fault 53 Memory clock 70\n' + 2 * want + 'stop 1 clock 72\n', False),
-                    (REGS, False), (REGS + STOPS + BACK + 'clock 99\n', False), (WHOLE.out + want, False)):
+                (CUT_REPLIES.replace('clock 68', 'fault 53 Memory clock 68'), True),
+                (CUT_REPLIES.replace('clock 68', 'fault 53 Memory clock 69'), False),
+                (CUT_REPLIES.replace('clock 68', 'fault 53 Memory'), False),
+                (REGS + STOPS + 3 * want + 'stop 1 clock 72\n', True),
+                (REGS + STOPS + 3 * want + 'stop 1 clock 62\n', False),
+                (REGS + STOPS + 'fault 53 Memory clock 70\n' + 2 * want + 'stop 1 clock 72\n', False),
+                (REGS, False),
+                (REGS + STOPS + BACK + 'clock 99\n', False),
+                (WHOLE.out + want, False),
+            ):
                 self.assertEqual(REFUSALS.is_true(SESSION, WHOLE, Ran(0, out, '')), is_true, out)
-            for out, fault, is_true in ((REGS, 'fault 41 Memory\n', True), ('', want, True), ('AX=0000\n', 'fault 41 Memory\n', False),
-                                        (REGS, 'fault 3 BadLine line 1\n', False)):
+            for out, fault, is_true in (
+                (REGS, 'fault 41 Memory\n', True),
+                ('', want, True),
+                ('AX=0000\n', 'fault 41 Memory\n', False),
+                (REGS, 'fault 3 BadLine line 1\n', False),
+            ):
                 self.assertEqual(REFUSALS.is_true(SESSION, WHOLE, Ran(1, out, fault)), is_true, out)
 
     def test_refusals_in_their_order(self) -> None:
         def told(*numbers: int) -> list[Ran]:
             return [Ran(1, '', f'fault {it} Memory\n') for it in numbers]
-        for answers, wants in ((told(41, 41, 13, 37, 13, 13, 37, 41), (41, 13, 37, 13, 37, 41)), (told(41, 13, 37), (41, 13, 37)),
-                               ([*told(53), WHOLE, Ran(0, 'fault 53 Memory\n', ''), *told(41)], (53, 41)),
-                               (told(41, 37, 13), (41, 37, 13)), ([], ())):
+
+        for answers, wants in (
+            (told(41, 41, 13, 37, 13, 13, 37, 41), (41, 13, 37, 13, 37, 41)),
+            (told(41, 13, 37), (41, 13, 37)),
+            ([*told(53), WHOLE, Ran(0, 'fault 53 Memory\n', ''), *told(41)], (53, 41)),
+            (told(41, 37, 13), (41, 37, 13)),
+            ([], ()),
+        ):
             self.assertEqual(REFUSALS.in_turn(answers), wants, answers)
 
 

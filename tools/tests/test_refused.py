@@ -64,8 +64,7 @@ class Refused(ToolCase):
 
     def refused(self, *words: str) -> 'subprocess.CompletedProcess[str]':
         environment = {'PATH': f'{self.room}/bin:/usr/bin:/bin', 'XDG_CACHE_HOME': f'{self.room}/cache'}
-        return subprocess.run([sys.executable, f'{self.room}/top/dev/refused', *words], capture_output=True, text=True,
-                              env=environment, check=False)
+        return subprocess.run([sys.executable, f'{self.room}/top/dev/refused', *words], capture_output=True, text=True, env=environment, check=False)
 
     def test_all_are_refused(self) -> None:
         for path in ('low/refused/a', 'low/refused/b', 'high/refused/c', 'high/must-fail/d'):
@@ -80,8 +79,7 @@ class Refused(ToolCase):
         self.edit('low/refused/is_proved')
         self.edit('low/refused/is_not')
         ran = self.refused()
-        self.assertEqual((ran.returncode, ran.stdout),
-                         (1, 'must-fail low/is_proved.edit: NOT REFUSED\n1 refused, 1 not\n'))
+        self.assertEqual((ran.returncode, ran.stdout), (1, 'must-fail low/is_proved.edit: NOT REFUSED\n1 refused, 1 not\n'))
 
     def test_edits_of_a_crate_that_is_not_proved_say_nothing(self) -> None:
         self.edit('broken/refused/a')

@@ -27,7 +27,7 @@ NAME = release.name()
 HAS_CC = is_there('cc', 'a release', 'gcc')  # without it none is made, and no case here is run
 MEMORY = f'{KIT_HERE}/c/liblibc_c.a'
 NOBODY, SECONDS = 65534, 60
-# A bench in C. What it prints of the gate's library docs/PARTS.md works out by hand; stand-ins leave the zeros in it.
+# A bench in C. What it prints of the gate's library docs/parts.md works out by hand; stand-ins leave the zeros in it.
 BENCH = r"""#include "zebludor.h"
 #include <stdio.h>
 
@@ -59,11 +59,20 @@ for _ in range(3):
 """
 # Words for tools that answer at once, what is typed, and what they tell; PAGE and OUT are files that stand apart.
 RUN = 'examples/hello.asm examples/hello.json'
-WORDS = (('tools/try examples/fibonacci.asm', '', '1 1 2 3 5 8 13 21'), (f'tools/why run {RUN}', '', 'HI'), (f'tools/trace {RUN}', '', 'STOSW'),
-         ('tools/why fault examples/hello.asm', 'fault 7 Undefined line 3', 'no line defines the name'), (f'tools/judge PAGE {RUN}', '', '1 met, 0 not'),
-         (f'tools/dbg {RUN}', 'go 100\nquit\n', 'clock 100: F000:0017'), (f'tools/moments PAGE {RUN} --key 1E --at 10..11', '', '1 of 1 moments tried, 0 failed'),
-         ('tools/keys a', '', '[[2000,30],[2500,158]]'), ('tools/runfile', '', '"budget":100000'), (f'tools/picture - --of {RUN}', '', '<svg'),
-         ('tools/table -', 'REPORT', '\t100\thalted\t'), ('tools/sound OUT', 'REPORT', ''))
+WORDS = (
+    ('tools/try examples/fibonacci.asm', '', '1 1 2 3 5 8 13 21'),
+    (f'tools/why run {RUN}', '', 'HI'),
+    (f'tools/trace {RUN}', '', 'STOSW'),
+    ('tools/why fault examples/hello.asm', 'fault 7 Undefined line 3', 'no line defines the name'),
+    (f'tools/judge PAGE {RUN}', '', '1 met, 0 not'),
+    (f'tools/dbg {RUN}', 'go 100\nquit\n', 'clock 100: F000:0017'),
+    (f'tools/moments PAGE {RUN} --key 1E --at 10..11', '', '1 of 1 moments tried, 0 failed'),
+    ('tools/keys a', '', '[[2000,30],[2500,158]]'),
+    ('tools/runfile', '', '"budget":100000'),
+    (f'tools/picture - --of {RUN}', '', '<svg'),
+    ('tools/table -', 'REPORT', '\t100\thalted\t'),
+    ('tools/sound OUT', 'REPORT', ''),
+)
 
 
 class Unpacked(Repository):
@@ -164,8 +173,18 @@ class Unpacked(Repository):
     def run_in(self, top: str, *words: str, given: str = '', path: str = '') -> tuple[int, str, str]:
         """A command in that folder, in an empty environment and as another user, where that may be."""
         another = {'user': NOBODY, 'group': NOBODY, 'extra_groups': []} if os.getuid() == 0 else {}
-        done = subprocess.run(words, cwd=top, input=given, capture_output=True, text=True, errors='replace', check=False, timeout=SECONDS,
-                              env={'PATH': path} if path else {}, **another)  # type: ignore[call-overload]
+        done = subprocess.run(
+            words,
+            cwd=top,
+            input=given,
+            capture_output=True,
+            text=True,
+            errors='replace',
+            check=False,
+            timeout=SECONDS,
+            env={'PATH': path} if path else {},
+            **another,
+        )  # type: ignore[call-overload]
         self.assertNotIn('Traceback', done.stderr, words)
         return done.returncode, done.stdout, done.stderr
 
@@ -200,8 +219,20 @@ class Release(Unpacked):
             for it in entries:
                 file = archive.extractfile(it) if it.isfile() else None
                 self.assertFalse(file and self.room.encode() in file.read(), it.name)
-        for path in ('pcboard', 'stored/pcboard', 'tools/try', 'python/zebludor.py', 'c/zebludor.h', 'LICENSE-MIT', 'RELEASE', 'SHA256SUMS',
-                     'lib/libzebludor_chips.a', 'lib/libzebludor_chips.so', 'lib/pkgconfig/zebludor_run.pc', 'editors/emacs.el'):
+        for path in (
+            'pcboard',
+            'stored/pcboard',
+            'tools/try',
+            'python/zebludor.py',
+            'c/zebludor.h',
+            'LICENSE-MIT',
+            'RELEASE',
+            'SHA256SUMS',
+            'lib/libzebludor_chips.a',
+            'lib/libzebludor_chips.so',
+            'lib/pkgconfig/zebludor_run.pc',
+            'editors/emacs.el',
+        ):
             self.assertIn(f'{NAME}/{path}', names)
         for path in ('crates', 'dev', 'bench', 'tools/test', 'tools/tests'):
             self.assertNotIn(f'{NAME}/{path}', names)
@@ -212,10 +243,13 @@ class Release(Unpacked):
             lines = file.read().splitlines()
         heads = [f'zebludor {release.version()} x86_64-linux', f'kit {KIT}', f'logic {LOGIC}']
         self.assertEqual(lines[:3], heads)
-        made = [(f'{top}/{path}', crate) for path, crate in (('stored/pcboard', 'pcboard'), ('lib/libzebludor_chips.a', 'zebludor_chips'),
-                                                           ('lib/libzebludor_run.a', 'zebludor_run'))]
-        self.assertEqual(lines[3:6], [f'made {os.path.relpath(path, top)} {sum_of(path)} sources {sum_of_sources(CRATES[crate], self.top)}'
-                                      for path, crate in made])
+        made = [
+            (f'{top}/{path}', crate)
+            for path, crate in (('stored/pcboard', 'pcboard'), ('lib/libzebludor_chips.a', 'zebludor_chips'), ('lib/libzebludor_run.a', 'zebludor_run'))
+        ]
+        self.assertEqual(
+            lines[3:6], [f'made {os.path.relpath(path, top)} {sum_of(path)} sources {sum_of_sources(CRATES[crate], self.top)}' for path, crate in made]
+        )
         self.assertEqual(lines[6:], [f'{it}: {VERDICT} of={it}' for it in ('low', 'pcboard', 'zebludor_chips', 'zebludor_run')])
 
     def test_sums(self) -> None:
@@ -243,9 +277,14 @@ class Release(Unpacked):
         status, out, told = self.run_in(top, *command.split())
         self.assertEqual((status, out.rstrip()), (0, printed.rstrip()))
         self.assertRegex(told, r'\Apcboard: this program, stored/pcboard, was proved elsewhere, with rattle-kit-1; RELEASE has [^\n]*\n\Z')
-        self.assertEqual(self.run_in(top, './pcboard', '--version')[:2],
-                         (0, f'pcboard {release.version()}\nkit {KIT}\nlogic {LOGIC}\nsources {sum_of_sources(CRATES["pcboard"], self.top)}\n'
-                             'program stored/pcboard, proved elsewhere\n'))
+        self.assertEqual(
+            self.run_in(top, './pcboard', '--version')[:2],
+            (
+                0,
+                f'pcboard {release.version()}\nkit {KIT}\nlogic {LOGIC}\nsources {sum_of_sources(CRATES["pcboard"], self.top)}\n'
+                'program stored/pcboard, proved elsewhere\n',
+            ),
+        )
         self.assertIn('Usage: pcboard', self.run_in(top, './pcboard', '--help')[1])
 
     def test_each_tool(self) -> None:
@@ -303,8 +342,13 @@ class Libraries(Unpacked):
             return
         source = self.file('bench.c', BENCH)
         for top in (self.unpacked('plain'), self.unpacked()):
-            told = subprocess.run(['pkg-config', '--cflags', '--libs', 'zebludor_chips'], capture_output=True, text=True, check=True,
-                                  env={'PATH': '/usr/bin:/bin', 'PKG_CONFIG_PATH': f'{top}/lib/pkgconfig'}).stdout
+            told = subprocess.run(
+                ['pkg-config', '--cflags', '--libs', 'zebludor_chips'],
+                capture_output=True,
+                text=True,
+                check=True,
+                env={'PATH': '/usr/bin:/bin', 'PKG_CONFIG_PATH': f'{top}/lib/pkgconfig'},
+            ).stdout
             subprocess.run(['cc', '-std=c11', '-Wall', '-Werror', source, *shlex.split(told), '-o', f'{self.room}/bench'], check=True)
             self.assertEqual(self.run_in(top, f'{self.room}/bench'), (0, self.wanted(), ''))
 
@@ -312,8 +356,13 @@ class Libraries(Unpacked):
         if not is_there('pkg-config', 'whole runs in C by pkg-config', 'pkg-config'):
             return
         top = self.unpacked('plain')
-        told = subprocess.run(['pkg-config', '--cflags', '--libs', 'zebludor_run'], capture_output=True, text=True, check=True,
-                              env={'PATH': '/usr/bin:/bin', 'PKG_CONFIG_PATH': f'{top}/lib/pkgconfig'}).stdout
+        told = subprocess.run(
+            ['pkg-config', '--cflags', '--libs', 'zebludor_run'],
+            capture_output=True,
+            text=True,
+            check=True,
+            env={'PATH': '/usr/bin:/bin', 'PKG_CONFIG_PATH': f'{top}/lib/pkgconfig'},
+        ).stdout
         self.assertRegex(told, r' -L\S+/lib -l:libzebludor_run\.a -l:liblibc_c\.a ?\n\Z')
         if not self.is_real or not os.path.isfile(MEMORY):
             print('not run: whole runs in C from a release; dev/benches builds their library')
@@ -339,8 +388,11 @@ class Lacking(Unpacked):
         os.remove(self.made('zebludor_chips'))
         os.remove(f'{self.top}/crates/zebludor_run/out/PROVED')
         os.remove(f'{self.top}/LICENSE-MIT')
-        self.refused("LICENSE-MIT isn't there", "libzebludor_chips.a isn't there; dev/build zebludor_chips proves and builds it",
-                     'nothing tells what crates/zebludor_run/out/libzebludor_run.a was made of; dev/build zebludor_run')
+        self.refused(
+            "LICENSE-MIT isn't there",
+            "libzebludor_chips.a isn't there; dev/build zebludor_chips proves and builds it",
+            'nothing tells what crates/zebludor_run/out/libzebludor_run.a was made of; dev/build zebludor_run',
+        )
 
     def test_other_sources(self) -> None:
         put_back = self.change_text('crates/low/src/lib.rt')

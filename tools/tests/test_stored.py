@@ -130,10 +130,14 @@ class Stored(Repository):
     def test_one_that_is_damaged_is_told_and_not_taken(self) -> None:
         self.store()
         path, text = f'{self.stored}/pcboard', f'{self.stored}/PROVED'
-        for damage, why in ((lambda: os.remove(path), "isn't there"), (lambda: os.remove(text), "isn't there"),
-                            (lambda: os.truncate(path, 9), 'its SHA-256 is another'), (lambda: os.truncate(text, 9), 'its SHA-256 is another'),
-                            (lambda: self.file('top/stored/pcboard', '#!/bin/sh\necho another\n'), 'its SHA-256 is another'),
-                            (lambda: os.chmod(path, 0o644), 'it may not be executed')):
+        for damage, why in (
+            (lambda: os.remove(path), "isn't there"),
+            (lambda: os.remove(text), "isn't there"),
+            (lambda: os.truncate(path, 9), 'its SHA-256 is another'),
+            (lambda: os.truncate(text, 9), 'its SHA-256 is another'),
+            (lambda: self.file('top/stored/pcboard', '#!/bin/sh\necho another\n'), 'its SHA-256 is another'),
+            (lambda: os.chmod(path, 0o644), 'it may not be executed'),
+        ):
             shutil.copytree(self.stored, f'{self.room}/whole')
             damage()
             self.not_taken(why)
@@ -161,8 +165,7 @@ class Stored(Repository):
     def test_one_that_does_not_start_here(self) -> None:
         """As on a machine of another kind, without the loader, with an older C library or processor."""
         self.store()
-        for text in ('\x7fELF of another machine', '#!/no/such/loader\n', '#!/bin/sh\necho "GLIBC_2.99 not found" >&2\nexit 1\n',
-                     '#!/bin/sh\nkill -ILL $$\n'):
+        for text in ('\x7fELF of another machine', '#!/no/such/loader\n', '#!/bin/sh\necho "GLIBC_2.99 not found" >&2\nexit 1\n', '#!/bin/sh\nkill -ILL $$\n'):
             self.put(text)
             self.not_taken("it doesn't start on this machine")
         self.is_built_instead("it doesn't start on this machine")
@@ -182,6 +185,7 @@ class Stored(Repository):
             ran = self.launch('--version', has_rt=False)
             self.assertEqual((ran.returncode, ran.stderr), (0, ''))
             return ran.stdout.splitlines()[1:]
+
         self.store()
         self.launch()
         facts = [f'kit {KIT}', f'logic {LOGIC}', f'sources {sum_of_sources(["low", "pcboard"], self.top)}']
@@ -241,9 +245,17 @@ class Stored(Repository):
         self.assertEqual(os.stat(f'{self.stored}/pcboard').st_mode & 0o777, 0o755)
         with open(f'{self.stored}/PROVED', encoding='utf-8') as file:
             told = file.read()
-        self.assertEqual(told.splitlines(), [
-            f'program {sum_of(f"{self.out}/pcboard")}', f'sources {sum_of_sources(["low", "pcboard"], self.top)}',
-            f'kit {KIT}', f'logic {LOGIC}', f'low: {VERDICT}', f'pcboard: {VERDICT}'])
+        self.assertEqual(
+            told.splitlines(),
+            [
+                f'program {sum_of(f"{self.out}/pcboard")}',
+                f'sources {sum_of_sources(["low", "pcboard"], self.top)}',
+                f'kit {KIT}',
+                f'logic {LOGIC}',
+                f'low: {VERDICT}',
+                f'pcboard: {VERDICT}',
+            ],
+        )
         self.assertEqual(sum_of(f'{self.stored}/pcboard'), sum_of(f'{self.out}/pcboard'))
         self.change_text('crates/low/src/lib.rt')
         self.assertIn('crates/pcboard/out/pcboard is not made of the present sources', self.refused())
@@ -285,7 +297,9 @@ class Stored(Repository):
         """The gate's first part, over an `rt ci` that proves the program's crates."""
         self.file('bin/rt', ci)
         shutil.copy(f'{TOP}/tools/test', f'{self.top}/tools/test')
-        ran = self.start('/bin/sh', '-c', 'cd "$1" && PYTHONPATH=tools python3 -B -c \'import runpy; print(runpy.run_path("tools/test")["gate"]())\'', '', self.top)
+        ran = self.start(
+            '/bin/sh', '-c', 'cd "$1" && PYTHONPATH=tools python3 -B -c \'import runpy; print(runpy.run_path("tools/test")["gate"]())\'', '', self.top
+        )
         self.assertEqual((ran.stdout.splitlines()[-1:], ran.stderr), ([counts], ''))
 
     def test_one_that_the_gate_built_is_stored(self) -> None:
@@ -325,8 +339,21 @@ class Stored(Repository):
         self.assertIn('proved elsewhere', self.at_once())
 
     def test_verdicts_are_read_from_what_rt_ci_prints(self) -> None:
-        lines = ['== one', 'logic=proved functions=3 sum=1', 'rt: one proved', 'rt: two is kept: as before', 'rt: two proved', '== three', 'rt: three proved',
-                 '== four: its tests', 'logic=proved tests=1 functions=3', 'rt: four: its tests are proved', '== four', 'logic=proved functions=4', 'rt: four NOT PROVED']
+        lines = [
+            '== one',
+            'logic=proved functions=3 sum=1',
+            'rt: one proved',
+            'rt: two is kept: as before',
+            'rt: two proved',
+            '== three',
+            'rt: three proved',
+            '== four: its tests',
+            'logic=proved tests=1 functions=3',
+            'rt: four: its tests are proved',
+            '== four',
+            'logic=proved functions=4',
+            'rt: four NOT PROVED',
+        ]
         self.assertEqual(proved.verdicts_in(lines[:4] + lines[5:]), {'one': 'logic=proved functions=3 sum=1'})
 
 
@@ -381,10 +408,14 @@ class Gate(ToolCase):
     def test_when_they_are_compared(self) -> None:
         stored = proved.Proved('program', 'sources', 'kit', 'logic', {})
         for built, present, why in (
-                (stored, 'sources', None), (replace(stored, program='other', logic='other'), 'sources', None), (None, 'sources', 'nothing tells'),
-                (stored, 'newer', 'dev/build --store renews it'), (None, 'newer', 'dev/build --store renews it'),
-                (replace(stored, sources='other'), 'sources', 'that is tested was made of other sources'),
-                (replace(stored, kit='other'), 'sources', 'kit made the stored program, other the one that is tested')):
+            (stored, 'sources', None),
+            (replace(stored, program='other', logic='other'), 'sources', None),
+            (None, 'sources', 'nothing tells'),
+            (stored, 'newer', 'dev/build --store renews it'),
+            (None, 'newer', 'dev/build --store renews it'),
+            (replace(stored, sources='other'), 'sources', 'that is tested was made of other sources'),
+            (replace(stored, kit='other'), 'sources', 'kit made the stored program, other the one that is tested'),
+        ):
             told = proved.incomparable(stored, built, present)
             self.assertTrue(told is None if why is None else told and why in told, told)
 
@@ -403,8 +434,15 @@ class Gate(ToolCase):
 
     def launch(self, top: str, line: str) -> subprocess.CompletedProcess[str]:
         """Runs a line of the shell at its top, where nothing of Rattle is on the path."""
-        return subprocess.run(['/bin/sh', '-c', line], cwd=top, capture_output=True, text=True, check=False, stdin=subprocess.DEVNULL,
-                              env={'PATH': '/usr/bin:/bin', 'HOME': self.room})
+        return subprocess.run(
+            ['/bin/sh', '-c', line],
+            cwd=top,
+            capture_output=True,
+            text=True,
+            check=False,
+            stdin=subprocess.DEVNULL,
+            env={'PATH': '/usr/bin:/bin', 'HOME': self.room},
+        )
 
     def test_a_clean_clone_answers_within_a_second(self) -> None:
         """README's first command, where nothing was proved."""
@@ -413,7 +451,7 @@ class Gate(ToolCase):
         top, before = self.clone(), resource.getrusage(resource.RUSAGE_CHILDREN)
         ran = self.launch(top, line)
         after = resource.getrusage(resource.RUSAGE_CHILDREN)
-        self.assertEqual((ran.returncode, ran.stdout[:len(printed) - 1]), (0, printed.rstrip()))
+        self.assertEqual((ran.returncode, ran.stdout[: len(printed) - 1]), (0, printed.rstrip()))
         self.assertIn('proved elsewhere', ran.stderr)
         self.assertLess(after.ru_utime + after.ru_stime - before.ru_utime - before.ru_stime, 1)  # of a processor, however busy it is
         self.assertEqual(self.launch(top, line).stderr, '')
@@ -424,11 +462,13 @@ class Gate(ToolCase):
         top, run = self.clone(), './pcboard run examples/hello.asm'
         self.assertIn('proved elsewhere', self.launch(top, './pcboard --version').stderr)
         for line, status, told in (
-                (f'{run} none', 3, "pcboard: none can't be opened: it isn't there\n"),
-                (f'{run} examples', 3, "pcboard: examples can't be read: it is a folder\n"),
-                (f'{run} examples/hello.json >/dev/full', 3, "pcboard: the answer couldn't be written, or what it is made from couldn't be read\n"),
-                ('./pcboard asm examples/hello.json', 1, r'fault \d+ \w+ line 1\n'), ('./pcboard --help | head -1 >/dev/null', 0, ''),
-                ('./pcboard -h', 0, '')):
+            (f'{run} none', 3, "pcboard: none can't be opened: it isn't there\n"),
+            (f'{run} examples', 3, "pcboard: examples can't be read: it is a folder\n"),
+            (f'{run} examples/hello.json >/dev/full', 3, "pcboard: the answer couldn't be written, or what it is made from couldn't be read\n"),
+            ('./pcboard asm examples/hello.json', 1, r'fault \d+ \w+ line 1\n'),
+            ('./pcboard --help | head -1 >/dev/null', 0, ''),
+            ('./pcboard -h', 0, ''),
+        ):
             ran = self.launch(top, line)
             self.assertEqual(ran.returncode, status, line)
             self.assertRegex(ran.stderr, rf'\A{told}\Z', line)

@@ -21,6 +21,7 @@ class Sweeps(ToolCase):
     def setUp(self) -> None:
         super().setUp()
         from toolbox import program
+
         for name, target in (('examples', EXAMPLES), ('tools', TOOLS), ('pcboard', program.path())):
             os.symlink(target, f'{self.room}/{name}')
         self.shell('python3 examples/sweep/make_runs.py examples/nested.json sweep 1000 2001 100')
@@ -28,8 +29,17 @@ class Sweeps(ToolCase):
 
     def shell(self, line: str, status: int = 0, **environment: str) -> str:
         """What a command prints on both streams, where it ends with this status."""
-        done = subprocess.run(line, shell=True, stdin=subprocess.DEVNULL, stdout=subprocess.PIPE, stderr=subprocess.STDOUT, text=True,
-                              cwd=self.room, env=os.environ | {'PCBOARD': './pcboard'} | environment, check=False)
+        done = subprocess.run(
+            line,
+            shell=True,
+            stdin=subprocess.DEVNULL,
+            stdout=subprocess.PIPE,
+            stderr=subprocess.STDOUT,
+            text=True,
+            cwd=self.room,
+            env=os.environ | {'PCBOARD': './pcboard'} | environment,
+            check=False,
+        )
         self.assertEqual(done.returncode, status, done.stdout)
         return done.stdout
 
@@ -51,8 +61,13 @@ class Sweeps(ToolCase):
 
     def check_table(self) -> None:
         """The sweep's table, with the refused run in it."""
-        told = self.tool('table', '--of', 'name,state,line1', *(f'{self.room}/sweep/{it}' for it in os.listdir(f'{self.room}/sweep')
-                                                                if it.endswith(('.txt', '.fault'))), status=1)[0].splitlines()
+        told = self.tool(
+            'table',
+            '--of',
+            'name,state,line1',
+            *(f'{self.room}/sweep/{it}' for it in os.listdir(f'{self.room}/sweep') if it.endswith(('.txt', '.fault'))),
+            status=1,
+        )[0].splitlines()
         self.assertEqual((len(told), told[1], told[-1]), (13, 'key-1000\thalted\ttktttKkttKttt', 'late\tfault 32 BadField\t'))
 
     def test_refused_runs_are_told_and_kept_apart(self) -> None:
@@ -68,8 +83,16 @@ class Sweeps(ToolCase):
     def interrupted(self, line: str) -> None:
         """A sweep that is ended in its midst and begun again: what was told before isn't run again."""
         program = self.stand_in('0.1')
-        with subprocess.Popen(line, shell=True, stdin=subprocess.DEVNULL, stdout=subprocess.DEVNULL, stderr=subprocess.DEVNULL, cwd=self.room,
-                              env=os.environ | {'PCBOARD': program}, start_new_session=True) as process:
+        with subprocess.Popen(
+            line,
+            shell=True,
+            stdin=subprocess.DEVNULL,
+            stdout=subprocess.DEVNULL,
+            stderr=subprocess.DEVNULL,
+            cwd=self.room,
+            env=os.environ | {'PCBOARD': program},
+            start_new_session=True,
+        ) as process:
             until = time.monotonic() + 60
             while self.kinds()[0] < 2 and time.monotonic() < until and process.poll() is None:
                 time.sleep(0.01)
@@ -89,8 +112,7 @@ class Sweeps(ToolCase):
     def test_slurms_tasks_share_them(self) -> None:
         program = self.stand_in('0')
         for task in ('0', '1', '2'):
-            self.shell('examples/sweep/slurm.sh examples/nested.asm sweep || true', SLURM_ARRAY_TASK_COUNT='3', SLURM_ARRAY_TASK_ID=task,
-                       PCBOARD=program)
+            self.shell('examples/sweep/slurm.sh examples/nested.asm sweep || true', SLURM_ARRAY_TASK_COUNT='3', SLURM_ARRAY_TASK_ID=task, PCBOARD=program)
         self.assertEqual((len(self.ran()), len(set(self.ran())), self.kinds()), (12, 12, [11, 1, 0]))
 
     def test_gnu_parallel(self) -> None:

@@ -45,7 +45,7 @@ Real              Virtual           Name
 
 def hex_of(octets: bytes, paragraph: int = 0xF000) -> str:
     """A HEX text of some bytes."""
-    records = [b'\0\0\2' + paragraph.to_bytes(2, 'big'), *(at.to_bytes(2, 'big') + b'\0' + octets[at:at + 16] for at in range(0, len(octets), 16)), b'\0\0\1']
+    records = [b'\0\0\2' + paragraph.to_bytes(2, 'big'), *(at.to_bytes(2, 'big') + b'\0' + octets[at : at + 16] for at in range(0, len(octets), 16)), b'\0\0\1']
     rows = [bytes([len(it) - 3]) + it for it in records]
     return ''.join(f':{it.hex()}{-sum(it) & 0xFF:02X}\n' for it in rows)
 
@@ -112,8 +112,10 @@ class Board(ToolCase):
         self.assertIn('goes with --hex', self.tool('trace', '--symbols', 'x', source, run, status=2)[1])
 
     def test_over_calls_repeats_and_interrupts(self) -> None:
-        files = self.program('        MOV SP,400h\n        CALL away\nback:   MOV CX,9\n        CLD\n        REP LODSB\nthen:   INT3\nlast:   HLT\n'
-                             'away:   PUSH AX\n        CALL more\nmid:    POP AX\n        RET\nmore:   RET\nthree:  IRET\nENDS\nSEGMENT VECTORS AT 0\n        ORG 12\n        DW three,SEG three')
+        files = self.program(
+            '        MOV SP,400h\n        CALL away\nback:   MOV CX,9\n        CLD\n        REP LODSB\nthen:   INT3\nlast:   HLT\n'
+            'away:   PUSH AX\n        CALL more\nmid:    POP AX\n        RET\nmore:   RET\nthree:  IRET\nENDS\nSEGMENT VECTORS AT 0\n        ORG 12\n        DW three,SEG three'
+        )
         told = self.dbg(*files, typed='until away; finish; next; next; next; next; where; step; next')
         places = [it.split()[2] if 'clock' in it else it for it in told]
         self.assertEqual([it.split('F000:')[-1].split()[1] for it in told[:6]], ['away', 'back', 'back+3', 'back+4', 'then', 'last'], places)
@@ -132,9 +134,17 @@ class Board(ToolCase):
     def test_disassembly(self) -> None:
         files = self.program('        JMP SHORT over\n        REP MOVSB\n        DB 0Fh\nover:   LOOP over\n        DB 0FFh,0FFh\n        HLT')
         told = self.dbg(*files, typed='u start 6; to 20; u CS:IP 1; dump CS:IP 2; u nowhere')
-        self.assertEqual([' '.join(it.split()) for it in told[:6]], [
-            'F000:0000 start EB03 JMP SHORT 00005h', 'F000:0002 start+2 F3A4 REP MOVSB', 'F000:0004 start+4 0F no instruction of the 8086',
-            'F000:0005 over E2FE LOOP 00005h', 'F000:0007 over+2 FF no instruction of the 8086', 'F000:0008 over+3 FFF4 PUSH SP'])
+        self.assertEqual(
+            [' '.join(it.split()) for it in told[:6]],
+            [
+                'F000:0000 start EB03 JMP SHORT 00005h',
+                'F000:0002 start+2 F3A4 REP MOVSB',
+                'F000:0004 start+4 0F no instruction of the 8086',
+                'F000:0005 over E2FE LOOP 00005h',
+                'F000:0007 over+2 FF no instruction of the 8086',
+                'F000:0008 over+3 FFF4 PUSH SP',
+            ],
+        )
         self.assertIn('over', told[7])
         self.assertIn('E2 FE', told[8])
 

@@ -9,8 +9,9 @@ class Tables(ToolCase):
 
     def test_rows(self) -> None:
         out, _ = self.tool('table', '--of', 'name,clock,state,sound,AX,screen,line1', f'{STORED}/tone.report', f'{STORED}/hello.report')
-        self.assertEqual(out.splitlines(), ['name\tclock\tstate\tsound\tAX\tscreen\tline1', 'hello\t100\thalted\t0\t0708\tHI\tHI',
-                                            'tone\t500\thalted\t12\t0000\t\t'])
+        self.assertEqual(
+            out.splitlines(), ['name\tclock\tstate\tsound\tAX\tscreen\tline1', 'hello\t100\thalted\t0\t0708\tHI\tHI', 'tone\t500\thalted\t12\t0000\t\t']
+        )
         self.assertEqual(len(self.tool('table', f'{STORED}/tone.report')[0].splitlines()[1].split('\t')), 20)
 
     def test_rows_are_in_the_order_of_numbers(self) -> None:

@@ -25,6 +25,7 @@ from zebludor import Fault
 
 class StandIn:
     """A session that stands in: its events are given."""
+
     told: list[bytes] = []
     asked, went_back = 0, 0
 
@@ -46,7 +47,7 @@ class StandIn:
         for it in clocks:
             self.clock += it
             last = bisect_left(self.told, self.clock, key=lambda line: int(line.split()[0]))
-            found.append(self.told[max(0, last - events.TRAIL):last])
+            found.append(self.told[max(0, last - events.TRAIL) : last])
         StandIn.asked += len(clocks)
         return found
 
@@ -71,8 +72,13 @@ class Stored(unittest.TestCase):
 
     def test_each_event_is_found_once_at_any_pace(self) -> None:
         chance = random.Random(1)
-        for name, steps in (('dense', [2] * 5000), ('even', [12] * 5000), ('halts', ([40000] + [3] * 60) * 40),
-                            ('mixed', [chance.choice((2, 3, 4, 15, 90, 700)) for _ in range(9000)]), ('late', [900000] + [2] * 900 + [10 ** 9, 2])):
+        for name, steps in (
+            ('dense', [2] * 5000),
+            ('even', [12] * 5000),
+            ('halts', ([40000] + [3] * 60) * 40),
+            ('mixed', [chance.choice((2, 3, 4, 15, 90, 700)) for _ in range(9000)]),
+            ('late', [900000] + [2] * 900 + [10**9, 2]),
+        ):
             clocks = list(itertools.accumulate(steps))
             self.assertEqual(self.of(clocks, end=clocks[-1] + 1), clocks, name)
             self.assertLess(StandIn.went_back, 150, name)
@@ -129,7 +135,7 @@ class Runs(ToolCase):
             budget = str(budget_of(Files(*files)))
             last = self.pcboard('debug', *files, given=f'go {budget}\ntrail\n').stdout.splitlines()[1:]
             told = self.tool('trace', *files)[0].splitlines()
-            self.assertEqual([it.split()[:2] for it in told[-len(last) - 1:-1]], [it.split()[:2] for it in last])
+            self.assertEqual([it.split()[:2] for it in told[-len(last) - 1 : -1]], [it.split()[:2] for it in last])
             self.assertEqual(told[-1].split()[0], budget)
 
     def test_clocks_add_up(self) -> None:
@@ -167,8 +173,9 @@ class Runs(ToolCase):
         files = self.program('over:   INC AX\n        JMP SHORT over', 1 << 38)
         path = f'{self.room}/it.vcd'
         for words, keeps in ((['--vcd', path], f'{path} has the waveform'), (['--profile'], 'the table is of the run'), ([], 'is printed')):
-            with subprocess.Popen([sys.executable, '-S', f'{TOOLS}/trace', *words, *files], stdout=subprocess.PIPE, stderr=subprocess.PIPE,
-                                  text=True, start_new_session=True) as process:
+            with subprocess.Popen(
+                [sys.executable, '-S', f'{TOOLS}/trace', *words, *files], stdout=subprocess.PIPE, stderr=subprocess.PIPE, text=True, start_new_session=True
+            ) as process:
                 assert process.stdout
                 printed = process.stdout.readline() if not words else ''
                 until = time.monotonic() + 60
@@ -188,8 +195,7 @@ class Runs(ToolCase):
 
     def test_keeps_the_clock_table(self) -> None:
         out, _ = self.tool('trace', *self.hello_by_c2())
-        self.assertEqual([it.split()[0] for it in out.splitlines()],
-                         ['0', '15', '19', '21', '25', '29', '44', '48', '63', '67', '71', '79', '100'])
+        self.assertEqual([it.split()[0] for it in out.splitlines()], ['0', '15', '19', '21', '25', '29', '44', '48', '63', '67', '71', '79', '100'])
         self.assertIn('halted', out.splitlines()[-1])
 
     def test_changed_code_has_no_line(self) -> None:
@@ -203,8 +209,10 @@ class Runs(ToolCase):
         text = source.replace('.asm', '.hex')
         self.assertIn('IN AL,060h', self.tool('trace', '--hex', '--profile', text, run)[0])
         self.assertIn('no source lines', self.tool('trace', '--hex', '--listing', text, run, status=2)[1])
-        self.assertEqual(self.tool('trace', '--hex', '--coverage', text, run)[0].splitlines(),
-                         ['169 of 265 bytes of the program ran, in 83 instructions', 'F0000 to F00A3 ran', 'F00A4 to F0103 never', 'FFFF0 to FFFF4 ran'])
+        self.assertEqual(
+            self.tool('trace', '--hex', '--coverage', text, run)[0].splitlines(),
+            ['169 of 265 bytes of the program ran, in 83 instructions', 'F0000 to F00A3 ran', 'F00A4 to F0103 never', 'FFFF0 to FFFF4 ran'],
+        )
         self.assertIn('no clock from', self.tool('trace', '--from', '10', '--to', '5', source, run, status=2)[1])
         self.assertIn('fault 21', self.tool('trace', '--hex', source, run, status=2)[1])
         self.assertIn('--coverage', self.tool('trace', '--help')[0])

@@ -76,8 +76,13 @@ class Tries(ToolCase):
 
     def test_an_interrupt_leaves_no_traceback(self) -> None:
         source, _ = self.program('over: JMP over')
-        with subprocess.Popen([sys.executable, '-S', f'{TOOLS}/try', source, '--budget', '1,099,511,627,776'], stdout=subprocess.PIPE,
-                              stderr=subprocess.PIPE, text=True, start_new_session=True) as process:
+        with subprocess.Popen(
+            [sys.executable, '-S', f'{TOOLS}/try', source, '--budget', '1,099,511,627,776'],
+            stdout=subprocess.PIPE,
+            stderr=subprocess.PIPE,
+            text=True,
+            start_new_session=True,
+        ) as process:
             time.sleep(0.7)
             os.killpg(process.pid, signal.SIGINT)  # as a terminal does
             _, err = process.communicate(timeout=10)

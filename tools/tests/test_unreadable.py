@@ -13,6 +13,7 @@ class Unreadable(ToolCase):
     def answer(self, *words: bytes | str, closed: str = '') -> tuple[int, bytes, bytes]:
         """The status of the program, and what it prints and tells. A stream may be closed: 1 standard output, 2 standard error."""
         from toolbox import program
+
         shell = ['sh', '-c', f'exec "$0" "$@" {closed and closed + ">&-"}', program.path()]
         ran = subprocess.run([*shell, *words], stdin=subprocess.DEVNULL, capture_output=True, check=False)
         return ran.returncode, ran.stdout, ran.stderr

@@ -10,25 +10,64 @@ from toolbox.faults import KINDS, MEMORY, Fault, fault_in
 from toolbox.hints import hint_of
 
 HINTS = (
-    (3, ' MOV AX,0x10', '0x10'), (3, ' MOV AL,[es:bx]', 'before the brackets'), (3, ' MOV word ptr [BX],1', 'no PTR'),
-    (3, ' MOV SI,offset msg', 'no OFFSET'), (3, '.loop: NOP', 'loop_1:'), (3, ' DB "hi"', 'single quotes'),
-    (3, 'loop: NOP', 'LOOP is an instruction'), (4, "msg db 'hi'", 'msg: DB'), (7, ' MOV AX,B800h', '0B800h'),
-    (5, ' SHL AX,4', 'by CL'), (5, ' MOV [BX],1', 'WORD or BYTE'), (5, ' MOV DS,0B000h', 'MOV ES,AX'),
-    (8, ' OUT 3B8h,AL', 'through DX'), (8, ' JZ far_away', 'other way round'), (4, ' PUSHA', 'no such instruction'),
-    (5, ' MOV EAX,1', '8 and 16 bits'), (5, ' ADD [BX],[SI]', 'once'), (3, ' section .text', 'SEGMENT name AT'),
-    (4, 'start proc', 'plain label'), (4, ' times 3 db 0', 'DUP'), (11, ' NOP', 'in a segment'),
-    (3, ' MOV AX,(1+2)', 'no parentheses'), (5, ' MOV AL,BX', 'one size'), (5, ' CMP 5,AX', 'takes the result'),
-    (3, ' CALL sub', 'write sub_1'), (3, ' JMP mul', 'MUL is an instruction'), (3, ' MOV AX,[add]', 'write add_1'),
-    (3, ' MOV AX,0FFFF', '0FFFFh'), (3, ' MOV AX,12AB', 'end with h'), (3, ' MOV AL,[AX]', 'but BX or BP'),
-    (3, ' MOV AL,[SP]', 'but BX or BP'), (3, ' MOV AL,[BX+BP]', 'at most one'), (3, ' MOV AL,[SI+DI]', 'at most one'),
-    (3, ' MOV AL,table[BX]', '[table+BX]'), (3, ' MOV AL,str[SI]', '[str+SI]'), (3, ' MOV AL,[BX][SI]', '[BX+SI]'), (3, ' MOV AL,[BX-SI]', 'never taken away'),
-    (5, ' LEA AX,go', 'LEA AX,[go]'), (5, ' INC 5', 'no number'), (5, ' XCHG AX,5', 'no numbers'), (5, ' XCHG 5,AX', 'no numbers'),
-    (3, " MOV AX,'AB'", '04241h'), (3, " DW 'ABC'", 'DB alone'), (5, ' NOT 1', 'no number'), (5, ' DIV 5', 'no number'),
-    (3, '1: NOP', 'l1:'), (5, ' MOV DS,ES', 'through a general one'), (5, ' MOV CS,AX', 'far jump'),
-    (5, ' JE FAR go', 'short alone'), (3, ' JMP SHORT AX', 'without SHORT'), (5, ' JE AX', 'without SHORT'),
-    (3, '%include "a.inc"', 'no preprocessor'), (5, ' MOVSB ES:[DI],DS:[SI]', 'without operands'),
+    (3, ' MOV AX,0x10', '0x10'),
+    (3, ' MOV AL,[es:bx]', 'before the brackets'),
+    (3, ' MOV word ptr [BX],1', 'no PTR'),
+    (3, ' MOV SI,offset msg', 'no OFFSET'),
+    (3, '.loop: NOP', 'loop_1:'),
+    (3, ' DB "hi"', 'single quotes'),
+    (3, 'loop: NOP', 'LOOP is an instruction'),
+    (4, "msg db 'hi'", 'msg: DB'),
+    (7, ' MOV AX,B800h', '0B800h'),
+    (5, ' SHL AX,4', 'by CL'),
+    (5, ' MOV [BX],1', 'WORD or BYTE'),
+    (5, ' MOV DS,0B000h', 'MOV ES,AX'),
+    (8, ' OUT 3B8h,AL', 'through DX'),
+    (8, ' JZ far_away', 'other way round'),
+    (4, ' PUSHA', 'no such instruction'),
+    (5, ' MOV EAX,1', '8 and 16 bits'),
+    (5, ' ADD [BX],[SI]', 'once'),
+    (3, ' section .text', 'SEGMENT name AT'),
+    (4, 'start proc', 'plain label'),
+    (4, ' times 3 db 0', 'DUP'),
+    (11, ' NOP', 'in a segment'),
+    (3, ' MOV AX,(1+2)', 'no parentheses'),
+    (5, ' MOV AL,BX', 'one size'),
+    (5, ' CMP 5,AX', 'takes the result'),
+    (3, ' CALL sub', 'write sub_1'),
+    (3, ' JMP mul', 'MUL is an instruction'),
+    (3, ' MOV AX,[add]', 'write add_1'),
+    (3, ' MOV AX,0FFFF', '0FFFFh'),
+    (3, ' MOV AX,12AB', 'end with h'),
+    (3, ' MOV AL,[AX]', 'but BX or BP'),
+    (3, ' MOV AL,[SP]', 'but BX or BP'),
+    (3, ' MOV AL,[BX+BP]', 'at most one'),
+    (3, ' MOV AL,[SI+DI]', 'at most one'),
+    (3, ' MOV AL,table[BX]', '[table+BX]'),
+    (3, ' MOV AL,str[SI]', '[str+SI]'),
+    (3, ' MOV AL,[BX][SI]', '[BX+SI]'),
+    (3, ' MOV AL,[BX-SI]', 'never taken away'),
+    (5, ' LEA AX,go', 'LEA AX,[go]'),
+    (5, ' INC 5', 'no number'),
+    (5, ' XCHG AX,5', 'no numbers'),
+    (5, ' XCHG 5,AX', 'no numbers'),
+    (3, " MOV AX,'AB'", '04241h'),
+    (3, " DW 'ABC'", 'DB alone'),
+    (5, ' NOT 1', 'no number'),
+    (5, ' DIV 5', 'no number'),
+    (3, '1: NOP', 'l1:'),
+    (5, ' MOV DS,ES', 'through a general one'),
+    (5, ' MOV CS,AX', 'far jump'),
+    (5, ' JE FAR go', 'short alone'),
+    (3, ' JMP SHORT AX', 'without SHORT'),
+    (5, ' JE AX', 'without SHORT'),
+    (3, '%include "a.inc"', 'no preprocessor'),
+    (5, ' MOVSB ES:[DI],DS:[SI]', 'without operands'),
     (2, '\ufeffSEGMENT A AT 0', 'save it as UTF-8 without'),
-    (4, ' MVO AX,1', 'is MOV meant?'), (8, ' MOV AL,300', '-128 to 255'), (5, ' TEST 5,AX', 'takes the result'), (2, ' NOP ; \u00e9', 'column 8'),
+    (4, ' MVO AX,1', 'is MOV meant?'),
+    (8, ' MOV AL,300', '-128 to 255'),
+    (5, ' TEST 5,AX', 'takes the result'),
+    (2, ' NOP ; \u00e9', 'column 8'),
 )
 
 
@@ -44,7 +83,7 @@ class Words(unittest.TestCase):
             self.assertIn(kind.meaning, texts, number)
 
     def test_names_are_those_of_the_page(self) -> None:
-        with open(f'{TOP}/docs/FORMATS.md', encoding='utf-8') as page:
+        with open(f'{TOP}/docs/formats.md', encoding='utf-8') as page:
             rows = re.findall(r'^\| (\d+) \| ([A-Z]\w+) \|', page.read(), re.M)
         self.assertEqual({int(number): name for number, name in rows}, {n: kind.name for n, kind in KINDS.items()})
 
@@ -65,8 +104,15 @@ class Words(unittest.TestCase):
         self.assertIn('no line defines b; is B1 meant?', hint_of('a: MOV AX,b', 7, ['a: NOP', 'B1: NOP']) or '')
 
     def test_hints_that_misled(self) -> None:
-        for number, line, never in ((5, ' MOV DS,ES', 'number'), (5, ' JE FAR go', '128'), (3, ' JMP SHORT AX', '128'), (3, '%include "a.inc"', 'quotes'),
-                                    (5, ' MOVSB ES:[DI],DS:[SI]', 'go through'), (3, ' DB "100 % 3"', 'preprocessor'), (3, ' MOV AX,101b+(1)', 'end with h')):
+        for number, line, never in (
+            (5, ' MOV DS,ES', 'number'),
+            (5, ' JE FAR go', '128'),
+            (3, ' JMP SHORT AX', '128'),
+            (3, '%include "a.inc"', 'quotes'),
+            (5, ' MOVSB ES:[DI],DS:[SI]', 'go through'),
+            (3, ' DB "100 % 3"', 'preprocessor'),
+            (3, ' MOV AX,101b+(1)', 'end with h'),
+        ):
             self.assertNotIn(never, hint_of(line, number) or '', line)
 
 
@@ -91,10 +137,17 @@ class Runs(ToolCase):
         source, run = example('hello')
         with open(run, encoding='utf-8') as file:
             good = json.load(file)
-        for change, wanted in (({'ram': '64'}, '"ram" is "64"'), ({'sw2': 32}, '"sw2" is 32, and has to be 0 to 31'),
-                               ({'keys': [[1]]}, 'entry 1 of "keys"'), ({'colour': 1}, '"colour" is unknown'),
-                               ({'keys': [[0, 300]]}, 'codes are 1 to 83'), ({'keys': [[9, 1], [8, 1]]}, 'stamped 9'),
-                               ({'budget': 2 ** 41}, 'the most is'), ({'ram': 40}, '16, 32, 48'), ({'sw1': 1.5}, 'a point')):
+        for change, wanted in (
+            ({'ram': '64'}, '"ram" is "64"'),
+            ({'sw2': 32}, '"sw2" is 32, and has to be 0 to 31'),
+            ({'keys': [[1]]}, 'entry 1 of "keys"'),
+            ({'colour': 1}, '"colour" is unknown'),
+            ({'keys': [[0, 300]]}, 'codes are 1 to 83'),
+            ({'keys': [[9, 1], [8, 1]]}, 'stamped 9'),
+            ({'budget': 2**41}, 'the most is'),
+            ({'ram': 40}, '16, 32, 48'),
+            ({'sw1': 1.5}, 'a point'),
+        ):
             bad = self.file('bad.json', json.dumps(good | change))
             self.assertIn(wanted, self.tool('why', 'run', source, bad, status=1)[1])
         del good['sw1']
@@ -105,11 +158,13 @@ class Runs(ToolCase):
         source, run = example('hello')
         with open(run, encoding='utf-8') as file:
             good = json.load(file)
-        for change, wanted in (({'timer': '8254'}, 'version 1 has no field "timer": write "version":2'),
-                               ({'version': 2, 'timer': '8254'}, '"clocks" is missing; "clocks":"C1" would do'),
-                               ({'version': 2, 'timer': 8254, 'clocks': 'C1'}, '"timer" is 8254, and has to be "8253" or "8254"'),
-                               ({'version': 2, 'timer': '8253', 'clocks': 'c2'}, '"clocks" is "c2", and has to be "C1" or "C2"'),
-                               ({'version': 3}, '"version" is 3, and has to be 1 or 2')):
+        for change, wanted in (
+            ({'timer': '8254'}, 'version 1 has no field "timer": write "version":2'),
+            ({'version': 2, 'timer': '8254'}, '"clocks" is missing; "clocks":"C1" would do'),
+            ({'version': 2, 'timer': 8254, 'clocks': 'C1'}, '"timer" is 8254, and has to be "8253" or "8254"'),
+            ({'version': 2, 'timer': '8253', 'clocks': 'c2'}, '"clocks" is "c2", and has to be "C1" or "C2"'),
+            ({'version': 3}, '"version" is 3, and has to be 1 or 2'),
+        ):
             bad = self.file('bad.json', json.dumps(good | change))
             self.assertIn(wanted, self.tool('why', 'run', source, bad, status=1)[1])
         del good['version']
@@ -186,8 +241,10 @@ class Runs(ToolCase):
         path = self.file('my source.asm', text)
         out, err = self.tool('why', '--lines', path, status=1)
         told = [re.fullmatch(r'(.+):(\d+): error: (\w+): (.+)', it) for it in out.splitlines()]
-        self.assertEqual([it and (it[1], it[2], it[3]) for it in told],
-                         [(path, '3', 'BadLine'), (path, '4', 'UnknownName'), (path, '5', 'TwiceDefined'), (path, '6', 'OutOfRange')])
+        self.assertEqual(
+            [it and (it[1], it[2], it[3]) for it in told],
+            [(path, '3', 'BadLine'), (path, '4', 'UnknownName'), (path, '5', 'TwiceDefined'), (path, '6', 'OutOfRange')],
+        )
         self.assertIn('hexadecimal numbers end with h', out)
         self.assertIn('the name is defined twice, first in line 2\n', out)
         self.assertEqual(err, '')
@@ -195,8 +252,7 @@ class Runs(ToolCase):
         self.assertIn("nothing.asm can't be opened", self.tool('why', '--lines', 'nothing.asm', status=3)[1])
         self.assertIn('--lines FILE', self.tool('why', '--lines', status=2)[1])
         long = self.file('long.asm', ';' * 1048577)
-        self.assertEqual(self.tool('why', '--lines', long, status=1)[0],
-                         f'{long}:1: error: SourceTooLong: the source has more than 1,048,576 bytes\n')
+        self.assertEqual(self.tool('why', '--lines', long, status=1)[0], f'{long}:1: error: SourceTooLong: the source has more than 1,048,576 bytes\n')
 
     def test_lines_are_those_of_all(self) -> None:
         """Of the lines of the hints, and of what no line has for its own."""

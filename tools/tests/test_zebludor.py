@@ -96,6 +96,7 @@ class Runs(ToolCase):
         os.symlink(f'{TOP}/examples', f'{self.room}/examples')
         self.file('it.py', '\n'.join(blocks[:3]))
         from toolbox import program
+
         environment = os.environ | {'PYTHONPATH': f'{self.room}:{TOP}/python', 'PCBOARD': program.path(), 'PYTHONDONTWRITEBYTECODE': '1'}
         done = subprocess.run([sys.executable, 'it.py'], env=environment, capture_output=True, text=True, cwd=self.room, check=False)
         told = done.stdout.splitlines()
@@ -103,7 +104,7 @@ class Runs(ToolCase):
         self.assertEqual((told[3], told[13]), ('1000 tktttKttttt', '2000 ttktttKtttt'))
 
     def test_a_session_forth_and_back(self) -> None:
-        """That of docs/DEBUGGER.md."""
+        """That of docs/debugger.md."""
         with Session(read(example('ticks')[0])) as session:
             self.assertEqual(session.stop_at_byte(0xB0000, 0x31), 1)
             self.assertEqual((session.go(1000), session.clock), (1, 205))

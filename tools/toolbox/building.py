@@ -107,8 +107,9 @@ class Work:
 
     def run(self, words, folder):
         """Runs a command to its end. What it prints goes to the log. Returns its status and what it printed."""
-        process = subprocess.Popen(words, cwd=folder, stdin=subprocess.DEVNULL, stdout=subprocess.PIPE,
-                                   stderr=subprocess.STDOUT, text=True, errors='replace', start_new_session=True)
+        process = subprocess.Popen(
+            words, cwd=folder, stdin=subprocess.DEVNULL, stdout=subprocess.PIPE, stderr=subprocess.STDOUT, text=True, errors='replace', start_new_session=True
+        )
         self.running.add(process)
         printed = process.communicate()[0]
         self.running.discard(process)
@@ -186,7 +187,7 @@ def build_all(crates, names, work, progress):
                 ready = sorted((name for name in to_do if below[name] <= done), key=way.get, reverse=True)
                 longest = max(map(way.get, [*ready, *running.values()]), default=0)
                 share = max(1, count // max(1, len(ready) + len(running)))
-                for name in ready[:count - len(running)]:
+                for name in ready[: count - len(running)]:
                     to_do.discard(name)
                     jobs = count if way[name] == longest else share
                     running[pool.submit(prove, crates, name, jobs, stamp(crates, name, known), work)] = name

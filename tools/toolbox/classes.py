@@ -18,6 +18,7 @@ JUDGE = os.path.join(os.path.dirname(os.path.dirname(os.path.realpath(__file__))
 @dataclass
 class Class:
     """What all rows have in common, and the processes that are at work."""
+
     page: str
     said: list[str]
     run_file: str | None
@@ -27,8 +28,7 @@ class Class:
 
     def row(self, file: str) -> list[str]:
         """A file's row: how many are met, each outcome, and why there is none."""
-        words = [PYTHON, '-S', JUDGE, '--json', *(['--hex'] if self.is_hex else []), '--', self.page, file,
-                 *([self.run_file] if self.run_file else [])]
+        words = [PYTHON, '-S', JUDGE, '--json', *(['--hex'] if self.is_hex else []), '--', self.page, file, *([self.run_file] if self.run_file else [])]
         process = subprocess.Popen(words, stdin=subprocess.DEVNULL, stdout=subprocess.PIPE, stderr=subprocess.PIPE, text=True, errors='replace')
         self.at_work.add(process)
         try:

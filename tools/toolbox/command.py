@@ -10,9 +10,11 @@ from typing import Callable, Iterator
 
 HINT_STATUS = 2
 PYTHON = sys.executable or 'python3'  # Python knows no path of its own where it was started without PATH
-SYMBOLS = ("with --hex: a NASM listing or map file, or a listing of pcboard asm --list, for labels and lines; FILE@SEGMENT or "
-           "FILE@SEGMENT:OFFSET, where NASM's first byte isn't at F000:0000; or labels as nm or ld86 -M prints them, or lines "
-           "SEGMENT:OFFSET NAME")
+SYMBOLS = (
+    "with --hex: a NASM listing or map file, or a listing of pcboard asm --list, for labels and lines; FILE@SEGMENT or "
+    "FILE@SEGMENT:OFFSET, where NASM's first byte isn't at F000:0000; or labels as nm or ld86 -M prints them, or lines "
+    "SEGMENT:OFFSET NAME"
+)
 
 
 class Sorry(Exception):
@@ -22,8 +24,9 @@ class Sorry(Exception):
 def parser(doc: str) -> argparse.ArgumentParser:
     """A parser whose help is the tool's own docstring."""
     folder, tool = os.path.split(os.path.realpath(sys.argv[0]))
-    return argparse.ArgumentParser(prog=f'{os.path.basename(folder)}/{tool}', description=doc, allow_abbrev=False,
-                                   formatter_class=argparse.RawDescriptionHelpFormatter)
+    return argparse.ArgumentParser(
+        prog=f'{os.path.basename(folder)}/{tool}', description=doc, allow_abbrev=False, formatter_class=argparse.RawDescriptionHelpFormatter
+    )
 
 
 @contextlib.contextmanager

@@ -20,13 +20,29 @@ from toolbox.scancodes import stamped, strokes_of
 
 Fields = dict[str, Any]
 THREAD, REGISTERS, FLAGS, BOARD = 1, 1, 2, 3
-CAPABILITIES = {'supportsConfigurationDoneRequest': True, 'supportsStepBack': True, 'supportsEvaluateForHovers': True,
-                'supportsReadMemoryRequest': True, 'supportsDisassembleRequest': True, 'supportsInstructionBreakpoints': True,
-                'supportsFunctionBreakpoints': True, 'supportsTerminateRequest': True, 'supportsSteppingGranularity': True}
+CAPABILITIES = {
+    'supportsConfigurationDoneRequest': True,
+    'supportsStepBack': True,
+    'supportsEvaluateForHovers': True,
+    'supportsReadMemoryRequest': True,
+    'supportsDisassembleRequest': True,
+    'supportsInstructionBreakpoints': True,
+    'supportsFunctionBreakpoints': True,
+    'supportsTerminateRequest': True,
+    'supportsSteppingGranularity': True,
+}
 SHOWING = ('regs', 'screen', 'dump', 'trail')
 READ_ONLY = "the board's answers are those of its source: registers and memory can't be written"
-BESIDE_A_RUN = ('pause', 'disconnect', 'terminate', 'threads', 'setBreakpoints', 'setFunctionBreakpoints',
-                'setInstructionBreakpoints', 'setExceptionBreakpoints')
+BESIDE_A_RUN = (
+    'pause',
+    'disconnect',
+    'terminate',
+    'threads',
+    'setBreakpoints',
+    'setFunctionBreakpoints',
+    'setInstructionBreakpoints',
+    'setExceptionBreakpoints',
+)
 
 
 def field(fields: Fields, name: str, kind: type, default: Any = None) -> Any:
@@ -70,8 +86,13 @@ class Adapter:
     def answer(self, request: Fields, body: Fields, error: str = '') -> None:
         """The response to a request."""
         number, command = request.get('seq'), request.get('command')
-        told: Fields = {'type': 'response', 'request_seq': number if isinstance(number, int) else 0, 'success': not error,
-                        'command': command if isinstance(command, str) else '', 'body': body}
+        told: Fields = {
+            'type': 'response',
+            'request_seq': number if isinstance(number, int) else 0,
+            'success': not error,
+            'command': command if isinstance(command, str) else '',
+            'body': body,
+        }
         if error:
             told |= {'message': error, 'body': {'error': {'id': 1, 'format': re.sub(r'[{}]', '', error), 'showUser': True}}}
         self.write(told)
@@ -205,16 +226,23 @@ class Adapter:
         why = [PYTHON, '-S', f'{TOP}/tools/why']
         first = ''
         if not is_hex:
-            told = subprocess.run([*why, '--lines', '--', self.program], stdin=subprocess.DEVNULL, capture_output=True, text=True,
-                                  errors='replace', check=False)
+            told = subprocess.run(
+                [*why, '--lines', '--', self.program], stdin=subprocess.DEVNULL, capture_output=True, text=True, errors='replace', check=False
+            )
             for line in told.stdout.splitlines():
                 number, _, text = line.removeprefix(f'{self.program}:').partition(': error: ')
                 at = {'source': self.source(), 'line': int(number) - 1 + self.line_base}
                 self.output(f'{line}\n', 'stderr', at)
                 first = first or f'{os.path.basename(self.program)}, line {number}: {text}'
         if not first:
-            told = subprocess.run([*why, 'run', *(['--hex'] if is_hex else []), '--', self.program, run_file],
-                                  stdin=subprocess.DEVNULL, capture_output=True, text=True, errors='replace', check=False)
+            told = subprocess.run(
+                [*why, 'run', *(['--hex'] if is_hex else []), '--', self.program, run_file],
+                stdin=subprocess.DEVNULL,
+                capture_output=True,
+                text=True,
+                errors='replace',
+                check=False,
+            )
             lines = [it.removeprefix('why: ') for it in told.stderr.splitlines() if it.startswith('why: ')]
             self.output(''.join(f'{it}\n' for it in lines) or f'{sorry}\n', 'stderr')
             first = lines[0] if lines else str(sorry)
@@ -266,7 +294,7 @@ class Adapter:
         if not lines:
             raise Sorry('Intel HEX has no source lines')
         here = lines[number - 1] if 1 <= number <= len(lines) else None
-        found = here if here and here.address else next((it for it in lines[max(0, number - 1):] if is_code(it)), None)
+        found = here if here and here.address else next((it for it in lines[max(0, number - 1) :] if is_code(it)), None)
         if found is None or found.address is None or number < 1:
             raise Sorry(f'no line of the source from {number} on places an instruction')
         more: Fields = {'line': found.number - 1 + self.line_base, 'source': self.source()}
@@ -275,13 +303,13 @@ class Adapter:
         return found.address, more
 
     def on_setFunctionBreakpoints(self, given: Fields) -> Fields:
-        return self.set_breakpoints('function', field(given, 'breakpoints', list),
-                                    lambda it: (far_of(self.board().listing, field(it, 'name', str)), {}))
+        return self.set_breakpoints('function', field(given, 'breakpoints', list), lambda it: (far_of(self.board().listing, field(it, 'name', str)), {}))
 
     def on_setInstructionBreakpoints(self, given: Fields) -> Fields:
         def place_of(it: Any) -> tuple[Far, Fields]:
             address = self.address(field(it, 'instructionReference', str)) + field(it, 'offset', int, 0)
             return self.far(address), {}
+
         return self.set_breakpoints('instruction', field(given, 'breakpoints', list), place_of)
 
     def on_setExceptionBreakpoints(self, _: Fields) -> Fields:
@@ -347,6 +375,7 @@ class Adapter:
         def step() -> tuple[str, str]:
             board.step()
             return self.told(None, 'step', 'step')
+
         return {}, step
 
     def on_stepOut(self, _: Fields) -> tuple[Fields, Callable[[], tuple[str, str]]]:
@@ -361,6 +390,7 @@ class Adapter:
         def back() -> tuple[str, str]:
             board.back()
             return 'step', f'clock {board.clock}: step back'
+
         return {}, back
 
     def on_reverseContinue(self, _: Fields) -> tuple[Fields, Callable[[], tuple[str, str]]]:
@@ -370,8 +400,12 @@ class Adapter:
 
         def back() -> tuple[str, str]:
             met = board.back_to(self.wanted())
-            return self.told(met, 'entry', 'no breakpoint was passed before: the start of the run') if met is None else (
-                'breakpoint', f'clock {board.clock}: breakpoint')
+            return (
+                self.told(met, 'entry', 'no breakpoint was passed before: the start of the run')
+                if met is None
+                else ('breakpoint', f'clock {board.clock}: breakpoint')
+            )
+
         return {}, back
 
     def on_pause(self, _: Fields) -> Fields:
@@ -390,7 +424,7 @@ class Adapter:
         board = self.board()
         frames = [self.frame(number, place) for number, place in enumerate([board.place(), *(it for it, _ in board.callers())], 1)]
         first, count = field(given, 'startFrame', int, 0), field(given, 'levels', int, 0)
-        return {'stackFrames': frames[first:first + count if count else None], 'totalFrames': len(frames)}
+        return {'stackFrames': frames[first : first + count if count else None], 'totalFrames': len(frames)}
 
     def frame(self, number: int, place: Far) -> Fields:
         """A frame: the label, and the source line that placed what stands there."""
@@ -411,9 +445,11 @@ class Adapter:
         board, which = self.board(), field(given, 'variablesReference', int)
         registers = board.registers()
         flags = {name: registers['FL'] >> bit & 1 for name, bit in FLAG_BITS.items()}
-        told = {REGISTERS: {name: f'{it:04X}h' for name, it in registers.items()},
-                FLAGS: {name: str(it) for name, it in flags.items()},
-                BOARD: {'clock': str(board.clock), 'budget': str(board.budget)}}.get(which)
+        told = {
+            REGISTERS: {name: f'{it:04X}h' for name, it in registers.items()},
+            FLAGS: {name: str(it) for name, it in flags.items()},
+            BOARD: {'clock': str(board.clock), 'budget': str(board.budget)},
+        }.get(which)
         if told is None:
             raise Sorry(f'there are no variables {which}')
         if which == REGISTERS:

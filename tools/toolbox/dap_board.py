@@ -145,17 +145,23 @@ class Machine:
         """Whether the processor is halted, behind its HLT."""
         trail, place = self.trail(), self.place()
         last = trail[-1] if trail else None
-        return bool(last and last.entry is None and operation_of(last.text) == 'HLT'
-                    and (last.segment, (last.offset + len(last.octets)) % 0x10000) == place and self.clock > last.clock + 1)
+        return bool(
+            last
+            and last.entry is None
+            and operation_of(last.text) == 'HLT'
+            and (last.segment, (last.offset + len(last.octets)) % 0x10000) == place
+            and self.clock > last.clock + 1
+        )
 
     def state(self) -> str:
-        """Running, halted or jammed. A jammed processor begins nothing in the next clock, and none repeats."""
+        """Running, halted or jammed. A jammed processor steps by single clocks; an instruction takes two or more."""
         if self._is_idle():
             return 'halted'
         here, last = self.clock, self.trail()[-1:]
         self.one('step')
-        begun = self.trail()[-1:]
-        is_jammed = self.clock == here + 1 and begun == last and not (last and is_repeated(last[0].text))
+        once = self.clock
+        self.one('step')
+        is_jammed = (once, self.clock) == (here + 1, here + 2) and self.trail()[-1:] == last
         self.one(f'back {self.clock - here}')
         return 'jammed' if is_jammed else 'running'
 
@@ -241,6 +247,7 @@ class Machine:
 
     def _last_stop(self) -> str:
         """The answer to `back stop`. Where it is ended before, the board stands where it was, or on the way there."""
+
         def is_ended() -> bool:
             try:
                 self.poll()
@@ -296,6 +303,7 @@ class Machine:
 
     def _run_over(self, target: Far, before: dict[str, int], wanted: set[Far]) -> Far | None:
         """Goes on to a place with the stack as it was, first by single steps, which need no stop."""
+
         def is_there() -> bool:
             now = self.registers()
             return (now['CS'], now['IP']) == target and (now['SS'] != before['SS'] or now['SP'] >= before['SP'])
@@ -349,7 +357,7 @@ class Machine:
         frame, code = registers['BP'], registers['CS']
         while registers['SP'] <= frame < 0xFFFC and len(found) < 64:
             octets = self.dump(physical(registers['SS'], frame), 4)
-            above, back = (int.from_bytes(octets[at:at + 2], 'little') for at in (0, 2))
+            above, back = (int.from_bytes(octets[at : at + 2], 'little') for at in (0, 2))
             if len(octets) < 4 or back < 4 or not ends_with_call(self.dump(physical(code, back - 4), 4)):
                 break
             found.append(((code, back), 'BP'))

@@ -9,8 +9,7 @@ from toolbox.dap_board import FLAG_BITS, Machine
 from toolbox.listing import Line, code_of, label_in, physical
 from toolbox.places import far_of
 
-BYTE_REGISTERS = {'AL': ('AX', 0), 'AH': ('AX', 8), 'BL': ('BX', 0), 'BH': ('BX', 8), 'CL': ('CX', 0), 'CH': ('CX', 8),
-                  'DL': ('DX', 0), 'DH': ('DX', 8)}
+BYTE_REGISTERS = {'AL': ('AX', 0), 'AH': ('AX', 8), 'BL': ('BX', 0), 'BH': ('BX', 8), 'CL': ('CX', 0), 'CH': ('CX', 8), 'DL': ('DX', 0), 'DH': ('DX', 8)}
 TOKEN = re.compile(r"\s*(0x[0-9A-Fa-f]+|[0-9][0-9A-Fa-f]*[Hh]|[01]+[Bb]|\d+|[A-Za-z_]\w*|'[^']'|[-+*:\[\]()])")
 DATA = re.compile(r'(\w+\s*:)?\s*D[BWD]\b', re.I)
 LONGEST_INSTRUCTION = 8
@@ -19,6 +18,7 @@ LONGEST_INSTRUCTION = 8
 @dataclass(frozen=True)
 class Value:
     """A number, of a byte or a word where it has a size, and the physical address that it is or was read from."""
+
     number: int
     size: int = 2
     address: int | None = None
@@ -142,6 +142,7 @@ def is_code(line: Line) -> bool:
 @dataclass(frozen=True)
 class Row:
     """A row of disassembly: bytes at an address, their text, and the source line that placed them."""
+
     address: int
     octets: bytes
     text: str

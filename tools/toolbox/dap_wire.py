@@ -105,6 +105,6 @@ def writing(handle: int) -> Callable[[dict[str, Any]], None]:
         body = json.dumps({'seq': count} | message).encode()
         left = b'Content-Length: %d\r\n\r\n%b' % (len(body), body)
         while left:
-            left = left[os.write(handle, left):]
+            left = left[os.write(handle, left) :]
 
     return write

@@ -8,6 +8,7 @@ import time
 from dataclasses import dataclass
 from typing import Any, Callable
 
+from toolbox.chips import chip_lines, facts
 from toolbox.command import Sorry
 from toolbox.dap_board import MOST_BREAKPOINTS, Far, Machine, Paused, is_repeated
 from toolbox.desk_work import Fields, Helpers, Job
@@ -34,6 +35,7 @@ SHORT_RUN, MARKS_SECONDS, MOST_MARKS, MOST_CHANGES = 60_000, 2, 1000, 100_000
 @dataclass(frozen=True)
 class Key:
     """A stamped key code, and how often the board had gone back when it was typed; of one from a run file less than none."""
+
     stamp: int
     code: int
     turn: int = -1
@@ -139,8 +141,7 @@ class Board:
             raise Sorry('nothing is under way')
         if not job.over.wait(seconds):
             beside = self._beside
-            return {'working': True, 'clock': beside.clock if beside else self.clock, 'catches up': beside is not None,
-                    'to': self.clock if beside else None}
+            return {'working': True, 'clock': beside.clock if beside else self.clock, 'catches up': beside is not None, 'to': self.clock if beside else None}
         return job.result()
 
     def pause(self) -> None:
@@ -246,9 +247,17 @@ class Board:
         registers, trail = self.machine.registers(), self.machine.trail()
         place = registers['CS'], registers['IP']
         line = self.listing.at.get(physical(*place))
-        found: Fields = {'why': why, 'clock': self.clock, 'furthest': self.furthest, 'registers': registers,
-                         'state': self._state(registers, trail), 'place': '%04X:%04X' % place, 'line': line.number if line else None,
-                         'label': self.listing.label_before(*place), 'screen number': self._look_at_screen(is_light)}
+        found: Fields = {
+            'why': why,
+            'clock': self.clock,
+            'furthest': self.furthest,
+            'registers': registers,
+            'state': self._state(registers, trail),
+            'place': '%04X:%04X' % place,
+            'line': line.number if line else None,
+            'label': self.listing.label_before(*place),
+            'screen number': self._look_at_screen(is_light),
+        }
         if seen != self._screen_number:
             found['screen'] = self._rows
         if not is_light:
@@ -259,8 +268,13 @@ class Board:
     def _state(self, registers: dict[str, int], trail: list[Any]) -> str:
         """Running, halted, halted for good, or jammed, as the trail tells it: a report tells it of each clock."""
         last = trail[-1] if trail else None
-        if last and last.entry is None and last.text.split()[-1:] == ['HLT'] and self.clock > last.clock + 1 \
-                and (last.segment, (last.offset + len(last.octets)) % 0x10000) == (registers['CS'], registers['IP']):
+        if (
+            last
+            and last.entry is None
+            and last.text.split()[-1:] == ['HLT']
+            and self.clock > last.clock + 1
+            and (last.segment, (last.offset + len(last.octets)) % 0x10000) == (registers['CS'], registers['IP'])
+        ):
             return 'halted' if registers['FL'] & IF else 'halted for good'
         quiet = self.clock - (last.clock if last else 0)
         return 'jammed' if quiet > LONGEST_STEP and not (last and is_repeated(last.text)) else 'running'
@@ -282,14 +296,19 @@ class Board:
         """A line of the trail: clock, address, label, text, source line."""
         line = line_at(self.listing, event)
         text = f'interrupt {event.entry:02X}' if event.entry is not None else event.text
-        return [event.clock, f'{event.segment:04X}:{event.offset:04X}', self.listing.label_before(event.segment, event.offset), text,
-                line.number if line and event.entry is None else None]
+        return [
+            event.clock,
+            f'{event.segment:04X}:{event.offset:04X}',
+            self.listing.label_before(event.segment, event.offset),
+            text,
+            line.number if line and event.entry is None else None,
+        ]
 
     def _stack(self, registers: dict[str, int]) -> list[list[Any]]:
         """The words from SS:SP on, with the label of one that leads to a line of the source, or to bytes of Intel HEX."""
         segment, top = registers['SS'], registers['SP']
         octets = self.machine.dump(physical(segment, top), STACK_BYTES)
-        words = [int.from_bytes(octets[at:at + 2], 'little') for at in range(0, len(octets) - 1, 2)]
+        words = [int.from_bytes(octets[at : at + 2], 'little') for at in range(0, len(octets) - 1, 2)]
 
         def label(word: int) -> str:
             return self.listing.label_before(registers['CS'], word) if word and self.listing.has(physical(registers['CS'], word)) else ''
@@ -310,6 +329,13 @@ class Board:
         else:
             address = address_of(self.listing, text)
         return {'address': address, 'bytes': self.machine.dump(address, min(max(count, 16), 4096)).hex()}
+
+    def chips(self) -> Fields:
+        """What the chips hold, by a run of pcprobe up to this clock, and what in them keeps an interrupt or a key away."""
+        if self.clock > FARTHEST:
+            raise Sorry('what the chips hold behind so long a run, tools/dbg tells: chips')
+        lines = chip_lines(self.files, self.clock)
+        return {'lines': lines, 'facts': facts(lines)}
 
     # Stops and keys
 
@@ -390,8 +416,13 @@ class Board:
                 whole = now if now is None or until == clock else self.report(until)
                 changes = whole.changes if whole else []
                 interrupts, first = self._interrupts(until) if whole else ([], until)
-                self._of_the_run = run, {'told': whole is not None, 'changes': changes[:MOST_CHANGES], 'all changes': len(changes),
-                                         'interrupts': interrupts, 'interrupts up to': first}
+                self._of_the_run = run, {
+                    'told': whole is not None,
+                    'changes': changes[:MOST_CHANGES],
+                    'all changes': len(changes),
+                    'interrupts': interrupts,
+                    'interrupts up to': first,
+                }
         finally:
             self._marking.release()
         return {'clock': clock, 'until': until, 'state': now.state if now else None, 'lost': now.lost if now else None} | self._of_the_run[1]
@@ -424,7 +455,7 @@ class Board:
         """The places to which the vectors lead, those of requests first, at most sixteen."""
         at, octets = dict[Far, None](), self._vectors
         for number in (*range(8, 16), 0, 1, *range(2, 8), *range(16, 256)):
-            offset, segment = (int.from_bytes(octets[4 * number + it:4 * number + it + 2], 'little') for it in (0, 2))
+            offset, segment = (int.from_bytes(octets[4 * number + it : 4 * number + it + 2], 'little') for it in (0, 2))
             if offset or segment:
                 at[segment, offset] = None
         return list(at)[:16]

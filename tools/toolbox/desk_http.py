@@ -19,8 +19,14 @@ HOST = '127.0.0.1'
 # A source of 1,048,576 bytes, written as JSON, fits twice.
 LONGEST_BODY, MOST_CONNECTIONS = 4 << 20, 32
 SECONDS_OF_A_REQUEST, SECONDS_OF_SILENCE = 10, 60
-HEADERS = (('X-Content-Type-Options', 'nosniff'), ('Cache-Control', 'no-store'), ('Referrer-Policy', 'same-origin'),
-           ('X-Frame-Options', 'DENY'), ('Cross-Origin-Resource-Policy', 'same-origin'), ('Cross-Origin-Opener-Policy', 'same-origin'))
+HEADERS = (
+    ('X-Content-Type-Options', 'nosniff'),
+    ('Cache-Control', 'no-store'),
+    ('Referrer-Policy', 'same-origin'),
+    ('X-Frame-Options', 'DENY'),
+    ('Cross-Origin-Resource-Policy', 'same-origin'),
+    ('Cross-Origin-Opener-Policy', 'same-origin'),
+)
 
 
 class Refused(Exception):
@@ -33,15 +39,20 @@ class Refused(Exception):
 
 def policy_of(page: str) -> str:
     """The page's content security policy: its own script and style by their sums, and requests to where it comes from."""
+
     def sums(tag: str) -> str:
         found = re.findall(f'<{tag}>(.*?)</{tag}>', page, re.S)
         return ' '.join(f"'sha256-{base64.b64encode(hashlib.sha256(it.encode()).digest()).decode()}'" for it in found)
-    return (f"default-src 'none'; script-src {sums('script')}; style-src {sums('style')}; connect-src 'self'; img-src data:; "
-            "base-uri 'none'; form-action 'none'; frame-ancestors 'none'")
+
+    return (
+        f"default-src 'none'; script-src {sums('script')}; style-src {sums('style')}; connect-src 'self'; img-src data:; "
+        "base-uri 'none'; form-action 'none'; frame-ancestors 'none'"
+    )
 
 
 class Server(http.server.ThreadingHTTPServer):
     """Serves a page, and hands what it asks to `answer`."""
+
     daemon_threads, block_on_close, request_queue_size = True, False, 128
 
     def __init__(self, page: str, answer: Callable[[Fields], Fields], port: int = 0) -> None:
@@ -113,6 +124,7 @@ class Server(http.server.ThreadingHTTPServer):
 
 class Handler(http.server.BaseHTTPRequestHandler):
     """A connection."""
+
     protocol_version, disable_nagle_algorithm = 'HTTP/1.1', True
     server_version, sys_version = 'desk', ''
     server: Server

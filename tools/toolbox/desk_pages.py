@@ -15,6 +15,7 @@ NAME = re.compile(r'[a-z0-9_-]+')
 @dataclass(frozen=True)
 class Example:
     """An example: its name, what it shows, and where the pages speak of it."""
+
     name: str
     shows: str
     page: str
@@ -22,8 +23,8 @@ class Example:
 
 
 def examples() -> list[Example]:
-    """The examples that have a source and a run file, in the order of docs/EXAMPLES.md. Their first comment says what they are."""
-    page = read_text(f'{TOP}/docs/EXAMPLES.md')
+    """The examples that have a source and a run file, in the order of docs/examples.md. Their first comment says what they are."""
+    page = read_text(f'{TOP}/docs/examples.md')
     there = sorted(it[:-4] for it in os.listdir(f'{TOP}/examples') if it.endswith('.asm'))
     rows = [it.split('|')[1:4] for it in page.splitlines() if re.match(r'\|[a-z, ]+\|.*\|.*\|$', it)]
     told = {name.strip(): cells for cells in rows for name in cells[0].split(',')}
@@ -38,7 +39,7 @@ def example_of(name: str, cells: list[str], page: str) -> Example:
     if link:
         return Example(name, first, link[1], link[2] or '')
     heads = [it for it in re.findall(r'^# (.*)$', page, re.M) if name[:6] in it.lower() or name == 'readback' and 'read back' in it]
-    return Example(name, first, 'EXAMPLES.md', anchor_of(heads[0]) if heads else '')
+    return Example(name, first, 'examples.md', anchor_of(heads[0]) if heads else '')
 
 
 def files_of(name: str) -> tuple[str, str]:

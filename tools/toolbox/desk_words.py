@@ -10,6 +10,7 @@ import time
 from dataclasses import asdict, dataclass
 from typing import Any, Callable
 
+from toolbox.chips import probe
 from toolbox.command import Sorry, read_text, write_text
 from toolbox.dap_board import Gone
 from toolbox.desk_board import Board
@@ -34,6 +35,7 @@ HOLD, PAUSE = 500, 1500
 @dataclass(frozen=True)
 class Given:
     """The files that the command's words name."""
+
     file: str | None = None
     run_file: str | None = None
     is_hex: bool = False
@@ -123,13 +125,18 @@ class Desk:
 
     def _hello(self, _: Fields) -> Fields:
         """What the page begins with."""
-        found: Fields = {'examples': [asdict(it) for it in examples()], 'defaults': DEFAULTS,
-                         'chips': os.access(f'{TOP}/crates/pcprobe/out/pcprobe', os.X_OK), 'given': None}
+        found: Fields = {'examples': [asdict(it) for it in examples()], 'defaults': DEFAULTS, 'chips': probe() is not None, 'given': None}
         if self.given.file:
             run_file = self.given.run_file
             fields = read_run_file(run_file) if run_file and os.path.exists(run_file) else dict(DEFAULTS)
-            found['given'] = {'name': os.path.basename(self.given.file), 'source': read_text(self.given.file), 'run': fields,
-                              'hex': self.given.is_hex, 'file': self.given.file, 'run file': run_file}
+            found['given'] = {
+                'name': os.path.basename(self.given.file),
+                'source': read_text(self.given.file),
+                'run': fields,
+                'hex': self.given.is_hex,
+                'file': self.given.file,
+                'run file': run_file,
+            }
         return found
 
     def _example(self, fields: Fields) -> Fields:
@@ -215,8 +222,7 @@ class Desk:
     def _move(self, board: Board, fields: Fields) -> Fields:
         """A step, forth or back."""
         seen, move = want(fields, 'seen', int, 0), want(fields, 'do', str)
-        moves: dict[str, Callable[[int], Fields]] = {'step': board.step, 'over': board.over, 'out': board.out, 'back': board.back,
-                                                     'last': board.last}
+        moves: dict[str, Callable[[int], Fields]] = {'step': board.step, 'over': board.over, 'out': board.out, 'back': board.back, 'last': board.last}
         return self._do(board, lambda: moves[move](seen))
 
     def _go_to(self, board: Board, fields: Fields) -> Fields:
@@ -244,6 +250,10 @@ class Desk:
         """Bytes of memory."""
         place, count = want(fields, 'place', str), want(fields, 'count', int, 256)
         return self._do(board, lambda: board.memory(place, count))
+
+    def _chips(self, board: Board, _: Fields) -> Fields:
+        """What the chips hold."""
+        return self._do(board, board.chips)
 
     def _stops(self, board: Board, fields: Fields) -> Fields:
         """Sets the stops: places as tools/dbg takes them."""
@@ -279,9 +289,26 @@ class Desk:
         return board.changes(max(want(fields, 'until', int), 0))
 
     GENERAL = {'hello': _hello, 'example': _example, 'page': _page, 'open': _open, 'close': _close, 'keep': _keep}
-    OF_A_BOARD = {'run': _run, 'step': _move, 'over': _move, 'out': _move, 'back': _move, 'last': _move, 'go to': _go_to, 'wait': _wait,
-                  'pause': _pause, 'look': _look, 'memory': _memory, 'stops': _stops, 'type': _type, 'drop keys': _drop_keys,
-                  'changes': _changes, 'marks': lambda _, board, __: board.marks(), 'save': lambda _, board, __: board.saved()}
+    OF_A_BOARD = {
+        'run': _run,
+        'step': _move,
+        'over': _move,
+        'out': _move,
+        'back': _move,
+        'last': _move,
+        'go to': _go_to,
+        'wait': _wait,
+        'pause': _pause,
+        'look': _look,
+        'memory': _memory,
+        'chips': _chips,
+        'stops': _stops,
+        'type': _type,
+        'drop keys': _drop_keys,
+        'changes': _changes,
+        'marks': lambda _, board, __: board.marks(),
+        'save': lambda _, board, __: board.saved(),
+    }
 
 
 def refusals(files: Files, told: str) -> list[Fields]:
@@ -303,4 +330,3 @@ def tidy(desk: Desk, cut_off: Callable[[], None], ended: threading.Event, pause:
     while not ended.wait(pause):
         desk.end_idle()
         cut_off()
-

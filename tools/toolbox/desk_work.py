@@ -91,8 +91,7 @@ class Helpers:
         with tempfile.TemporaryFile() as given:
             given.writelines(f'{it}\n'.encode() for it in commands)
             given.seek(0)
-            process = subprocess.Popen([path(), *files.words('debug')], stdin=given, stdout=subprocess.PIPE, stderr=subprocess.DEVNULL,
-                                       start_new_session=True)
+            process = subprocess.Popen([path(), *files.words('debug')], stdin=given, stdout=subprocess.PIPE, stderr=subprocess.DEVNULL, start_new_session=True)
             self.add(process)
             try:
                 assert process.stdout

@@ -23,10 +23,10 @@ def record(at: int, kind: int, data: bytes) -> str:
 
 def image_text(offset: int, octets: bytes) -> str:
     """A program that begins with these bytes at an offset."""
-    before_the_end = octets[:0x10000 - offset]
+    before_the_end = octets[: 0x10000 - offset]
     records = [record(0, 2, PARAGRAPH.to_bytes(2, 'big')), record(offset, 0, before_the_end)]
     if len(before_the_end) < len(octets):
-        records.append(record(0, 0, octets[len(before_the_end):]))
+        records.append(record(0, 0, octets[len(before_the_end) :]))
     jump = b'\xEA' + offset.to_bytes(2, 'little') + PARAGRAPH.to_bytes(2, 'little')
     return ''.join([*records, record(0, 2, b'\xF0\x00'), record(0xFFF0, 0, jump), record(0, 1, b'')])
 
@@ -49,8 +49,11 @@ def instructions(memory: Callable[[int, int], bytes], segment: int, offset: int,
     """So many instructions from a place on, each with its offset, its bytes and its text; of a byte with which none begins, the
     byte alone."""
     for _ in range(count):
-        octets = b''.join(memory((16 * segment + (offset + it) % 0x10000) % (1 << 20), 1) for it in range(LONGEST)) \
-            if offset + LONGEST > 0x10000 or 16 * segment + offset + LONGEST > 1 << 20 else memory(16 * segment + offset, LONGEST)
+        octets = (
+            b''.join(memory((16 * segment + (offset + it) % 0x10000) % (1 << 20), 1) for it in range(LONGEST))
+            if offset + LONGEST > 0x10000 or 16 * segment + offset + LONGEST > 1 << 20
+            else memory(16 * segment + offset, LONGEST)
+        )
         found = instruction(offset, octets)
         yield offset, found.octets if found else octets[:1], found.text if found else 'no instruction of the 8086'
         offset = (offset + (len(found.octets) if found else 1)) % 0x10000

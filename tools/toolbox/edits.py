@@ -46,16 +46,15 @@ class Tried:
         """What follows the verb of the command that checks it."""
         del flags, keeps
         words = self.crates.command(self.name, 1)[2:]
-        words = words[:words.index('-o')]
+        words = words[: words.index('-o')]
         for flag, count in (('--statements', 1), ('--toolchain', 2), ('--backend', 2)):
             if flag in words:
                 at = words.index(flag)
-                del words[at:at + count]
+                del words[at : at + count]
         return words
 
 
-def tried(rt: types.ModuleType, crates: Crates, name: str, edits: list[str],
-          is_stopped: Callable[[], bool]) -> Iterator[tuple[bool, str]]:
+def tried(rt: types.ModuleType, crates: Crates, name: str, edits: list[str], is_stopped: Callable[[], bool]) -> Iterator[tuple[bool, str]]:
     """Tries a crate's edits in turn, each over what the checks of those before it proved. Gives of each whether it was
     refused, and what there is to say; at last the same of the crate itself, which must be proved over that work."""
     crate = Tried(crates, name)

@@ -62,7 +62,7 @@ def trails(session: Session, begun: int, ends: list[int]) -> list[list[bytes]]:
 
 def clock_of(line: bytes) -> int:
     """The clock of a trail's line."""
-    return int(line[:line.index(b' ')])
+    return int(line[: line.index(b' ')])
 
 
 def newer(trail: list[bytes], newest: int) -> list[bytes] | None:

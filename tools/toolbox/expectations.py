@@ -7,6 +7,7 @@ from typing import Any, Callable
 
 from zebludor import FLAGS
 
+from toolbox.chips import Chips, chip_lines
 from toolbox.command import Sorry, read_text
 from toolbox.events import events
 from toolbox.listing import Listing, listing_of
@@ -15,6 +16,16 @@ from toolbox.program import LAST_CLOCK, Files, Session
 from toolbox.report import REGISTERS, ROWS, Report
 from toolbox.scancodes import stamped, strokes_of
 
+# What a chip's line tells, by its words (docs/probe.md).
+CHIPS = (
+    'controller (IR|IRR|ISR|IMR|lowest|INT|vector|awaits|LTIM|uPM|AEOI|rotates|SMM|P|RIS)',
+    'counter [0-2] (mode|RW|BCD|count|newest|load|OUT|GATE|first|latch|high|status|latched)',
+    'ports [ABC]',
+    'keyboard (latch|lost|waiting)',
+    'speaker level',
+    'adapter (index|start|cursor|video|raster)',
+    'processor (state|busy|IF|inhibits|step|repeat)',
+)
 HALVES = [it + half for it in 'ABCD' for half in 'LH']
 
 
@@ -25,10 +36,18 @@ class NotThere(Exception):
 @dataclass
 class Subject:
     """What is judged: a report, and where it was run here, its files, whose memory a session can tell."""
+
     report: Report
     files: Files | None = None
     session: Session | None = None
     listing: Listing | None = None
+    chips: Chips | None = None
+
+    def held(self, line: str, word: str) -> str:
+        """What a chip holds at the report's clock."""
+        if self.chips is None:
+            self.chips = Chips.of(chip_lines(self.ran(), self.report.clock))
+        return next((value for name, value in self.chips.lines[line].items() if name.lower() == word), '')
 
     def memory(self, place: str, count: int) -> bytes:
         """Bytes of memory at the report's clock."""
@@ -41,7 +60,7 @@ class Subject:
     def ran(self) -> Files:
         """The files that were run here."""
         if self.files is None:
-            raise Sorry('a report has no memory, and its run is over: give FILE and RUN in its place')
+            raise Sorry('a report has no memory and no chips, and its run is over: give FILE and RUN in its place')
         return self.files
 
     def place(self, of: Callable[[Listing, str], Any], text: str) -> Any:
@@ -63,6 +82,7 @@ class Subject:
 @dataclass(frozen=True)
 class Outcome:
     """An expectation, and what came in its place, if it wasn't met."""
+
     said: str
     but: str | None
 
@@ -140,6 +160,28 @@ def judge_memory(subject: Subject, name: str, wanted: str) -> str | None:
     return None if came == octets else came.hex(' ').upper()
 
 
+def judge_chip(subject: Subject, name: str, wanted: str) -> str | None:
+    """What a chip holds, by a word of its line; an 8253 has no status."""
+    *line, word = name.split()[1:]
+    came = subject.held(' '.join(line), word)
+    return None if is_same(came.split(), wanted.split()) else came or 'none'
+
+
+def is_same(came: list[str], wanted: list[str]) -> bool:
+    """Whether values are those that are wanted: by their digits, however a page writes them, else by their text."""
+    if wanted == ['none'] and not came:
+        return True
+    return len(came) == len(wanted) and all(a.lower() == b.lower() or hexadecimal(a) == hexadecimal(b) is not None for a, b in zip(came, wanted))
+
+
+def hexadecimal(text: str) -> int | None:
+    """The number that a text is."""
+    try:
+        return number_of(text, 0xFFFF)
+    except Sorry:
+        return None
+
+
 def judge_not_shown(subject: Subject, _: str, wanted: str) -> str | None:
     """A text nowhere on the screen."""
     found = next((n for n, it in enumerate(subject.report.screen, 1) if plain(wanted) in it), None)
@@ -190,10 +232,17 @@ def span(text: str) -> tuple[int, int]:
 
 
 JUDGES: tuple[tuple[str, Callable[[Subject, str, str], 'str | None']], ...] = (
-    (r'line \d+', judge_line), (r'shows|shown', judge_shows), (r'not shown', judge_not_shown), (r'halted before|clocks used', judge_halt),
-    (r'runs|never runs', judge_runs), (r'state|lost|clock|sound', judge_word),
-    (r'speaker at \d+', judge_speaker), (r'memory \S+', judge_memory),
-    ('|'.join((*REGISTERS, *HALVES, *FLAGS)), judge_number))
+    (r'line \d+', judge_line),
+    (r'shows|shown', judge_shows),
+    (r'not shown', judge_not_shown),
+    (r'halted before|clocks used', judge_halt),
+    (r'runs|never runs', judge_runs),
+    (r'state|lost|clock|sound', judge_word),
+    (r'speaker at \d+', judge_speaker),
+    (r'memory \S+', judge_memory),
+    (f'chip ({"|".join(CHIPS)})', judge_chip),
+    ('|'.join((*REGISTERS, *HALVES, *FLAGS)), judge_number),
+)
 FIELDS = {'keys': 'keys', 'plain keys': 'keys', 'ram': 'ram', 'sw1': 'sw1', 'sw2': 'sw2', 'budget': 'budget'}
 # A place that may be a label, or is a number: what else is told of a place is the page's mistake.
 PLACE = r'[A-Za-z_.?@][\w.$#@~?]*(\+[0-9A-Fa-f]+)?|:\d+|[0-9A-Fa-f]{1,4}:[0-9A-Fa-f]{1,4}|[0-9A-Fa-f]{1,5}h?'
@@ -203,6 +252,7 @@ ANY = Report(LAST_CLOCK, dict.fromkeys(REGISTERS, 0), '', 0, [], [' ' * 80] * RO
 @dataclass(frozen=True)
 class Expectation:
     """A line of a page."""
+
     name: str
     wanted: str
     judge: Callable[[Subject, str, str], 'str | None']
@@ -226,6 +276,7 @@ class Expectation:
 @dataclass
 class Planned:
     """A run that a page asks for: its name, its run file's fields, and what is expected of it."""
+
     title: str = ''
     fields: dict[str, Any] = field(default_factory=dict)
     expectations: list[Expectation] = field(default_factory=list)
@@ -247,7 +298,7 @@ def expectation_of(name: str, wanted: str, where: str, line: str) -> Expectation
             span(wanted)
         except Sorry as sorry:
             raise Sorry(f'{where}: {sorry}') from None
-    elif judge not in (judge_memory, judge_runs):
+    elif judge not in (judge_memory, judge_runs, judge_chip):
         found.outcome(Subject(ANY))
     return found
 

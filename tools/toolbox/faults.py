@@ -8,6 +8,7 @@ from dataclasses import dataclass
 @dataclass(frozen=True)
 class Kind:
     """A fault's name, whose it is, and what it means."""
+
     name: str
     of: str
     meaning: str
@@ -17,8 +18,7 @@ MEMORY = 'out of memory'
 KINDS: dict[int, Kind] = {
     1: Kind('SourceTooLong', 'source', 'the source has more than 1,048,576 bytes'),
     2: Kind('BadCharacter', 'source', 'a character that is neither printable ASCII nor a tabulator'),
-    3: Kind('BadLine', 'source',
-            "the line isn't in the grammar, a constant is out of range, or a segment opens within another"),
+    3: Kind('BadLine', 'source', "the line isn't in the grammar, a constant is out of range, or a segment opens within another"),
     4: Kind('UnknownName', 'source', 'no statement has this name, or no earlier line makes the name in a constant one'),
     5: Kind('BadForm', 'source', 'no row of the encoding table takes these operands, or there are more than seven prefixes'),
     6: Kind('TwiceDefined', 'source', 'the name is defined twice'),
@@ -55,6 +55,7 @@ KINDS: dict[int, Kind] = {
 @dataclass(frozen=True)
 class Fault:
     """A fault that the program told."""
+
     number: int
     line: int | None
 

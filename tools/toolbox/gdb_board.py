@@ -22,6 +22,7 @@ MEMORY = 1 << 20
 @dataclass(frozen=True)
 class Met:
     """How a run ended: `break`, `stop` (then its number among those of `monitor`), `budget`, `begin`, `interrupt` or `woken`."""
+
     how: str
     number: int = 0
 
@@ -243,12 +244,10 @@ class Board:
         last, here = self.last_event(), self.clock
         if self.is_halted:
             return 'halted'
-        for _ in range(2):
-            before = self.clock
-            self.step()
-            if self.clock != before + 1:
-                break
-        is_jammed = self.clock == here + 2 and self.last_event() == last
+        self.step()
+        once = self.clock
+        self.step()
+        is_jammed = (once, self.clock) == (here + 1, here + 2) and self.last_event() == last
         self.go_to(here)
         return 'jammed' if is_jammed else 'running'
 

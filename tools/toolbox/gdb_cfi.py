@@ -68,8 +68,7 @@ def returns_at(base: int, offset: int, has_saved: bool) -> bytes:
     """The rule where the return address stands so far from a register, and BP's value before it if it is saved."""
     there, above = word_in(CS, base, offset), bytes([BREG + base]) + sleb(offset + 2)
     saved = value_is(EBP, *word_in(SS, EBP, 0)) if has_saved else SAME + uleb(EBP)
-    return (CFA_AT + uleb(base) + uleb(offset) + value_is(ESP, above) + value_is(EIP, *there) + value_is(GS, *there)
-            + value_is(FS, ZERO) + saved)
+    return CFA_AT + uleb(base) + uleb(offset) + value_is(ESP, above) + value_is(EIP, *there) + value_is(GS, *there) + value_is(FS, ZERO) + saved
 
 
 def rules_of(octets: bytes) -> bytes:

@@ -73,6 +73,7 @@ def unit_of(path: str) -> tuple[bytes, bytes]:
 @dataclass
 class Table:
     """Names, each with its place."""
+
     octets: bytes = b'\x00'
     places: dict[str, int] = field(default_factory=dict)
 
@@ -100,7 +101,7 @@ def places_behind_calls(listing: Listing) -> set[int]:
     for first, octets in listing.parts.items():
         for label in listing.labels.values():
             at = physical(*label) - first
-            if any(is_call(octets[at - length:at]) for length in range(2, 6) if length <= at <= len(octets)):
+            if any(is_call(octets[at - length : at]) for length in range(2, 6) if length <= at <= len(octets)):
                 found.add(first + at)
     return found
 
@@ -118,6 +119,7 @@ def extents_of(listing: Listing) -> dict[str, tuple[int, int]]:
             return address
         is_in_part = any(first <= address < last for first, last in parts)
         return next((it for it in ends if it > address), address) if is_in_part else address + 1
+
     return {name: (address, end(address)) for name, address in sorted(places.items(), key=lambda it: it[1])}
 
 
@@ -132,6 +134,7 @@ def symbols_of(extents: dict[str, tuple[int, int]]) -> tuple[bytes, bytes]:
 @dataclass(frozen=True)
 class Section:
     """A section of the file. One that is linked has the names of its rows in the section of that number."""
+
     name: str
     kind: int
     octets: bytes = b''
@@ -147,19 +150,24 @@ def elf_of(listing: Listing, path: str) -> bytes:
     abbreviation, unit = unit_of(path)
     extents = extents_of(listing)
     symbols, names = symbols_of(extents)
-    sections = [Section('.text', NOBITS, flags=6, size=MEMORY), Section('.debug_abbrev', PROGBITS, abbreviation),
-                Section('.debug_info', PROGBITS, unit), Section('.debug_line', PROGBITS, lines_of(listing, os.path.basename(path))),
-                Section('.debug_frame', PROGBITS, frames_of(listing, sorted(set(extents.values())))),
-                Section('.symtab', SYMTAB, symbols, link=7, first_global=1, row=16), Section('.strtab', STRTAB, names)]
+    sections = [
+        Section('.text', NOBITS, flags=6, size=MEMORY),
+        Section('.debug_abbrev', PROGBITS, abbreviation),
+        Section('.debug_info', PROGBITS, unit),
+        Section('.debug_line', PROGBITS, lines_of(listing, os.path.basename(path))),
+        Section('.debug_frame', PROGBITS, frames_of(listing, sorted(set(extents.values())))),
+        Section('.symtab', SYMTAB, symbols, link=7, first_global=1, row=16),
+        Section('.strtab', STRTAB, names),
+    ]
     table = Table()
     rows, body = bytes(40), b''
     for section in [*sections, Section('.shstrtab', STRTAB)]:
         place = table.place(section.name)
         octets = table.octets if section.name == '.shstrtab' else section.octets
-        rows += struct.pack('<10I', place, section.kind, section.flags, 0, 52 + len(body), section.size or len(octets),
-                            section.link, section.first_global, 1, section.row)
+        rows += struct.pack(
+            '<10I', place, section.kind, section.flags, 0, 52 + len(body), section.size or len(octets), section.link, section.first_global, 1, section.row
+        )
         body += octets
     count = len(sections) + 2
-    head = b'\x7fELF\x01\x01\x01' + bytes(9) + struct.pack('<HHIIIIIHHHHHH', EXECUTABLE, MACHINE, 1, 0, 0, 52 + len(body), 0, 52, 32, 0,
-                                                           40, count, count - 1)
+    head = b'\x7fELF\x01\x01\x01' + bytes(9) + struct.pack('<HHIIIIIHHHHHH', EXECUTABLE, MACHINE, 1, 0, 0, 52 + len(body), 0, 52, 32, 0, 40, count, count - 1)
     return head + body + rows

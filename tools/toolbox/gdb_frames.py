@@ -41,7 +41,7 @@ class Frames:
         if not event or not pushed:
             return self._end(event, here, stack) & 0xFFFF, None
         octets = self._dump(physical(registers['SS'], stack), 4)
-        offset, segment = (int.from_bytes(octets[at:at + 2], 'little') for at in (0, 2))
+        offset, segment = (int.from_bytes(octets[at : at + 2], 'little') for at in (0, 2))
         back = registers['CS'] if pushed == 2 else segment, offset
         above = self._end(before, (event.segment, event.offset), stack + pushed)
         self.returns[physical(*back)] = back

@@ -215,7 +215,7 @@ class Stub:
             return 'E.no command of the debugger'
         words = command.split() or ['']
         if words[0] in ('', 'help') or not command.isprintable():
-            self.tell('commands: ' + ', '.join((*STOPS, *MOVES, 'regs', 'screen', 'dump', 'trail')) + ' (docs/DEBUGGER.md)')
+            self.tell('commands: ' + ', '.join((*STOPS, *MOVES, 'regs', 'screen', 'dump', 'trail')) + ' (docs/debugger.md)')
         elif words[0] == 'quit':
             self.tell("gdb's own quit ends the session")
         elif words[0] in STOPS:

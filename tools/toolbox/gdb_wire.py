@@ -69,8 +69,8 @@ class Wire:
             self._held = self._held[start:] if start >= 0 else self._held if self._is_dropping else b''
             end = self._held.find(b'#')
             if 0 <= end <= len(self._held) - 3:
-                octets, told = self._held[1:end], self._held[end + 1:end + 3]
-                self._held = self._held[end + 3:]
+                octets, told = self._held[1:end], self._held[end + 1 : end + 3]
+                self._held = self._held[end + 3 :]
                 found = self._judged(octets, told)
                 if found is not None:
                     return found

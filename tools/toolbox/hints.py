@@ -7,11 +7,13 @@ import re
 
 from toolbox.listing import code_of, label_in
 
-STATEMENTS = frozenset('''AAA AAD AAM AAS ADC ADD AND CALL CBW CLC CLD CLI CMC CMP CMPSB CMPSW CWD DAA DAS DEC DIV ESC HLT
+STATEMENTS = frozenset(
+    '''AAA AAD AAM AAS ADC ADD AND CALL CBW CLC CLD CLI CMC CMP CMPSB CMPSW CWD DAA DAS DEC DIV ESC HLT
 IDIV IMUL IN INC INT INT3 INTO IRET JA JAE JB JBE JC JCXZ JE JG JGE JL JLE JMP JNA JNAE JNB JNBE JNC JNE JNG JNGE JNL JNLE
 JNO JNP JNS JNZ JO JP JPE JPO JS JZ LAHF LDS LEA LES LODSB LODSW LOOP LOOPE LOOPNE LOOPNZ LOOPZ MOV MOVSB MOVSW MUL NEG
 NOP NOT OR OUT POP POPF PUSH PUSHF RCL RCR RET RETF ROL ROR SAHF SAL SAR SBB SCASB SCASW SHL SHR STC STD STI STOSB STOSW
-SUB TEST WAIT XCHG XLAT XOR'''.split())
+SUB TEST WAIT XCHG XLAT XOR'''.split()
+)
 WORDS = frozenset('SEGMENT ENDS EQU ORG DUP SEG BYTE WORD FAR SHORT LOCK REP REPE REPZ REPNE REPNZ'.split())
 RANGES = 'a byte holds -128 to 255, a word -32,768 to 65,535'
 REGISTER = '[ABCD][XLH]|[SD]I|[SB]P'
@@ -26,22 +28,23 @@ LOOKS: tuple[tuple[str, str], ...] = (
     (r'(?<![\w\'])\$[0-9A-F]+\b', 'hexadecimal numbers end with h and begin with a digit: 0B8h for $B8'),
     (r'\b0B[01]+\b(?!H)', 'binary numbers end with b: 101b for 0b101'),
     (r'\[[^\]]*\b[ECSD]S\s*:', 'a segment register stands before the brackets: ES:[BX] for [es:bx]'),
-    (r'\b(BYTE|WORD|FAR|DWORD)\s+PTR\b',
-     'there is no PTR: WORD [BX] for WORD PTR [BX], JMP FAR label for JMP FAR PTR label'),
+    (r'\b(BYTE|WORD|FAR|DWORD)\s+PTR\b', 'there is no PTR: WORD [BX] for WORD PTR [BX], JMP FAR label for JMP FAR PTR label'),
     (r'\bOFFSET\b', "there is no OFFSET: a name alone is its offset, and [name] is memory"),
-    (r'^\s*@@|@[BF]\b|@DATA|@CODE',
-     'a name has letters, digits and _ alone; for the paragraph of a label write SEG label'),
+    (r'^\s*@@|@[BF]\b|@DATA|@CODE', 'a name has letters, digits and _ alone; for the paragraph of a label write SEG label'),
     (r'%', 'there is no preprocessor: no %define, no includes, no macros; a constant is name EQU 5'),
     (r'^\s*\d\w*\s*:', 'a label begins with a letter or _: l1: for 1:'),
     (r'(?<![\w.])(?![01]+B\b)\d[0-9A-F]*[A-F][0-9A-F]*\b', 'hexadecimal numbers end with h: 0FFFFh for 0FFFF'),
     (r'\]\s*\[', 'one pair of brackets holds all: [BX+SI] for [BX][SI]'),
-    (rf'\[[^\]]*\b({SEGMENTS}|AX|CX|DX|SP|[ABCD][LH])\b(?!\s*:)',
-     'in brackets no register stands but BX or BP, and SI or DI: MOV BX,AX and [BX] for [AX]'),
+    (rf'\[[^\]]*\b({SEGMENTS}|AX|CX|DX|SP|[ABCD][LH])\b(?!\s*:)', 'in brackets no register stands but BX or BP, and SI or DI: MOV BX,AX and [BX] for [AX]'),
     (r'\[[^\]]*-\s*(B[XP]|[SD]I)\b', 'in brackets a register is added, never taken away: NEG SI and [BX+SI] for [BX-SI]'),
-    (r'\[[^\]]*\bB[XP]\b[^\]]*\bB[XP]\b|\[[^\]]*\b[SD]I\b[^\]]*\b[SD]I\b',
-     'in brackets stand at most one of BX and BP, and one of SI and DI: ADD BX,BP and [BX] for [BX+BP]'),
-    (r'^\s*(SECTION|BITS|CPU|GLOBAL|EXTERN|EXTRN|PUBLIC|ASSUME|END|ENDP|PROC|MODEL|USE16|ALIGN|EVEN|INCLUDE|NAME|TITLE|PAGE)\b',
-     'there is no such directive; segments are SEGMENT name AT paragraph .. ENDS, and procedures are plain labels'),
+    (
+        r'\[[^\]]*\bB[XP]\b[^\]]*\bB[XP]\b|\[[^\]]*\b[SD]I\b[^\]]*\b[SD]I\b',
+        'in brackets stand at most one of BX and BP, and one of SI and DI: ADD BX,BP and [BX] for [BX+BP]',
+    ),
+    (
+        r'^\s*(SECTION|BITS|CPU|GLOBAL|EXTERN|EXTRN|PUBLIC|ASSUME|END|ENDP|PROC|MODEL|USE16|ALIGN|EVEN|INCLUDE|NAME|TITLE|PAGE)\b',
+        'there is no such directive; segments are SEGMENT name AT paragraph .. ENDS, and procedures are plain labels',
+    ),
     (r'(^|[\s,\[+])\.\w', 'there are no local labels or directives with a point: write loop_1: for .loop:'),
     (r'^\s*\w+\s+(PROC|ENDP|LABEL)\b', 'there is no PROC: a procedure begins with a plain label, as print:'),
     (r'^\s*\w+\s+(SEGMENT|ENDS)\b', 'a segment is SEGMENT name AT paragraph, and ends with ENDS alone'),
@@ -51,42 +54,49 @@ LOOKS: tuple[tuple[str, str], ...] = (
     (r'^\s*RES[BWD]\b', 'there is no RESB: room is DB 16 DUP(0), or ORG further on'),
     (r'\b(E[ABCD]X|E[SD]I|E[SB]P|[FG]S)\b', 'the 8086 has registers of 8 and 16 bits, and no FS or GS'),
     (rf'^\s*(\w+:)?\s*({LATER})\b', 'the 8086 has no such instruction; later processors have'),
-    (r'^\s*(\w+:)?\s*(REPN?[EZ]?\s+)?(MOVS|STOS|LODS|CMPS|SCAS)\b',
-     'string instructions have their size in their name: STOSB, STOSW'),
-    (r'^\s*(\w+:)?\s*(SHL|SHR|SAL|SAR|ROL|ROR|RCL|RCR)\b.*,\s*(?!1\s*$|CL\s*$)\S+\s*$',
-     'the 8086 shifts by 1 or by CL: MOV CL,4 and SHL AX,CL'),
-    (r'^\s*(\w+:)?\s*(REPN?[EZ]?\s+)?(MOVS|STOS|LODS|CMPS|SCAS)[BW]\s+\S',
-     'string instructions stand without operands: MOVSB; another segment is a prefix word, as ES: MOVSB'),
+    (r'^\s*(\w+:)?\s*(REPN?[EZ]?\s+)?(MOVS|STOS|LODS|CMPS|SCAS)\b', 'string instructions have their size in their name: STOSB, STOSW'),
+    (r'^\s*(\w+:)?\s*(SHL|SHR|SAL|SAR|ROL|ROR|RCL|RCR)\b.*,\s*(?!1\s*$|CL\s*$)\S+\s*$', 'the 8086 shifts by 1 or by CL: MOV CL,4 and SHL AX,CL'),
+    (
+        r'^\s*(\w+:)?\s*(REPN?[EZ]?\s+)?(MOVS|STOS|LODS|CMPS|SCAS)[BW]\s+\S',
+        'string instructions stand without operands: MOVSB; another segment is a prefix word, as ES: MOVSB',
+    ),
     (r'^\s*(\w+:)?\s*LEA\s+\w+\s*,\s*[^\[\s]+\s*$', 'LEA takes memory, in brackets: LEA AX,[go], or MOV AX,go for the same'),
     (r'^\s*(\w+:)?\s*XCHG\b.*(\s|,)[-\d\'$]', 'XCHG exchanges registers or memory, and no numbers: MOV AX,5'),
-    (r'^\s*(\w+:)?\s*(INC|DEC|NEG|NOT|I?MUL|I?DIV|POP)\s+[-\d\'$]',
-     'its operand is a register or memory, and no number: MOV BX,5 and then BX in its place'),
+    (r'^\s*(\w+:)?\s*(INC|DEC|NEG|NOT|I?MUL|I?DIV|POP)\s+[-\d\'$]', 'its operand is a register or memory, and no number: MOV BX,5 and then BX in its place'),
     (r'^\s*(\w+:)?\s*PUSH\s+-?\d', 'the 8086 pushes no number: load it into a register first'),
     (r'^\s*(\w+:)?\s*IMUL\b.*,', 'the 8086 multiplies AL or AX by one operand: IMUL BX'),
     (r'^\s*(\w+:)?\s*(MOV|POP)\s+CS\b', 'CS changes with IP alone, by a far jump, call or return: JMP FAR label'),
-    (rf'^\s*(\w+:)?\s*MOV\s+{SEGMENTS}\s*,\s*{SEGMENTS}\s*$',
-     'a segment register goes to another through a general one: MOV AX,ES and MOV DS,AX'),
-    (r'^\s*(\w+:)?\s*MOV\s+[ECSD]S\s*,\s*(?![A-Z][XLHIP]\s*$|[^,]*\[)\S',
-     'a segment register takes a register or memory, no number: MOV AX,0B000h and MOV ES,AX'),
+    (rf'^\s*(\w+:)?\s*MOV\s+{SEGMENTS}\s*,\s*{SEGMENTS}\s*$', 'a segment register goes to another through a general one: MOV AX,ES and MOV DS,AX'),
+    (
+        r'^\s*(\w+:)?\s*MOV\s+[ECSD]S\s*,\s*(?![A-Z][XLHIP]\s*$|[^,]*\[)\S',
+        'a segment register takes a register or memory, no number: MOV AX,0B000h and MOV ES,AX',
+    ),
     (r'\][^\[]*,[^\[]*\[', 'an instruction reaches memory once: go through a register'),
-    (r'^\s*(\w+:)?\s*[A-Z]+\s+(ES:|CS:|SS:|DS:)?\[[^\]]*\]\s*,\s*[-0-9\'$]',
-     'nothing tells the size: write WORD or BYTE before the brackets, as MOV WORD [BX],1'),
-    (r'^\s*(\w+:)?\s*(INC|DEC|NEG|NOT|MUL|IMUL|DIV|IDIV|SHL|SHR|SAR|SAL|ROL|ROR|RCL|RCR)\s+(ES:|CS:|SS:|DS:)?\[',
-     'nothing tells the size: write WORD or BYTE before the brackets, as INC WORD [BX]'),
-    (r'^\s*(\w+:)?\s*(IN|OUT)\b',
-     'a port above 0FFh goes through DX: MOV DX,3B8h and OUT DX,AL; data go through AL or AX'),
+    (
+        r'^\s*(\w+:)?\s*[A-Z]+\s+(ES:|CS:|SS:|DS:)?\[[^\]]*\]\s*,\s*[-0-9\'$]',
+        'nothing tells the size: write WORD or BYTE before the brackets, as MOV WORD [BX],1',
+    ),
+    (
+        r'^\s*(\w+:)?\s*(INC|DEC|NEG|NOT|MUL|IMUL|DIV|IDIV|SHL|SHR|SAR|SAL|ROL|ROR|RCL|RCR)\s+(ES:|CS:|SS:|DS:)?\[',
+        'nothing tells the size: write WORD or BYTE before the brackets, as INC WORD [BX]',
+    ),
+    (r'^\s*(\w+:)?\s*(IN|OUT)\b', 'a port above 0FFh goes through DX: MOV DX,3B8h and OUT DX,AL; data go through AL or AX'),
     (r'^\s*(\w+:)?\s*J[A-LN-Z]\w*\s+SHORT\b', 'conditional jumps are always short: JZ label'),
-    (r'^\s*(\w+:)?\s*(J(?!MP)\w+|LOOP\w*)\s+(FAR|NEAR)\b',
-     'conditional jumps and LOOP are short alone: jump the other way round a JMP, or a JMP FAR'),
-    (rf'^\s*(\w+:)?\s*(J(?!MP)\w+|LOOP\w*|JMP\s+SHORT)\s+({REGISTER}|(WORD\s*)?({SEGMENTS}:\s*)?\[.*)\s*$',
-     'a short jump goes to a label alone; through a register or memory goes JMP AX or JMP [BX], without SHORT'),
-    (r'^\s*(\w+:)?\s*(J(?!MP)\w+|LOOP\w*|JMP\s+SHORT)\s',
-     'the target may lie 128 bytes before to 127 behind the next instruction: jump the other way round a JMP'),
-    (r'\b[ABCD][HL]\s*,\s*([ABCD]X|[SD]I|[SB]P|[ECSD]S)\b|\b([ABCD]X|[SD]I|[SB]P|[ECSD]S)\s*,\s*[ABCD][HL]\b',
-     'both operands have one size: AL is a byte, AX a word'),
+    (r'^\s*(\w+:)?\s*(J(?!MP)\w+|LOOP\w*)\s+(FAR|NEAR)\b', 'conditional jumps and LOOP are short alone: jump the other way round a JMP, or a JMP FAR'),
+    (
+        rf'^\s*(\w+:)?\s*(J(?!MP)\w+|LOOP\w*|JMP\s+SHORT)\s+({REGISTER}|(WORD\s*)?({SEGMENTS}:\s*)?\[.*)\s*$',
+        'a short jump goes to a label alone; through a register or memory goes JMP AX or JMP [BX], without SHORT',
+    ),
+    (
+        r'^\s*(\w+:)?\s*(J(?!MP)\w+|LOOP\w*|JMP\s+SHORT)\s',
+        'the target may lie 128 bytes before to 127 behind the next instruction: jump the other way round a JMP',
+    ),
+    (
+        r'\b[ABCD][HL]\s*,\s*([ABCD]X|[SD]I|[SB]P|[ECSD]S)\b|\b([ABCD]X|[SD]I|[SB]P|[ECSD]S)\s*,\s*[ABCD][HL]\b',
+        'both operands have one size: AL is a byte, AX a word',
+    ),
     (r'^\s*(\w+:)?\s*(?!D[BWD]\b)[A-Z]+\s+[-\d\']\S*\s*,', 'the first operand takes the result, so it is a register or memory'),
-    (r'\(|\)|\*|/|\bSHL\b.*\bSHL\b',
-     'expressions are terms joined by + and -; there are no parentheses, products or shifts'),
+    (r'\(|\)|\*|/|\bSHL\b.*\bSHL\b', 'expressions are terms joined by + and -; there are no parentheses, products or shifts'),
 )
 
 
@@ -155,8 +165,7 @@ def of_characters(line: str) -> str | None:
         return 'the file begins with a byte order mark, three bytes that an editor put there: save it as UTF-8 without it'
     for column, sign in enumerate(line, 1):
         if not (' ' <= sign <= '~' or sign in '\t\r'):
-            return (f'column {column} has {sign!r}; only printable ASCII, tabulators and line ends may stand in a source,'
-                    ' in comments too')
+            return f'column {column} has {sign!r}; only printable ASCII, tabulators and line ends may stand in a source,' ' in comments too'
     return None
 
 
@@ -179,8 +188,11 @@ def of_a_name(code: str, source: list[str]) -> str | None:
     names = [it for it in map(label_in, source) if it]
     names += re.findall(r'(?im)^\s*(?:segment\s+)?([a-z_]\w*)\s+(?:equ|at)\b', '\n'.join(map(code_of, source)))
     known = {it.upper() for it in names} | STATEMENTS | WORDS
-    unknown = [it for it in re.findall(r"(?<![\w.'])[A-Z_]\w*", re.sub(r'^\s*\w+\s*:', '', code))
-               if it not in known and not re.fullmatch(f'{REGISTER}|{SEGMENTS}|D[BWD]', it)]
+    unknown = [
+        it
+        for it in re.findall(r"(?<![\w.'])[A-Z_]\w*", re.sub(r'^\s*\w+\s*:', '', code))
+        if it not in known and not re.fullmatch(f'{REGISTER}|{SEGMENTS}|D[BWD]', it)
+    ]
     lower = {it.lower(): it for it in names}
     for word in unknown:
         meant = [lower[it] for it in difflib.get_close_matches(word.lower(), lower, 3, 0.6)]

@@ -21,6 +21,7 @@ def physical(segment: int, offset: int) -> int:
 @dataclass(frozen=True)
 class Line:
     """A line of a source that places bytes, or none (then its address is None)."""
+
     number: int
     text: str
     address: tuple[int, int] | None
@@ -31,6 +32,7 @@ class Line:
 class Listing:
     """A source's lines, by physical address too, and its labels. Intel HEX has no lines, but parts of memory that it fills, by
     where they begin."""
+
     lines: list[Line] = field(default_factory=list)
     at: dict[int, Line] = field(default_factory=dict)
     labels: dict[str, tuple[int, int]] = field(default_factory=dict)
@@ -42,8 +44,7 @@ class Listing:
 
     def label_before(self, segment: int, offset: int) -> str:
         """`label` or `label+N` for an address: the nearest label at or before it in the same paragraph, or nothing."""
-        best = max(((at, name) for name, (para, at) in self.labels.items() if para == segment and at <= offset),
-                   key=lambda it: it[0], default=None)
+        best = max(((at, name) for name, (para, at) in self.labels.items() if para == segment and at <= offset), key=lambda it: it[0], default=None)
         if best is None:
             return ''
         return best[1] if best[0] == offset else f'{best[1]}+{offset - best[0]:X}'
@@ -91,9 +92,8 @@ def probed(source: str, names: list[str]) -> dict[str, tuple[int, int]]:
                     file.write(f'{source}\n{closing}SEGMENT {PROBE_NAME} AT {paragraph:05X}h\n{text}')
                 ran = run(['asm', '--list', '--', path])
                 if ran.status == 0:
-                    rows = [line_of(0, it).shown for it in ran.out.splitlines()[-len(names):]]
-                    return {name: (int.from_bytes(row[2:4], 'little'), int.from_bytes(row[:2], 'little'))
-                            for name, row in zip(names, rows)}
+                    rows = [line_of(0, it).shown for it in ran.out.splitlines()[-len(names) :]]
+                    return {name: (int.from_bytes(row[2:4], 'little'), int.from_bytes(row[:2], 'little')) for name, row in zip(names, rows)}
     return {}
 
 
@@ -111,6 +111,7 @@ def listing_of(files: Files) -> Listing:
     """The listing of a source; of Intel HEX, which has no lines, that of its symbols' file, or an empty one."""
     if files.is_hex:
         from toolbox.symbols import image_of, symbols_of  # which stand on this module
+
         image = image_of(read_text(files.file))
         return replace(symbols_of(files.symbols, image) if files.symbols else Listing(), parts=parts_of(image))
     if files.symbols:

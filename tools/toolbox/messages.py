@@ -18,7 +18,7 @@ def first_definition(lines: list[str], number: int) -> int | None:
     if not name:
         return None
     word = re.compile(rf'\s*(SEGMENT\s+)?{name[1]}\s*(:|\sEQU\b|\sAT\b)', re.I)
-    return next((n for n, it in enumerate(lines[:number - 1], 1) if word.match(it)), None)
+    return next((n for n, it in enumerate(lines[: number - 1], 1) if word.match(it)), None)
 
 
 def what_to_do(lines: list[str], fault: Fault) -> str:

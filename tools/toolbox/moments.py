@@ -32,6 +32,7 @@ AT_ONCE = 8  # moments that a process is handed
 @dataclass(frozen=True)
 class Key:
     """A scan code, and the clocks at which it is tried."""
+
     code: int
     clocks: range
 
@@ -77,20 +78,30 @@ class Plan:
         sample = ['--sample', str(self.sample), '--seed', str(self.seed)] if self.sample else []
         files = self.files
         form = [*(['--hex'] if files.is_hex else []), *(['--symbols', files.symbols] if files.symbols else [])]
-        return [PYTHON, '-S', tool, '--worker', room, *keys, *sample, *form, '--', self.page, files.file,
-                *([files.run_file] if files.run_file else [])]
+        return [PYTHON, '-S', tool, '--worker', room, *keys, *sample, *form, '--', self.page, files.file, *([files.run_file] if files.run_file else [])]
 
     def sum(self) -> str:
         """What tells this plan from others: all that an outcome hangs on."""
         program = os.stat(program_path())
-        known = [self.text, read_text(self.page), [self.fields(it) for it in self.runs], self.files.is_hex, self.symbols, self.sample, self.seed,
-                 [(it.code, it.clocks.start, it.clocks.stop) for it in self.keys], program.st_size, program.st_mtime_ns]
+        known = [
+            self.text,
+            read_text(self.page),
+            [self.fields(it) for it in self.runs],
+            self.files.is_hex,
+            self.symbols,
+            self.sample,
+            self.seed,
+            [(it.code, it.clocks.start, it.clocks.stop) for it in self.keys],
+            program.st_size,
+            program.st_mtime_ns,
+        ]
         return hashlib.sha256(json.dumps(known).encode()).hexdigest()
 
 
 @dataclass(frozen=True)
 class Failure:
     """An expectation that a run of the page didn't meet, and what came in its place."""
+
     run: int
     said: str
     but: str
@@ -99,6 +110,7 @@ class Failure:
 @dataclass
 class Found:
     """What came out: which moments were tried, by number, and which failed."""
+
     is_tried: bytearray
     failed: dict[int, Failure] = field(default_factory=dict)
     tried: int = 0
@@ -192,8 +204,7 @@ class Worker:
     """Such a process. It and what it runs are a session of their own, which no interrupt from the terminal reaches."""
 
     def __init__(self, words: list[str]) -> None:
-        self._process = subprocess.Popen(words, stdin=subprocess.PIPE, stdout=subprocess.PIPE, stderr=subprocess.PIPE, text=True,
-                                         start_new_session=True)
+        self._process = subprocess.Popen(words, stdin=subprocess.PIPE, stdout=subprocess.PIPE, stderr=subprocess.PIPE, text=True, start_new_session=True)
 
     def ask(self, moments: list[int]) -> Iterator[Failure | None]:
         """What each of these fails by."""

@@ -1,14 +1,46 @@
-"""Why a run went nowhere, read off its report, the trail of its last 32 instruction starts, and sessions. Each sentence is
-true whenever it is said: its condition stands in docs/first-program.md, "What why tells". What only the chips know isn't told."""
+"""Why a run went nowhere, read off its report, the trail of its last 32 instruction starts, and sessions. A sentence is printed
+exactly if its condition holds:
+
+it has jammed, at which bytes                the report's state is `jammed`
+text memory has characters, the screen none  a word at B0000h to B0F9Fh would show one
+a character's attribute shows nothing        the screen is blank, no such word would show one, and the low byte of one is 21h to 7Eh
+what led to 0000:0000                        the run came to CS:IP 0000:0000 where 00 00 was; the first time counts. INT, INT3, INTO,
+                                             DIV, IDIV and entries are by a vector
+the last N instructions were 00 00           four or more at the trail's end, none by an ADD of the source
+the last 32 were the same few in turn        running, the trail is full and has no entry, up to eight instructions in turn in all of it
+nothing leads out but what a port reads      one of these reads a port, into AL; all others are CMP, TEST, near jumps by flags or without
+                                             condition, NOP, and MOV, AND, OR of a number to a register but DX. With IF 1 `or an interrupt`
+nothing answers at that port                 it is none of PORTS
+nothing leads out                            IF and TF are 0; none of these writes memory, uses a port, calls, returns, halts or changes
+                                             IF; within the next 31 steps all registers are again what they were, by such alone
+halted with interrupts off                   halted by HLT, IF and TF 0, a JMP SHORT behind it leads up to 32 bytes back, and a vector
+                                             from 08h to 0Fh isn't 0
+DS or ES is B800h                            at the run's end
+a write is lost                              an instruction of the trail without REP writes through a segment register that nothing in
+                                             the trail changes later; its address, or all of its segment where a register is in it, is
+                                             ROM, or nothing answers there; not through B800h
+a push goes to ROM, or nowhere               so for the word below SS:SP, and the trail has a PUSH, PUSHF, CALL, INT or entry with this SS
+the source placed other bytes                of an instruction in RAM at most 32 bytes below SS:SP, or at it
+
+With pcprobe, of the chips at the run's end:
+
+IRn asks, and nothing is taken               IF is 1, and the controller waits for an initialisation word, or isn't in 8086 mode
+IRn asks, and is masked, or another level    IF is 1, and the controller, initialised, asks for nothing: n's bit of the mask is 1; or it is 0,
+is still in service                          and that level keeps n back
+no count has been written to counter 0       halted by HLT with IF 1; the controller is initialised, no level asks, IR0 isn't masked, and
+                                             counter 0 has no full count since its control word
+key codes wait                               port B empties the latch (line 7 is 1), the latch is full, or port B lets the keyboard send
+                                             nothing (line 6 is 0)"""
 from __future__ import annotations
 
 import re
 from dataclasses import dataclass, field
 
+from toolbox.chips import chip_lines, facts, probe
 from toolbox.listing import Line, Listing, code_of, listing_of, physical
 from toolbox.places import Event, event_of, line_at
 from toolbox.program import LAST_CLOCK, Files, Session
-from toolbox.report import Report, registers_of
+from toolbox.report import Report
 from toolbox.runfile import read_run_file
 
 TRAIL, LONGEST_LOOP, ZEROS, NEAR = 32, 8, 4, 32
@@ -16,10 +48,12 @@ IF, TF = 0x200, 0x100
 ROM, TEXT, TEXT_END = 0xF0000, 0xB0000, 0xB0FFF
 PORTS = {0x20, 0x21, 0x40, 0x41, 0x42, 0x43, 0x60, 0x61, 0x62, 0x63, 0x3B4, 0x3B5, 0x3B8, 0x3BA}
 PREFIX = re.compile(r'^(?:(?:LOCK|REPN?[EZ]?|[ECSD]S:) )*')
-SERVICES = {0x21: 'no DOS is here: text goes to text memory at B000:0000, keys come from port 60h, HLT ends a program',
-            0x20: 'no DOS is here: HLT ends a program',
-            0x10: 'no BIOS is here: text goes to text memory at B000:0000, a character and its attribute in each word',
-            0x16: 'no BIOS is here: keys come from port 60h, by polling or by interrupt'}
+SERVICES = {
+    0x21: 'no DOS is here: text goes to text memory at B000:0000, keys come from port 60h, HLT ends a program',
+    0x20: 'no DOS is here: HLT ends a program',
+    0x10: 'no BIOS is here: text goes to text memory at B000:0000, a character and its attribute in each word',
+    0x16: 'no BIOS is here: keys come from port 60h, by polling or by interrupt',
+}
 # What writes its first operand, and what does nothing but to registers and flags, if its first operand is a register.
 WRITERS = set('MOV ADD ADC SUB SBB AND OR XOR INC DEC NEG NOT SHL SAL SHR SAR ROL ROR RCL RCR XCHG POP'.split())
 INNER = WRITERS - {'POP'} | set('CBW CWD LEA MUL IMUL LAHF SAHF CLC STC CMC CLD STD NOP XLAT LODSB LODSW AAA AAS AAD AAM DAA DAS'.split())
@@ -30,6 +64,7 @@ PUSHES = {'PUSH', 'PUSHF', 'CALL', 'INT', 'INT3'}
 @dataclass
 class Run:
     """A run at its end: report, trail, the source's lines, RAM's end."""
+
     report: Report
     files: Files
     session: Session
@@ -73,7 +108,12 @@ def told_of(report: Report, files: Files, session: Session) -> list[str]:
     astray = of_address_zero(it)
     told = astray or of_zeros(it)
     told += of_a_halt(it) + of_colour_memory(it) + of_writes(it) + of_the_stack(it) + of_code_in_the_stack(it)
-    return told + ([] if astray else of_a_loop(it))
+    return told + ([] if astray else of_a_loop(it)) + of_the_chips(it)
+
+
+def of_the_chips(it: Run) -> list[str]:
+    """What keeps an interrupt or a key away, where the probe is built."""
+    return facts(chip_lines(it.files, it.report.clock)) if probe() else []
 
 
 def of_address_zero(it: Run) -> list[str]:
@@ -86,12 +126,16 @@ def of_address_zero(it: Run) -> list[str]:
         last, clock = event_of(trail[-1]), session.clock
     kind, place = vector_of(last), it.place(last)
     if kind is None:
-        return [f'clock {clock}: {place} led to 0000:0000, where memory is 00 00',
-                'hint: a return takes what the stack holds, and zeros where nothing was pushed; HLT ends a program']
+        return [
+            f'clock {clock}: {place} led to 0000:0000, where memory is 00 00',
+            'hint: a return takes what the stack holds, and zeros where nothing was pushed; HLT ends a program',
+        ]
     name = 'entry' if last.entry is not None else mnemonic(last)[0]
-    said = {'entry': f'at {place} interrupt {kind:02X} came',
-            'DIV': f'{place} has no quotient (the divisor is 0, or the quotient too large), which enters interrupt 0',
-            'INTO': f'{place} enters interrupt 4'}.get(name.removeprefix('I') if name == 'IDIV' else name, f'{place} enters interrupt {kind:02X}')
+    said = {
+        'entry': f'at {place} interrupt {kind:02X} came',
+        'DIV': f'{place} has no quotient (the divisor is 0, or the quotient too large), which enters interrupt 0',
+        'INTO': f'{place} enters interrupt 4',
+    }.get(name.removeprefix('I') if name == 'IDIV' else name, f'{place} enters interrupt {kind:02X}')
     hint = SERVICES.get(kind, f'the address of a handler goes there: SEGMENT VECTORS AT 0, ORG {4 * kind:X}h, DW own,SEG own, ENDS')
     return [f'clock {clock}: {said}; its vector, at {4 * kind:05X}h, is 0000:0000', f'hint: {hint}']
 
@@ -217,8 +261,11 @@ def of_an_endless_loop(it: Run, turn: list[Event]) -> list[str]:
         it.session.one('step')
         if it.session.many('regs') == first:
             since = [event for event in map(event_of, it.session.many('trail')) if event.clock >= begun]
-            return ['they write nothing, the registers are the same each time round, and interrupts are off: nothing leads out'
-                    ] if len(since) < TRAIL and all(map(is_inner, since)) else []
+            return (
+                ['they write nothing, the registers are the same each time round, and interrupts are off: nothing leads out']
+                if len(since) < TRAIL and all(map(is_inner, since))
+                else []
+            )
     return []
 
 
@@ -231,15 +278,24 @@ def of_a_halt(it: Run) -> list[str]:
     back = code[1] - 256 if len(code) == 2 and code[0] == 0xEB else 0
     if mnemonic(it.trail[-1])[0] != 'HLT' or not -NEAR <= back <= -3 or not any(vectors):
         return []
-    return [f'{it.place(it.trail[-1])} has halted the processor with interrupts off: nothing wakes it, and the jump back behind it'
-            " isn't reached", 'hint: STI lets interrupts in, before the HLT']
+    return [
+        f'{it.place(it.trail[-1])} has halted the processor with interrupts off: nothing wakes it, and the jump back behind it' " isn't reached",
+        'hint: STI lets interrupts in, before the HLT',
+    ]
 
 
 def of_colour_memory(it: Run) -> list[str]:
     """B800h in a segment register."""
     names = [name for name in ('DS', 'ES') if it.report.registers[name] == 0xB800]
-    return [f'{" and ".join(names)} {"is" if len(names) == 1 else "are"} B800h, and no colour adapter is here: from B1000h to EFFFFh nothing answers,'
-            ' and writes are lost', 'hint: monochrome text memory begins at paragraph 0B000h'] if names else []
+    return (
+        [
+            f'{" and ".join(names)} {"is" if len(names) == 1 else "are"} B800h, and no colour adapter is here: from B1000h to EFFFFh nothing answers,'
+            ' and writes are lost',
+            'hint: monochrome text memory begins at paragraph 0B000h',
+        ]
+        if names
+        else []
+    )
 
 
 def store_of(event: Event) -> tuple[str, int | None] | None:
@@ -300,8 +356,14 @@ def of_the_stack(it: Run) -> list[str]:
         return []
     segment, offset = it.report.registers['SS'], (it.report.registers['SP'] - 2) % 0x10000
     wrong = it.region(segment, offset)
-    return [f'SS:SP is {segment:04X}:{it.report.registers["SP"]:04X}, so a push goes to {physical(segment, offset):05X}h, {wrong}',
-            'hint: room for the stack lies in RAM, and SP begins at its end'] if wrong else []
+    return (
+        [
+            f'SS:SP is {segment:04X}:{it.report.registers["SP"]:04X}, so a push goes to {physical(segment, offset):05X}h, {wrong}',
+            'hint: room for the stack lies in RAM, and SP begins at its end',
+        ]
+        if wrong
+        else []
+    )
 
 
 def of_code_in_the_stack(it: Run) -> list[str]:
@@ -313,7 +375,9 @@ def of_code_in_the_stack(it: Run) -> list[str]:
         memory = it.session.dump(address, len(line.shown))
         if memory != line.shown:
             registers, was, now = it.report.registers, line.shown.hex(' ').upper(), memory.hex(' ').upper()
-            return [f'line {line.number} ({code_of(line.text).strip()}): the source placed {was} at {address:05X}h, and memory holds {now};'
-                    f' SS:SP is {registers["SS"]:04X}:{registers["SP"]:04X}',
-                    'hint: the stack runs into code: it grows down, so SP begins at the end of its room']
+            return [
+                f'line {line.number} ({code_of(line.text).strip()}): the source placed {was} at {address:05X}h, and memory holds {now};'
+                f' SS:SP is {registers["SS"]:04X}:{registers["SP"]:04X}',
+                'hint: the stack runs into code: it grows down, so SP begins at the end of its room',
+            ]
     return []

@@ -27,7 +27,7 @@ def line_at(listing: Listing, event: Event) -> Line | None:
     line = listing.at.get(event.address)
     if line is None or event.entry is not None:
         return line
-    return line if event.octets[:8] == line.shown[:len(event.octets)] else None
+    return line if event.octets[:8] == line.shown[: len(event.octets)] else None
 
 
 def told_of(listing: Listing, event: Event) -> str:
@@ -67,7 +67,7 @@ def far_of(listing: Listing, text: str) -> tuple[int, int]:
 
 def of_line(listing: Listing, number: int) -> tuple[int, int]:
     """Where the first bytes of a source line, or of the next one that places some, stand."""
-    found = next((it.address for it in listing.lines[number - 1:] if it.address), None)
+    found = next((it.address for it in listing.lines[number - 1 :] if it.address), None)
     if number < 1 or found is None:
         raise Sorry(f'no line of the source from {number} on places bytes')
     return found

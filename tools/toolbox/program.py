@@ -33,6 +33,7 @@ def run(words: list[str], given: bytes = b'') -> Ran:
 @dataclass(frozen=True)
 class Files:
     """What a board is built from: a source or Intel HEX, and a run file; and of Intel HEX the file that tells its symbols."""
+
     file: str
     run_file: str
     is_hex: bool = False

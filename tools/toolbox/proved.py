@@ -25,6 +25,7 @@ HEADS = ('program', 'sources', 'kit', 'logic')
 class Proved:
     """The text PROVED: the program's SHA-256, the sum of its sources, the kit and the logic that proved it, and of each crate
     the line in which Rattle tells that it is proved."""
+
     program: str
     sources: str
     kit: str
@@ -47,10 +48,10 @@ def read(folder: str) -> Proved | None:
             lines = file.read().splitlines()
     except (OSError, UnicodeDecodeError):
         return None
-    heads = [line.partition(' ') for line in lines[:len(HEADS)]]
+    heads = [line.partition(' ') for line in lines[: len(HEADS)]]
     if tuple(head for head, _, _ in heads) != HEADS:
         return None
-    verdicts = (line.partition(': ') for line in lines[len(HEADS):])
+    verdicts = (line.partition(': ') for line in lines[len(HEADS) :])
     return Proved(*(value for _, _, value in heads), verdicts={name: verdict for name, _, verdict in verdicts})
 
 
@@ -187,8 +188,10 @@ def built_here() -> Proved:
     told = told_of(program, crates, names)
     lacking = sorted(names - told.verdicts.keys())
     if lacking:
-        raise Sorry(f"nothing here has seen the verdicts of {', '.join(lacking)}; 'dev/build --verdicts' proves these crates again, and "
-                    "'dev/build --seen LOG CLONE' reads the output of an rt ci that proved them")
+        raise Sorry(
+            f"nothing here has seen the verdicts of {', '.join(lacking)}; 'dev/build --verdicts' proves these crates again, and "
+            "'dev/build --seen LOG CLONE' reads the output of an rt ci that proved them"
+        )
     return told
 
 

@@ -18,11 +18,10 @@ from toolbox.proved import STORED, TARGET, Proved
 from toolbox.sources import sum_of, sum_of_sources
 
 PLATFORM = 'x86_64-linux'
-FILES = ('CHANGELOG.md', 'LICENSE-APACHE', 'LICENSE-MIT', 'README.md', 'VERSION', TARGET, f'stored/{TARGET}', 'stored/PROVED')
+FILES = ('CHANGELOG.md', 'CONTRIBUTING.md', 'LICENSE-APACHE', 'LICENSE-MIT', 'README.md', 'VERSION', TARGET, f'stored/{TARGET}', 'stored/PROVED')
 FOLDERS = ('c', 'docs', 'editors', 'examples', 'python', 'tools')
 LEFT_OUT = ('tools/test', 'tools/tests', 'editors/grammar')  # which want the sources
-LIBRARIES = {'zebludor_chips': 'timer, interrupt controller and parallel port of an IBM PC 5150',
-             'zebludor_run': 'whole runs of an IBM PC 5150'}
+LIBRARIES = {'zebludor_chips': 'timer, interrupt controller and parallel port of an IBM PC 5150', 'zebludor_run': 'whole runs of an IBM PC 5150'}
 SHARED = 'lib/libzebludor_chips.so'
 MEMORY = 'lib/liblibc_c.a'  # by which whole runs call malloc, realloc and free
 TIME = 315532800  # of every file: the first second of 1980, the earliest that other kinds of archives have too
@@ -125,8 +124,7 @@ def uncommitted() -> list[str]:
 def is_left_out(path: str) -> bool:
     """Whether a path is of no release."""
     parts = path.split('/')
-    return any(it.startswith('.') or it in ('__pycache__', 'out') for it in parts) or any(
-        path == it or path.startswith(f'{it}/') for it in LEFT_OUT)
+    return any(it.startswith('.') or it in ('__pycache__', 'out') for it in parts) or any(path == it or path.startswith(f'{it}/') for it in LEFT_OUT)
 
 
 def paths() -> list[str]:
@@ -139,8 +137,20 @@ def shared(archive: str) -> bytes:
     """A static library as a shared one, which has nothing of the compiler's own files, names or times."""
     with tempfile.TemporaryDirectory() as room:
         path = f'{room}/{os.path.basename(SHARED)}'
-        words = ['cc', '-shared', '-nostartfiles', '-s', '-o', path, f'-Wl,-soname,{os.path.basename(SHARED)}', '-Wl,--build-id=none',
-                 '-Wl,--whole-archive', archive, '-Wl,--no-whole-archive', '-Wl,--no-undefined']
+        words = [
+            'cc',
+            '-shared',
+            '-nostartfiles',
+            '-s',
+            '-o',
+            path,
+            f'-Wl,-soname,{os.path.basename(SHARED)}',
+            '-Wl,--build-id=none',
+            '-Wl,--whole-archive',
+            archive,
+            '-Wl,--no-whole-archive',
+            '-Wl,--no-undefined',
+        ]
         done = subprocess.run(words, capture_output=True, text=True, check=False)
         if done.returncode:
             raise Sorry(f'cc makes no shared library of {archive}: {done.stderr.strip()[-500:]}')

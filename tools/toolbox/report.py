@@ -18,4 +18,4 @@ def report_of(text: str, name: str = 'standard input') -> Report:
     except Fault as fault:
         raise Sorry(f'{name} is a refusal and no report: {fault} (tools/why tells more)') from None
     except Unfit:
-        raise Sorry(f'{name} is no report of pcboard run (docs/FORMATS.md, "Report")') from None
+        raise Sorry(f'{name} is no report of pcboard run (docs/formats.md, "Report")') from None

@@ -1,4 +1,4 @@
-"""Run files: what each field may hold (docs/FORMATS.md), what it is where nothing is said, and copies with another
+"""Run files: what each field may hold (docs/formats.md), what it is where nothing is said, and copies with another
 budget."""
 from __future__ import annotations
 
@@ -17,8 +17,8 @@ from toolbox.report import Report, report_of
 
 FIRST_REPORT = 1_000_000  # clocks
 
-__all__ = ['CHOICES', 'DEFAULTS', 'FIRST_CHOICES', 'budget_of', 'chosen', 'read_run_file', 'report_at', 'speaker_changes',
-           'text_of', 'with_budget']
+__all__ = ['CHOICES', 'DEFAULTS', 'FIRST_CHOICES', 'budget_of', 'chosen', 'read_run_file', 'report_at', 'speaker_changes', 'text_of', 'with_budget']
+
 
 def read_run_file(path: str) -> dict[str, Any]:
     """A run file's fields. What the values may be is judged by the program."""

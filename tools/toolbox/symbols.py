@@ -19,15 +19,16 @@ NASM_SYMBOL = re.compile(r' *([0-9A-F]+) +([0-9A-F]+)  (\S+)$')
 NASM_LABEL = re.compile(r'([A-Za-z_.?@][\w.$#@~?]*)(?:\s*:|\s+(?:d[bwdq]|res[bwdq]|times)\b)', re.I)
 
 FAR_LABEL = re.compile(r'([0-9A-Fa-f]{1,4}):([0-9A-Fa-f]{1,4}) +(\S+)')
-FLAT_LABEL = re.compile(r'(?P<nm>[0-9A-Fa-f]+) (?P<type>[A-Za-z]) (?P<of_nm>\S+)|'
-                        r'\S+ +(?P<of_ld86>\S+) +(?P<part>[0-9A-Fa-f]) +(?P<ld86>[0-9A-Fa-f]{8})(?![^\n]* a\b)( .*)?')
+FLAT_LABEL = re.compile(
+    r'(?P<nm>[0-9A-Fa-f]+) (?P<type>[A-Za-z]) (?P<of_nm>\S+)|' r'\S+ +(?P<of_ld86>\S+) +(?P<part>[0-9A-Fa-f]) +(?P<ld86>[0-9A-Fa-f]{8})(?![^\n]* a\b)( .*)?'
+)
 
 
 def image_of(text: str) -> dict[int, int]:
     """The bytes of an Intel HEX text. Whether it is one, the program judges."""
     found, base = dict[int, int](), 0
     for record in re.findall(r'^:([0-9A-Fa-f]{10,}) *\r?$', text, re.M):
-        octets = bytes.fromhex(record[:len(record) // 2 * 2])
+        octets = bytes.fromhex(record[: len(record) // 2 * 2])
         at, kind, data = int.from_bytes(octets[1:3], 'big'), octets[3], octets[4:-1]
         if kind == 0:
             found.update(((base + at + place) % MEMORY, it) for place, it in enumerate(data))
@@ -56,8 +57,10 @@ def symbols_of(given: str, image: dict[int, int]) -> Listing:
     else:
         found = of_labels(told, far if place else None)
     if not found.lines and not found.labels:
-        raise Sorry(f'{path} is no NASM listing or map file (nasm -l FILE, [map all FILE]), no listing of pcboard asm --list, '
-                    'and has no labels as nm or ld86 -M prints them, or in lines SEGMENT:OFFSET NAME')
+        raise Sorry(
+            f'{path} is no NASM listing or map file (nasm -l FILE, [map all FILE]), no listing of pcboard asm --list, '
+            'and has no labels as nm or ld86 -M prints them, or in lines SEGMENT:OFFSET NAME'
+        )
     check(path, found, image)
     return finished(found, image)
 
@@ -143,6 +146,7 @@ def check(path: str, found: Listing, image: dict[int, int]) -> None:
 
 def finished(found: Listing, image: dict[int, int]) -> Listing:
     """The lines with the program's own bytes, by their addresses too."""
+
     def told(line: Line) -> Line:
         far = line.address
         return replace(line, shown=bytes(image.get(physical(far[0], far[1] + it), 0) for it in range(8))) if far else line

@@ -14,6 +14,7 @@ TEXT_MEMORY, WORDS = 0xB0000, 2048
 @dataclass(frozen=True)
 class Cell:
     """A cell as the display shows it (IBM PC Technical Reference, "IBM Monochrome Display and Parallel Printer Adapter")."""
+
     sign: str
     is_bright: bool = False
     is_underlined: bool = False
@@ -31,7 +32,7 @@ def plain_cells(screen: list[str]) -> list[list[Cell]]:
 
 
 def shown(memory: bytes, word: int) -> str:
-    """The character that a word of text memory shows (docs/CHIPS.md, "The text adapter")."""
+    """The character that a word of text memory shows (docs/chips.md, "The text adapter")."""
     code, attribute = memory[2 * word], memory[2 * word + 1]
     if code == 0 or attribute & 0x77 == 0:
         return ' '
@@ -41,22 +42,23 @@ def shown(memory: bytes, word: int) -> str:
 def starts(screen: list[str], memory: bytes) -> list[int]:
     """The start addresses with which text memory shows this screen; the adapter's own can't be read."""
     signs, wanted = ''.join(shown(memory, it) for it in range(WORDS)) * 2, ''.join(screen)
-    return [it for it in range(WORDS) if signs[it:it + ROWS * COLUMNS] == wanted]
+    return [it for it in range(WORDS) if signs[it : it + ROWS * COLUMNS] == wanted]
 
 
 def cells_at(screen: list[str], memory: bytes, start: int) -> list[list[Cell]]:
     """The screen's cells where the adapter starts at this word."""
+
     def attribute(place: int) -> int:
         return memory[2 * ((start + place) % WORDS) + 1]
-    return [[cell_of(sign, attribute(COLUMNS * row + column)) for column, sign in enumerate(line)]
-            for row, line in enumerate(screen)]
+
+    return [[cell_of(sign, attribute(COLUMNS * row + column)) for column, sign in enumerate(line)] for row, line in enumerate(screen)]
 
 
 def look_alike(memory: bytes, found: list[int]) -> bool:
     """Whether the screen's cells have the same attributes from each of these start addresses on, as far as they are seen."""
     cells = [cell_of(' ', memory[2 * it + 1]) for it in range(WORDS)]
     looks = bytes(it.is_bright + 2 * it.is_underlined + 4 * it.is_reverse for it in cells) * 2
-    first = looks[found[0]:found[0] + ROWS * COLUMNS]
+    first = looks[found[0] : found[0] + ROWS * COLUMNS]
     return all(looks.startswith(first, it) for it in found)
 
 

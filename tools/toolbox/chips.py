@@ -1,0 +1,189 @@
+"""What the chips hold at a clock, as `pcprobe` tells it (docs/probe.md), and what of it keeps an interrupt or a key away."""
+from __future__ import annotations
+
+import functools
+import os
+import subprocess
+from dataclasses import dataclass
+
+from toolbox.command import Sorry
+from toolbox.crates import Crates
+from toolbox.program import TOP, Files, refusal
+from toolbox.sources import files as sources_of
+
+BUILT = f'{TOP}/crates/pcprobe/out/pcprobe'
+UNBUILT = 'pcprobe tells what the chips hold, and none is built here of the present sources: dev/build pcprobe builds it, or name one in PCPROBE'
+END_OF_INTERRUPT = 'no end of interrupt (20h to port 20h)'
+
+
+@functools.cache
+def probe() -> str | None:
+    """The probe: $PCPROBE, else the one that is built here, where no source is newer, else none."""
+    name = os.environ.get('PCPROBE')
+    if name:
+        return name if os.access(name, os.X_OK) else None
+    return BUILT if os.access(BUILT, os.X_OK) and is_newest(BUILT) else None
+
+
+def is_newest(program: str) -> bool:
+    """Whether a program is no older than the sources of pcprobe."""
+    age = os.path.getmtime(program)
+    return all(os.path.getmtime(it) <= age for it in sources_of(Crates().below('pcprobe')))
+
+
+def chip_lines(files: Files, clock: int) -> list[str]:
+    """What the chips hold at a clock, a line for each chip and counter."""
+    name = probe()
+    if not name:
+        raise Sorry(UNBUILT)
+    done = subprocess.run([name, *files.words('')[1:]], input=f'go {clock}\nchips\n', capture_output=True, text=True, check=False)
+    if done.returncode:
+        raise Sorry(refusal(done.returncode, done.stderr))
+    clock_line, *lines = done.stdout.splitlines()
+    if clock_line != f'clock {clock}' or not lines or lines[0].startswith('fault'):
+        raise Sorry(f'pcprobe refuses: {(lines or [clock_line])[0]}')
+    return lines
+
+
+def values_of(name: str, words: list[str]) -> dict[str, str]:
+    """A line's values by their words."""
+    if name == 'speaker':
+        return {'level': words[0]}
+    if name == 'ports':
+        return {words[at]: ' '.join(words[at + 1 : at + 3]) for at in range(0, len(words), 3)}
+    if name == 'keyboard':
+        at = words.index('waiting')
+        return values_of('', words[:at]) | {'waiting': ' '.join(words[at + 1 :])}
+    if name == 'processor':
+        words = ['state', *words]
+    return dict(zip(words[::2], words[1::2]))
+
+
+@dataclass(frozen=True)
+class Controller:
+    """The interrupt controller's registers."""
+
+    requests: int
+    served: int
+    masked: int
+    lowest: int
+    is_asking: bool
+    awaited: str
+    is_8086: bool
+    special_mask: bool
+
+    @property
+    def is_ready(self) -> bool:
+        """Whether its initialisation has ended, in 8086 mode."""
+        return self.awaited == 'none' and self.is_8086
+
+    @property
+    def blocking(self) -> list[int]:
+        """The levels in service that keep back themselves and those after them, the highest priority first."""
+        held = self.served & ~self.masked if self.special_mask else self.served
+        return [it for it in ((self.lowest + n) % 8 for n in range(1, 9)) if held >> it & 1]
+
+
+@dataclass(frozen=True)
+class Chips:
+    """The chips' lines by their names, and in each line its values by their words."""
+
+    lines: dict[str, dict[str, str]]
+
+    @staticmethod
+    def of(lines: list[str]) -> Chips:
+        """These lines as chips."""
+        found = {}
+        for line in lines:
+            name, *words = line.split()
+            name = f'{name} {words.pop(0)}' if name == 'counter' else name
+            found[name] = values_of(name, words)
+        return Chips(found)
+
+    def value(self, line: str, word: str) -> str:
+        """The value behind a word of a line."""
+        return self.lines[line][word]
+
+    @property
+    def controller(self) -> Controller:
+        """The interrupt controller."""
+        it = self.lines['controller']
+        return Controller(
+            int(it['IRR'], 16), int(it['ISR'], 16), int(it['IMR'], 16), int(it['lowest']), it['INT'] == '1', it['awaits'], it['uPM'] == '1', it['SMM'] == '1'
+        )
+
+    @property
+    def waiting(self) -> list[int]:
+        """The key codes that wait."""
+        return [int(it, 16) for it in self.value('keyboard', 'waiting').split()]
+
+    @property
+    def latched(self) -> int | None:
+        """The code in the keyboard's latch."""
+        latch = self.value('keyboard', 'latch')
+        return None if latch == 'none' else int(latch, 16)
+
+    @property
+    def port_b(self) -> int:
+        """The lines of port B."""
+        return int(self.value('ports', 'B').split()[1], 16)
+
+    @property
+    def is_open(self) -> bool:
+        """Whether the processor takes requests: IF is 1."""
+        return self.value('processor', 'IF') == '1'
+
+    @property
+    def is_halted(self) -> bool:
+        """Whether HLT has halted it."""
+        return self.value('processor', 'state') == 'halted'
+
+
+def levels(byte: int) -> list[int]:
+    """The levels whose bits are 1."""
+    return [it for it in range(8) if byte >> it & 1]
+
+
+def of_requests(it: Controller) -> list[str]:
+    """Why the controller passes no request on, where levels ask."""
+    asking = levels(it.requests)
+    if it.is_asking or not asking:
+        return []
+    if not it.is_ready:
+        sequence = f'its initialisation waits for {it.awaited}' if it.awaited != 'none' else "it isn't in 8086 mode (bit 0 of ICW4)"
+        return [f'IR{asking[0]} asks, and the interrupt controller takes nothing: {sequence}']
+    told = [f'IR{level} asks, and is masked' for level in asking if it.masked >> level & 1]
+    kept = [level for level in asking if not it.masked >> level & 1]
+    if kept and it.blocking:
+        served = f'IR{it.blocking[0]}'
+        asks = f'{served} asks again, and' if kept[0] == it.blocking[0] else f'IR{kept[0]} asks, and {served}'
+        told.append(f'{asks} is still in service: {END_OF_INTERRUPT} has come since it was taken')
+    return told
+
+
+def of_the_timer(it: Chips) -> list[str]:
+    """Whether a halted processor waits for a tick that no count brings."""
+    controller = it.controller
+    waits = it.is_halted and controller.is_ready and not controller.requests and not controller.masked & 1
+    if not waits or it.value('counter 0', 'newest') != 'none':
+        return []
+    return ['the processor waits for an interrupt, and IR0 comes from counter 0, which no count has been written to']
+
+
+def of_keys(it: Chips) -> list[str]:
+    """Why key codes wait."""
+    if not it.waiting:
+        return []
+    what = f'{len(it.waiting)} key code{"s wait" if len(it.waiting) > 1 else " waits"}'
+    if it.port_b & 0x80:
+        return [f'{what}: line 7 of port B is 1 and empties the latch']
+    if it.latched is not None:
+        return [f"{what} behind {it.latched:02X}h in the latch, which line 7 of port B hasn't emptied"]
+    return [f'{what}: line 6 of port B is 0 and lets the keyboard send nothing'] if not it.port_b & 0x40 else []
+
+
+def facts(lines: list[str]) -> list[str]:
+    """What keeps an interrupt or a key away, as sentences: of interrupts where the processor takes them."""
+    chips = Chips.of(lines)
+    told = of_requests(chips.controller) + of_the_timer(chips) if chips.is_open else []
+    return told + of_keys(chips)

@@ -1,0 +1,122 @@
+"""What pcprobe tells of a run (docs/PROBE.md): where its clocks went, by `counts`, and its wires' changes, by `signals`."""
+from __future__ import annotations
+
+import itertools
+import subprocess
+from typing import Iterator, NoReturn, TypeVar
+
+from toolbox.command import Sorry
+from toolbox.places import Event, event_of
+from toolbox.program import Files, refusal
+
+PIECE = 20_000_000  # clocks that are made at once: an interrupt is seen behind them
+FIRST = 10_000
+LISTED = 200  # instructions that are listed at once
+NO_COMMAND, ENDED = '?', 'fault 51 BadCommand'  # a line that ends an answer of any length
+
+P = TypeVar('P', bound='Probe')
+
+
+class Probe:
+    """A session of pcprobe."""
+
+    def __init__(self, name: str, files: Files) -> None:
+        self._process = subprocess.Popen(
+            [name, *files.words('')[1:]], stdin=subprocess.PIPE, stdout=subprocess.PIPE, stderr=subprocess.PIPE, text=True, start_new_session=True
+        )  # the terminal's interrupt doesn't reach it
+        self._owed = 0
+
+    def __enter__(self: P) -> P:
+        return self
+
+    def __exit__(self, *_: object) -> None:
+        self._process.kill()
+        self._process.communicate()
+
+    def answers(self, commands: list[str]) -> list[str]:
+        """The lines that these are answered. An answer that an interrupt kept from being read comes before them."""
+        given, told = self._process.stdin, self._process.stdout
+        assert given and told
+        self._owed += 1
+        try:
+            given.write('\n'.join([*commands, NO_COMMAND]) + '\n')
+            given.flush()
+        except BrokenPipeError:
+            self._refuse()
+        lines = list[str]()
+        while self._owed:
+            line = told.readline()
+            if not line:
+                self._refuse()
+            if line.rstrip() == ENDED:
+                self._owed -= 1
+                lines = lines if not self._owed else []
+            else:
+                lines.append(line.rstrip('\n'))
+        fault = next((it for it in lines if it.startswith('fault')), None)
+        if fault:
+            raise Sorry(f'pcprobe refuses: {fault}')
+        return lines
+
+    def _refuse(self) -> NoReturn:
+        """A sentence for a session that ended."""
+        err = self._process.communicate()[1]
+        raise Sorry(refusal(self._process.returncode, err))
+
+
+class Counting(Probe):
+    """A session that counts a run piece by piece: of each name the times and clocks so far."""
+
+    def __init__(self, name: str, files: Files) -> None:
+        super().__init__(name, files)
+        self.clock, self.sums, self._latest = 0, dict[str, list[int]](), ''
+
+    def run(self, first: int, end: int) -> Iterator[int]:
+        """Counts the clocks from the first on and before the end, and tells how far it has come."""
+        self.answers([f'go {first}'])
+        self.clock = first
+        while self.clock < end:
+            clocks = min(PIECE, end - self.clock)
+            lines = self.answers([f'counts {clocks}', 'trail'])
+            size = lines.index(f'clock {self.clock + clocks}')
+            self._add(lines[:size], lines[size + 1 :])
+            self.clock += clocks
+            yield self.clock
+
+    def _add(self, lines: list[str], trail: list[str]) -> None:
+        """Adds a piece's counts. The clocks before its first beginning are those of what began last."""
+        before = int(lines[0].split()[1])
+        if self._latest:
+            self.sums[self._latest][1] += before
+        for line in lines[1:]:
+            name, times, clocks = line.rsplit(' ', 2)
+            row = self.sums.setdefault(name, [0, 0])
+            row[0] += int(times)
+            row[1] += int(clocks)
+        if len(lines) > 1:
+            _, place, *what = trail[-1].split(' ', 3)
+            self._latest = ' '.join(what[:2]) if what[0] == 'entry' else place
+
+    def events(self) -> Iterator[tuple[Event, int, int]]:
+        """What began, with its times and clocks: the instructions that stand there now, and entries."""
+        places = [it for it in self.sums if not it.startswith('entry')]
+        for at in range(0, len(places), LISTED):
+            for line in self.answers([f'list {it} 1' for it in places[at : at + LISTED]]):
+                event = event_of(f'0 {line}')
+                yield event, *self.sums[f'{event.segment:04X}:{event.offset:04X}']
+        for name in itertools.filterfalse(set(places).__contains__, self.sums):
+            yield event_of(f'0 0000:0000 {name}'), *self.sums[name]
+
+
+def wire_changes(name: str, files: Files, end: int) -> Iterator[tuple[int, str, int]]:
+    """The wires' changes in their order, of pieces each ten times as long as the one before, up to PIECE. Behind a piece stands
+    its clock, with no name."""
+    clock, piece = 0, FIRST
+    with Probe(name, files) as probe:
+        while clock < end:
+            clocks = min(piece, end - clock)
+            for line in probe.answers([f'signals {clocks}'])[:-1]:
+                at, wire, level = line.split()
+                yield int(at), wire, int(level)
+            clock, piece = clock + clocks, min(10 * piece, PIECE)
+            yield clock, '', 0
