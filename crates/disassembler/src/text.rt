@@ -1,6 +1,7 @@
 //! The text of an instruction.
 ghost use Rattle.std.specs.Prelude.{◌≡◌, Some, ◌++◌};
 ghost use Rattle.std.specs.List.{flat_map};
+ghost use Rattle.disassembler.specs.declared.written.Written.TheVariants.{Far, Short};
 ghost use Rattle.disassembler.specs.Text.{address_text, base_text, body_text, byte_text, instr_text, is_nop, memory_text, operand_text, operands_text, prefix_text, size_text, word_text};
 
 use crate::written::{Memory, Written, written_operand};
@@ -112,6 +113,35 @@ impl fmt::Display for Memory {
     }
 }
 
+/// A short target.
+#[derive(Clone, Copy)]
+struct Target(u16);
+
+impl fmt::Display for Target {
+    ghost output = { λ t. Some (operand_text (Short t.0)) };
+
+    fn fmt<W: fmt::Write>(&self, f: &mut fmt::Formatter<W>) -> fmt::Result {
+        let short = Keyword::Short.name();
+        let target = HexWord(self.0);
+        write!(f, "{short} {target}")
+    }
+}
+
+/// A far target, by its segment and offset.
+#[derive(Clone, Copy)]
+struct Pointer(u16, u16);
+
+impl fmt::Display for Pointer {
+    ghost output = { λ p. Some (operand_text (Far p.0 p.1)) };
+
+    fn fmt<W: fmt::Write>(&self, f: &mut fmt::Formatter<W>) -> fmt::Result {
+        let far = Keyword::Far.name();
+        let segment = HexWord(self.0);
+        let offset = HexWord(self.1);
+        write!(f, "{far} {segment}:{offset}")
+    }
+}
+
 impl fmt::Display for Written {
     ghost output = { λ w. Some (operand_text w) };
 
@@ -123,26 +153,11 @@ impl fmt::Display for Written {
                 write!(f, "{name}")
             }
             Written::One => write!(f, "1"),
-            Written::Byte(number) => {
-                let number = HexByte(number);
-                write!(f, "{number}")
-            }
-            Written::Word(number) => {
-                let number = HexWord(number);
-                write!(f, "{number}")
-            }
-            Written::Short(target) => {
-                let short = Keyword::Short.name();
-                let target = HexWord(target);
-                write!(f, "{short} {target}")
-            }
-            Written::Far(segment, offset) => {
-                let far = Keyword::Far.name();
-                let segment = HexWord(segment);
-                let offset = HexWord(offset);
-                write!(f, "{far} {segment}:{offset}")
-            }
-            Written::Memory(memory) => write!(f, "{memory}"),
+            Written::Byte(number) => fmt::Display::fmt(&HexByte(number), f),
+            Written::Word(number) => fmt::Display::fmt(&HexWord(number), f),
+            Written::Short(target) => fmt::Display::fmt(&Target(target), f),
+            Written::Far(segment, offset) => fmt::Display::fmt(&Pointer(segment, offset), f),
+            Written::Memory(memory) => fmt::Display::fmt(&memory, f),
         }
     }
 }
