@@ -15,8 +15,8 @@ use debugger::fault::DebugFault;
 use debugger::session::Session;
 use std::alloc::Global;
 
-/// Does what the line commands, and answers: an inquiry by itself, and any other line as the session does. An inquiry
-/// changes nothing, and is refused for want of memory alone, as `Memory`.
+/// Does what the line commands, and answers: an inquiry by itself, and any other line as the session does. `chips` and
+/// `list` change nothing; `counts` and `signals` make clocks. Where memory is wanted, an inquiry is refused as `Memory`.
 pub fn command(session: &mut Session, alloc: Global, line: &str) -> Result<Answer, DebugFault>
     ensures { AnswersProbe line.now session.old result session.new }
 {
