@@ -17,7 +17,6 @@ from tests.repository import KIT, LOGIC, Repository
 from tests.support import TOP, is_there
 from toolbox import program, release
 from toolbox.crates import Crates
-from toolbox.crates import KIT as KIT_HERE
 from toolbox.proved import Proved
 from toolbox.sources import sum_of, sum_of_sources
 
@@ -25,7 +24,6 @@ VERDICT = 'logic=proved functions=1 sum=0123456789abcdef native=nat'
 CRATES = {'pcboard': {'low', 'pcboard'}, 'zebludor_chips': {'low', 'zebludor_chips'}, 'zebludor_run': {'low', 'zebludor_run'}}
 NAME = release.name()
 HAS_CC = is_there('cc', 'a release', 'gcc')  # without it none is made, and no case here is run
-MEMORY = f'{KIT_HERE}/c/liblibc_c.a'
 NOBODY, SECONDS = 65534, 60
 # A bench in C. What it prints of the gate's library docs/parts.md works out by hand; stand-ins leave the zeros in it.
 BENCH = r"""#include "zebludor.h"
@@ -95,7 +93,6 @@ class Unpacked(Repository):
                 shutil.copy(source, f'{self.top}/{path}')
         os.makedirs(f'{self.top}/stored')
         shutil.copy(program.path(), f'{self.top}/stored/pcboard')
-        os.mkdir(f'{self.room}/c')
         self.file('top/crates.txt', 'low:\npcboard: low\nzebludor_chips staticlib: low\nzebludor_run staticlib: low\n')
         for name in release.LIBRARIES:
             for part in ('src', 'out'):
@@ -108,10 +105,6 @@ class Unpacked(Repository):
     def put_libraries(self) -> bool:
         """Puts the gate's libraries there; where one of them isn't there, stand-ins. Returns whether they are the gate's."""
         archives = [release.archive_of(Crates(), it) for it in release.LIBRARIES]
-        if os.path.isfile(MEMORY):
-            shutil.copy(MEMORY, f'{self.room}/c/liblibc_c.a')
-        else:
-            self.file('c/liblibc_c.a', '!<arch>\n')
         if all(map(os.path.isfile, archives)):
             for path in archives:
                 shutil.copy(path, f'{self.top}/{os.path.relpath(path, TOP)}')
@@ -363,8 +356,8 @@ class Libraries(Unpacked):
             check=True,
             env={'PATH': '/usr/bin:/bin', 'PKG_CONFIG_PATH': f'{top}/lib/pkgconfig'},
         ).stdout
-        self.assertRegex(told, r' -L\S+/lib -l:libzebludor_run\.a -l:liblibc_c\.a ?\n\Z')
-        if not self.is_real or not os.path.isfile(MEMORY):
+        self.assertRegex(told, r' -L\S+/lib -l:libzebludor_run\.a -l:libzebludor_memory\.a ?\n\Z')
+        if not self.is_real:
             print('not run: whole runs in C from a release; dev/benches builds their library')
             return
         subprocess.run(['cc', '-std=c11', f'{top}/c/benches/runs.c', *shlex.split(told), '-o', f'{self.room}/runs'], check=True)
@@ -416,13 +409,10 @@ class Lacking(Unpacked):
     def test_another_kit(self) -> None:
         self.note('zebludor_chips', kit='rattle-kit-0')
         self.refused('rattle-kit-0 made it, and rattle-kit-1 stored/pcboard')
-        for name in CRATES:
-            self.note(name, kit='rattle-kit-0')
-        self.refused("Rattle's kit is rattle-kit-1, and rattle-kit-0 made stored/pcboard")
 
     def test_no_kit(self) -> None:
         os.remove(f'{self.room}/bin/rt')
-        self.refused("rt is not on the path")
+        self.archive()
 
     def test_what_is_not_committed(self) -> None:
         git = ('git', '-C', self.top, '-c', 'user.name=it', '-c', 'user.email=it')

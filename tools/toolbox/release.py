@@ -13,7 +13,7 @@ from typing import Iterator
 
 from toolbox import proved
 from toolbox.command import Sorry
-from toolbox.crates import KIT, TOP, Crates
+from toolbox.crates import TOP, Crates
 from toolbox.proved import STORED, TARGET, Proved
 from toolbox.sources import sum_of, sum_of_sources
 
@@ -23,7 +23,7 @@ FOLDERS = ('c', 'docs', 'editors', 'examples', 'python', 'tools')
 LEFT_OUT = ('tools/test', 'tools/tests', 'editors/grammar')  # which want the sources
 LIBRARIES = {'zebludor_chips': 'timer, interrupt controller and parallel port of an IBM PC 5150', 'zebludor_run': 'whole runs of an IBM PC 5150'}
 SHARED = 'lib/libzebludor_chips.so'
-MEMORY = 'lib/liblibc_c.a'  # by which whole runs call malloc, realloc and free
+MEMORY = 'lib/libzebludor_memory.a'  # c/memory.c, by which whole runs call malloc, realloc and free
 TIME = 315532800  # of every file: the first second of 1980, the earliest that other kinds of archives have too
 PACKAGE = """prefix=${{pcfiledir}}/../..
 libdir=${{prefix}}/lib
@@ -57,9 +57,8 @@ def lacking() -> list[str]:
     """A sentence for each thing that a release wants and that isn't here, or isn't of the present sources, with what makes it so."""
     crates = Crates()
     found = [f"{it} isn't there" for it in (*FILES, *FOLDERS) if not os.path.exists(f'{TOP}/{it}')]
-    found += filter(None, (of_program(crates), *(of_library(crates, it) for it in LIBRARIES), of_kit()))
-    if not shutil.which('cc'):
-        found.append('cc, which links the shared library, is not on the path')
+    found += filter(None, (of_program(crates), *(of_library(crates, it) for it in LIBRARIES)))
+    found += [f'{it}, which makes the libraries, is not on the path' for it in ('cc', 'ar') if not shutil.which(it)]
     return found + [f"{it} isn't as it was committed; a release has what a commit has" for it in uncommitted()]
 
 
@@ -97,16 +96,6 @@ def of_library(crates: Crates, crate: str) -> str | None:
     return why and f"{short} isn't taken: {why}; {build}"
 
 
-def of_kit() -> str | None:
-    """What is amiss with the kit, of which the archive has what whole runs call for memory."""
-    stored = proved.read(STORED)
-    if not shutil.which('rt'):
-        return "Rattle's kit, whose c/liblibc_c.a goes along, isn't there: rt is not on the path"
-    if stored and proved.version() != (stored.kit, stored.logic):
-        return f"Rattle's kit is {proved.version()[0]}, and {stored.kit} made stored/{TARGET}"
-    return None if os.path.isfile(f'{KIT}/c/liblibc_c.a') else f"{KIT}/c/liblibc_c.a isn't there"
-
-
 def uncommitted() -> list[str]:
     """The files of a release that are changed or new since the last commit, where this is a clone."""
     if not os.path.exists(f'{TOP}/.git'):
@@ -135,27 +124,30 @@ def paths() -> list[str]:
 
 def shared(archive: str) -> bytes:
     """A static library as a shared one, which has nothing of the compiler's own files, names or times."""
+    name_of_it = os.path.basename(SHARED)
+    whole = [f'-Wl,-soname,{name_of_it}', '-Wl,--build-id=none', '-Wl,--whole-archive', archive, '-Wl,--no-whole-archive', '-Wl,--no-undefined']
     with tempfile.TemporaryDirectory() as room:
-        path = f'{room}/{os.path.basename(SHARED)}'
-        words = [
-            'cc',
-            '-shared',
-            '-nostartfiles',
-            '-s',
-            '-o',
-            path,
-            f'-Wl,-soname,{os.path.basename(SHARED)}',
-            '-Wl,--build-id=none',
-            '-Wl,--whole-archive',
-            archive,
-            '-Wl,--no-whole-archive',
-            '-Wl,--no-undefined',
-        ]
-        done = subprocess.run(words, capture_output=True, text=True, check=False)
-        if done.returncode:
-            raise Sorry(f'cc makes no shared library of {archive}: {done.stderr.strip()[-500:]}')
+        path = f'{room}/{name_of_it}'
+        made_by(['cc', '-shared', '-nostartfiles', '-s', '-o', path, *whole], f'shared library of {archive}')
         with open(path, 'rb') as file:
             return file.read()
+
+
+def memory() -> bytes:
+    """c/memory.c as a static library."""
+    with tempfile.TemporaryDirectory() as room:
+        path = f'{room}/{os.path.basename(MEMORY)}'
+        made_by(['cc', '-std=c11', '-O2', '-fPIC', '-c', '-o', f'{room}/memory.o', f'{TOP}/c/memory.c'], 'object of c/memory.c')
+        made_by(['ar', 'rcD', path, f'{room}/memory.o'], 'library of c/memory.c')
+        with open(path, 'rb') as file:
+            return file.read()
+
+
+def made_by(words: list[str], what: str) -> None:
+    """Has a compiler's command make something."""
+    done = subprocess.run(words, capture_output=True, text=True, check=False)
+    if done.returncode:
+        raise Sorry(f'{words[0]} makes no {what}: {done.stderr.strip()[-500:]}')
 
 
 def package(crate: str) -> str:
@@ -184,12 +176,13 @@ def contents() -> dict[str, tuple[bytes, bool]]:
     """All files of a release by their paths: what each holds, and whether it may be started."""
     crates = Crates()
     found: dict[str, tuple[bytes, bool]] = {}
-    taken = {it: f'{TOP}/{it}' for it in paths()} | {MEMORY: f'{KIT}/c/liblibc_c.a'}
+    taken = {it: f'{TOP}/{it}' for it in paths()}
     taken |= {f'lib/lib{it}.a': archive_of(crates, it) for it in LIBRARIES}
     for path, source in taken.items():
         with open(source, 'rb') as file:
             found[path] = file.read(), not path.startswith('lib/') and os.access(source, os.X_OK)
     found[SHARED] = shared(archive_of(crates, 'zebludor_chips')), False
+    found[MEMORY] = memory(), False
     found['RELEASE'] = verdicts_of(crates).encode(), False
     for crate in LIBRARIES:
         found[f'lib/pkgconfig/{crate}.pc'] = package(crate).encode(), False

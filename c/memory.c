@@ -1,0 +1,32 @@
+/* The memory of whole runs: the three calls that libzebludor_run.a makes, over malloc, realloc and free. Compile it with your
+   program, or define the three over an allocator of your own. zebludor_run and zebludor_run_hex free all that they took. */
+#include <stdbool.h>
+#include <stddef.h>
+#include <stdlib.h>
+
+struct tried {
+    bool is_there;
+    void *block;
+};
+
+/* Where a call fails, its block is no null pointer either, as Rust's pointers are none. */
+static char nothing;
+
+static struct tried tried(void *block) {
+    return (struct tried){block != NULL, block ? block : &nothing};
+}
+
+/* A new block. The alignment divides 16, as that of each block of malloc does; a block of no bytes has a place of its own. */
+struct tried rattle_alloc(size_t size, size_t alignment) {
+    return tried(malloc(size ? size : alignment));
+}
+
+/* The block with another size, its first bytes kept, maybe elsewhere; where that fails, the block is as it was. */
+struct tried rattle_realloc(void *block, size_t kept, size_t size, size_t alignment) {
+    (void)kept;
+    return tried(realloc(block, size ? size : alignment));
+}
+
+void rattle_dealloc(void *block) {
+    free(block);
+}
