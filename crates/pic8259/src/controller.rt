@@ -101,7 +101,7 @@ impl Model for Pic {
 
 impl Pic {
     ghost use Rattle.pic8259.specs.Image.{pic_of};
-    ghost use Rattle.pic8259.specs.Levels.{all_levels, no_levels, up_to};
+    ghost use Rattle.pic8259.specs.Levels.{all_levels, contains, no_levels, up_to};
     ghost use Rattle.pic8259.specs.Pic.{power_on, is_requesting, is_ready, asks, is_pending, requests, blocks, may_be_taken, level_to_take, after_taking, after_acknowledge, vector, poll_byte, byte_at, after_read, after_line, after_icw1, after_icw2, after_icw3, after_icw4, after_ocw1, after_word, after_end, after_lowering, highest_served, after_ocw2, after_ocw3, after_command, after_write, is_operating, expected_after_icw3};
 
     /// A controller at power-on: every line low, nothing masked or in service, edge mode, no initialisation
@@ -202,6 +202,14 @@ impl Pic {
                 self.high.insert(n);
             }
         }
+    }
+
+    /// Whether level `n`, from 0 to 7, has risen since it was last taken.
+    pub fn has_risen(&self, n: u8) -> bool
+        requires { n < 8 }
+        ensures { result ≡ contains self.now.risen n }
+    {
+        self.risen.contains(n)
     }
 
     /// Reads at address line A0. A pending poll is answered at either port: it takes a level as an acknowledge does
