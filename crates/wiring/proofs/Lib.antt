@@ -16,5 +16,6 @@ pub mod Entries
 pub mod Speaker
 pub mod Behind
 pub mod Leap
+pub mod Alone
 pub mod Edges
 mod Rows

@@ -107,7 +107,7 @@ ppi_of_clock : (s : ChipsState) → (after_clock s).ppi ≡ s.ppi
 unfolding after_clock after_settling
 ppi_of_clock s = refl
 
-ppi_of_clocks : (s : ChipsState) (n : ℕ) → (after_clocks s n).ppi ≡ s.ppi
+pub ppi_of_clocks : (s : ChipsState) (n : ℕ) → (after_clocks s n).ppi ≡ s.ppi
 ppi_of_clocks s zero = ap (λ (t : ChipsState). t.ppi) (iterate_zero after_clock s)
 ppi_of_clocks s (suc n) =
     let more : suc n ≡ n + 1 = omega arith in

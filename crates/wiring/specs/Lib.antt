@@ -8,3 +8,4 @@ pub mod Laws
 pub mod Timer
 pub mod Edges
 pub mod Leap
+pub mod Alone
