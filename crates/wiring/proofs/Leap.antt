@@ -1,5 +1,5 @@
 -- Settled wires stay settled while OUT0 stays, so that clocks can be leapt over.
-use Rattle.std.proofs.Common.{◌≡◌, ℕ, zero, suc, ◌+◌, ◌-◌, ◌%◌, ◌≤◌, sym, ap, ◌∙◌, arith}
+use Rattle.std.proofs.Common.{◌≡◌, ℕ, zero, suc, ◌+◌, ◌-◌, ◌%◌, ◌≤◌, true, sym, ap, ◌∙◌, arith}
 use Rattle.std.specs.Prelude.{◌==◌, is_some}
 use Rattle.board_types.proofs.Iterate.{iterate_zero, iterate_more, iterate_add}
 use Rattle.board_types.specs.Timed.{IsSteady}
@@ -8,7 +8,8 @@ use Rattle.board_types.specs.Lines.{from_bool}
 use Rattle.memory.specs.Map.{MemoryMap}
 use Rattle.mda_text.specs.Mda as mda
 use Rattle.mda_text.specs.Mda.{MdaState}
-use Rattle.pic8259.specs.Pic.{after_line}
+use Rattle.pic8259.specs.Levels.{contains}
+use Rattle.pic8259.specs.Pic.{PicState, after_line}
 use Rattle.pit8253.proofs.PitTicks.{each_counter}
 use Rattle.pit8253.specs.Counter as one
 use Rattle.pit8253.specs.Counter.{CounterState, out_of}
@@ -19,6 +20,7 @@ use Rattle.wiring.specs.Edges.{ticks_between}
 use Rattle.wiring.specs.Leap.{IsStill, leapt}
 use Rattle.wiring.specs.Wires.{port_b_line, after_latch_wire, after_gate_wire, after_request_wires, pit_after_clock, after_settling, after_clock, after_clocks}
 use Rattle.wiring.proofs.Behind.{gate_stays}
+use Rattle.wiring.proofs.Requests.{risen_line}
 use Rattle.wiring.proofs.Ticks.{more_ticks, quarter}
 
 -- settled wires, one by one
@@ -103,6 +105,57 @@ pub clocks_to_turn : (n : ℕ) (s : ChipsState) → 1 ≤ n → after_settling s
 clocks_to_turn n s some still steady =
     let whole : n - 1 + 1 ≡ n = omega (arith, some) in
     ap (λ k. after_clocks s k) (sym whole) ∙ leap_then_settle (n - 1) s (clocks_leap (n - 1) s still steady) ∙ ap (λ k. after_settling (leapt s k)) whole
+
+-- once IR0 has risen, and until it is taken, OUT0's last level alone counts
+
+wires_behind : (s : ChipsState) (clock : ℕ) (p : PitState) (m : MdaState) (c : PicState) → Settled s → after_gate_wire p s.ppi ≡ p
+    → after_settling (record s { clock = clock; pit = p; mda = m; pic = c }) ≡ record s { clock = clock; pit = p; mda = m; pic = after_request_wires c p s.keyboard }
+unfolding after_settling
+wires_behind s clock p m c parts gate =
+    let t : ChipsState = record s { clock = clock; pit = p; mda = m } in
+    let wired : PitState = after_gate_wire p s.ppi in
+    ap (λ k. record t { keyboard = k; pit = wired; pic = after_request_wires c wired k }) parts.latch
+    ∙ ap (λ q. record t { pit = q; pic = after_request_wires c q s.keyboard }) gate
+
+-- a clock behind clocks that were leapt over
+settle_later : (n : ℕ) (s : ChipsState) → after_settling s ≡ s → contains s.pic.risen 0 ≡ true → after_clock (after_settling (leapt s n)) ≡ after_settling (leapt s (n + 1))
+unfolding after_clock
+settle_later n s still risen =
+    let parts : Settled s = settled_parts s still in
+    let now : ℕ = ticks_between s.clock (s.clock + n) in
+    let next : ℕ = ticks_between s.clock (s.clock + (n + 1)) in
+    let there : PitState = pit.after_ticks s.pit now in
+    let behind : PitState = pit.after_ticks s.pit next in
+    let beam : MdaState = mda.after_clocks s.mda (n + 1) in
+    let full : Line = from_bool (is_some s.keyboard.latch) in
+    let same : ticks_between s.clock (s.clock + suc n) ≡ next = omega arith in
+    let ticked : pit_after_clock there (s.clock + n + 1) ≡ behind =
+    more_ticks ((s.clock + n + 1) % 4 == 0) s.pit now ∙ ap (λ k. pit.after_ticks s.pit k) (quarter s.clock n ∙ same) in
+    let moved : mda.after_clock (mda.after_clocks s.mda n) ≡ beam = sym (iterate_more mda.after_clock n s.mda) in
+    let requests : PicState = after_request_wires s.pic there s.keyboard in
+    let gate : after_gate_wire behind s.ppi ≡ behind = gate_stays next s.pit (port_b_line s.ppi 0) parts.gate in
+    ap after_clock (wires_behind s (s.clock + n) there (mda.after_clocks s.mda n) s.pic parts (gate_stays now s.pit (port_b_line s.ppi 0) parts.gate))
+    ∙ ap (λ p. after_settling (record s { clock = s.clock + n + 1; pit = p; mda = mda.after_clock (mda.after_clocks s.mda n); pic = requests })) ticked
+    ∙ ap (λ m. after_settling (record s { clock = s.clock + n + 1; pit = behind; mda = m; pic = requests })) moved
+    ∙ ap (λ c. after_settling (record s { clock = c; pit = behind; mda = beam; pic = requests })) (omega arith)
+    ∙ wires_behind s (s.clock + (n + 1)) behind beam requests parts gate
+    ∙ ap (λ c. record s { clock = s.clock + (n + 1); pit = behind; mda = beam; pic = c })
+    (risen_line s.pic 0 1 there.counter_0.out behind.counter_0.out full (omega arith) (omega arith) risen)
+    ∙ sym (wires_behind s (s.clock + (n + 1)) behind beam s.pic parts gate)
+
+risen_more : (n : ℕ) (s : ChipsState) → after_settling s ≡ s → contains s.pic.risen 0 ≡ true → after_clocks s (n + 1) ≡ after_settling (leapt s (n + 1))
+risen_more zero s still risen = one_clock s
+risen_more (suc n) s still risen =
+    let more : suc n ≡ n + 1 = omega arith in
+    iterate_more after_clock (suc n) s
+    ∙ ap after_clock (ap (λ k. after_clocks s k) more ∙ risen_more n s still risen ∙ ap (λ k. after_settling (leapt s k)) (sym more))
+    ∙ settle_later (suc n) s still risen
+
+-- clocks behind which alone the wires settle
+pub risen_clocks : (n : ℕ) (s : ChipsState) → 1 ≤ n → after_settling s ≡ s → contains s.pic.risen 0 ≡ true → after_clocks s n ≡ after_settling (leapt s n)
+risen_clocks n s some still risen =
+    let whole : n - 1 + 1 ≡ n = omega (arith, some) in
+    ap (λ k. after_clocks s k) (sym whole) ∙ risen_more (n - 1) s still risen ∙ ap (λ k. after_settling (leapt s k)) whole
 
 pub settled_leap : (n : ℕ) (s : ChipsState) → after_settling s ≡ s → IsStill s n → after_settling (leapt s n) ≡ leapt s n
 settled_leap n s still steady =

@@ -1,7 +1,8 @@
 -- The two request lines that the board drives, settled twice to the same levels.
 use Rattle.std.proofs.Common.{◌≡◌, ◌≢◌, ℕ, Bool, true, false, if◌then◌else◌, length, get_or, slice_set, refl, sym, ap, ◌∙◌, inl, inr, arith}
 use Rattle.std.proofs.lemmas.Bool.{cases_lt}
-use Rattle.std.proofs.lemmas.List.{get_or_past, get_or-set_same, get_or-set_other, set-get_or, set_comm, length-set}
+use Rattle.std.proofs.lemmas.List.{get_or_past, get_or-set_same, get_or-set_other, set-get_or, set-set, set_comm, length-set}
+use Rattle.board_types.specs.Lines.{is_high}
 use Rattle.board_types.specs.declared.line.Line.{Line}
 use Rattle.board_types.specs.declared.line.Line.TheVariants.{Low, High}
 use Rattle.pic8259.specs.Levels.{Levels, contains, with_level, without_level}
@@ -71,3 +72,29 @@ both_lines_twice s n m a b differ back =
     ap (λ t. after_line t n a) (lines_either (after_line s m b) m n b a back differ)
     ∙ line_twice (after_line (after_line s m b) m b) n a
     ∙ ap (λ t. after_line t n a) (line_twice s m b)
+
+-- once a level has risen, its line leaves nothing behind but whether it is high
+
+risen_stays : (was_high : Bool) (level : ℕ) (risen : Levels) → contains risen level ≡ true → risen_by was_high level risen ≡ risen
+risen_stays true level risen is_in = refl
+risen_stays false level risen is_in = ap (λ b. slice_set risen level b) (sym is_in) ∙ set-get_or risen level false
+
+line_of_risen : (s : PicState) (level : ℕ) (line : Line) → contains s.risen level ≡ true → after_line s level line ≡ record s { high = slice_set s.high level (is_high line) }
+unfolding after_line
+line_of_risen s level Low is_in = refl
+line_of_risen s level High is_in = ap (λ risen. record s { high = with_level s.high level; risen = risen }) (risen_stays (contains s.high level) level s.risen is_in)
+
+line_again : (s : PicState) (level : ℕ) (a b : Line) → contains s.risen level ≡ true → after_line (after_line s level a) level b ≡ after_line s level b
+line_again s level a b is_in =
+    ap (λ t. after_line t level b) (line_of_risen s level a is_in)
+    ∙ line_of_risen (record s { high = slice_set s.high level (is_high a) }) level b is_in
+    ∙ ap (λ high. record s { high = high }) (set-set s.high level (is_high a) (is_high b))
+    ∙ sym (line_of_risen s level b is_in)
+
+-- so it is with another line that keeps its level
+pub risen_line : (s : PicState) (n m : ℕ) (a b k : Line) → n ≢ m → m ≢ n → contains s.risen n ≡ true
+    → after_line (after_line (after_line (after_line s n a) m k) n b) m k ≡ after_line (after_line s n b) m k
+risen_line s n m a b k differ back is_in =
+    ap (λ t. after_line t m k) (lines_either (after_line s n a) n m b k differ back)
+    ∙ line_twice (after_line (after_line s n a) n b) m k
+    ∙ ap (λ t. after_line t m k) (line_again s n a b is_in)
