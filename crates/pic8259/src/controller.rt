@@ -235,8 +235,10 @@ impl Pic {
     /// the initialisation sequence waits for, and else the mask ("Programming the 8259A").
     #[tactic(auto, unfolding(crate::specs::Pic::after_write, crate::specs::Pic::after_word))]
     pub fn write(&mut self, a0: bool, value: u8)
-        ensures { self.new ≡ after_write self.old a0 value }
+        ensures state { self.new ≡ after_write self.old a0 value }
+        ensures lines { length self.old.high ≡ 8 }
     {
+        self.high.has_eight();
         if !a0 {
             self.write_command(value);
             return;
@@ -262,7 +264,9 @@ impl Pic {
     pub fn acknowledge(&mut self) -> u8
         ensures vector { result ≡ vector self.old }
         ensures state { self.new ≡ after_acknowledge self.old }
+        ensures lines { length self.old.high ≡ 8 }
     {
+        self.high.has_eight();
         let base = self.vector_base();
         match self.take_level() {
             Some(level) => base + level,

@@ -1,5 +1,5 @@
 //! A set of interrupt levels.
-ghost use Rattle.std.specs.Prelude.{◌≡◌, ◌<◌, ◌&&◌, ◌↔◌, IsTrue, map, not};
+ghost use Rattle.std.specs.Prelude.{◌≡◌, ◌<◌, ◌&&◌, ◌↔◌, IsTrue, length, map, not};
 ghost use Rattle.pic8259.specs.Levels.{all_levels, no_levels, contains, with_level, without_level, byte_of, levels_of};
 ghost use Rattle.pic8259.specs.Masks.{in_both};
 
@@ -45,6 +45,14 @@ impl LevelSet {
         ensures levels { levels_of result ≡ self }
     {
         self.mask
+    }
+
+    /// There is a place in it for each of the eight levels.
+    #[inline(always)]
+    pub(crate) fn has_eight(self)
+        ensures { length self ≡ 8 }
+    {
+        let _ = &self.mask;
     }
 
     /// Whether `level` is in the set.
