@@ -32,14 +32,14 @@ level_of_line : (b : Bool) → is_high (from_bool b) ≡ b
 level_of_line true = refl
 level_of_line false = refl
 
-second_line : (high : Levels) (zeroth first : Bool) → length high ≡ 8 → contains (slice_set (slice_set high 0 zeroth) 1 first) 1 ≡ first
+pub second_line : (high : Levels) (zeroth first : Bool) → length high ≡ 8 → contains (slice_set (slice_set high 0 zeroth) 1 first) 1 ≡ first
 second_line high zeroth first eight =
     let size = length-set high 0 zeroth in get_or-set_same (slice_set high 0 zeroth) 1 first false (omega arith)
 
 below : (n m : ℕ) → n < m → n ≢ m
 below n m less same = omega arith
 
-first_line : (high : Levels) (zeroth first : Bool) → length high ≡ 8 → contains (slice_set (slice_set high 0 zeroth) 1 first) 0 ≡ zeroth
+pub first_line : (high : Levels) (zeroth first : Bool) → length high ≡ 8 → contains (slice_set (slice_set high 0 zeroth) 1 first) 0 ≡ zeroth
 first_line high zeroth first eight =
     get_or-set_other (slice_set high 0 zeroth) 1 0 first false (below 0 1 (omega arith)) ∙ get_or-set_same high 0 zeroth false (omega arith)
 

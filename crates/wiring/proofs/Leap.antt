@@ -1,10 +1,10 @@
 -- Settled wires stay settled while OUT0 stays, so that clocks can be leapt over.
-use Rattle.std.proofs.Common.{◌≡◌, ℕ, zero, suc, ◌+◌, ◌-◌, ◌%◌, ◌≤◌, true, sym, ap, ◌∙◌, arith}
+use Rattle.std.proofs.Common.{◌≡◌, ℕ, zero, suc, ◌+◌, ◌-◌, ◌%◌, ◌≤◌, true, length, slice_set, sym, ap, ◌∙◌, arith}
 use Rattle.std.specs.Prelude.{◌==◌, is_some}
 use Rattle.board_types.proofs.Iterate.{iterate_zero, iterate_more, iterate_add}
 use Rattle.board_types.specs.Timed.{IsSteady}
 use Rattle.board_types.specs.declared.line.Line.{Line}
-use Rattle.board_types.specs.Lines.{from_bool}
+use Rattle.board_types.specs.Lines.{from_bool, is_high}
 use Rattle.memory.specs.Map.{MemoryMap}
 use Rattle.mda_text.specs.Mda as mda
 use Rattle.mda_text.specs.Mda.{MdaState}
@@ -19,8 +19,9 @@ use Rattle.wiring.specs.Chips.{ChipsState}
 use Rattle.wiring.specs.Edges.{ticks_between}
 use Rattle.wiring.specs.Leap.{IsStill, leapt}
 use Rattle.wiring.specs.Wires.{port_b_line, after_latch_wire, after_gate_wire, after_request_wires, pit_after_clock, after_settling, after_clock, after_clocks}
+use Rattle.wiring.proofs.Agreement.{first_line, high_after_requests, second_line}
 use Rattle.wiring.proofs.Behind.{gate_stays}
-use Rattle.wiring.proofs.Requests.{risen_line}
+use Rattle.wiring.proofs.Requests.{risen_line, same_line}
 use Rattle.wiring.proofs.Ticks.{more_ticks, quarter}
 
 -- settled wires, one by one
@@ -156,6 +157,22 @@ pub risen_clocks : (n : ℕ) (s : ChipsState) → 1 ≤ n → after_settling s �
 risen_clocks n s some still risen =
     let whole : n - 1 + 1 ≡ n = omega (arith, some) in
     ap (λ k. after_clocks s k) (sym whole) ∙ risen_more (n - 1) s still risen ∙ ap (λ k. after_settling (leapt s k)) whole
+
+-- with a controller whose lines are as they were, settled wires are settled as well
+pub same_lines_settled : (s : ChipsState) (p : PicState) → length s.pic.high ≡ 8 → after_settling s ≡ s → p.high ≡ s.pic.high → after_settling (record s { pic = p }) ≡ record s { pic = p }
+same_lines_settled s p eight still same =
+    let parts : Settled s = settled_parts s still in
+    let zeroth : Line = s.pit.counter_0.out in
+    let first : Line = from_bool (is_some s.keyboard.latch) in
+    let lines : slice_set (slice_set s.pic.high 0 (is_high zeroth)) 1 (is_high first) ≡ s.pic.high =
+    sym (high_after_requests s.pic s.pit s.keyboard) ∙ ap (λ (c : PicState). c.high) parts.lines in
+    let first_stays : contains p.high 1 ≡ is_high first =
+    ap (λ high. contains high 1) (same ∙ sym lines) ∙ second_line s.pic.high (is_high zeroth) (is_high first) eight in
+    let zeroth_stays : contains p.high 0 ≡ is_high zeroth =
+    ap (λ high. contains high 0) (same ∙ sym lines) ∙ first_line s.pic.high (is_high zeroth) (is_high first) eight in
+    wires_behind s s.clock s.pit s.mda p parts parts.gate
+    ∙ ap (λ c. record s { pic = c })
+    (ap (λ c. after_line c 1 first) (same_line p 0 zeroth zeroth_stays) ∙ same_line p 1 first first_stays)
 
 pub settled_leap : (n : ℕ) (s : ChipsState) → after_settling s ≡ s → IsStill s n → after_settling (leapt s n) ≡ leapt s n
 settled_leap n s still steady =

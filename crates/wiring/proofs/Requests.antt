@@ -98,3 +98,12 @@ risen_line s n m a b k differ back is_in =
     ap (λ t. after_line t m k) (lines_either (after_line s n a) n m b k differ back)
     ∙ line_twice (after_line (after_line s n a) n b) m k
     ∙ ap (λ t. after_line t m k) (line_again s n a b is_in)
+
+-- a line that keeps its level changes nothing
+pub same_line : (s : PicState) (level : ℕ) (line : Line) → contains s.high level ≡ is_high line → after_line s level line ≡ s
+unfolding after_line
+same_line s level Low is =
+    ap (λ b. record s { high = slice_set s.high level b }) (sym is) ∙ ap (λ high. record s { high = high }) (set-get_or s.high level false)
+same_line s level High is =
+    ap (λ b. record s { high = slice_set s.high level true; risen = risen_by b level s.risen }) is
+    ∙ ap (λ b. record s { high = slice_set s.high level b }) (sym is) ∙ ap (λ high. record s { high = high }) (set-get_or s.high level false)
