@@ -5,6 +5,7 @@ ghost use Rattle.execute_machine.specs.Stack.{after_entry, after_entry_pushes, a
 
 use crate::location::{read_word, write_word};
 use crate::registers::Registers;
+use crate::words::{Words, push_word, word_from};
 use bus::Bus;
 
 /// Lowers SP by 2 and writes the word there.
@@ -75,4 +76,40 @@ pub fn enter<B: Bus>(bus: &mut B, registers: &mut Registers, kind: u8)
 {
     push_state(bus, registers);
     take_vector(bus, registers, kind);
+}
+
+/// The same over a bus whose words are reached at once.
+#[tactic(auto, unfolding(crate::specs::Stack::after_entry))]
+pub fn enter_at_once<B: Words>(bus: &mut B, registers: &mut Registers, kind: u8)
+    ensures { machine registers.new (B.state bus.new)
+        ≡ after_entry B.meaning (machine registers.old (B.state bus.old)) kind }
+{
+    push_state_at_once(bus, registers);
+    take_vector_at_once(bus, registers, kind);
+}
+
+#[inline(always)]
+#[tactic(auto, unfolding(crate::specs::Stack::after_entry_pushes))]
+fn push_state_at_once<B: Words>(bus: &mut B, registers: &mut Registers)
+    ensures { machine registers.new (B.state bus.new)
+        ≡ after_entry_pushes B.meaning (machine registers.old (B.state bus.old)) }
+{
+    let flags = registers.flags.get().word();
+    let (cs, ip) = (registers.cs(), registers.ip);
+    push_word(bus, registers, flags);
+    push_word(bus, registers, cs);
+    push_word(bus, registers, ip);
+}
+
+#[inline(always)]
+#[tactic(auto, unfolding(crate::specs::Stack::after_vector))]
+fn take_vector_at_once<B: Words>(bus: &B, registers: &mut Registers, kind: u8)
+    ensures { machine registers.new (B.state bus.now)
+        ≡ after_vector B.meaning (machine registers.old (B.state bus.now)) kind }
+{
+    registers.flags.set_interrupt_enable(false);
+    registers.flags.set_trap(false);
+    let vector = 4 * u16::from(kind);
+    registers.ip = word_from(bus, 0, vector);
+    registers.set_cs(word_from(bus, 0, vector + 2));
 }
