@@ -68,10 +68,14 @@ class Count(ToolCase):
 
     def test_the_difference_of_two_budgets(self) -> None:
         self.with_valgrind()
-        out, _ = self.count('--only', 'a,f')
+        out, _ = self.count('--only', 'a,f,go')
         self.assertEqual(
             [it.split() for it in out.splitlines()[1:]],
-            [['a', '60,000,000', '130,434', '460.0', 'a', 'step'], ['f', '59,982,000,000', '3,813', '15,730,920.5', 'a', 'wake']],
+            [
+                ['a', '60,000,000', '130,434', '460.0', 'a', 'step'],
+                ['f', '59,982,000,000', '3,813', '15,730,920.5', 'a', 'wake'],
+                ['go', '60,000,000', '130,434', '460.0', 'a', 'step'],
+            ],
         )
 
     def test_limits(self) -> None:
