@@ -1,7 +1,8 @@
 //! What shifts and rotates do.
-ghost use Rattle.std.specs.Prelude.{◌≡◌};
+ghost use Rattle.std.specs.Prelude.{◌≡◌, ◌<◌};
 ghost use Rattle.execute_machine.specs.Locations.{machine};
-ghost use Rattle.execute_arith.specs.Shifts.{after_shift, tells_result, with_shifted, with_told};
+ghost use Rattle.execute_machine.specs.Widths.{size_of};
+ghost use Rattle.execute_arith.specs.Shifts.{after_shift, after_shifts, shifted_operand, tells_result, with_shifted, with_told};
 
 use crate::single::{Shifted, shift_by};
 use bus::Bus;
@@ -64,12 +65,29 @@ pub fn perform_shift<B: Bus>(
     let counter = locate_second(registers, instr);
     let count = get(bus, registers, counter);
     let width = place.width();
+    let a = operand(bus, registers, place, width);
+    let value = calculate_shift(&mut registers.flags, operation, width, a, count);
+    put(bus, registers, place, value);
+}
+
+/// What so many single shifts make of a number of this width and of the flags.
+pub fn calculate_shift(
+    flags: &mut FlagRegister,
+    operation: Shift,
+    width: Width,
+    a: u16,
+    count: u16,
+) -> u16
+    requires { a < size_of width }
+    ensures value { result ≡ (after_shifts operation width (shifted_operand flags.old a) count).value }
+    ensures flags { flags.new ≡ with_shifted flags.old operation width count (after_shifts operation width (shifted_operand flags.old a) count) }
+{
     let before = Shifted {
-        value: operand(bus, registers, place, width),
-        carry: registers.flags.carry(),
-        overflow: registers.flags.overflow(),
+        value: a,
+        carry: flags.carry(),
+        overflow: flags.overflow(),
     };
     let after = shift_by(operation, width, before, count);
-    set_shifted(&mut registers.flags, operation, width, count, after);
-    put(bus, registers, place, after.value);
+    set_shifted(flags, operation, width, count, after);
+    after.value
 }
