@@ -1,5 +1,5 @@
 //! The memory map, and what a board's memory holds at power-on.
-ghost use Rattle.std.specs.Prelude.{ℕ, ◌≡◌, ◌<◌, ◌≤◌, ◌*◌, ◌^◌, IfOk, OnOk, IsTrue, ◌↔◌, None, length, map, slice_index, unwrap_or};
+ghost use Rattle.std.specs.Prelude.{ℕ, ◌≡◌, ◌<◌, ◌≤◌, ◌*◌, ◌+◌, ◌%◌, ◌/◌, ◌^◌, IfOk, OnOk, IsTrue, ◌↔◌, None, length, map, slice_index, unwrap_or};
 ghost use Rattle.std.specs.List.{range_with_len};
 ghost use Rattle.std.specs.Result.{IsErrOf};
 ghost use Rattle.board_types.specs.Image.{image_byte, IsImage};
@@ -118,6 +118,21 @@ impl Memory {
         if addr < self.ram_size {
             self.cells[addr as usize] = byte;
         }
+    }
+
+    /// Writes the two bytes of a word, the low one at `addr`. Both must lie in RAM.
+    #[inline(always)]
+    #[tactic(auto, unfolding(crate::specs::Map::with_byte, crate::specs::Map::is_writable))]
+    pub fn write_word(&mut self, addr: u32, word: u16)
+        requires { addr + 1 < self.old.ram_size }
+        ensures put { self.new ≡ with_byte (with_byte self.old addr (word % 256)) (addr + 1) (word / 256) }
+        ensures within { addr + 1 < 0xA0000 }
+    {
+        let at = addr as usize;
+        // Where the bytes lie is asked for once, so that the word is written in one access.
+        let cells = self.cells.as_mut_slice();
+        cells[at] = (word % 256) as u8;
+        cells[at + 1] = (word / 256) as u8;
     }
 
     /// The same memory in a place of its own.
