@@ -12,13 +12,13 @@ use Rattle.board_plain.specs.Lasts.{IsLastOf}
 use Rattle.board_plain.specs.Plain.{Plain, after_clock, after_clocks, clock_of}
 use Rattle.board_plain.specs.Stops.{holding}
 use Rattle.board.specs.ClearSteps.{AreClearSteps, Noted}
-use Rattle.board.specs.Turns.{AreStepsOn, IsLeapOn, IsStrideOn, IsTickOn, IsTurnOn}
+use Rattle.board.specs.Turns.{AreStepsOn, IsLeapOverEdgesOn, IsTickOn, IsTurnOn, IsTurnOverEdgesOn}
 use Rattle.board_plain.specs.Work.{work_next}
-use Rattle.board.proofs.Leap.{holding_stays}
 use Rattle.board.proofs.Beginning.{step_made}
 use Rattle.board.specs.Reach.{PassesNone}
 use Rattle.board.proofs.Search.{none_between, none_held}
 use Rattle.board.proofs.Turns.{SoFar, before_rest, behind, so_far_leap, so_far_none, so_far_tick, steps_lead}
+use Rattle.board.proofs.Unseen.{leap_over, step_over}
 
 -- what holds at a clock after some is told from where the board stands then
 later_on : (stops : List Condition) (n j : ℕ) (s p : Plain) (here : Option ℕ) → p ≡ after_clocks s n → n ≤ j → holding stops (after_clocks p (j - n)) ≡ here → holding stops (after_clocks s j) ≡ here
@@ -67,15 +67,15 @@ looked_none stops end s few within =
       last_is = λ j before. absurd (omega (arith, before, gone));
     }
 
-looked_leap : (stops : List Condition) (end count : ℕ) (s t u : BoardState) (last : Option (ℕ × ℕ)) (here : Option ℕ) → count ≤ 1 → Looked stops end s t last → holding stops t.plain ≡ here → clock_of t.plain < end → IsLeapOn end count t u → Looked stops end s u (found_before last here (clock_of u.plain))
+looked_leap : (stops : List Condition) (end count : ℕ) (s t u : BoardState) (last : Option (ℕ × ℕ)) (here : Option ℕ) → count ≤ 1 → Looked stops end s t last → holding stops t.plain ≡ here → clock_of t.plain < end → IsLeapOverEdgesOn end count t u → Looked stops end s u (found_before last here (clock_of u.plain))
 unfolding so_far_leap
-looked_leap stops end count s t u last here one looked is before leap =
-    let next = so_far_leap 1 end count s t u one looked.so_far before leap in
+looked_leap stops end count s t u last here one looked is before on =
+    let next = so_far_leap 1 end count s t u one looked.so_far before on in
     let gone = next.ran.clock in
-    let some = leap.some in record {
+    let some = on.leap.some in record {
       so_far = next;
-      last_is = last_more stops looked.so_far.passed leap.clocks (clock_of u.plain - 1) s.plain t.plain last here looked.so_far.ran.plain looked.last_is some
-          (λ i within. holding_stays stops t.plain leap.clocks i within leap.wires leap.quiet ∙ is) (omega (arith, gone, some));
+      last_is = last_more stops looked.so_far.passed on.leap.clocks (clock_of u.plain - 1) s.plain t.plain last here looked.so_far.ran.plain looked.last_is some
+          (λ i within. on.leap.unseen.conditions stops i within ∙ is) (omega (arith, gone, some));
     }
 
 looked_tick : (stops : List Condition) (end : ℕ) (s t u : BoardState) (last : Option (ℕ × ℕ)) (here : Option ℕ) → Looked stops end s t last → holding stops t.plain ≡ here → clock_of t.plain < end → IsTickOn t u → 1 ≤ work_next t.plain → Looked stops end s u (found_before last here (clock_of u.plain))
@@ -89,19 +89,19 @@ looked_tick stops end s t u last here looked is before tick work =
     }
 
 looked_turn : (stops : List Condition) (end : ℕ) (s t u : BoardState) (last : Option (ℕ × ℕ)) (here : Option ℕ) → Looked stops end s t last → holding stops t.plain ≡ here → clock_of t.plain < end → IsTurnOn end t u → Looked stops end s u (found_before last here (clock_of u.plain))
-looked_turn stops end s t u last here looked is before (inl leap) = looked_leap stops end 1 s t u last here (omega arith) looked is before leap
+looked_turn stops end s t u last here looked is before (inl leap) = looked_leap stops end 1 s t u last here (omega arith) looked is before (leap_over end 1 t u leap)
 looked_turn stops end s t u last here looked is before (inr tick) = looked_tick stops end s t u last here looked is before tick.0 tick.1
 
 -- a step with the leap behind it, where nothing holds at its start and all wait for a free processor
-looked_rest : (stops : List Condition) (end : ℕ) (s b u : BoardState) (last : Option (ℕ × ℕ)) → AllAwaitFree stops → Looked stops end s b last → (u ≡ b) ⊎ ((1 ≤ b.plain.busy) × IsLeapOn end 0 b u) → Looked stops end s u last
+looked_rest : (stops : List Condition) (end : ℕ) (s b u : BoardState) (last : Option (ℕ × ℕ)) → AllAwaitFree stops → Looked stops end s b last → (u ≡ b) ⊎ ((1 ≤ b.plain.busy) × IsLeapOverEdgesOn end 0 b u) → Looked stops end s u last
 looked_rest stops end s b u last waits looked (inl same) = subst (λ x. Looked stops end s x last) (sym same) looked
 looked_rest stops end s b u last waits looked (inr rest) =
     looked_leap stops end 0 s b u last None (omega arith) looked (none_held stops b.plain rest.0 waits) (before_rest end b u rest.1) rest.1
 
-looked_stride : (stops : List Condition) (end : ℕ) (s t u : BoardState) (last : Option (ℕ × ℕ)) → AllAwaitFree stops → Looked stops end s t last → holding stops t.plain ≡ None → clock_of t.plain < end → IsStrideOn end t u → Looked stops end s u last
-looked_stride stops end s t u last waits looked is before (inl turn) = looked_turn stops end s t u last None looked is before turn
-looked_stride stops end s t u last waits looked is before (inr step) =
-    looked_rest stops end s step.begun u last waits (looked_tick stops end s t step.begun last None looked is before step.first step.work) step.rest
+looked_over : (stops : List Condition) (end : ℕ) (s t u : BoardState) (last : Option (ℕ × ℕ)) → AllAwaitFree stops → Looked stops end s t last → holding stops t.plain ≡ None → clock_of t.plain < end → IsTurnOverEdgesOn end t u → Looked stops end s u last
+looked_over stops end s t u last waits looked is before (inl leap) = looked_leap stops end 1 s t u last None (omega arith) looked is before leap
+looked_over stops end s t u last waits looked is before (inr act) =
+    looked_rest stops end s act.begun u last waits (looked_tick stops end s t act.begun last None looked is before act.first act.work) act.rest
 
 -- steps at once, between which none holds
 looked_each : (passes : ℕ → Type 0) (n : ℕ) (stops : List Condition) (end : ℕ) (s t : BoardState) (v : Noted) (last : Option (ℕ × ℕ)) → AllAwaitFree stops → PassesNone passes stops → Looked stops end s t last → holding stops t.plain ≡ None → AreClearSteps passes n end (record { plain = t.plain; trail = t.trail }) v → Looked stops end s (behind t n v) last
@@ -111,10 +111,10 @@ looked_each passes zero stops end s t v last waits none looked here same =
     subst (λ b. Looked stops end s b last) (λ k. record t { plain = (sym same k).plain; trail = (sym same k).trail; turns = counted k }) looked
 looked_each passes (suc n) stops end s t v last waits none looked here steps =
     let w : Noted = steps.0 in
-    looked_stride stops end s (behind t n w) (behind t (suc n) v) last waits
+    looked_over stops end s (behind t n w) (behind t (suc n) v) last waits
     (looked_each passes n stops end s t w last waits none looked here steps.1)
     (none_between passes stops n end (record { plain = t.plain; trail = t.trail }) w none here steps.1 steps.3) steps.2.before
-    (inr (step_made end (behind t n w) (behind t (suc n) v) steps.2.calmly steps.2.passed refl steps.2.entries refl (omega arith)))
+    (inr (step_over end (behind t n w) (behind t (suc n) v) (step_made end (behind t n w) (behind t (suc n) v) steps.2.calmly steps.2.passed refl steps.2.entries refl (omega arith))))
 
 looked_steps : (passes : ℕ → Type 0) (stops : List Condition) (end : ℕ) (s t u : BoardState) (last : Option (ℕ × ℕ)) → AllAwaitFree stops → PassesNone passes stops → Looked stops end s t last → holding stops t.plain ≡ None → AreStepsOn passes end t u → Looked stops end s u last
 looked_steps passes stops end s t u last waits none looked here on =
@@ -123,7 +123,7 @@ looked_steps passes stops end s t u last waits none looked here on =
 
 looked_whole : (passes : ℕ → Type 0) (stops : List Condition) (end : ℕ) (s t u : BoardState) (last : Option (ℕ × ℕ)) → AllAwaitFree stops → PassesNone passes stops → Looked stops end s t last → holding stops t.plain ≡ None → clock_of t.plain < end → IsTurnBetween true passes end t u → Looked stops end s u last
 looked_whole passes stops end s t u last waits none looked is before (inl on) = looked_steps passes stops end s t u last waits none looked is on.0
-looked_whole passes stops end s t u last waits none looked is before (inr on) = looked_stride stops end s t u last waits looked is before on
+looked_whole passes stops end s t u last waits none looked is before (inr on) = looked_over stops end s t u last waits looked is before on
 
 pub looked_between : (passes : ℕ → Type 0) (stops : List Condition) (end : ℕ) (whole : Bool) (s t u : BoardState) (last : Option (ℕ × ℕ)) (here : Option ℕ) → (IsTrue whole → AllAwaitFree stops × (here ≡ None)) → PassesNone passes stops → Looked stops end s t last → holding stops t.plain ≡ here → clock_of t.plain < end → IsTurnBetween whole passes end t u → Looked stops end s u (found_before last here (clock_of u.plain))
 looked_between passes stops end true s t u last here waits passing looked is before on =

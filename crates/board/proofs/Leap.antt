@@ -8,10 +8,11 @@ use Rattle.board_types.specs.Bits.{has_bit}
 use Rattle.board_types.specs.Iterate.{iterate, gathered}
 use Rattle.board_types.specs.Lines.{from_bool, is_high}
 use Rattle.board_types.specs.declared.line.Line.{Line}
-use Rattle.execute.specs.Boundaries.{boundary_of}
+use Rattle.execute.specs.Boundaries.{boundary_of, is_halted}
+use Rattle.execute.specs.Cpu.{CpuState}
 use Rattle.execute.specs.Meaning.{StepResult}
 use Rattle.mda_text.proofs.Raster.{clocks_move_beam}
-use Rattle.mda_text.specs.Mda.{MdaState, text_byte}
+use Rattle.mda_text.specs.Mda.{text_byte}
 use Rattle.memory.specs.Map as map
 use Rattle.memory.specs.Regions.{is_text_address}
 use Rattle.pit8253.proofs.PitTicks.{each_counter}
@@ -21,8 +22,6 @@ use Rattle.wiring.proofs.Clocks.{clock_of_clocks}
 use Rattle.wiring.proofs.Leap.{clocks_leap}
 use Rattle.wiring.specs.Chips.{ChipsState}
 use Rattle.wiring.specs.Edges.{ticks_between}
-use Rattle.wiring.specs.Leap as leaps
-use Rattle.wiring.specs.Leap.{IsStill}
 use Rattle.wiring.specs.Ports.{byte_at}
 use Rattle.wiring.specs.Speaker.{is_speaker_high}
 use Rattle.wiring.specs.Wires as wires
@@ -33,7 +32,7 @@ use Rattle.board_plain.specs.declared.stop.Condition.{Condition}
 use Rattle.board_plain.specs.declared.stop.Condition.TheVariants.{Free, At, Byte, Sound, Halted}
 use Rattle.board_plain.specs.Laws.{NoKeyComes, WiresHold}
 use Rattle.board.specs.Leap.{IsQuiet, StaysIdle, leapt}
-use Rattle.board_plain.specs.Plain.{Plain, after_act, after_clock, after_clocks, byte_of, change_next, changes_in, chips_after_clock, clock_of, codes_at, next_act, speaker_level, state_of}
+use Rattle.board_plain.specs.Plain.{Plain, after_act, after_clock, after_clocks, byte_of, change_next, changes_in, chips_after_clock, clock_of, codes_at, is_free, next_act, speaker_level, state_of}
 use Rattle.board_plain.specs.Stops.{holding, holds}
 use Rattle.board_plain.specs.Trail.{entry_at, event_of, trail_in, trail_next}
 use Rattle.board_plain.proofs.Quiet.{clock_alone, holds_later, none_comes, nothing_by}
@@ -41,10 +40,10 @@ use Rattle.board.proofs.Ticking.{no_change}
 
 -- the processor does nothing where it is busy or idle
 
-not_free : (n : ℕ) → 1 ≤ n → nat_eq n 0 ≡ false
+pub not_free : (n : ℕ) → 1 ≤ n → nat_eq n 0 ≡ false
 not_free n some = grind (arith, nat_tests)
 
-busy_by : (free : Bool) (a : Act) → free ≡ false → (if free then a else Nothing) ≡ Nothing
+pub busy_by : (free : Bool) (a : Act) → free ≡ false → (if free then a else Nothing) ≡ Nothing
 busy_by free a is = ap (λ f. if f then a else Nothing) is
 
 idle_clock : (s : Plain) (b : ℕ) (c : ChipsState) → next_act (record s { busy = b; chips = c }) ≡ Nothing → chips_after_clock c s.keys ≡ wires.after_clock c → after_clock (record s { busy = b; chips = c }) ≡ record s { busy = b - 1; chips = wires.after_clock c }
@@ -54,7 +53,7 @@ idle_clock s b c nothing alone =
     ∙ ap (λ t. record s { busy = b - 1; chips = t }) alone
 
 -- clocks in each of which it does nothing, while no key comes; `most` is their number at the end
-idle_clocks : (most n : ℕ) (s : Plain) → n ≤ most → WiresHold s.chips → NoKeyComes s most → ((i : ℕ) → i < n → next_act (record s { busy = s.busy - i; chips = wires.after_clocks s.chips i }) ≡ Nothing) → after_clocks s n ≡ record s { busy = s.busy - n; chips = wires.after_clocks s.chips n }
+pub idle_clocks : (most n : ℕ) (s : Plain) → n ≤ most → WiresHold s.chips → NoKeyComes s most → ((i : ℕ) → i < n → next_act (record s { busy = s.busy - i; chips = wires.after_clocks s.chips i }) ≡ Nothing) → after_clocks s n ≡ record s { busy = s.busy - n; chips = wires.after_clocks s.chips n }
 unfolding iterate clock_of
 idle_clocks most zero s within holds no_key nothing =
     let same : s.busy ≡ s.busy - 0 = omega arith in ap (λ b. record s { busy = b }) same
@@ -140,7 +139,7 @@ level_stays s n k within holds quiet =
 
 -- nothing is listed
 
-none_gathered : {S A : Type 0} (step : S → S) (seen : S → List A) (n : ℕ) (s : S) → ((i : ℕ) → i < n → seen (iterate step i s) ≡ []) → gathered step seen n s ≡ []
+pub none_gathered : {S A : Type 0} (step : S → S) (seen : S → List A) (n : ℕ) (s : S) → ((i : ℕ) → i < n → seen (iterate step i s) ≡ []) → gathered step seen n s ≡ []
 none_gathered step seen zero s none = gathered_zero step seen s
 none_gathered step seen (suc n) s none =
     let more : suc n ≡ n + 1 = omega arith in
@@ -155,7 +154,7 @@ no_changes s n holds quiet =
     (ap speaker_level (sym (iterate_more after_clock i s)) ∙ level_stays s n (i + 1) (omega (arith, before)) holds quiet
     ∙ sym (level_stays s n i (omega (arith, before)) holds quiet)))
 
-nothing_begins : (p : Plain) → next_act p ≡ Nothing → trail_next p ≡ []
+pub nothing_begins : (p : Plain) → next_act p ≡ Nothing → trail_next p ≡ []
 unfolding trail_next
 nothing_begins p nothing = ap (λ (a : Act). entry_at p (event_of p.cpu p.chips a)) nothing
 
@@ -165,36 +164,62 @@ no_entries s n holds quiet =
 
 -- no condition changes, short of the end
 
-free_by : (s : Plain) (n k : ℕ) → k < n → StaysIdle s n → nat_eq (s.busy - k) 0 ≡ nat_eq s.busy 0
-free_by s n k before (inl busy) = not_free (s.busy - k) (omega (arith, before, busy)) ∙ sym (not_free s.busy (omega (arith, before, busy)))
-free_by s n k before (inr idle) = let same : s.busy - k ≡ s.busy = omega (arith, idle.0) in ap (λ b. nat_eq b 0) same
+-- what conditions look at is the same
+pub record LooksSame (s t : Plain) : Type 0 where
+  pub cpu : t.cpu ≡ s.cpu
+  pub free : is_free t ≡ is_free s
+  pub bytes : (address : ℕ) → byte_of t address ≡ byte_of s address
+  pub level : speaker_level t ≡ speaker_level s
 
-byte_with : (c : ChipsState) (n address : ℕ) → byte_at (leaps.leapt c n) address ≡ byte_at c address
-unfolding byte_at text_byte
-byte_with c n address =
-    ap (λ (m : MdaState). if is_text_address address then text_byte m (address - 0xB0000) else map.byte_at c.memory address) (clocks_move_beam c.mda n)
-
-one_stays : (condition : Condition) (s : Plain) (n k : ℕ) → k < n → IsQuiet s n → speaker_level (leapt s k) ≡ speaker_level s → holds condition (leapt s k) ≡ holds condition s
-unfolding holds leapt byte_of state_of
-one_stays Free s n k before quiet level = free_by s n k before quiet.idle
-one_stays (At cs ip) s n k before quiet level =
-    ap (λ free. free && (s.cpu.registers.cs == cs) && (s.cpu.registers.ip == ip)) (free_by s n k before quiet.idle)
-one_stays (Byte address value) s n k before quiet level = ap (λ b. b == value) (byte_with s.chips k address)
-one_stays Sound s n k before quiet level = ap is_high level
-one_stays Halted s n k before quiet level = refl
+one_same : (condition : Condition) (s t : Plain) → LooksSame s t → holds condition t ≡ holds condition s
+unfolding holds state_of
+one_same Free s t same = same.free
+one_same (At cs ip) s t same = λ k. same.free k && ((same.cpu k).registers.cs == cs) && ((same.cpu k).registers.ip == ip)
+one_same (Byte address value) s t same = ap (λ b. b == value) (same.bytes address)
+one_same Sound s t same = ap is_high same.level
+one_same Halted s t same = ap (λ (p : CpuState). is_halted p.state) same.cpu
 
 same_position : {K : Type 0} (t u : K → Bool) (i : ℕ) (xs : List K) → ((x : K) → t x ≡ u x) → position_from t i xs ≡ position_from u i xs
 same_position t u i [] same = refl
 same_position t u i (x ∷ xs) same =
     ap (λ here. cond here (Some i) (position_from t (i + 1) xs)) (same x) ∙ ap (λ rest. cond (u x) (Some i) rest) (same_position t u (i + 1) xs same)
 
-pub holding_stays : (stops : List Condition) (s : Plain) (n k : ℕ) → k < n → WiresHold s.chips → IsQuiet s n → holding stops (after_clocks s k) ≡ holding stops s
+pub holding_same : (stops : List Condition) (s t : Plain) → LooksSame s t → holding stops t ≡ holding stops s
 unfolding holding
+holding_same stops s t same =
+    same_position (λ condition. holds condition t) (λ condition. holds condition s) 1 stops (λ condition. one_same condition s t same)
+
+-- bytes stay where the beam alone moves
+pub bytes_stay : (s t : Plain) (beam : ℕ) → t.chips.memory ≡ s.chips.memory → t.chips.mda ≡ record s.chips.mda { raster = beam } → (address : ℕ) → byte_of t address ≡ byte_of s address
+unfolding byte_of byte_at text_byte
+bytes_stay s t beam memory mda address =
+    λ k. if is_text_address address then text_byte (mda k) (address - 0xB0000) else map.byte_at (memory k) address
+
+-- so is a busy processor before its step's end
+pub busy_still : (busy n k : ℕ) → k < n → n ≤ busy → nat_eq (busy - k) 0 ≡ nat_eq busy 0
+busy_still busy n k before within = not_free (busy - k) (omega (arith, before, within)) ∙ sym (not_free busy (omega (arith, before, within)))
+
+pub free_still : (busy k : ℕ) → busy ≡ 0 → nat_eq (busy - k) 0 ≡ nat_eq busy 0
+free_still busy k free = let same : busy - k ≡ busy = omega (arith, free) in ap (λ b. nat_eq b 0) same
+
+free_by : (s : Plain) (n k : ℕ) → k < n → StaysIdle s n → nat_eq (s.busy - k) 0 ≡ nat_eq s.busy 0
+free_by s n k before (inl busy) = busy_still s.busy n k before busy
+free_by s n k before (inr idle) = free_still s.busy k idle.0
+
+looks_same : (s : Plain) (n k : ℕ) → k < n → IsQuiet s n → speaker_level (leapt s k) ≡ speaker_level s → LooksSame s (leapt s k)
+unfolding leapt
+looks_same s n k before quiet level = record {
+  cpu = refl;
+  free = free_by s n k before quiet.idle;
+  bytes = bytes_stay s (leapt s k) _ refl (clocks_move_beam s.chips.mda k);
+  level = level;
+}
+
+pub holding_stays : (stops : List Condition) (s : Plain) (n k : ℕ) → k < n → WiresHold s.chips → IsQuiet s n → holding stops (after_clocks s k) ≡ holding stops s
 holding_stays stops s n k before wired quiet =
     let less : IsQuiet s k = quiet_for s n k (omega (arith, before)) quiet in
     let level : speaker_level (leapt s k) ≡ speaker_level s = level_with s k (out_2_stays s k less) in
-    ap (holding stops) (board_leaps k s wired less)
-    ∙ same_position (λ condition. holds condition (leapt s k)) (λ condition. holds condition s) 1 stops (λ condition. one_stays condition s n k before quiet level)
+    ap (holding stops) (board_leaps k s wired less) ∙ holding_same stops s (leapt s k) (looks_same s n k before quiet level)
 
 -- the parts after a leap
 

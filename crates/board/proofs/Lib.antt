@@ -4,6 +4,8 @@ pub mod Entries
 pub mod KeyOrder
 pub mod Rounds
 pub mod Leap
+pub mod Alone
+pub mod Unseen
 pub mod Passing
 pub mod Acting
 pub mod BySlots

@@ -18,10 +18,11 @@ use Rattle.board_plain.proofs.Runs.{ran_none}
 use Rattle.board.specs.declared.one_turn.Begun.{Begun}
 use Rattle.board.specs.Leap.{IsQuiet, leapt}
 use Rattle.board.specs.OneTurn.{begun_of, HaveSameWires, IsOneTurn}
-use Rattle.board.specs.Turns.{IsLeapOn, IsStepOn, IsStrideOn, IsTickOn}
+use Rattle.board.specs.Turns.{IsLeapOn, IsStrideOn, IsTickOn}
 use Rattle.board.proofs.Leap.{board_leaps, level_stays, no_entries, out_0_stays, out_2_stays, quiet_for}
 use Rattle.board.proofs.Ticking.{ran_more}
 use Rattle.board.proofs.Turns.{before_rest, leap_runs, ran_leap}
+use Rattle.board.proofs.Unseen.{leap_over, quiet_leap}
 
 -- what begins
 
@@ -89,6 +90,7 @@ first_entry s =
 
 -- a leap
 once_leapt : (end count : ℕ) (s u : BoardState) (begun : Option Begun) → length s.trail ≤ 32 → clock_of s.plain < end → IsLeapOn end count s u → option_to_list begun ≡ map begun_of (trail_next s.plain) → IfSome begun (λ b. b.clock ≡ clock_of s.plain) → IsOneTurn end s u begun
+unfolding leap_over quiet_leap
 once_leapt end count s u begun few before leap is clock =
     let within = leap.within in
     let none : trail_next s.plain ≡ [] = sym (first_entry s.plain) ∙ no_entries s.plain 1 leap.wires (quiet_for s.plain leap.clocks 1 leap.some leap.quiet) in
@@ -98,7 +100,7 @@ once_leapt end count s u begun few before leap is clock =
       passed = leap.clocks;
       some = leap.some;
       within = omega (arith, within, before);
-      ran = leap_runs end count s u leap few;
+      ran = leap_runs end count s u (leap_over end count s u leap) few;
       begins = ap (map begun_of) (no_entries s.plain leap.clocks leap.wires leap.quiet ∙ sym none) ∙ sym is;
       clock = clock;
       wires = λ j some last. same_then s.plain (after_clock s.plain) (after_clocks s.plain j) first (same_wires s.plain leap.clocks j last leap.wires leap.quiet);
@@ -119,13 +121,14 @@ once_ticked end s u begun few before tick is clock = record {
 
 -- a clock with a leap behind it
 once_stepped : (end : ℕ) (s b u : BoardState) (begun : Option Begun) → length s.trail ≤ 32 → clock_of s.plain < end → IsTickOn s b → (u ≡ b) ⊎ ((1 ≤ b.plain.busy) × IsLeapOn end 0 b u) → option_to_list begun ≡ map begun_of (trail_next s.plain) → IfSome begun (λ x. x.clock ≡ clock_of s.plain) → IsOneTurn end s u begun
+unfolding leap_over quiet_leap
 once_stepped end s b u begun few before tick (inl same) is clock =
     subst (λ x. IsOneTurn end s x begun) (sym same) (once_ticked end s b begun few before tick is clock)
 once_stepped end s b u begun few before tick (inr rest) is clock =
     let leap = rest.1 in
     let within = leap.within in
     let on = tick.clock in
-    let past = before_rest end b u leap in
+    let past = before_rest end b u (leap_over end 0 b u leap) in
     let here : after_clocks s.plain 1 ≡ b.plain = first_clock s.plain ∙ sym tick.plain in
     let entries : trail_in s.plain (1 + leap.clocks) ≡ trail_next s.plain =
     gathered_add after_clock trail_next 1 leap.clocks s.plain
@@ -135,7 +138,7 @@ once_stepped end s b u begun few before tick (inr rest) is clock =
       passed = 1 + leap.clocks;
       some = omega arith;
       within = omega (arith, within, on, past);
-      ran = ran_leap 1 end 0 s b u (ran_more 0 s s b (ran_none s few) tick) leap;
+      ran = ran_leap 1 end 0 s b u (ran_more 0 s s b (ran_none s few) tick) (leap_over end 0 b u leap);
       begins = ap (map begun_of) entries ∙ sym is;
       clock = clock;
       wires = λ j some last.

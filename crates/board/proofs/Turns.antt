@@ -1,45 +1,42 @@
 -- The turns of a run against its work: a clock with work pays for three, and the run for what is left.
-use Rattle.std.proofs.Common.{zero, suc, true, refl, ◌≡◌, ℕ, ◌+◌, ◌-◌, ◌*◌, ◌<◌, ◌≤◌, min, inl, inr, ◌++◌, length, sym, ap, ◌∙◌, subst, arith, append-nil}
+use Rattle.std.proofs.Common.{zero, suc, refl, ◌≡◌, ℕ, ◌+◌, ◌-◌, ◌*◌, ◌<◌, ◌≤◌, min, inl, inr, ◌++◌, length, sym, ap, ◌∙◌, subst, arith, append-nil}
 use Rattle.std.specs.Prelude.{◌⊎◌, OnErr, OnOk, Result, Ok, Err}
-use Rattle.board_types.proofs.Iterate.{total_zero, total_more, total_add}
+use Rattle.board_types.proofs.Iterate.{iterate_zero, total_zero, total_more, total_add}
 use Rattle.board_plain.specs.Board.{BoardState, Ran, StoppedEarly}
-use Rattle.board.specs.AwaitFree.{IsTurnBetween}
 use Rattle.board.specs.HeldBack.{IsHeldBack}
 use Rattle.board_plain.specs.Laws.{WiresHold}
-use Rattle.board.specs.Leap.{IsQuiet, IsTight, leapt}
-use Rattle.board_plain.specs.Plain.{Plain, after_clock, changes_in, clock_of}
+use Rattle.board.specs.Leap.{IsQuiet, IsTight, IsTightTo, leapt}
+use Rattle.board_plain.specs.Plain.{Plain, after_clock, after_clocks, changes_in, clock_of}
 use Rattle.board_plain.specs.Trail.{last}
 use Rattle.board.specs.ClearSteps.{AreClearSteps, IsClearStep, Noted}
-use Rattle.board.specs.Turns.{AreStepsOn, IsHeldBehind, IsLongTurnOn, IsLeapOn, IsStepOn, IsStrideOn, IsTickOn, IsTurnOn}
+use Rattle.board.specs.Turns.{AreStepsOn, IsHeldBehind, IsLeapOverEdgesOn, IsLongTurnOn, IsStepOn, IsStrideOn, IsTickOn, IsTurnOn, IsTurnOverEdgesOn}
 use Rattle.board_plain.specs.Work.{steps_in, steps_next, work_in, work_next}
 use Rattle.board_plain.proofs.LastEntries.{last_within, nothing_added}
-use Rattle.board.proofs.Leap.{board_leaps, clock_of_leap, no_changes, no_entries}
 use Rattle.board.proofs.Beginning.{step_made}
 use Rattle.board.proofs.Rooms.{works_at_once}
 use Rattle.board.proofs.Steps.{have_gone}
 use Rattle.board.proofs.Ticking.{not_held, ran_more, stopped}
+use Rattle.board.proofs.Unseen.{step_over}
 use Rattle.board_plain.proofs.Runs.{ran_none, runs_join}
-use Rattle.board.proofs.Works.{first_has_none, none_to_do, none_to_step, busy_of_leap, one_step_at_most}
+use Rattle.board.proofs.Works.{one_step_at_most}
 
 -- a leap is a run
 
 few_of_run : (n : ℕ) (s t : BoardState) → Ran n s t → length t.trail ≤ 32
 few_of_run n s t ran = subst (λ xs. length xs ≤ 32) (sym ran.trail) (last_within 32 _)
 
-pub leap_runs : (end count : ℕ) (t u : BoardState) → (leap : IsLeapOn end count t u) → length t.trail ≤ 32 → Ran leap.clocks t u
-leap_runs end count t u leap few = record {
-  plain = leap.plain ∙ sym (board_leaps leap.clocks t.plain leap.wires leap.quiet);
-  clock = ap clock_of leap.plain ∙ clock_of_leap t.plain leap.clocks;
-  changes =
-      leap.changes ∙ sym (append-nil t.changes) ∙ ap (λ xs. t.changes ++ xs) (sym (no_changes t.plain leap.clocks leap.wires leap.quiet));
-  trail =
-      leap.trail ∙ nothing_added 32 t.trail few
-      ∙ ap (λ xs. last 32 (t.trail ++ xs)) (sym (no_entries t.plain leap.clocks leap.wires leap.quiet));
-  room = let same = leap.room in let size : length u.changes ≡ length t.changes = ap length leap.changes in omega (arith, same, size);
-}
+pub leap_runs : (end count : ℕ) (t u : BoardState) → (on : IsLeapOverEdgesOn end count t u) → length t.trail ≤ 32 → Ran on.leap.clocks t u
+leap_runs end count t u on few =
+    let unseen = on.leap.unseen in record {
+      plain = unseen.plain;
+      clock = unseen.clock;
+      changes = on.changes ∙ sym (append-nil t.changes) ∙ ap (λ xs. t.changes ++ xs) (sym unseen.changes);
+      trail = on.trail ∙ nothing_added 32 t.trail few ∙ ap (λ xs. last 32 (t.trail ++ xs)) (sym unseen.entries);
+      room = let same = on.room in let size : length u.changes ≡ length t.changes = ap length on.changes in omega (arith, same, size);
+    }
 
-pub ran_leap : (n end count : ℕ) (s t u : BoardState) → Ran n s t → (leap : IsLeapOn end count t u) → Ran (n + leap.clocks) s u
-ran_leap n end count s t u ran leap = runs_join n leap.clocks s t u ran (leap_runs end count t u leap (few_of_run n s t ran))
+pub ran_leap : (n end count : ℕ) (s t u : BoardState) → Ran n s t → (on : IsLeapOverEdgesOn end count t u) → Ran (n + on.leap.clocks) s u
+ran_leap n end count s t u ran on = runs_join n on.leap.clocks s t u ran (leap_runs end count t u on (few_of_run n s t ran))
 
 -- work and steps, a clock more or a leap more
 
@@ -49,18 +46,25 @@ work_more n s t ran = total_more after_clock work_next n s.plain ∙ ap (λ p. w
 pub steps_more : (n : ℕ) (s t : BoardState) → Ran n s t → steps_in s.plain (n + 1) ≡ steps_in s.plain n + steps_next t.plain
 steps_more n s t ran = total_more after_clock steps_next n s.plain ∙ ap (λ p. steps_in s.plain n + steps_next p) (sym ran.plain)
 
-pub work_leap : (n end count : ℕ) (s t u : BoardState) → Ran n s t → (leap : IsLeapOn end count t u) → work_in s.plain (n + leap.clocks) ≡ work_in s.plain n
-work_leap n end count s t u ran leap =
-    let none = none_to_do t.plain leap.clocks leap.wires leap.quiet in
-    let parts : work_in s.plain (n + leap.clocks) ≡ work_in s.plain n + work_in t.plain leap.clocks =
-    total_add after_clock work_next n leap.clocks s.plain ∙ ap (λ p. work_in s.plain n + work_in p leap.clocks) (sym ran.plain) in
-    omega (arith, none, parts)
+work_of_first : (m : ℕ) (p : Plain) → 1 ≤ m → work_next p ≤ work_in p m
+work_of_first m p some =
+    let whole : work_in p m ≡ work_in p (1 + (m - 1)) = ap (work_in p) (omega (arith, some)) in
+    let parts : work_in p (1 + (m - 1)) ≡ work_in p 1 + work_in (after_clocks p 1) (m - 1) = total_add after_clock work_next 1 (m - 1) p in
+    let first : work_in p 1 ≡ work_in p 0 + work_next p = total_more after_clock work_next 0 p ∙ ap (λ q. work_in p 0 + work_next q) (iterate_zero after_clock p) in
+    omega (arith, whole, parts, first)
 
-pub steps_leap : (n end count : ℕ) (s t u : BoardState) → Ran n s t → (leap : IsLeapOn end count t u) → steps_in s.plain (n + leap.clocks) ≡ steps_in s.plain n
-steps_leap n end count s t u ran leap =
-    let none = none_to_step t.plain leap.clocks leap.wires leap.quiet in
-    let parts : steps_in s.plain (n + leap.clocks) ≡ steps_in s.plain n + steps_in t.plain leap.clocks =
-    total_add after_clock steps_next n leap.clocks s.plain ∙ ap (λ p. steps_in s.plain n + steps_in p leap.clocks) (sym ran.plain) in
+pub work_leap : (n end count : ℕ) (s t u : BoardState) → Ran n s t → (on : IsLeapOverEdgesOn end count t u) → work_in s.plain n + work_next t.plain ≤ work_in s.plain (n + on.leap.clocks)
+work_leap n end count s t u ran on =
+    let first = work_of_first on.leap.clocks t.plain on.leap.some in
+    let parts : work_in s.plain (n + on.leap.clocks) ≡ work_in s.plain n + work_in t.plain on.leap.clocks =
+    total_add after_clock work_next n on.leap.clocks s.plain ∙ ap (λ p. work_in s.plain n + work_in p on.leap.clocks) (sym ran.plain) in
+    omega (arith, first, parts)
+
+pub steps_leap : (n end count : ℕ) (s t u : BoardState) → Ran n s t → (on : IsLeapOverEdgesOn end count t u) → steps_in s.plain (n + on.leap.clocks) ≡ steps_in s.plain n
+steps_leap n end count s t u ran on =
+    let none = on.leap.unseen.steps in
+    let parts : steps_in s.plain (n + on.leap.clocks) ≡ steps_in s.plain n + steps_in t.plain on.leap.clocks =
+    total_add after_clock steps_next n on.leap.clocks s.plain ∙ ap (λ p. steps_in s.plain n + steps_in p on.leap.clocks) (sym ran.plain) in
     omega (arith, none, parts)
 
 -- what a busy processor still owes: the leap to the end of its step
@@ -126,52 +130,45 @@ so_far_tick spare end s t u so_far before on some =
     }
 
 -- what is owed and paid after a leap that ends before the run
-pub after_leap : (limit n : ℕ) (p q : Plain) → IsTight limit p n → n < limit → 1 ≤ n → q ≡ leapt p n → work_next p ≡ 0 → owed q + 1 ≤ owed p + paid q
-after_leap limit n p q (inl all) less some is none = absurd (omega (arith, all, less))
-after_leap limit n p q (inr (inl ends)) less some is none =
-    let busy : q.busy ≡ p.busy - n = ap (λ (x : Plain). x.busy) is ∙ busy_of_leap p n in
+pub after_leap : (limit n : ℕ) (p q : Plain) → IsTightTo limit p n q → n < limit → 1 ≤ n → q.busy ≡ p.busy - n → owed q + 1 ≤ owed p + paid q
+after_leap limit n p q (inl all) less some busy = absurd (omega (arith, all, less))
+after_leap limit n p q (inr (inl ends)) less some busy =
     let first = ends.0 in
     let last = ends.1 in omega (arith, busy, first, last)
-after_leap limit n p q (inr (inr works)) less some is none =
-    let busy : q.busy ≡ p.busy - n = ap (λ (x : Plain). x.busy) is ∙ busy_of_leap p n in
-    let work : 1 ≤ work_next q = subst (λ x. 1 ≤ work_next x) (sym is) works in omega (arith, busy, work)
+after_leap limit n p q (inr (inr works)) less some busy = omega (arith, busy, works)
 
-unfoldable pub so_far_leap : (spare end count : ℕ) (s t u : BoardState) → count ≤ 1 → SoFar spare end s t → clock_of t.plain < end → IsLeapOn end count t u → SoFar spare end s u
-so_far_leap spare end count s t u one so_far before leap =
+unfoldable pub so_far_leap : (spare end count : ℕ) (s t u : BoardState) → count ≤ 1 → SoFar spare end s t → clock_of t.plain < end → IsLeapOverEdgesOn end count t u → SoFar spare end s u
+so_far_leap spare end count s t u one so_far before on =
     let n : ℕ = so_far.passed in
-    let clock : clock_of u.plain ≡ clock_of t.plain + leap.clocks = ap clock_of leap.plain ∙ clock_of_leap t.plain leap.clocks in
-    let turns = leap.turns in
-    let fits = leap.within in
-    let work = work_leap n end count s t u so_far.ran leap in
-    let steps = steps_leap n end count s t u so_far.ran leap in
-    let none = first_has_none t.plain leap.clocks leap.some leap.wires leap.quiet in
+    let m : ℕ = on.leap.clocks in
+    let clock : clock_of u.plain ≡ clock_of t.plain + m = on.leap.unseen.clock in
+    let turns = on.turns in
+    let fits = on.leap.within in
+    let work = work_leap n end count s t u so_far.ran on in
+    let steps = steps_leap n end count s t u so_far.ran on in
     let spent = so_far.before_end before in
     let least = so_far.least in record {
-      passed = n + leap.clocks;
-      ran = ran_leap n end count s t u so_far.ran leap;
+      passed = n + m;
+      ran = ran_leap n end count s t u so_far.ran on;
       within = omega (arith, clock, before, fits);
-      before_end = λ on.
-          let then = after_leap (end - clock_of t.plain) leap.clocks t.plain u.plain leap.tight (omega (arith, clock, on, before)) leap.some leap.plain none in
-          omega (arith, turns, work, spent, none, then, one);
-      whole = omega (arith, turns, work, spent, none, one);
+      before_end = λ early.
+          let then = after_leap (end - clock_of t.plain) m t.plain u.plain on.leap.tight (omega (arith, clock, early, before)) on.leap.some on.leap.unseen.busy in
+          omega (arith, turns, work, spent, then, one);
+      whole = omega (arith, turns, work, spent, one);
       least = omega (arith, turns, steps, least);
     }
 
-pub so_far_turn : (spare end : ℕ) (s t u : BoardState) → SoFar spare end s t → clock_of t.plain < end → IsTurnOn end t u → SoFar spare end s u
-so_far_turn spare end s t u so_far before (inl leap) = so_far_leap spare end 1 s t u (omega arith) so_far before leap
-so_far_turn spare end s t u so_far before (inr tick) = so_far_tick spare end s t u so_far before tick.0 tick.1
+pub before_rest : (end : ℕ) (t u : BoardState) → IsLeapOverEdgesOn end 0 t u → clock_of t.plain < end
+before_rest end t u on = let some = on.leap.some in let within = on.leap.within in omega (arith, some, within)
 
-pub before_rest : (end : ℕ) (t u : BoardState) → IsLeapOn end 0 t u → clock_of t.plain < end
-before_rest end t u leap = let some = leap.some in let within = leap.within in omega (arith, some, within)
+so_far_rest : (spare end : ℕ) (s b u : BoardState) → SoFar spare end s b → (u ≡ b) ⊎ ((1 ≤ b.plain.busy) × IsLeapOverEdgesOn end 0 b u) → SoFar spare end s u
+so_far_rest spare end s b u so_far (inl same) = subst (SoFar spare end s) (sym same) so_far
+so_far_rest spare end s b u so_far (inr rest) = so_far_leap spare end 0 s b u (omega arith) so_far (before_rest end b u rest.1) rest.1
 
-so_far_step : (spare end : ℕ) (s b u : BoardState) → SoFar spare end s b → (u ≡ b) ⊎ ((1 ≤ b.plain.busy) × IsLeapOn end 0 b u) → SoFar spare end s u
-so_far_step spare end s b u so_far (inl same) = subst (SoFar spare end s) (sym same) so_far
-so_far_step spare end s b u so_far (inr rest) = so_far_leap spare end 0 s b u (omega arith) so_far (before_rest end b u rest.1) rest.1
-
-pub so_far_stride : (spare end : ℕ) (s t u : BoardState) → SoFar spare end s t → clock_of t.plain < end → IsStrideOn end t u → SoFar spare end s u
-so_far_stride spare end s t u so_far before (inl turn) = so_far_turn spare end s t u so_far before turn
-so_far_stride spare end s t u so_far before (inr step) =
-    so_far_step spare end s step.begun u (so_far_tick spare end s t step.begun so_far before step.first step.work) step.rest
+pub so_far_over : (spare end : ℕ) (s t u : BoardState) → SoFar spare end s t → clock_of t.plain < end → IsTurnOverEdgesOn end t u → SoFar spare end s u
+so_far_over spare end s t u so_far before (inl leap) = so_far_leap spare end 1 s t u (omega arith) so_far before leap
+so_far_over spare end s t u so_far before (inr act) =
+    so_far_rest spare end s act.begun u (so_far_tick spare end s t act.begun so_far before act.first act.work) act.rest
 
 -- at the end of a run, or where it stands
 
@@ -262,11 +259,6 @@ pub if_turn : {E : Type 0} (end : ℕ) (old new : BoardState) (result : Result U
 if_turn end old new (Ok x) turn = inl turn
 if_turn end old new (Err e) turn = turn
 
--- and one between two looks for a stop
-pub if_stride : {E : Type 0} (passes : ℕ → Type 0) (end : ℕ) (old new : BoardState) (result : Result Unit E) → OnOk result (IsStrideOn end old new) → OnOk result (IsTurnBetween true passes end old new)
-if_stride passes end old new (Ok x) stride = inr stride
-if_stride passes end old new (Err e) stride = stride
-
 -- a step that ends with the next clock
 pub step_alone : (end : ℕ) (old new : BoardState) → IsStepOn (clock_of old.plain + 1) old new → IsTurnOn end old new
 step_alone end old new step =
@@ -280,25 +272,21 @@ step_alone end old new step =
 
 -- it goes on
 
-leap_moves : (end count : ℕ) (t u : BoardState) → clock_of t.plain < end → IsLeapOn end count t u → end - clock_of u.plain < end - clock_of t.plain
-leap_moves end count t u before leap =
-    let clock : clock_of u.plain ≡ clock_of t.plain + leap.clocks = ap clock_of leap.plain ∙ clock_of_leap t.plain leap.clocks in
-    let some = leap.some in omega (arith, clock, some, before)
+leap_moves : (end count : ℕ) (t u : BoardState) → clock_of t.plain < end → IsLeapOverEdgesOn end count t u → end - clock_of u.plain < end - clock_of t.plain
+leap_moves end count t u before on =
+    let clock = on.leap.unseen.clock in
+    let some = on.leap.some in omega (arith, clock, some, before)
 
-pub turn_moves : (end : ℕ) (t u : BoardState) → clock_of t.plain < end → IsTurnOn end t u → end - clock_of u.plain < end - clock_of t.plain
-turn_moves end t u before (inl leap) = leap_moves end 1 t u before leap
-turn_moves end t u before (inr tick) = let clock = tick.0.clock in omega (arith, clock, before)
-
-step_moves : (end : ℕ) (t b u : BoardState) → clock_of t.plain < end → IsTickOn t b → (u ≡ b) ⊎ ((1 ≤ b.plain.busy) × IsLeapOn end 0 b u) → end - clock_of u.plain < end - clock_of t.plain
-step_moves end t b u before first (inl same) =
+rest_moves : (end : ℕ) (t b u : BoardState) → clock_of t.plain < end → IsTickOn t b → (u ≡ b) ⊎ ((1 ≤ b.plain.busy) × IsLeapOverEdgesOn end 0 b u) → end - clock_of u.plain < end - clock_of t.plain
+rest_moves end t b u before first (inl same) =
     let clock = first.clock in let here : clock_of u.plain ≡ clock_of b.plain = ap (λ (x : BoardState). clock_of x.plain) same in omega (arith, clock, here, before)
-step_moves end t b u before first (inr rest) =
+rest_moves end t b u before first (inr rest) =
     let clock = first.clock in
     let less = leap_moves end 0 b u (before_rest end b u rest.1) rest.1 in omega (arith, clock, before, less)
 
-pub stride_moves : (end : ℕ) (t u : BoardState) → clock_of t.plain < end → IsStrideOn end t u → end - clock_of u.plain < end - clock_of t.plain
-stride_moves end t u before (inl turn) = turn_moves end t u before turn
-stride_moves end t u before (inr step) = step_moves end t step.begun u before step.first step.rest
+pub over_moves : (end : ℕ) (t u : BoardState) → clock_of t.plain < end → IsTurnOverEdgesOn end t u → end - clock_of u.plain < end - clock_of t.plain
+over_moves end t u before (inl leap) = leap_moves end 1 t u before leap
+over_moves end t u before (inr act) = rest_moves end t act.begun u before act.first act.rest
 
 -- steps at once, while nothing comes
 
@@ -314,8 +302,8 @@ so_far_each passes zero spare end s t v same so_far =
 so_far_each passes (suc n) spare end s t v steps so_far =
     let w : Noted = steps.0 in
     let before = so_far_each passes n spare end s t w steps.1 so_far in
-    so_far_stride spare end s (behind t n w) (behind t (suc n) v) before steps.2.before
-    (inr (step_made end (behind t n w) (behind t (suc n) v) steps.2.calmly steps.2.passed refl steps.2.entries refl (omega arith)))
+    so_far_over spare end s (behind t n w) (behind t (suc n) v) before steps.2.before
+    (inr (step_over end (behind t n w) (behind t (suc n) v) (step_made end (behind t n w) (behind t (suc n) v) steps.2.calmly steps.2.passed refl steps.2.entries refl (omega arith))))
 
 -- where they lead
 pub steps_lead : (passes : ℕ → Type 0) (end : ℕ) (t u : BoardState) → (on : AreStepsOn passes end t u) → behind t on.count (record { plain = u.plain; trail = u.trail }) ≡ u
@@ -331,7 +319,7 @@ so_far_long passes spare end s t u so_far long =
     let mid = so_far_steps passes spare end s t long.between so_far long.steps in
     elim long.rest [
       | inl last ↦ subst (SoFar spare end s) (sym last.0) mid
-      | inr stride ↦ so_far_stride spare end s long.between u mid stride.0 stride.1
+      | inr turn ↦ so_far_over spare end s long.between u mid turn.0 turn.1
     ]
 
 pub long_moves : (passes : ℕ → Type 0) (end : ℕ) (t u : BoardState) → clock_of t.plain < end → IsLongTurnOn passes end t u → end - clock_of u.plain < end - clock_of t.plain
@@ -342,14 +330,14 @@ long_moves passes end t u before long =
       | inl last ↦
           let here : clock_of u.plain ≡ clock_of long.between.plain = ap (λ (x : BoardState). clock_of x.plain) last.0 in
           let past = last.1 in omega (arith, here, past, before)
-      | inr stride ↦ let less = stride_moves end long.between u stride.0 stride.1 in omega (arith, less, some)
+      | inr turn ↦ let less = over_moves end long.between u turn.0 turn.1 in omega (arith, less, some)
     ]
 
 -- behind such steps
 
-pub if_long : {E : Type 0} (passes : ℕ → Type 0) (end : ℕ) (s t u : BoardState) (result : Result Unit E) → AreStepsOn passes end s t → clock_of t.plain < end → OnOk result (IsStrideOn end t u) → OnOk result (IsLongTurnOn passes end s u)
-if_long passes end s t u (Ok x) steps before stride = record { between = t; steps = steps; rest = inr (before, stride) }
-if_long passes end s t u (Err e) steps before stride = stride
+pub if_long : {E : Type 0} (passes : ℕ → Type 0) (end : ℕ) (s t u : BoardState) (result : Result Unit E) → AreStepsOn passes end s t → clock_of t.plain < end → OnOk result (IsTurnOverEdgesOn end t u) → OnOk result (IsLongTurnOn passes end s u)
+if_long passes end s t u (Ok x) steps before turn = record { between = t; steps = steps; rest = inr (before, turn) }
+if_long passes end s t u (Err e) steps before turn = turn
 
 pub if_held : {E : Type 0} (passes : ℕ → Type 0) (end : ℕ) (s t u : BoardState) (result : Result Unit E) → AreStepsOn passes end s t → clock_of t.plain < end → OnErr result (IsHeldBack t u) → OnErr result (IsHeldBehind passes end s u)
 if_held passes end s t u (Err e) steps before held = record { between = t; steps = steps; before = before; held = held }

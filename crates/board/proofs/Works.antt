@@ -46,11 +46,11 @@ no_work p nothing same_0 same_2 no_codes =
     let codes : length (codes_at p.keys (clock_of p + 1)) ≡ 0 = ap length no_codes in
     omega (arith, steps, jams, edge_0, edge_2, codes)
 
-no_step : (p : Plain) → next_act p ≡ Nothing → steps_next p ≡ 0
+pub no_step : (p : Plain) → next_act p ≡ Nothing → steps_next p ≡ 0
 unfolding steps_next
 no_step p nothing = ap steps_of nothing
 
-none_in_all : {S : Type 0} (step : S → S) (cost : S → ℕ) (n : ℕ) (s : S) → ((i : ℕ) → i < n → cost (iterate step i s) ≡ 0) → total step cost n s ≡ 0
+pub none_in_all : {S : Type 0} (step : S → S) (cost : S → ℕ) (n : ℕ) (s : S) → ((i : ℕ) → i < n → cost (iterate step i s) ≡ 0) → total step cost n s ≡ 0
 none_in_all step cost zero s none = total_zero step cost s
 none_in_all step cost (suc n) s none =
     let more : suc n ≡ n + 1 = omega arith in

@@ -5,7 +5,7 @@ use Rattle.board_plain.specs.declared.stop.Condition.{Condition}
 use Rattle.board_plain.specs.declared.stop.Condition.TheVariants.{Free, At, Byte, Sound, Halted}
 use Rattle.board_plain.specs.Board.{BoardState}
 use Rattle.board_plain.specs.Plain.{clock_of}
-use Rattle.board.specs.Turns.{AreStepsOn, IsStrideOn, IsTurnOn}
+use Rattle.board.specs.Turns.{AreStepsOn, IsTurnOn, IsTurnOverEdgesOn}
 
 -- whether it holds only where the processor is free
 abbrev pub awaits_free : Condition → Bool
@@ -22,8 +22,8 @@ AllAwaitFree stops = (k : ℕ) → k < length stops → awaits_free (slice_index
 abbrev pub ArePassedOn : (ℕ → Type 0) → ℕ → BoardState → BoardState → Type 0
 ArePassedOn passes end old new = AreStepsOn passes end old new × (clock_of old.plain < clock_of new.plain)
 
--- a turn between two looks for a stop: where all wait for a free processor, a whole stride, or steps at once, between which IP
--- is one that may be passed
+-- a turn between two looks for a stop: where all wait for a free processor, one that may leap over edges, or steps at once,
+-- between which IP is one that may be passed
 abbrev pub IsTurnBetween : Bool → (ℕ → Type 0) → ℕ → BoardState → BoardState → Type 0
-IsTurnBetween true passes end old new = ArePassedOn passes end old new ⊎ IsStrideOn end old new
+IsTurnBetween true passes end old new = ArePassedOn passes end old new ⊎ IsTurnOverEdgesOn end old new
 IsTurnBetween false passes end old new = IsTurnOn end old new

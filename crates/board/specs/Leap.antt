@@ -72,10 +72,14 @@ pub record ActsCalmly (s : Plain) : Type 0 where
 unfoldable pub leapt : Plain → ℕ → Plain
 leapt s n = record s { busy = s.busy - n; chips = wires.leapt s.chips n }
 
--- they can't be more: they are all that are asked for, or the processor is free at their end, or the clock after them
--- has work
+-- n clocks that lead to a board can't be more: they are all that are asked for, or the processor is free at their end, or
+-- the clock after them has work
+abbrev pub IsTightTo : ℕ → Plain → ℕ → Plain → Type 0
+IsTightTo limit s n t = (n ≡ limit) ⊎ (((1 ≤ s.busy) × (n ≡ s.busy)) ⊎ (1 ≤ work_next t))
+
+-- the same of such clocks at once
 abbrev pub IsTight : ℕ → Plain → ℕ → Type 0
-IsTight limit s n = (n ≡ limit) ⊎ (((1 ≤ s.busy) × (n ≡ s.busy)) ⊎ (1 ≤ work_next (leapt s n)))
+IsTight limit s n = IsTightTo limit s n (leapt s n)
 
 -- n clocks that a turn may leap over, at most `limit`: up to the end of the processor's step
 pub record IsCalmTurn (limit : ℕ) (s : Plain) (n : ℕ) : Type 0 where

@@ -4,6 +4,7 @@ pub mod Kept
 pub mod KeptAgain
 pub mod HeldBack
 pub mod Leap
+pub mod Alone
 pub mod Clear
 pub mod Turns
 pub mod AwaitFree

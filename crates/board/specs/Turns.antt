@@ -2,6 +2,7 @@
 -- For proofs alone: no public contract rests on it.
 use Rattle.std.specs.Prelude.{ℕ, ◌≡◌, ◌+◌, ◌-◌, ◌<◌, ◌≤◌, ◌⊎◌, ◌++◌, length}
 use Rattle.board_plain.specs.Board.{BoardState}
+use Rattle.board.specs.Alone.{IsLeapOverEdges}
 use Rattle.board.specs.ClearSteps.{AreClearSteps}
 use Rattle.board.specs.HeldBack.{IsHeldBack}
 use Rattle.board_plain.specs.Laws.{WiresHold}
@@ -48,7 +49,26 @@ pub record IsStepOn (end : ℕ) (old new : BoardState) : Type 0 where
 abbrev pub IsStrideOn : ℕ → BoardState → BoardState → Type 0
 IsStrideOn end old new = IsTurnOn end old new ⊎ IsStepOn end old new
 
--- so many such steps at once, while nothing comes
+-- a leap of a board over edges of the timer, at most to a clock, which counts as so many turns
+pub record IsLeapOverEdgesOn (end count : ℕ) (old new : BoardState) : Type 0 where
+  pub leap : IsLeapOverEdges end old.plain new.plain
+  pub changes : new.changes ≡ old.changes
+  pub trail : new.trail ≡ old.trail
+  pub room : new.room ≡ old.room
+  pub turns : new.turns ≡ old.turns + count
+
+-- a clock that has work, and maybe such a leap behind it; they count as one turn
+pub record IsActOn (end : ℕ) (old new : BoardState) : Type 0 where
+  pub begun : BoardState
+  pub first : IsTickOn old begun
+  pub work : 1 ≤ work_next old.plain
+  pub rest : (new ≡ begun) ⊎ ((1 ≤ begun.plain.busy) × IsLeapOverEdgesOn end 0 begun new)
+
+-- a turn that may leap over edges
+abbrev pub IsTurnOverEdgesOn : ℕ → BoardState → BoardState → Type 0
+IsTurnOverEdgesOn end old new = IsLeapOverEdgesOn end 1 old new ⊎ IsActOn end old new
+
+-- so many steps at once, while nothing comes
 pub record AreStepsOn (passes : ℕ → Type 0) (end : ℕ) (old new : BoardState) : Type 0 where
   pub count : ℕ
   pub steps : AreClearSteps passes count end (record { plain = old.plain; trail = old.trail })
@@ -57,12 +77,12 @@ pub record AreStepsOn (passes : ℕ → Type 0) (end : ℕ) (old new : BoardStat
   pub room : new.room ≡ old.room
   pub turns : new.turns ≡ old.turns + count
 
--- and where the run doesn't end with them, a turn or a step
+-- and where the run doesn't end with them, a turn that may leap over edges
 pub record IsLongTurnOn (passes : ℕ → Type 0) (end : ℕ) (old new : BoardState) : Type 0 where
   pub between : BoardState
   pub steps : AreStepsOn passes end old between
   pub rest : ((new ≡ between) × (end ≤ clock_of between.plain))
-      ⊎ ((clock_of between.plain < end) × IsStrideOn end between new)
+      ⊎ ((clock_of between.plain < end) × IsTurnOverEdgesOn end between new)
 
 -- or what comes behind them is held back
 pub record IsHeldBehind (passes : ℕ → Type 0) (end : ℕ) (old new : BoardState) : Type 0 where

@@ -16,7 +16,7 @@ ghost use Rattle.board_plain.specs.Lasts.{IsLastOf};
 ghost use Rattle.board.specs.Found.{found_at, found_before};
 ghost use Rattle.board_plain.specs.Trail.{last, trail_in, trail_next};
 ghost use Rattle.board.specs.AwaitFree.{IsTurnBetween};
-ghost use Rattle.board.specs.Turns.{AreStepsOn, IsHeldBehind, IsLongTurnOn, IsStepOn, IsStrideOn, IsTickOn, IsTurnOn};
+ghost use Rattle.board.specs.Turns.{AreStepsOn, IsHeldBehind, IsLeapOverEdgesOn, IsLongTurnOn, IsStepOn, IsStrideOn, IsTickOn, IsTurnOn, IsTurnOverEdgesOn};
 ghost use Rattle.board_plain.specs.Work.{steps_in, work_in, work_next};
 ghost use Rattle.board_types.specs.Lines.{from_bool};
 
@@ -323,7 +323,7 @@ impl<A: Allocator> Board<A> {
         if self.stride_clearly(end, reach) {
             return Ok(());
         }
-        self.stride(end)
+        self.turn_over_edges(end)
     }
 
     /// A turn in which no leap stands behind a step.
@@ -353,7 +353,8 @@ impl<A: Allocator> Board<A> {
         self.step(next)
     }
 
-    /// As many steps at once as can be made, while nothing comes; and where the run doesn't end with them, a turn or a step.
+    /// As many steps at once as can be made, while nothing comes; and where the run doesn't end with them, a turn that may
+    /// leap over edges of the timer.
     #[inline(always)]
     fn long_turn(&mut self, end: u64) -> Result<(), BoardFault>
         requires before_end { clock_of self.old.plain < end }
@@ -366,7 +367,38 @@ impl<A: Allocator> Board<A> {
         if self.clock().get() >= end {
             return Ok(());
         }
+        self.turn_over_edges(end)
+    }
+
+    /// A turn of a run that ends at the clock `end`: a busy processor's other clocks at once, over the edges of the timer in
+    /// them, or else a stride.
+    #[inline(always)]
+    fn turn_over_edges(&mut self, end: u64) -> Result<(), BoardFault>
+        requires before_end { clock_of self.old.plain < end }
+        requires within { end ≤ 2 ^ 40 }
+        ensures ok { OnOk result (IsTurnOverEdgesOn end self.old self.new) }
+        ensures err { OnErr result (IsHeldBack self.old self.new) }
+        ensures fault { IfErr result (λ fault. fault ≡ BoardFault.Memory) }
+    {
+        if self.leap_rest(end) {
+            return Ok(());
+        }
         self.stride(end)
+    }
+
+    /// That leap. Answers whether it was made.
+    #[inline(always)]
+    fn leap_rest(&mut self, end: u64) -> bool
+        requires before_end { clock_of self.old.plain < end }
+        requires within { end ≤ 2 ^ 40 }
+        ensures made { IsTrue result → IsLeapOverEdgesOn end 1 self.old self.new }
+        ensures not_made { ¬ (IsTrue result) → self.new ≡ self.old }
+    {
+        if !self.engine.leap_rest(end) {
+            return false;
+        }
+        self.turns += 1;
+        true
     }
 
     /// Those steps. Answers whether there were any.

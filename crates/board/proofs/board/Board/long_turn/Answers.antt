@@ -11,8 +11,8 @@ returns-then-get-end-clause-ok g c = record {
 
 pub returns-clause-ok : goal.returns-clause-ok
 returns-clause-ok g c =
-    if_long _ c.args.end _ _ _ c.stride.result c.stride_clearly.ensures.steps (omega (arith, c.if-get-end.false, c.get.ensures.value, c.clock.ensures)) c.stride.ensures.ok
+    if_long _ c.args.end _ _ _ c.turn_over_edges.result c.stride_clearly.ensures.steps (omega (arith, c.if-get-end.false, c.get.ensures.value, c.clock.ensures)) c.turn_over_edges.ensures.ok
 
 pub returns-clause-err : goal.returns-clause-err
 returns-clause-err g c =
-    if_held _ c.args.end _ _ _ c.stride.result c.stride_clearly.ensures.steps (omega (arith, c.if-get-end.false, c.get.ensures.value, c.clock.ensures)) c.stride.ensures.err
+    if_held _ c.args.end _ _ _ c.turn_over_edges.result c.stride_clearly.ensures.steps (omega (arith, c.if-get-end.false, c.get.ensures.value, c.clock.ensures)) c.turn_over_edges.ensures.err

@@ -1,6 +1,5 @@
 use Rattle.std.proofs.Common.{◌≡◌, ◌≤◌, length, map, ap, ◌∙◌, subst}
 use Rattle.std.specs.Prelude.{IfSome}
-use Rattle.std.specs.Option.{option_to_list}
 use Rattle.board.specs.OneTurn.{begun_of}
 use Rattle.board.specs.Turns.{IsStrideOn}
 use Rattle.board_plain.specs.Board.{BoardState}

@@ -1,9 +1,9 @@
-use Rattle.std.proofs.Common.{inl, inr, subst}
+use Rattle.std.proofs.Common.{inl, subst}
 use Rattle.std.specs.Prelude.{OnErr, OnOk}
 use Rattle.board_plain.specs.Board.{BoardState}
 use Rattle.board.specs.HeldBack.{IsHeldBack}
-use Rattle.board.specs.Turns.{IsStrideOn}
-use Rattle.board.proofs.Turns.{if_stride}
+use Rattle.board.specs.Turns.{IsTurnOverEdgesOn}
+use Rattle.board.proofs.Unseen.{if_over}
 use Rattle.board.proofs.board.Board.whole_turn.Goals as goal
 
 pub returns-then-stride_clearly-clause-ok : goal.returns-then-stride_clearly-clause-ok
@@ -11,11 +11,11 @@ returns-then-stride_clearly-clause-ok g c = inl (c.stride_clearly.ensures.steps,
 
 pub returns-clause-ok : goal.returns-clause-ok
 returns-clause-ok g c =
-    if_stride _ c.args.end _ _ c.stride.result
-    (subst (λ (b : BoardState). OnOk c.stride.result (IsStrideOn c.args.end b c.stride.new.self))
-    (c.stride_clearly.ensures.not_made (λ yes. let no = c.if-stride_clearly.false in cc)) c.stride.ensures.ok)
+    if_over _ c.args.end _ _ c.turn_over_edges.result
+    (subst (λ (b : BoardState). OnOk c.turn_over_edges.result (IsTurnOverEdgesOn c.args.end b c.turn_over_edges.new.self))
+    (c.stride_clearly.ensures.not_made (λ yes. let no = c.if-stride_clearly.false in cc)) c.turn_over_edges.ensures.ok)
 
 pub returns-clause-err : goal.returns-clause-err
 returns-clause-err g c =
-    subst (λ (b : BoardState). OnErr c.stride.result (IsHeldBack b c.stride.new.self))
-    (c.stride_clearly.ensures.not_made (λ yes. let no = c.if-stride_clearly.false in cc)) c.stride.ensures.err
+    subst (λ (b : BoardState). OnErr c.turn_over_edges.result (IsHeldBack b c.turn_over_edges.new.self))
+    (c.stride_clearly.ensures.not_made (λ yes. let no = c.if-stride_clearly.false in cc)) c.turn_over_edges.ensures.err
