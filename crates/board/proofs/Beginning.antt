@@ -12,6 +12,7 @@ use Rattle.wiring.specs.Wires.{after_arrivals}
 use Rattle.wiring.proofs.Clocks.{clock_of_arrivals, clock_of_clocked, clock_of_keys_settled}
 use Rattle.board_plain.specs.declared.act.Act.{Act}
 use Rattle.board_plain.specs.Board.{BoardState}
+use Rattle.board.specs.Alone.{PassesOver}
 use Rattle.board.specs.Leap.{ActsCalmly, PassesOn}
 use Rattle.board_plain.specs.Plain.{Plain, after_act, after_clock, chips_after_clock, clock_of, codes_at, next_act, speaker_level}
 use Rattle.board_plain.specs.Trail.{last, trail_next}
@@ -39,7 +40,7 @@ chips_go_on c keys =
     ∙ clock_of_arrivals (wires.after_clock c) (codes_at keys (c.clock + 1))
     ∙ clock_of_clocked c
 
-clock_goes_by : (s : Plain) → clock_of (after_clock s) ≡ clock_of s + 1
+pub clock_goes_by : (s : Plain) → clock_of (after_clock s) ≡ clock_of s + 1
 unfolding clock_of after_clock
 clock_goes_by s =
     chips_go_on (after_act s.clocks s.cpu s.busy s.chips (next_act s)).bus s.keys
@@ -99,6 +100,18 @@ goes_from end s p t first before (inr passed) =
 
 pub goes_on : (end : ℕ) (s t : Plain) → clock_of s < end → PassesOn end (after_clock s) t → GoesOn end s t
 goes_on end s t before passed = goes_from end s (after_clock s) t (clock_goes_by s) before passed
+
+-- the same where it leaps over edges of the timer
+
+goes_over_from : (end : ℕ) (s p t : Plain) → clock_of p ≡ clock_of s + 1 → clock_of s < end → PassesOver end p t → GoesOn end s t
+goes_over_from end s p t first before (inl same) =
+    let here : clock_of t ≡ clock_of p = ap clock_of same in record { some = omega (arith, here, first); within = omega (arith, here, first, before) }
+goes_over_from end s p t first before (inr rest) =
+    let here = rest.1.unseen.clock in
+    let most = rest.1.within in record { some = omega (arith, here, first); within = omega (arith, here, first, before, most) }
+
+pub goes_over : (end : ℕ) (s t : Plain) → clock_of s < end → PassesOver end (after_clock s) t → GoesOn end s t
+goes_over end s t before passed = goes_over_from end s (after_clock s) t (clock_goes_by s) before passed
 
 -- the plain board's clock, told by what the processor does in it
 pub clock_by_act : (s : Plain) (a : Act) (acted : StepResult ChipsState) → a ≡ next_act s → acted ≡ after_act s.clocks s.cpu s.busy s.chips a → record { cpu = acted.cpu; busy = acted.clocks - 1; chips = chips_after_clock acted.bus s.keys; keys = s.keys; clocks = s.clocks } ≡ after_clock s

@@ -14,11 +14,10 @@ use Rattle.board_plain.specs.Stops.{holding}
 use Rattle.board.specs.ClearSteps.{AreClearSteps, Noted}
 use Rattle.board.specs.Turns.{AreStepsOn, IsLeapOverEdgesOn, IsTickOn, IsTurnOn, IsTurnOverEdgesOn}
 use Rattle.board_plain.specs.Work.{work_next}
-use Rattle.board.proofs.Beginning.{step_made}
 use Rattle.board.specs.Reach.{PassesNone}
 use Rattle.board.proofs.Search.{none_between, none_held}
-use Rattle.board.proofs.Turns.{SoFar, before_rest, behind, so_far_leap, so_far_none, so_far_tick, steps_lead}
-use Rattle.board.proofs.Unseen.{leap_over, step_over}
+use Rattle.board.proofs.Turns.{SoFar, before_rest, behind, so_far_leap, so_far_none, so_far_tick, steps_lead, one_more}
+use Rattle.board.proofs.Unseen.{leap_over}
 
 -- what holds at a clock after some is told from where the board stands then
 later_on : (stops : List Condition) (n j : ℕ) (s p : Plain) (here : Option ℕ) → p ≡ after_clocks s n → n ≤ j → holding stops (after_clocks p (j - n)) ≡ here → holding stops (after_clocks s j) ≡ here
@@ -114,7 +113,7 @@ looked_each passes (suc n) stops end s t v last waits none looked here steps =
     looked_over stops end s (behind t n w) (behind t (suc n) v) last waits
     (looked_each passes n stops end s t w last waits none looked here steps.1)
     (none_between passes stops n end (record { plain = t.plain; trail = t.trail }) w none here steps.1 steps.3) steps.2.before
-    (inr (step_over end (behind t n w) (behind t (suc n) v) (step_made end (behind t n w) (behind t (suc n) v) steps.2.calmly steps.2.passed refl steps.2.entries refl (omega arith))))
+    (inr (one_more n end t w v steps.2))
 
 looked_steps : (passes : ℕ → Type 0) (stops : List Condition) (end : ℕ) (s t u : BoardState) (last : Option (ℕ × ℕ)) → AllAwaitFree stops → PassesNone passes stops → Looked stops end s t last → holding stops t.plain ≡ None → AreStepsOn passes end t u → Looked stops end s u last
 looked_steps passes stops end s t u last waits none looked here on =

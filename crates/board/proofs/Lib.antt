@@ -7,6 +7,7 @@ pub mod Leap
 pub mod Alone
 pub mod Unseen
 pub mod Passing
+pub mod PassingOver
 pub mod Acting
 pub mod BySlots
 pub mod Clear
@@ -17,6 +18,8 @@ pub mod Rooms
 pub mod Ticking
 pub mod Search
 pub mod Stopped
+pub mod Mutely
+pub mod Idle
 pub mod Turns
 pub mod Works
 mod Stores

@@ -18,9 +18,8 @@ use Rattle.board_plain.specs.Work.{work_next}
 use Rattle.board_plain.proofs.Runs.{ran_none}
 use Rattle.board_plain.proofs.Stopping.{no_stop_more, no_stop_none}
 use Rattle.board.proofs.Stopped.{none_passed, none_there, not_held_before_stop, ran_to_stop, stops_here}
-use Rattle.board.proofs.Beginning.{step_made}
-use Rattle.board.proofs.Turns.{Counts, HeldRun, SoFar, before_rest, behind, counted, held_run, not_counted, ran_whole, so_far_first, so_far_leap, so_far_none, so_far_tick, steps_lead, over_moves}
-use Rattle.board.proofs.Unseen.{leap_over, step_over, turn_over}
+use Rattle.board.proofs.Turns.{Counts, HeldRun, SoFar, before_rest, behind, counted, held_run, not_counted, ran_whole, so_far_first, so_far_leap, so_far_none, so_far_tick, steps_lead, over_moves, one_more}
+use Rattle.board.proofs.Unseen.{leap_over, turn_over}
 
 -- a run so far that passed no stop; at its clock it hasn't looked for one
 pub record Searched (stops : List Condition) (end : ℕ) (s t : BoardState) : Type 0 where
@@ -125,7 +124,7 @@ searched_each passes (suc n) stops end s t v waits none searched here steps =
     searched_over stops end s (behind t n w) (behind t (suc n) v) waits
     (searched_each passes n stops end s t w waits none searched here steps.1)
     (none_between passes stops n end (record { plain = t.plain; trail = t.trail }) w none here steps.1 steps.3) steps.2.before
-    (inr (step_over end (behind t n w) (behind t (suc n) v) (step_made end (behind t n w) (behind t (suc n) v) steps.2.calmly steps.2.passed refl steps.2.entries refl (omega arith))))
+    (inr (one_more n end t w v steps.2))
 
 searched_steps : (passes : ℕ → Type 0) (stops : List Condition) (end : ℕ) (s t u : BoardState) → AllAwaitFree stops → PassesNone passes stops → Searched stops end s t → holding stops t.plain ≡ None → AreStepsOn passes end t u → Searched stops end s u
 searched_steps passes stops end s t u waits none searched here on =

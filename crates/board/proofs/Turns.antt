@@ -9,14 +9,13 @@ use Rattle.board.specs.Leap.{IsQuiet, IsTight, IsTightTo, leapt}
 use Rattle.board_plain.specs.Plain.{Plain, after_clock, after_clocks, changes_in, clock_of}
 use Rattle.board_plain.specs.Trail.{last}
 use Rattle.board.specs.ClearSteps.{AreClearSteps, IsClearStep, Noted}
-use Rattle.board.specs.Turns.{AreStepsOn, IsHeldBehind, IsLeapOverEdgesOn, IsLongTurnOn, IsStepOn, IsStrideOn, IsTickOn, IsTurnOn, IsTurnOverEdgesOn}
+use Rattle.board.specs.Turns.{AreStepsOn, IsActOn, IsHeldBehind, IsLeapOverEdgesOn, IsLongTurnOn, IsStepOn, IsStrideOn, IsTickOn, IsTurnOn, IsTurnOverEdgesOn}
 use Rattle.board_plain.specs.Work.{steps_in, steps_next, work_in, work_next}
 use Rattle.board_plain.proofs.LastEntries.{last_within, nothing_added}
-use Rattle.board.proofs.Beginning.{step_made}
+use Rattle.board.proofs.Mutely.{act_made, calmly_mutely}
 use Rattle.board.proofs.Rooms.{works_at_once}
 use Rattle.board.proofs.Steps.{have_gone}
 use Rattle.board.proofs.Ticking.{not_held, ran_more, stopped}
-use Rattle.board.proofs.Unseen.{step_over}
 use Rattle.board_plain.proofs.Runs.{ran_none, runs_join}
 use Rattle.board.proofs.Works.{one_step_at_most}
 
@@ -270,6 +269,16 @@ step_alone end old new step =
           let within = rest.1.within in absurd (omega (arith, clock, some, within))
     ]
 
+pub act_alone : (end : ℕ) (old new : BoardState) → IsActOn (clock_of old.plain + 1) old new → IsTurnOn end old new
+act_alone end old new act =
+    elim act.rest [
+      | inl same ↦ inr (subst (IsTickOn old) (sym same) act.first, act.work)
+      | inr rest ↦
+          let clock = act.first.clock in
+          let some = rest.1.leap.some in
+          let within = rest.1.leap.within in absurd (omega (arith, clock, some, within))
+    ]
+
 -- it goes on
 
 leap_moves : (end count : ℕ) (t u : BoardState) → clock_of t.plain < end → IsLeapOverEdgesOn end count t u → end - clock_of u.plain < end - clock_of t.plain
@@ -294,6 +303,10 @@ over_moves end t u before (inr act) = rest_moves end t act.begun u before act.fi
 abbrev pub behind : BoardState → ℕ → Noted → BoardState
 behind t n v = record t { plain = v.plain; trail = v.trail; turns = t.turns + n }
 
+pub one_more : (n end : ℕ) (t : BoardState) (w v : Noted) → IsClearStep end w v → IsActOn end (behind t n w) (behind t (suc n) v)
+one_more n end t w v step =
+    act_made end (behind t n w) (behind t (suc n) v) (calmly_mutely w.plain step.calmly) step.passed refl step.entries refl (omega arith)
+
 so_far_each : (passes : ℕ → Type 0) (n spare end : ℕ) (s t : BoardState) (v : Noted) → AreClearSteps passes n end (record { plain = t.plain; trail = t.trail }) v → SoFar spare end s t → SoFar spare end s (behind t n v)
 unfolding AreClearSteps
 so_far_each passes zero spare end s t v same so_far =
@@ -303,7 +316,7 @@ so_far_each passes (suc n) spare end s t v steps so_far =
     let w : Noted = steps.0 in
     let before = so_far_each passes n spare end s t w steps.1 so_far in
     so_far_over spare end s (behind t n w) (behind t (suc n) v) before steps.2.before
-    (inr (step_over end (behind t n w) (behind t (suc n) v) (step_made end (behind t n w) (behind t (suc n) v) steps.2.calmly steps.2.passed refl steps.2.entries refl (omega arith))))
+    (inr (one_more n end t w v steps.2))
 
 -- where they lead
 pub steps_lead : (passes : ℕ → Type 0) (end : ℕ) (t u : BoardState) → (on : AreStepsOn passes end t u) → behind t on.count (record { plain = u.plain; trail = u.trail }) ≡ u
@@ -351,8 +364,8 @@ one_alone passes zero end t v moved same =
 one_alone passes (suc zero) end t v moved steps =
     let first : steps.0 ≡ record { plain = t.plain; trail = t.trail } = steps.1 in
     let step = subst (λ w. IsClearStep (clock_of t.plain + 1) w v) first steps.2 in
-    step_alone end t (behind t 1 v)
-    (step_made (clock_of t.plain + 1) t (behind t 1 v) step.calmly step.passed refl step.entries refl refl)
+    act_alone end t (behind t 1 v)
+    (act_made (clock_of t.plain + 1) t (behind t 1 v) (calmly_mutely t.plain step.calmly) step.passed refl step.entries refl refl)
 one_alone passes (suc (suc n)) end t v moved steps =
     let gone = have_gone passes (suc n) (clock_of t.plain + 1) _ steps.0 steps.1 in
     let some = gone.some in

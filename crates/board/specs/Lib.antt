@@ -10,4 +10,5 @@ pub mod Turns
 pub mod AwaitFree
 pub mod Found
 pub mod ClearSteps
+pub mod Mutely
 pub mod OneTurn

@@ -370,8 +370,8 @@ impl<A: Allocator> Board<A> {
         self.turn_over_edges(end)
     }
 
-    /// A turn of a run that ends at the clock `end`: a busy processor's other clocks at once, over the edges of the timer in
-    /// them, or else a stride.
+    /// A turn of a run that ends at the clock `end`: one that leaves the speaker's level as it is, over edges of the timer,
+    /// or else a stride.
     #[inline(always)]
     fn turn_over_edges(&mut self, end: u64) -> Result<(), BoardFault>
         requires before_end { clock_of self.old.plain < end }
@@ -380,21 +380,21 @@ impl<A: Allocator> Board<A> {
         ensures err { OnErr result (IsHeldBack self.old self.new) }
         ensures fault { IfErr result (λ fault. fault ≡ BoardFault.Memory) }
     {
-        if self.leap_rest(end) {
+        if self.mute_turn(end) {
             return Ok(());
         }
         self.stride(end)
     }
 
-    /// That leap. Answers whether it was made.
+    /// Such a turn over edges, if it can be made. Answers whether it was made.
     #[inline(always)]
-    fn leap_rest(&mut self, end: u64) -> bool
+    fn mute_turn(&mut self, end: u64) -> bool
         requires before_end { clock_of self.old.plain < end }
         requires within { end ≤ 2 ^ 40 }
-        ensures made { IsTrue result → IsLeapOverEdgesOn end 1 self.old self.new }
+        ensures made { IsTrue result → IsTurnOverEdgesOn end self.old self.new }
         ensures not_made { ¬ (IsTrue result) → self.new ≡ self.old }
     {
-        if !self.engine.leap_rest(end) {
+        if !self.engine.turn_over_edges(&mut self.trail, end) {
             return false;
         }
         self.turns += 1;
