@@ -81,10 +81,10 @@ impl<A: Allocator> Checkpoints<A> {
         let Ok(copy) = copy_of(board) else {
             return;
         };
-        let _ = self.kept.insert(place, copy);
+        drop(self.kept.insert(place, copy));
         if self.kept.len() > MOST {
             let thinnest = thinnest(&self.kept, first.get(), now);
-            let _ = self.kept.remove(thinnest);
+            drop(self.kept.remove(thinnest));
         }
     }
 }

@@ -31,6 +31,7 @@ use board_report::text::register_lines;
 use board_types::clock::Clock;
 use std::alloc::{Allocator, Global};
 use std::marker::Model;
+use std::mem;
 
 /// The clocks of a run after which it is asked whether a copy of the board is to be kept.
 const PIECE: u64 = 1 << 26;
@@ -284,7 +285,9 @@ impl<A: Allocator> Session<A> {
         'stretches: while first < bound {
             let mut board = self.board_before(bound - 1)?;
             let from = board.clock().get();
-            match board.run_last(bound - 1 - from, stops) {
+            let last = board.run_last(bound - 1 - from, stops);
+            drop(board);
+            match last {
                 Ok(Some(found)) => return Ok(found),
                 Ok(None) => bound = from,
                 Err(_) => return Err(DebugFault::Memory(None)),
@@ -304,10 +307,13 @@ impl<A: Allocator> Session<A> {
         let left = clock - board.clock().get();
         match board.run(left) {
             Ok(()) => {
-                self.board = board;
+                drop(mem::replace(&mut self.board, board));
                 Ok(())
             }
-            Err(_) => Err(DebugFault::Memory(None)),
+            Err(_) => {
+                drop(board);
+                Err(DebugFault::Memory(None))
+            }
         }
     }
 
