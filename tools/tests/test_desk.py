@@ -37,6 +37,19 @@ def text_of_screen(rows: list[list[list[Any]]]) -> list[str]:
     return [''.join(text for text, _ in row) for row in rows]
 
 
+def contrast(one: str, other: str) -> float:
+    """The contrast of two colours: the ratio of their luminances."""
+
+    def luminance(colour: str) -> float:
+        digits = colour[1:] if len(colour) == 7 else ''.join(2 * it for it in colour[1:])
+        parts = [int(digits[at : at + 2], 16) / 255 for at in (0, 2, 4)]
+        red, green, blue = (it / 12.92 if it <= 0.04045 else ((it + 0.055) / 1.055) ** 2.4 for it in parts)
+        return 0.2126 * red + 0.7152 * green + 0.0722 * blue
+
+    low, high = sorted((luminance(one), luminance(other)))
+    return (high + 0.05) / (low + 0.05)
+
+
 class Client:
     """A page, as far as the protocol goes."""
 
@@ -567,6 +580,26 @@ class Started(ToolCase):
             client.request('POST', path, json.dumps({'do': 'go to', 'clock': 1 << 40, 'board': board}).encode())
             self.ended(process, number)
 
+    def test_it_listens_in_one_place(self) -> None:
+        """Of all sockets of its processes one waits for connections, at 127.0.0.1; at the machine's other addresses nothing is."""
+        process, client = self.begin()
+        client.open('hello')
+        own = set[str]()
+        for one in (process.pid, *children(process.pid)):
+            for number in os.listdir(f'/proc/{one}/fd'):
+                own.add(os.readlink(f'/proc/{one}/fd/{number}'))
+        found = list[str]()
+        for table in ('tcp', 'tcp6', 'udp', 'udp6'):
+            with open(f'/proc/{process.pid}/net/{table}', encoding='utf-8') as file:
+                rows = [line.split() for line in file.readlines()[1:]]
+            found += [row[1] for row in rows if f'socket:[{row[9]}]' in own and (row[3] == '0A' or table.startswith('udp'))]
+        self.assertEqual(found, [f'0100007F:{client.port:04X}'])
+        others = {str(it[4][0]) for it in socket.getaddrinfo(socket.gethostname(), client.port, type=socket.SOCK_STREAM)} - {'127.0.0.1'}
+        for address in {'::1', '127.0.0.2', *others}:
+            with self.assertRaises(OSError):
+                socket.create_connection((address, client.port), timeout=2).close()
+        self.ended(process, signal.SIGINT)
+
     def test_files_are_written_where_the_words_say(self) -> None:
         source = self.file('mine.asm', FOREVER)
         process, client = self.begin(source, f'{self.room}/mine.json')
@@ -599,6 +632,22 @@ class Pages(unittest.TestCase):
         self.assertEqual(
             (page.count('<script>'), page.count('<style>'), page.count('<script'), page.count(' style="'), page.count(' onclick=')), (1, 1, 1, 0, 0)
         )
+
+    def test_it_can_be_read_in_light_and_dark(self) -> None:
+        """Each text has a contrast of 4.5 to what is behind it, each mark one of 3, as the accessibility guidelines want it."""
+        with open(f'{TOOLS}/toolbox/desk.html', encoding='utf-8') as file:
+            light, dark = (dict(re.findall(r'--([\w-]+): (#\w+);', it)) for it in re.findall(r':root \{(.*?)\}', file.read(), re.S)[:2])
+        for colours in (light, light | dark):
+            for fore, back, least in (
+                *((it, 'panel', 4.5) for it in ('text', 'dim', 'bad', 'accent')),
+                *((it, 'back', 4.5) for it in ('text', 'dim', 'bad', 'accent')),
+                *(('text', it, 4.5) for it in ('now', 'changed')),
+                ('bad', 'bad-back', 4.5),
+                ('panel', 'bad', 4.5),
+                ('accent-text', 'accent', 4.5),
+                *((it, 'back', 3) for it in ('stop', 'interrupt', 'sound')),
+            ):
+                self.assertGreaterEqual(contrast(colours[fore], colours[back]), least, (fore, back, colours))
 
     def test_all_pages_can_be_shown(self) -> None:
         for name in sorted(os.listdir(f'{TOP}/docs')):

@@ -3,6 +3,7 @@
   python3 -m tests.test_desk_page FOLDER     writes pictures of the page into a folder; docs/pictures/desk.webp is one"""
 from __future__ import annotations
 
+import json
 import os
 import signal
 import subprocess
@@ -15,7 +16,9 @@ from typing import Any
 from tests.browser import CONTROL, SHIFT, Browser, path
 from tests.support import EXAMPLES, TOOLS, ToolCase, children, example
 
-from toolbox.report import Report, report_of
+from toolbox.chips import END_OF_INTERRUPT, chip_lines, probe
+from toolbox.program import Files, Session
+from toolbox.report import Report, registers_of, report_of
 
 READY = "typeof view!=='undefined'&&view!==null&&board!==null&&!working&&!running"
 SHOWN = "[...document.querySelectorAll('#screen>div')].map(it=>it.textContent)"
@@ -307,6 +310,8 @@ class OnePage(ToolCase):
                 self.assertEqual(
                     browser.run('[document.documentElement.scrollWidth, $("screen").getBoundingClientRect().right<=innerWidth]'), [window[0], True]
                 )
+                if window[0] == 1280:  # the whole page is in sight
+                    self.assertLessEqual(browser.run('Math.max(document.documentElement.scrollHeight,$("moves").getBoundingClientRect().bottom)'), 720)
                 self.assertEqual(browser.run("getComputedStyle(document.body).backgroundColor"), 'rgb(18, 21, 24)' if is_dark else 'rgb(239, 236, 228)')
         self.assertTrue(browser.run("$('tab-chips').hidden===!pages.chips"))
         self.fine(page)
@@ -322,6 +327,8 @@ class OnePage(ToolCase):
         browser.run("$('to').value='1,099,511,627,776'")
         browser.click('#go')
         browser.until("$('said').textContent.includes('of 1,099,511,627,776')&&$('run').textContent==='Pause'")
+        # Meanwhile the page goes on: no turn of it takes long.
+        self.assertLess(browser.run('new Promise(told=>{let most=0,last=performance.now(),n=0;const it=setInterval(()=>{const now=performance.now();most=Math.max(most,now-last);last=now;if(++n>50){clearInterval(it);told(most)}},20)})'), 1000)
         begun = time.monotonic()
         browser.click('#run')
         page.settled("$('run').textContent==='Run'&&view.clock<2**40")
@@ -341,6 +348,139 @@ class OnePage(ToolCase):
         browser.until("$('name').textContent==='monitor.hex'")
         page.settled('isHex&&view.clock===40000')
         self.assertEqual(page.screen(), self.report('monitor').screen)
+        self.fine(page)
+
+    def test_the_time_line(self) -> None:
+        """It shows stops that were met, interrupts and the speaker at their clocks, and is dragged forth and back."""
+        page = self.opened()
+        if page is None:
+            return
+        browser = page.browser
+
+        def is_marked(clock: int, high: int) -> bool:
+            return browser.run(
+                f"(()=>{{const c=$('marks'),[low,end]=span(),x=8+({clock}-low)/(end-low)*(c.clientWidth-16),pen=new OffscreenCanvas(2,1).getContext('2d');"
+                f"pen.drawImage(c,Math.floor(x),{high},2,1,0,0,2,1);return pen.getImageData(0,0,2,1).data.some(it=>it)}})()"
+            )
+
+        page.example('keys')
+        page.click('#tab-stops')
+        browser.run("$('stop-place').value='key'")
+        page.click('#stop-add', "stops.length===1&&$('stop-list').textContent.includes('key, line')")
+        page.click('#start', 'view.clock===0')
+        page.click('#run', "view.why==='stop'")
+        met = page.clock
+        browser.run("acts(()=>go_to(runFile.budget))")
+        page.settled('marks&&marks.clock===view.clock&&marks.interrupts.length===10')
+        interrupts = [clock for clock, _ in browser.run('marks.interrupts')]
+        self.assertEqual([is_marked(it, 5) for it in interrupts], [True] * 10)
+        self.assertEqual([is_marked((one + other) // 2, 5) for one, other in zip(interrupts, interrupts[1:])], [False] * 9)
+        self.assertEqual([is_marked(it, 0) for it in (met, met // 2)], [True, False])
+        # It is dragged back by the mouse, and forth, and what is seen is the screen of that clock.
+        ends = browser.run("(()=>{const r=$('time').getBoundingClientRect();return [r.left,r.right,r.top+r.height/2]})()")
+        places = {at: ends[0] + 8 + (ends[1] - ends[0] - 16) * at for at in (1.0, 0.75, 0.5, 0.3, 0.6)}
+        for at, kind in ((1.0, 'mousePressed'), (0.75, 'mouseMoved'), (0.5, 'mouseMoved'), (0.3, 'mouseMoved')):
+            browser.call('Input.dispatchMouseEvent', type=kind, x=places[at], y=ends[2], button='left', buttons=1, clickCount=1)
+        page.settled('Math.abs(view.clock-.3*view.furthest)<.02*view.furthest')
+        with Session(Files(*example('keys'))) as session:
+            session.go_to(page.clock)
+            self.assertEqual(page.screen(), session.many('screen'))
+        browser.call('Input.dispatchMouseEvent', type='mouseMoved', x=places[0.6], y=ends[2], button='left', buttons=1)
+        browser.call('Input.dispatchMouseEvent', type='mouseReleased', x=places[0.6], y=ends[2], button='left', clickCount=1)
+        page.settled('Math.abs(view.clock-.6*view.furthest)<.02*view.furthest')
+        self.assertEqual(page.screen()[0].rstrip(), 'HELLO')
+        # Of the speaker the stretches are filled in which it is high.
+        page.example('melody')
+        browser.until("marks&&marks['all changes']===42")
+        changes = browser.run('marks.changes')
+        wide = [(one, other) for one, other in zip(changes, changes[1:]) if other[0] - one[0] > 40]
+        self.assertGreater(len(wide), 30)
+        self.assertEqual([is_marked((one[0] + other[0]) // 2, 15) for one, other in wide], [one[1] == 1 for one, _ in wide])
+        page.click('#closer', "$('said').textContent.startsWith('the time line shows clocks 4,500 to')")
+        page.click('#wider', "$('said').textContent===''")
+        self.fine(page)
+
+    def test_the_processor(self) -> None:
+        """Stack, trail, memory and what has changed in it, and the way out of a routine, as a session tells them."""
+        page = self.opened()
+        if page is None:
+            return
+        browser = page.browser
+        page.example('fibonacci')
+        line = browser.run("$('source').value.split('\\n').findIndex(it=>it.startsWith('char:'))+1")
+        browser.run(f'toggle_stop({line})')
+        page.click('#start', 'view.clock===0')
+        page.click('#run', f"view.why==='stop'&&view.line==={line}")
+        with Session(Files(*example('fibonacci'))) as session:
+            session.go_to(page.clock)
+            trail = session.many('trail')
+            registers = registers_of(session.many('regs'))
+            words = session.dump(16 * registers['SS'] + registers['SP'], 4)
+        shown = browser.run("[...document.querySelectorAll('#trail button')].map(it=>it.textContent)")
+        self.assertEqual([it.split()[0] for it in shown], [it.split()[0] for it in trail])
+        self.assertRegex(shown[-1], r'F000:003D print\+3 +CALL 00046h +\| 35: CALL char$')
+        stack = browser.run("$('stack').textContent").split('\n')
+        self.assertEqual(stack[0], f"{registers['SP']:04X}: {words[1]:02X}{words[0]:02X} print+6")
+        # What STOSW has written is marked, and only that.
+        page.click('#tab-memory')
+        browser.run("$('place').value='ES:DI';$('place').dispatchEvent(new Event('change'));queue")
+        address = 16 * registers['ES'] + registers['DI']
+        browser.until(f"$('bytes').textContent.startsWith('{address:05X}: ')")
+        browser.run(f"$('place').value='{address:05X}'")
+        for _ in range(2):
+            page.click('#step')
+        browser.until("$('bytes').querySelectorAll('.changed').length===2")
+        self.assertEqual(browser.run("$('bytes').textContent")[7:12], '31 07')
+        self.assertEqual(page.screen()[0][0], '1')
+        # Out of the routine, and back by the trail.
+        page.click('#out', "view.label==='print+6'")
+        here = page.clock
+        page.click('#tab-trail')
+        page.click('#trail button:last-child', f'view.clock<{here}')
+        self.assertEqual(browser.run("$('source').value.split('\\n')[view.line-1].trim()"), 'RET')
+        self.fine(page)
+
+    def test_chips(self) -> None:
+        """Their tab shows what the probe tells, and what keeps an interrupt away."""
+        page = self.opened()
+        if page is None:
+            return
+        browser = page.browser
+        self.assertEqual(browser.run("$('tab-chips').hidden"), probe() is None)
+        if probe() is None:
+            print("not run: the desk's tab of chips, since no pcprobe is built of the present sources, or named in PCPROBE")
+            return
+        page.example('ticks')
+        page.click('#tab-chips', f"$('chip-lines').textContent.startsWith('controller')")
+        lines = chip_lines(Files(*example('ticks')), page.clock)
+        self.assertEqual(browser.run("$('chip-lines').textContent").split('\n'), lines)
+        page.click('#start', "view.clock===0&&$('chip-lines').textContent.includes('state running')")
+        browser.until(f"$('chip-lines').textContent!=={json.dumps(chr(10).join(lines))}")
+        source = browser.run("$('source').value")
+        page.write(source.replace('MOV AL,20h', 'MOV AL,0  '))
+        page.click('#assemble', "assembled.includes('MOV AL,0  ')")
+        browser.until(f"$('chip-lines').textContent.endsWith({json.dumps(END_OF_INTERRUPT + ' has come since it was taken')})")
+        self.fine(page)
+
+    def test_catching_up(self) -> None:
+        """A key behind long busy time: the page says that it catches up, and Pause drops the key."""
+        page = self.opened()
+        if page is None:
+            return
+        browser = page.browser
+        page.write('SEGMENT RESET AT 0FFFFh\nbusy:   JMP SHORT busy\nENDS\n')
+        page.click('#assemble', "assembled.includes('busy')")
+        browser.run("$('to').value='3,000,000,000'")
+        page.click('#go', 'view.clock===3000000000')
+        browser.run("$('screen').focus()")
+        browser.press('a')
+        browser.until("/^catching up with the key: clock [\\d,]+ of 3,000,000,000; Pause drops the key$/.test($('said').textContent)")
+        page.click('#run', "$('said').textContent==='The key was dropped before the run had caught up.'")
+        self.assertEqual(browser.run('[view.clock,view.keys.length]'), [3_000_000_000, 0])
+        browser.run("$('screen').focus()")
+        browser.press('a')
+        page.settled("view.keys.length===2&&/^stamped 3,000,002,000; caught up in/.test($('said').textContent)")
+        self.assertEqual(browser.run('view.clock'), 3_000_000_000)
         self.fine(page)
 
     def test_a_board_that_was_left_alone(self) -> None:

@@ -31,18 +31,29 @@ def is_newest(program: str) -> bool:
     return all(os.path.getmtime(it) <= age for it in sources_of(Crates().below('pcprobe')))
 
 
-def chip_lines(files: Files, clock: int) -> list[str]:
-    """What the chips hold at a clock, a line for each chip and counter."""
+def question(files: Files, clock: int) -> tuple[list[str], bytes]:
+    """What is run to be told what the chips hold at a clock: the probe's words, and its commands."""
     name = probe()
     if not name:
         raise Sorry(UNBUILT)
-    done = subprocess.run([name, *files.words('')[1:]], input=f'go {clock}\nchips\n', capture_output=True, text=True, check=False)
-    if done.returncode:
-        raise Sorry(refusal(done.returncode, done.stderr))
-    clock_line, *lines = done.stdout.splitlines()
+    return [name, *files.words('')[1:]], f'go {clock}\nchips\n'.encode()
+
+
+def lines_in(answer: str, clock: int) -> list[str]:
+    """A line for each chip and counter, of what the probe printed."""
+    clock_line, *lines = answer.splitlines()
     if clock_line != f'clock {clock}' or not lines or lines[0].startswith('fault'):
         raise Sorry(f'pcprobe refuses: {(lines or [clock_line])[0]}')
     return lines
+
+
+def chip_lines(files: Files, clock: int) -> list[str]:
+    """What the chips hold at a clock, a line for each chip and counter."""
+    words, given = question(files, clock)
+    done = subprocess.run(words, input=given, capture_output=True, check=False)
+    if done.returncode:
+        raise Sorry(refusal(done.returncode, done.stderr.decode('utf-8', 'replace')))
+    return lines_in(done.stdout.decode('utf-8', 'replace'), clock)
 
 
 def values_of(name: str, words: list[str]) -> dict[str, str]:

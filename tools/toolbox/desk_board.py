@@ -8,14 +8,14 @@ import time
 from dataclasses import dataclass
 from typing import Any, Callable
 
-from toolbox.chips import chip_lines, facts
+from toolbox.chips import facts, lines_in, question
 from toolbox.command import Sorry
 from toolbox.dap_board import MOST_BREAKPOINTS, Far, Machine, Paused, is_repeated
 from toolbox.desk_work import Fields, Helpers, Job
 from toolbox.events import commands
 from toolbox.listing import labels_alone, listing_of, physical
 from toolbox.places import address_of, event_of, line_at
-from toolbox.program import LAST_CLOCK, Files
+from toolbox.program import LAST_CLOCK, Files, path
 from toolbox.report import REGISTERS, Report, registers_of, report_of
 from toolbox.runfile import text_of, with_budget
 from toolbox.scancodes import names
@@ -332,9 +332,11 @@ class Board:
 
     def chips(self) -> Fields:
         """What the chips hold, by a run of pcprobe up to this clock, and what in them keeps an interrupt or a key away."""
-        if self.clock > FARTHEST:
-            raise Sorry('what the chips hold behind so long a run, tools/dbg tells: chips')
-        lines = chip_lines(self.files, self.clock)
+        clock = self.clock
+        text = self._helpers.answer(*question(self.files, clock)) if clock <= FARTHEST else None
+        if text is None:
+            raise Sorry('tools/dbg shows what the chips hold after so long a run: chips')
+        lines = lines_in(text, clock)
         return {'lines': lines, 'facts': facts(lines)}
 
     # Stops and keys
@@ -402,7 +404,7 @@ class Board:
     def report(self, clock: int) -> Report | None:
         """The report at a clock, or None where it takes too long."""
         with with_budget(self.files, clock) as files:
-            text = self._helpers.answer(files.words('run'))
+            text = self._helpers.answer([path(), *files.words('run')])
         return report_of(text, 'the answer') if text is not None else None
 
     def marks(self) -> Fields:

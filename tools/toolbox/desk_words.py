@@ -109,7 +109,7 @@ class Desk:
         with self._lock:
             board = self._boards.get(want(fields, 'board', str))
         if board is None:
-            raise Gone('it was left alone for long, or ended')
+            raise Gone('it was left alone for too long, or ended')
         board.used = time.monotonic()
         return board
 
@@ -158,7 +158,7 @@ class Desk:
         name = secrets.token_urlsafe(16)
         with self._lock:
             if len(self._boards) >= MOST_BOARDS:
-                raise Sorry(f'{MOST_BOARDS} boards are in use: close a page that you need no longer')
+                raise Sorry(f'{MOST_BOARDS} boards are in use: close a page that you no longer need')
             self._boards[name] = None
         room = os.path.join(self.room, name)
         board = None

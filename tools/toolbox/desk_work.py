@@ -67,10 +67,12 @@ class Helpers:
         for one in them:
             end(one)
 
-    def answer(self, words: list[str]) -> str | None:
-        """What a run of the program prints; None where it takes too long, or is too long."""
-        with tempfile.TemporaryFile() as err:
-            process = subprocess.Popen([path(), *words], stdin=subprocess.DEVNULL, stdout=subprocess.PIPE, stderr=err, start_new_session=True)
+    def answer(self, words: list[str], given: bytes = b'') -> str | None:
+        """What a program prints; None where it takes too long, or is too long."""
+        with tempfile.TemporaryFile() as lines, tempfile.TemporaryFile() as err:
+            lines.write(given)
+            lines.seek(0)
+            process = subprocess.Popen(words, stdin=lines, stdout=subprocess.PIPE, stderr=err, start_new_session=True)
             self.add(process)
             watch = threading.Timer(REPORT_SECONDS, process.kill)
             watch.start()
