@@ -450,16 +450,22 @@ class OnePage(ToolCase):
         if probe() is None:
             print("not run: the desk's tab of chips, since no pcprobe is built of the present sources, or named in PCPROBE")
             return
+        told = "[...document.querySelectorAll('#chip-lines>div')].map(it=>it.textContent)"
         page.example('ticks')
-        page.click('#tab-chips', f"$('chip-lines').textContent.startsWith('controller')")
+        page.click('#tab-chips')
         lines = chip_lines(Files(*example('ticks')), page.clock)
-        self.assertEqual(browser.run("$('chip-lines').textContent").split('\n'), lines)
-        page.click('#start', "view.clock===0&&$('chip-lines').textContent.includes('state running')")
-        browser.until(f"$('chip-lines').textContent!=={json.dumps(chr(10).join(lines))}")
-        source = browser.run("$('source').value")
-        page.write(source.replace('MOV AL,20h', 'MOV AL,0  '))
+        browser.until(f'({told}).length===9')
+        self.assertEqual(browser.run(told), lines)
+        # Another look: what has changed is marked.
+        page.click('#start', 'view.clock===0')
+        browser.until("$('chip-lines').lastChild.textContent.startsWith('processor running')")
+        self.assertEqual(browser.run(told), chip_lines(Files(*example('ticks')), 0))
+        self.assertEqual(browser.run("[...$('chip-lines').lastChild.querySelectorAll('.changed')].map(it=>it.textContent)"), ['running', '0'])
+        self.assertEqual(browser.run("$('chip-facts').textContent"), '')
+        # What keeps an interrupt away stands above them.
+        page.write(browser.run("$('source').value").replace('MOV AL,20h', 'MOV AL,0  '))
         page.click('#assemble', "assembled.includes('MOV AL,0  ')")
-        browser.until(f"$('chip-lines').textContent.endsWith({json.dumps(END_OF_INTERRUPT + ' has come since it was taken')})")
+        browser.until(f"$('chip-facts').textContent.includes({json.dumps(END_OF_INTERRUPT)})")
         self.fine(page)
 
     def test_catching_up(self) -> None:
