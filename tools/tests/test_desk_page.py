@@ -21,6 +21,11 @@ from toolbox.program import Files, Session
 from toolbox.report import Report, registers_of, report_of
 
 READY = "typeof view!=='undefined'&&view!==null&&board!==null&&!working&&!running"
+# The longest of fifty times between two calls that are wanted every 20 ms.
+LONGEST_TURN = (
+    'new Promise(told=>{let most=0,last=performance.now(),count=0;const it=setInterval(()=>{const now=performance.now();'
+    'most=Math.max(most,now-last);last=now;if(++count===50){clearInterval(it);told(most)}},20)})'
+)
 SHOWN = "[...document.querySelectorAll('#screen>div')].map(it=>it.textContent)"
 
 
@@ -328,7 +333,7 @@ class OnePage(ToolCase):
         browser.click('#go')
         browser.until("$('said').textContent.includes('of 1,099,511,627,776')&&$('run').textContent==='Pause'")
         # Meanwhile the page goes on: no turn of it takes long.
-        self.assertLess(browser.run('new Promise(told=>{let most=0,last=performance.now(),n=0;const it=setInterval(()=>{const now=performance.now();most=Math.max(most,now-last);last=now;if(++n>50){clearInterval(it);told(most)}},20)})'), 1000)
+        self.assertLess(browser.run(LONGEST_TURN), 1000)
         begun = time.monotonic()
         browser.click('#run')
         page.settled("$('run').textContent==='Run'&&view.clock<2**40")
@@ -511,29 +516,67 @@ class OnePage(ToolCase):
         self.assertEqual(children(page.desk.pid), [])
 
 
+WINDOWS = {'wide-light': (1280, 720, False), 'wide-dark': (1280, 720, True), 'narrow-light': (390, 800, False), 'narrow-dark': (390, 800, True)}
+
+
 def pictures(folder: str) -> None:
-    """Pictures of the page: the one of README, and both windows in both colours."""
+    """Pictures of the page: the one of README, and in both windows and both colours what each of its parts shows."""
     with tempfile.TemporaryDirectory() as room:
         page = Page(room)
+        browser = page.browser
+
+        def take(name: str) -> None:
+            for window, size in WINDOWS.items():
+                browser.window(*size)
+                time.sleep(0.3)
+                browser.picture(f'{folder}/{name}-{window}.png')
+            browser.window(1280, 720)
+
         try:
             page.open()
             page.example('keys')
-            line = page.browser.run("$('source').value.split('\\n').findIndex(it=>it.includes('STOSW'))+1")
-            page.browser.run(f'toggle_stop({line})')
+            line = browser.run("$('source').value.split('\\n').findIndex(it=>it.includes('STOSW'))+1")
+            browser.run(f'toggle_stop({line})')
             page.settled('stops.length===1')
-            page.browser.run("acts(()=>move('last'))")
+            browser.run("acts(()=>move('last'))")
             page.settled(f"view.line==={line}&&marks&&marks.clock===view.clock")
-            page.browser.run('document.activeElement.blur()')
-            page.browser.picture(f'{folder}/desk.webp', format='webp', quality=45)
-            for name, window in {
-                'wide-light': (1280, 720, False),
-                'wide-dark': (1280, 720, True),
-                'narrow-light': (390, 800, False),
-                'narrow-dark': (390, 800, True),
-            }.items():
-                page.browser.window(*window)
-                time.sleep(0.3)
-                page.browser.picture(f'{folder}/{name}.png')
+            browser.run('document.activeElement.blur()')
+            browser.picture(f'{folder}/desk.webp', format='webp', quality=45)
+            browser.click('#keys-open')
+            for tab in browser.run("[...document.querySelectorAll('[role=tab]')].filter(it=>!it.hidden).map(it=>it.id)"):
+                page.click(f'#{tab}')
+                take(tab)
+            page.click('#tab-trail')
+            browser.click('#keys-open')
+            for dialog, button in (('saving', 'save'), ('helping', 'help')):
+                browser.click(f'#{button}')
+                browser.until(f"$('{dialog}').open")
+                take(button)
+                browser.run(f"$('{dialog}').close()")
+            page.example('melody')
+            browser.until("marks&&marks['all changes']===42")
+            take('speaker')
+            with open(f'{TOOLS}/tests/attributes.asm', encoding='utf-8') as file:
+                attributes = file.read()
+            page.write(attributes)
+            page.click('#assemble', "assembled.includes('attrib')||view.clock>0")
+            take('attributes')
+            page.write(attributes.replace('MOV', 'MVO', 2))
+            browser.press('Enter', CONTROL)
+            browser.until("!$('hint').hidden")
+            take('refused')
+            page.write('SEGMENT RESET AT 0FFFFh\nbusy:   JMP SHORT busy\nENDS\n')
+            page.click('#assemble', "assembled.includes('busy')")
+            browser.run("$('to').value='1,099,511,627,776'")
+            browser.click('#go')
+            browser.until("$('said').textContent.includes('of 1,099,511,627,776')")
+            take('long-run')
+            browser.click('#run')
+            page.settled()
+            browser.run("$('screen').focus()")
+            browser.press('a')
+            browser.until("$('said').textContent.startsWith('catching up')")
+            browser.picture(f'{folder}/catching-up.png')
         finally:
             page.close()
 
