@@ -525,9 +525,10 @@ def pictures(folder: str) -> None:
         page = Page(room)
         browser = page.browser
 
-        def take(name: str) -> None:
+        def take(name: str, part: str = 'look') -> None:
             for window, size in WINDOWS.items():
                 browser.window(*size)
+                browser.run(f"$('{part}').scrollIntoView()")
                 time.sleep(0.3)
                 browser.picture(f'{folder}/{name}-{window}.png')
             browser.window(1280, 720)
@@ -545,7 +546,7 @@ def pictures(folder: str) -> None:
             browser.click('#keys-open')
             for tab in browser.run("[...document.querySelectorAll('[role=tab]')].filter(it=>!it.hidden).map(it=>it.id)"):
                 page.click(f'#{tab}')
-                take(tab)
+                take(tab, 'more')
             page.click('#tab-trail')
             browser.click('#keys-open')
             for dialog, button in (('saving', 'save'), ('helping', 'help')):
@@ -564,7 +565,7 @@ def pictures(folder: str) -> None:
             page.write(attributes.replace('MOV', 'MVO', 2))
             browser.press('Enter', CONTROL)
             browser.until("!$('hint').hidden")
-            take('refused')
+            take('refused', 'edit')
             page.write('SEGMENT RESET AT 0FFFFh\nbusy:   JMP SHORT busy\nENDS\n')
             page.click('#assemble', "assembled.includes('busy')")
             browser.run("$('to').value='1,099,511,627,776'")
