@@ -201,6 +201,9 @@ class Hostile(Served):
             self.assertEqual(
                 self.client.request('POST', path, body, **{name.replace('_', '-'): it for name, it in headers.items()})[0], wanted, (body or b'')[:40]
             )
+        for deep in range(900, 1000, 10):  # at the edge of what Python reads and writes
+            body = b'{"do":"open","source":"HLT","run":{"keys":%s}}' % (b'[' * deep + b']' * deep)
+            self.assertIn(self.status('POST', path, body), (200, 400), deep)
         for length in (LONGEST_BODY + 1, 10 << 20, 10**11):
             self.assertEqual(self.status('POST', path, b' ' * 100, **{'Content-Length': str(length)}), 413)
         self.assertEqual(self.status('POST', path, b' ' * (10 << 20)), 413)
@@ -381,6 +384,10 @@ class Boards(Served):
         ):
             answer = self.client.ask('open', source=FOREVER, run=RUN | fields)
             self.assertIn(name, answer['refused'][0]['text'], fields)
+        begun = time.monotonic()
+        long = self.client.ask('open', source=f"{'x' * 200_000}\n{'x' * 200_000}", run=RUN)['refused']
+        self.assertEqual([(it['line'], it['text'].partition(':')[0]) for it in long], [(1, 'BadLine'), (2, 'BadLine')])
+        self.assertLess(time.monotonic() - begun, 10)
         self.assertEqual(os.listdir(self.room), [])
 
     def test_hex(self) -> None:
@@ -618,6 +625,12 @@ class Started(ToolCase):
         self.assertIn('no such folder', self.tool('desk', self.file('a.asm', FOREVER), 'none/a.json', status=2)[1])
         self.assertIn('is no JSON', self.tool('desk', self.file('a.asm', FOREVER), self.file('a.json', '{'), status=2)[1])
         self.assertIn('a port is', self.tool('desk', '--port', '70000', status=2)[1])
+        with socket.create_server(('127.0.0.1', 0)) as taken:
+            port = str(taken.getsockname()[1])
+            self.assertIn(f"port {port} can't be had", self.tool('desk', '--no-open', '--port', port, status=2)[1])
+        self.assertIn('--hex goes with FILE', self.tool('desk', '--hex', status=2)[1])
+        for word in ('-', ''):
+            self.assertIn('a file is wanted', self.tool('desk', word, status=2)[1])
         self.assertIn('goes with Intel HEX', self.tool('desk', '--symbols', 'x', self.file('a.asm', FOREVER), status=2)[1])
         self.assertIn('no byte at any of its labels', self.tool('desk', '--symbols', self.file('a.sym', 'F000:7 it\n'), self.file('a.hex', ''), status=2)[1])
 

@@ -102,6 +102,8 @@ class Desk:
         except (OSError, ValueError, AssertionError) as error:  # as of a pipe whose board is ended meanwhile
             self._drop(fields)
             return {'gone': str(error)}
+        except RecursionError:
+            raise Refused(400, 'a question nests no lists so deep') from None
         raise Refused(404, 'no such question')
 
     def _board(self, fields: Fields) -> Board:
@@ -316,7 +318,7 @@ def refusals(files: Files, told: str) -> list[Fields]:
     fault = fault_in(told.replace('the program refuses: ', '').replace("the board's process has ended: ", '').partition(' (')[0])
     if fault and fault.kind.of == 'source' and not files.is_hex:
         until, found = time.monotonic() + MESSAGES_SECONDS, list[Fields]()
-        for line, text in itertools.islice(messages(files.file), MOST_MESSAGES):
+        for line, text in itertools.islice(messages(files.file, is_told=False), MOST_MESSAGES):
             found.append({'line': line, 'text': text})
             if time.monotonic() > until:
                 break

@@ -2,6 +2,7 @@
 only what others need of it, and asked about again, until none is refused."""
 from __future__ import annotations
 
+import contextlib
 import os
 import re
 import tempfile
@@ -87,10 +88,12 @@ class Copy:
         return self.fault()
 
 
-def refused_lines(path: str) -> Iterator[tuple[Fault, bool]]:
+def refused_lines(path: str, is_told: bool = True) -> Iterator[tuple[Fault, bool]]:
     """A source's refused lines, and of each whether it was judged in a copy without the earlier ones, which then may be
-    why it doesn't fit its place. A line that uses a name whose own line is refused isn't judged."""
-    with tempfile.TemporaryDirectory() as room, waiting(f'why: asking about the lines of {path}') as say:
+    why it doesn't fit its place. A line that uses a name whose own line is refused isn't judged. How far it is, is told on
+    standard error."""
+    tells = waiting(f'why: asking about the lines of {path}') if is_told else contextlib.nullcontext(lambda _: None)
+    with tempfile.TemporaryDirectory() as room, tells as say:
         copy, opened = Copy(path, room), True
         fault, told = copy.fault(), False
         while fault is not None:

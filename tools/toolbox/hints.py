@@ -18,6 +18,7 @@ WORDS = frozenset('SEGMENT ENDS EQU ORG DUP SEG BYTE WORD FAR SHORT LOCK REP REP
 RANGES = 'a byte holds -128 to 255, a word -32,768 to 65,535'
 REGISTER = '[ABCD][XLH]|[SD]I|[SB]P'
 SEGMENTS = '[ECSD]S'
+LONGEST_LINE = 1000  # a longer one is given no hint: the looks' time grows faster than a line
 LATER = 'PUSHA|POPA|BOUND|ENTER|LEAVE|INSB|INSW|OUTSB|OUTSW|MOVZX|MOVSX|SET[A-Z]{1,3}|BSF|BSR|BT[CRS]?|SHLD|SHRD|CDQ|CWDE'
 
 # A look (in a line without comment and texts in quotes, in upper case) and what to write.
@@ -205,9 +206,11 @@ def of_a_name(code: str, source: list[str]) -> str | None:
 
 def hint_of(line: str, number: int, source: list[str] | None = None) -> str | None:
     """A hint for a refused line of a source, by its look, its fault's number and the source's other lines."""
-    code = bare(line)
     if number == 2:
         return of_characters(line)
+    if len(line) > LONGEST_LINE:
+        return None
+    code = bare(line)
     special = of_a_word_as_label(code) if number == 3 else of_a_missing_colon(code) if number in (3, 4, 11) else None
     if number == 3:
         special = special or of_a_word_as_operand(code) or of_a_name_before_brackets(code) or of_a_long_text(line)

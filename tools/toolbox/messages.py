@@ -29,9 +29,9 @@ def what_to_do(lines: list[str], fault: Fault) -> str:
     return ' '.join((f'{told}, first in line {first}' if first else told).split())
 
 
-def messages(path: str) -> Iterator[tuple[int, str]]:
+def messages(path: str, is_told: bool = True) -> Iterator[tuple[int, str]]:
     """Each refused line of a source, with its message. A fault of the whole source stands at line 1."""
     lines = [it.rstrip('\r') for it in read_text(path).split('\n')]
-    for fault, is_after in refused_lines(path):
+    for fault, is_after in refused_lines(path, is_told):
         behind = ' (where the refused lines above are blank)' if is_after else ''
         yield fault.line or 1, f'{fault.kind.name}: {what_to_do(lines, fault)}{behind}'
