@@ -448,6 +448,17 @@ class Boards(Served):
         self.assertEqual(self.client.ask('drop keys', board=board, keys=[0, 1, 2])['keys'][0][1], 'n')
         self.repeated(board, self.client.ask('look', board=board))
 
+    def test_a_halt_that_nothing_ends(self) -> None:
+        """A step of it stays where it is, and so does the way of the keys that are typed then."""
+        board = self.client.open('keys', keys=[], budget=0)['board']
+        self.client.ask('go to', board=board, clock=5000)
+        self.assertIn('no interrupt ends this halt', self.client.ask('step', board=board)['sorry'])
+        for codes in ([30], [158]):
+            typed = self.client.ask('type', board=board, codes=codes)
+        self.assertEqual([it[:1] + it[3:] for it in typed['keys']], [[6000, 30], [7000, 158]])
+        stepped = self.client.ask('step', board=board)
+        self.assertEqual((stepped['clock'], stepped['trail'][-1][3]), (6061, 'interrupt 09'))
+
     def repeated(self, board: str, shown: Fields) -> None:
         """Whether a run of what is saved gives what is shown."""
         saved = self.client.ask('save', board=board)

@@ -190,7 +190,7 @@ class Board:
         found = self._moved(self.machine.step, seen)
         if found['why'] == 'far':
             self.machine.go_to(here)
-            self.furthest = max(here, min(self.furthest, found['clock'] - 1))
+            self._was_at, self.furthest = here, max(here, min(self.furthest, found['clock'] - 1))
             raise Sorry(f'no interrupt ends this halt within {FARTHEST:,} clocks; type a key, or run on')
         return found
 
