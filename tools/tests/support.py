@@ -70,6 +70,12 @@ def children(of: int) -> list[int]:
     return found
 
 
+def processor_seconds(of: int) -> float:
+    """The processor time that a process has used, without its children's."""
+    with open(f'/proc/{of}/stat', encoding='utf-8') as file:
+        return sum(map(int, file.read().rpartition(')')[2].split()[11:13])) / os.sysconf('SC_CLK_TCK')
+
+
 class ToolCase(unittest.TestCase):
     """A case with a folder of its own, and tools run in it."""
 

@@ -16,7 +16,7 @@ import time
 import unittest
 from typing import Any
 
-from tests.support import EXAMPLES, TOOLS, TOP, ToolCase, children, example
+from tests.support import EXAMPLES, TOOLS, TOP, ToolCase, children, example, processor_seconds
 
 from toolbox.chips import chip_lines, probe
 from toolbox.desk_http import LONGEST_BODY, MOST_CONNECTIONS, Server, policy_of
@@ -544,11 +544,7 @@ class Boards(Served):
         the machine take least from."""
 
         def spent() -> float:
-            used = 0
-            for one in children(os.getpid()):
-                with open(f'/proc/{one}/stat', encoding='utf-8') as file:
-                    used += sum(map(int, file.read().rpartition(')')[2].split()[11:13]))
-            return time.process_time() + used / os.sysconf('SC_CLK_TCK')
+            return time.process_time() + sum(map(processor_seconds, children(os.getpid())))
 
         with open(f'{TOP}/bench/loops/a.asm', encoding='utf-8') as file:
             board = self.client.ask('open', source=file.read(), run=RUN | {'budget': 10**7})['board']

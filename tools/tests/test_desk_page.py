@@ -14,7 +14,7 @@ import unittest
 from typing import Any
 
 from tests.browser import CONTROL, SHIFT, Browser, path
-from tests.support import EXAMPLES, TOOLS, ToolCase, children, example
+from tests.support import EXAMPLES, TOOLS, ToolCase, children, example, processor_seconds
 
 from toolbox.chips import END_OF_INTERRUPT, chip_lines, probe
 from toolbox.program import Files, Session
@@ -471,6 +471,27 @@ class OnePage(ToolCase):
         page.write(browser.run("$('source').value").replace('MOV AL,20h', 'MOV AL,0  '))
         page.click('#assemble', "assembled.includes('MOV AL,0  ')")
         browser.until(f"$('chip-facts').textContent.includes({json.dumps(END_OF_INTERRUPT)})")
+        self.fine(page)
+
+    def test_real_time(self) -> None:
+        """A run of keys.asm goes on at 4.77 million clocks a second, and takes the desk and its board less than a tenth of a processor."""
+        page = self.opened()
+        if page is None:
+            return
+
+        def spent() -> float:
+            return sum(processor_seconds(it) for it in (page.desk.pid, *children(page.desk.pid)))
+
+        page.example('keys')
+        page.click('#start', 'view.clock===0')
+        page.browser.run('run_or_pause();0')
+        page.browser.until('running!==null&&view.clock>0')
+        begun, before, here = time.monotonic(), spent(), page.clock
+        time.sleep(4)
+        seconds, used, clocks = time.monotonic() - begun, spent() - before, page.clock - here
+        self.assertLess(used, 0.1 * seconds)
+        self.assertLess(abs(clocks / (14318180 / 3) - seconds), 2)  # of seconds, on a machine that has others at work
+        page.click('#run', "$('run').textContent==='Run'")
         self.fine(page)
 
     def test_catching_up(self) -> None:
