@@ -18,10 +18,12 @@ from typing import Any
 
 from tests.support import EXAMPLES, TOOLS, TOP, ToolCase, children, example, processor_seconds
 
-from toolbox.chips import chip_lines, probe
+from toolbox.chips import chip_lines, lines_in, probe
+from toolbox.command import Sorry
 from toolbox.desk_http import LONGEST_BODY, MOST_CONNECTIONS, Server, policy_of
 from toolbox.desk_pages import as_html, examples, page_of
 from toolbox.desk_words import MOST_BOARDS, Desk, Given
+from toolbox.desk_work import Helpers
 from toolbox.events import events
 from toolbox.program import Files, Session
 from toolbox.report import registers_of, report_of
@@ -554,6 +556,20 @@ class Boards(Served):
             for _ in range(8):
                 self.client.ask(word, board=board, seen=1)
             self.assertLess((spent() - before) / 8, most, word)
+
+
+class Beside(unittest.TestCase):
+    """Programs that are run beside a board."""
+
+    def test_what_they_come_to(self) -> None:
+        helpers = Helpers()
+        self.assertEqual(helpers.answer(['/bin/cat'], b'it'), 'it')
+        self.assertIsNone(helpers.answer(['/bin/sh', '-c', 'kill -9 $$']))
+        for words, told in ((['/'], "/ can't be started"), (['/bin/sh', '-c', 'echo it >&2; exit 2'], 'it')):
+            with self.assertRaisesRegex(Sorry, told):
+                helpers.answer(words)
+        with self.assertRaisesRegex(Sorry, 'it answers nothing'):
+            lines_in('', 5)
 
 
 class Started(ToolCase):

@@ -41,7 +41,7 @@ def question(files: Files, clock: int) -> tuple[list[str], bytes]:
 
 def lines_in(answer: str, clock: int) -> list[str]:
     """A line for each chip and counter, of what the probe printed."""
-    clock_line, *lines = answer.splitlines()
+    clock_line, *lines = answer.splitlines() or ['it answers nothing']
     if clock_line != f'clock {clock}' or not lines or lines[0].startswith('fault'):
         raise Sorry(f'pcprobe refuses: {(lines or [clock_line])[0]}')
     return lines

@@ -72,7 +72,10 @@ class Helpers:
         with tempfile.TemporaryFile() as lines, tempfile.TemporaryFile() as err:
             lines.write(given)
             lines.seek(0)
-            process = subprocess.Popen(words, stdin=lines, stdout=subprocess.PIPE, stderr=err, start_new_session=True)
+            try:
+                process = subprocess.Popen(words, stdin=lines, stdout=subprocess.PIPE, stderr=err, start_new_session=True)
+            except OSError as error:
+                raise Sorry(f"{words[0]} can't be started: {error.strerror}") from None
             self.add(process)
             watch = threading.Timer(REPORT_SECONDS, process.kill)
             watch.start()
