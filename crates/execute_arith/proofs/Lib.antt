@@ -10,3 +10,4 @@ pub mod Unsigned
 pub mod Signs
 pub mod Signed
 mod Rows
+pub mod Related

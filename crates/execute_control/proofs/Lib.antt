@@ -4,3 +4,4 @@ pub mod FlagsWord
 pub mod StackWords
 pub mod Returns
 mod Rows
+pub mod Related

@@ -1,3 +1,4 @@
 pub mod Kept
 pub mod Memory
 pub mod Locations
+pub mod Related

@@ -3,3 +3,4 @@ pub mod Copies
 pub mod Kept
 pub mod Order
 mod Rows
+pub mod Related
