@@ -6,3 +6,4 @@ pub mod Elements
 mod Again
 mod Counted
 pub mod BySlot
+pub mod Commutes

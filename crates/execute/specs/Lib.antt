@@ -2,6 +2,7 @@ pub mod Cpu
 pub mod Meaning
 pub mod Boundaries
 pub mod PortWrites
+pub mod PortReads
 pub mod Laws
 pub mod Plain
 pub mod Store
@@ -10,3 +11,4 @@ pub mod Iterations
 pub mod Accesses
 pub mod BySlot
 pub mod Made
+pub mod Commutes
