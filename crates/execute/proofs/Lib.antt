@@ -7,3 +7,5 @@ mod Again
 mod Counted
 pub mod BySlot
 pub mod Commutes
+mod Quiet
+mod Delay

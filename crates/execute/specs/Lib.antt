@@ -12,3 +12,4 @@ pub mod Accesses
 pub mod BySlot
 pub mod Made
 pub mod Commutes
+pub mod Still

@@ -16,6 +16,7 @@ pub mod shadow;
 mod shown;
 mod stack_by_slot;
 pub mod step;
+pub mod still;
 pub mod store;
 mod strings_by_slot;
 mod words_by_slot;
