@@ -3,3 +3,4 @@ pub mod Calm
 pub mod Lag
 pub mod AtPresent
 pub mod Controller
+mod SameBytes
