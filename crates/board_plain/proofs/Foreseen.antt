@@ -66,7 +66,7 @@ settled_with_byte s address byte still =
     (ap (λ (t : ChipsState). record t { mda = with_text_byte s.mda (address - 0xB0000) byte }) still)
     (ap (λ (t : ChipsState). record t { memory = map.with_byte s.memory address byte }) still)
 
-accesses_settle : EachAccessKeeps chips_bus after_settling (λ s. s)
+pub accesses_settle : EachAccessKeeps chips_bus after_settling (λ s. s)
 unfolding after_input after_output
 accesses_settle = record {
   write = settled_with_byte;
