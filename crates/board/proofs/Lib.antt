@@ -25,3 +25,6 @@ pub mod Works
 mod Stores
 pub mod Latest
 pub mod OneTurn
+pub mod StillSteps
+mod SameRegisters
+mod StillChips

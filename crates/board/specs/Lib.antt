@@ -12,3 +12,4 @@ pub mod Found
 pub mod ClearSteps
 pub mod Mutely
 pub mod OneTurn
+pub mod StillSteps

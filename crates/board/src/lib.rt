@@ -9,4 +9,5 @@ mod engine;
 pub mod one_turn;
 mod stop;
 mod trail;
+mod waiting;
 mod watch;
