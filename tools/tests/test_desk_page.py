@@ -500,7 +500,7 @@ class OnePage(ToolCase):
         if page is None:
             return
         browser = page.browser
-        page.write('SEGMENT RESET AT 0FFFFh\nbusy:   JMP SHORT busy\nENDS\n')
+        page.write('SEGMENT RESET AT 0FFFFh\nbusy:   INC AX\n        JMP SHORT busy\nENDS\n')
         page.click('#assemble', "assembled.includes('busy')")
         browser.run("$('to').value='3,000,000,000'")
         page.click('#go', 'view.clock===3000000000')
@@ -587,7 +587,7 @@ def pictures(folder: str) -> None:
             browser.press('Enter', CONTROL)
             browser.until("!$('hint').hidden")
             take('refused', 'edit')
-            page.write('SEGMENT RESET AT 0FFFFh\nbusy:   JMP SHORT busy\nENDS\n')
+            page.write('SEGMENT RESET AT 0FFFFh\nbusy:   INC AX\n        JMP SHORT busy\nENDS\n')
             page.click('#assemble', "assembled.includes('busy')")
             browser.run("$('to').value='1,099,511,627,776'")
             browser.click('#go')

@@ -159,7 +159,7 @@ class Runs(ToolCase):
     def test_a_class(self) -> None:
         good, _ = example('keys')
         bad = self.file('bad.asm', 'SEGMENT A AT 0\n FROB\tX\n')
-        endless = self.file('endless.asm', 'SEGMENT A AT 0FFFFh\nnothing: JMP nothing\n')
+        endless = self.file('endless.asm', 'SEGMENT A AT 0FFFFh\nnothing: INC AX\n JMP nothing\n')
         page = self.file('page', TYPED.replace('50,000', '1,099,511,627,776'))
         begun = time.monotonic()
         out, _ = self.tool('judge', '--class', page, bad, good, 'nothing.asm', endless, '--seconds', '2', status=1)
@@ -177,7 +177,7 @@ class Runs(ToolCase):
         self.assertEqual(self.tool('judge', '--class', page, good, good)[0].splitlines()[2], f'{good}\t1\tok\t')
 
     def test_an_interrupt_leaves_no_traceback(self) -> None:
-        endless = self.file('endless.asm', 'SEGMENT A AT 0FFFFh\nnothing: JMP nothing\n')
+        endless = self.file('endless.asm', 'SEGMENT A AT 0FFFFh\nnothing: INC AX\n JMP nothing\n')
         page = self.file('page', 'budget = 1,099,511,627,776\nlost = 0\n')
         for words in (['--class'], []):
             with subprocess.Popen(
