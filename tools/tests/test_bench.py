@@ -95,10 +95,10 @@ class Count(ToolCase):
         out, _ = self.count('--steps', '--only', 'a')
         self.assertEqual(out, 'a  [13046, 143480]  as in steps.json\n')
 
-    def test_the_steps_of_two_loops_by_their_clocks(self) -> None:
-        """By the table of clocks: a far jump takes 15, MOV of a number 4, ADD and XOR 3, LOOP 17; IN 10, TEST 3, JZ 16."""
+    def test_the_steps_of_some_loops_by_their_clocks(self) -> None:
+        """By the table of clocks: a far jump takes 15, MOV of a number 4, ADD and XOR 3, LOOP 17; IN 10, TEST 3, JZ 16; DEC 2."""
         loops = module('count').known()
-        for name, begun, lengths in (('a', [15, 4, 4, 4, 4], [3, 3, 17]), ('e', [15], [10, 3, 16])):
+        for name, begun, lengths in (('a', [15, 4, 4, 4, 4], [3, 3, 17]), ('e', [15], [10, 3, 16]), ('w5', [15, 4, 4], [2, 16])):
             for budget, count in zip(loops[name].budgets, loops[name].count, strict=True):
                 budget = min(budget, 1500000)
                 clock, steps = 0, 0
