@@ -28,3 +28,4 @@ pub mod OneTurn
 pub mod StillSteps
 mod SameRegisters
 mod StillChips
+mod Delays
