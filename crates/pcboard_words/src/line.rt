@@ -1,6 +1,6 @@
 //! Reading the words of the command line.
 ghost use Rattle.std.specs.Prelude.{◌≡◌, ◌≢◌, IfOk, IfSome, map, true, false};
-ghost use Rattle.clap.specs.Words.{app_of, found_of, kind_of, rows_of, rule_of, subcommand_rows_of};
+ghost use Rattle.clap.specs.Words.{app_of, with_subcommand, found_of, kind_of, rows_of, rule_of, subcommand_rows_of};
 ghost use Rattle.pcboard_words.specs.CommandLine.{Answers, HasText, HoldsTask, IsTaskOf, OnUsage, app, asm_command, board_command, flag, has_globals, is_given, is_there, required_word};
 
 use crate::task::{LineFault, Task};
@@ -20,8 +20,16 @@ pub fn read_words<'a>(alloc: Global, words: &'a [&'a str]) -> Result<Task<'a>, L
         Err(_) => return Err(LineFault::Memory),
     };
     match command.try_get_matches_from(words) {
-        Ok(matches) => Ok(task(&matches)),
-        Err(error) => Err(line_fault(alloc, &error)),
+        Ok(matches) => {
+            let task = task(&matches);
+            drop(matches);
+            Ok(task)
+        }
+        Err(error) => {
+            let fault = line_fault(alloc, &error);
+            drop(error);
+            Err(fault)
+        }
     }
 }
 
@@ -29,20 +37,57 @@ pub fn read_words<'a>(alloc: Global, words: &'a [&'a str]) -> Result<Task<'a>, L
 fn command<'a>(alloc: Global) -> Result<Command<'a>, AllocError>
     ensures { IfOk result (λ command. app_of command ≡ app) }
 {
-    Command::new(alloc, "pcboard")
+    let command = Command::new(alloc, "pcboard")
         .about(
             "An IBM PC 5150 board. Without a subcommand it reads a run file and a source from standard input",
         )
         .bin_name("pcboard")?
         .no_binary_name(true)
-        .disable_help_subcommand(true)
-        .subcommand(asm_command(alloc)?)?
-        .subcommand(board_command(alloc, "run", "Runs a program and prints the report")?)?
-        .subcommand(board_command(
-            alloc,
-            "debug",
-            "Answers commands from standard input about a program's board",
-        )?)
+        .disable_help_subcommand(true);
+    let command = with_asm(alloc, command)?;
+    let command = with_board(
+        alloc,
+        command,
+        "run",
+        "Runs a program and prints the report",
+    )?;
+    with_board(
+        alloc,
+        command,
+        "debug",
+        "Answers commands from standard input about a program's board",
+    )
+}
+
+// A command with the subcommand `asm`.
+fn with_asm<'a>(alloc: Global, command: Command<'a>) -> Result<Command<'a>, AllocError>
+    ensures { IfOk result (λ r. app_of r ≡ with_subcommand (app_of command.entry) asm_command.top) }
+{
+    match asm_command(alloc) {
+        Ok(added) => command.subcommand(added),
+        Err(error) => {
+            drop(command);
+            Err(error)
+        }
+    }
+}
+
+// A command with a subcommand that has a program on a board.
+fn with_board<'a>(
+    alloc: Global,
+    command: Command<'a>,
+    name: &'a str,
+    about: &'a str,
+) -> Result<Command<'a>, AllocError>
+    ensures { IfOk result (λ r. app_of r ≡ with_subcommand (app_of command.entry) (board_command name.entry.now).top) }
+{
+    match board_command(alloc, name, about) {
+        Ok(added) => command.subcommand(added),
+        Err(error) => {
+            drop(command);
+            Err(error)
+        }
+    }
 }
 
 fn asm_command<'a>(alloc: Global) -> Result<Command<'a>, AllocError>

@@ -20,8 +20,16 @@ pub fn read_probe_words<'a>(alloc: Global, words: &'a [&'a str]) -> Result<Probe
         Err(_) => return Err(LineFault::Memory),
     };
     match command.try_get_matches_from(words) {
-        Ok(matches) => Ok(probe_task(&matches)),
-        Err(error) => Err(line_fault(alloc, &error)),
+        Ok(matches) => {
+            let task = probe_task(&matches);
+            drop(matches);
+            Ok(task)
+        }
+        Err(error) => {
+            let fault = line_fault(alloc, &error);
+            drop(error);
+            Err(fault)
+        }
     }
 }
 
