@@ -236,6 +236,15 @@ class Build(Repository):
         self.assertEqual(ran.returncode, 126)
         self.assertRegex(ran.stderr, r'the build failed; the end of .*\n(.*\n)*not proved: .*/crates/low\n')
 
+    def test_what_all_else_waits_for_comes_first(self) -> None:
+        """By how long each crate of the program takes, which is known of each."""
+        crates = Crates(TOP)
+        names = crates.below('pcboard')
+        self.assertEqual(set(building.SECONDS), names)
+        ways = building.ways({name: set(crates.named[name]) & names for name in names})
+        self.assertEqual(max(ways, key=ways.__getitem__), 'board_types')
+        self.assertEqual(ways['pcboard_program'], building.SECONDS['pcboard_program'] + building.SECONDS['pcboard'])
+
     def test_a_long_silence_is_broken(self) -> None:
         progress = building.Progress('pcboard', 37)
         told = io.StringIO()

@@ -26,6 +26,46 @@ TIMES = f'{STAGE}/times'  # the seconds of the last build from nothing, and its 
 QUIET_SECONDS = 8
 # Of a build from nothing on four processors: what a lane proves in a second, and what the compilation takes behind it.
 BYTES_A_SECOND, COMPILATION_SECONDS = 800, 110
+# How long the proof of each crate of pcboard takes, with one job: sizes tell that badly, and only the order hangs on it.
+SECONDS = {
+    'board_types': 40,
+    'bus': 7,
+    'pic8259': 55,
+    'pit8253': 77,
+    'ppi8255': 18,
+    'keyboard': 19,
+    'mda_text': 42,
+    'memory': 33,
+    'scheduler': 13,
+    'wiring': 82,
+    'isa': 58,
+    'dialect': 58,
+    'assembler_lexeme': 31,
+    'assembler_syntax': 130,
+    'assembler_form': 53,
+    'assembler_meaning': 75,
+    'assembler': 112,
+    'disassembler': 48,
+    'digest': 27,
+    'deeds': 91,
+    'decode': 35,
+    'decode_cache': 53,
+    'execute_machine': 51,
+    'execute_arith': 62,
+    'execute_control': 48,
+    'execute_transfer': 49,
+    'execute_strings': 46,
+    'execute': 177,
+    'cached_chips': 58,
+    'board_plain': 48,
+    'board': 290,
+    'loader': 130,
+    'pcboard_words': 100,
+    'board_report': 35,
+    'debugger': 160,
+    'pcboard_program': 190,
+    'pcboard': 58,
+}
 
 
 def copy_new(source, target):
@@ -129,13 +169,18 @@ class Work:
             os.killpg(process.pid, signal.SIGTERM)
 
 
+def seconds(name):
+    """About how many seconds a lane proves a crate."""
+    return SECONDS.get(name) or size([name]) / BYTES_A_SECOND
+
+
 def ways(below):
-    """How much there is to prove from each crate on up to the program, on the longest way."""
+    """How long all is proved from each crate on up to the program, on the longest way."""
     above = {name: [other for other in below if name in below[other]] for name in below}
 
     def way(name):
         if name not in found:
-            found[name] = size([name]) + max(map(way, above[name]), default=0)
+            found[name] = seconds(name) + max(map(way, above[name]), default=0)
         return found[name]
 
     found = {}
@@ -176,8 +221,8 @@ def prove(crates, name, jobs, made_of, work):
 
 def build_all(crates, names, work, progress):
     """Proves and builds these crates, and so all that they stand on has to be among them: each once those that it names
-    stand, those on the longest way first, and what all else waits for with a job for each processor. Whether all could be
-    built."""
+    stand, those on the longest way first, and what all else waits for with a job for each processor but one, which others
+    may need. Whether all could be built."""
     count, done, running, known = lanes(), set(), {}, {}
     below = {name: set(crates.named[name]) & names for name in names}
     to_do, way = set(names), ways(below)
@@ -189,7 +234,7 @@ def build_all(crates, names, work, progress):
                 share = max(1, count // max(1, len(ready) + len(running)))
                 for name in ready[: count - len(running)]:
                     to_do.discard(name)
-                    jobs = count if way[name] == longest else share
+                    jobs = max(share, count - 1) if way[name] == longest else share
                     running[pool.submit(prove, crates, name, jobs, stamp(crates, name, known), work)] = name
                 for future in futures.wait(running, 1, futures.FIRST_COMPLETED)[0]:
                     name = running.pop(future)
