@@ -219,7 +219,6 @@ static WORDS: [Entry; 152] = [
 ];
 
 /// The words.
-#[tactic(auto, unfolding(crate::specs::Words::words))]
 fn entries() -> &'static [Entry]
     ensures { map entry_of result.now ≡ words }
 {
