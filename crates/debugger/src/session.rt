@@ -76,13 +76,18 @@ impl<A: Allocator> Session<A> {
         ensures stands { IfOk result Stands }
         ensures fault { IfErr result (λ fault. fault ≡ DebugFault.Memory None) }
     {
-        let first = copy_of(&board)?;
-        Ok(Session {
-            first,
-            board,
-            checkpoints: Checkpoints::new(alloc),
-            stops: Stops::new(),
-        })
+        match copy_of(&board) {
+            Ok(first) => Ok(Session {
+                first,
+                board,
+                checkpoints: Checkpoints::new(alloc),
+                stops: Stops::new(),
+            }),
+            Err(fault) => {
+                drop(board);
+                Err(fault)
+            }
+        }
     }
 
     /// How many copies of the board are kept, to go back from.
