@@ -2,6 +2,7 @@
 use crate::tone::tone_board;
 use anyhow::{Context, Result, bail, ensure};
 use board::board::Board;
+use debugger::answer::Answer;
 use debugger::session::Session;
 use linked_list_allocator::LocalHeap;
 use std::alloc::{Allocator, Global};
@@ -12,8 +13,15 @@ pub fn follow_session(alloc: Global, steps: &str) -> Result<()> {
     let size = made.trim().strip_prefix("heap ").context("no heap")?;
     let size = size.parse::<usize>().ok().context("no size")?;
     let heap = LocalHeap::new(alloc, size)?;
-    let mut session = Session::with_checkpoints_in(&heap, tone_board(alloc)?)?;
-    follow_steps(alloc, &mut session, steps)
+    follow_in_heap(alloc, &heap, steps)
+}
+
+/// Makes the steps of a session whose copies are listed in this heap.
+fn follow_in_heap(alloc: Global, heap: &LocalHeap, steps: &str) -> Result<()> {
+    let mut session = Session::with_checkpoints_in(heap, tone_board(alloc)?)?;
+    let came_out = follow_steps(alloc, &mut session, steps);
+    drop(session);
+    came_out
 }
 
 fn follow_steps<A: Allocator>(alloc: Global, session: &mut Session<A>, steps: &str) -> Result<()> {
@@ -30,28 +38,28 @@ fn comes_out<A: Allocator>(alloc: Global, session: &mut Session<A>, step: &str) 
     if step == "as run" {
         return stands_as_run(alloc, session.board());
     }
+    counts(session, step)
+}
+
+/// Makes a step that counts keys or copies.
+fn counts<A: Allocator>(session: &Session<A>, step: &str) -> Result<bool> {
     let mut words = step.split(' ');
     let verb = words.next();
-    let least = words
-        .next()
-        .unwrap_or("")
-        .parse::<u64>()
-        .ok()
-        .context("no number")?;
+    let least = number(words.next())?;
     match verb {
         Some("lost") => Ok(session.board().lost() == least),
         Some("kept") => {
-            let most = words
-                .next()
-                .unwrap_or("")
-                .parse::<u64>()
-                .ok()
-                .context("no number")?;
+            let most = number(words.next())?;
             let kept = session.checkpoints() as u64;
             Ok(least <= kept && kept <= most)
         }
         _ => bail!("no such step"),
     }
+}
+
+/// A number, in decimal.
+fn number(word: Option<&str>) -> Result<u64> {
+    word.unwrap_or("").parse::<u64>().ok().context("no number")
 }
 
 fn replies<A: Allocator>(
@@ -61,18 +69,23 @@ fn replies<A: Allocator>(
     reply: &str,
 ) -> Result<bool> {
     match session.command(alloc, command) {
-        Ok(answer) => {
-            let text = format!(in alloc; "{answer}")?;
-            Ok(text.as_str().trim_end() == reply)
-        }
+        Ok(answer) => reads(alloc, &answer, reply),
         Err(fault) => Ok(fault.name() == reply),
     }
+}
+
+/// Whether an answer's text is this.
+fn reads(alloc: Global, answer: &Answer, reply: &str) -> Result<bool> {
+    let text = format!(in alloc; "{answer}")?;
+    Ok(text.as_str().trim_end() == reply)
 }
 
 /// Whether a board shows what one shows that is run there from power-on.
 fn stands_as_run(alloc: Global, board: &Board) -> Result<bool> {
     let mut other = tone_board(alloc)?;
-    shows_after(&mut other, board.clock().get(), board)
+    let same = shows_after(&mut other, board.clock().get(), board);
+    drop(other);
+    same
 }
 
 /// Whether a board that is run for so many clocks shows what `wanted` shows.

@@ -4,10 +4,10 @@ ghost use Rattle.std.specs.Prelude.{◌<◌, IfSome};
 
 use crate::bench::Bench;
 use crate::chips::go_on_with_a_copy;
-use crate::parts::Parts;
 use crate::words::Words;
 use board_types::choice::TimerKind;
 use board_types::clock::Clock;
+use board_types::image::Image;
 use board_types::line::Line;
 use board_types::timed::Timed;
 use bus::Bus;
@@ -28,8 +28,8 @@ pub struct TimerBench {
 impl TimerBench {
     /// Both at power-on, with port B of the 8255A as an output. `None` where there is no memory.
     pub fn new(alloc: Global, kind: TimerKind) -> Option<Self> {
-        let parts = Parts::new(alloc);
-        let mut chips = Chips::new(alloc, &parts.image, 16, 0, 0, kind).ok()?;
+        let image = Image::new(alloc);
+        let mut chips = Chips::new(alloc, &image, 16, 0, 0, kind).ok()?;
         chips.out8(0x63, 0x99);
         Some(TimerBench {
             chips,

@@ -23,9 +23,7 @@ const STRUCK: [u64; 2] = [80, 200];
 /// The board at power-on.
 pub fn tone_board(alloc: Global) -> Result<Board> {
     let keys = struck(alloc)?;
-    let mut image = Image::new(alloc);
-    put(&mut image, 0xF_FFF0, &JUMP)?;
-    put(&mut image, 0xF_0000, &TONE)?;
+    let image = tone_image(alloc)?;
     let config = Config {
         ram_kb: 64,
         sw1: 0,
@@ -34,6 +32,13 @@ pub fn tone_board(alloc: Global) -> Result<Board> {
         clocks: ClockTable::C1,
     };
     Ok(Board::new(alloc, &image, config, keys)?)
+}
+
+fn tone_image(alloc: Global) -> Result<Image> {
+    let mut image = Image::new(alloc);
+    put(&mut image, 0xF_FFF0, &JUMP)?;
+    put(&mut image, 0xF_0000, &TONE)?;
+    Ok(image)
 }
 
 fn put(image: &mut Image, start: u32, bytes: &[u8]) -> Result<()> {
