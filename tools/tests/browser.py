@@ -144,14 +144,23 @@ class Browser:
         self.call('Input.dispatchKeyEvent', type='keyDown' if typed else 'rawKeyDown', **shared, **typed)
         self.call('Input.dispatchKeyEvent', type='keyUp', **shared)
 
-    def click(self, selector: str) -> None:
-        """A click into the middle of an element."""
+    def middle(self, selector: str) -> tuple[float, float]:
+        """Where the middle of an element is, brought into sight."""
         x, y = self.run(
             f'(()=>{{const it=document.querySelector({json.dumps(selector)});it.scrollIntoView({{block:"nearest"}});'
             'const r=it.getBoundingClientRect();return [r.x+r.width/2,r.y+r.height/2]})()'
         )
+        return x, y
+
+    def mouse(self, kind: str, x: float, y: float) -> None:
+        """Its left button, pressed or released at a place."""
+        self.call('Input.dispatchMouseEvent', type=kind, x=x, y=y, button='left', clickCount=1)
+
+    def click(self, selector: str) -> None:
+        """A click into the middle of an element."""
+        place = self.middle(selector)
         for kind in ('mousePressed', 'mouseReleased'):
-            self.call('Input.dispatchMouseEvent', type=kind, x=x, y=y, button='left', clickCount=1)
+            self.mouse(kind, *place)
 
     def picture(self, to: str, **fields: Any) -> None:
         """A picture of the window."""

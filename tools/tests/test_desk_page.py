@@ -174,6 +174,33 @@ class OnePage(ToolCase):
         page.settled('view.clock===500')
         self.fine(page)
 
+    def test_the_margin(self) -> None:
+        """A click beside a line counts, although the lines are drawn anew between press and release."""
+        page = self.opened()
+        if page is None:
+            return
+        browser = page.browser
+        page.example('fibonacci')
+        browser.run('to_line(28)')
+        browser.run('window.draws=0;{const was=draw_paper;draw_paper=(...it)=>{window.draws++;return was(...it)}}')
+        place = browser.middle('#gutter [data-line="28"]')
+        browser.mouse('mousePressed', *place)
+        browser.run('draw_paper()')
+        browser.mouse('mouseReleased', *place)
+        page.settled('stops.length===1&&stops[0].line===28')
+        # So it does while a run goes on, which draws them whenever it is at another line.
+        page.write('SEGMENT RESET AT 0FFFFh\nbusy:   INC AX\n        INC BX\n        INC CX\n        JMP SHORT busy\nENDS\n')
+        page.click('#assemble', "assembled.includes('busy')&&stops.length===0")
+        browser.run('run_or_pause();0')
+        browser.until('running&&window.draws>1')
+        place = browser.middle('#gutter [data-line="4"]')
+        browser.mouse('mousePressed', *place)
+        drawn = browser.run('window.draws')
+        browser.until(f'window.draws>{drawn}')
+        browser.mouse('mouseReleased', *place)
+        page.settled('stops.length===1&&stops[0].line===4')
+        self.fine(page)
+
     def test_keys_and_files(self) -> None:
         """Keys typed while it runs; what is saved repeats what is shown."""
         page = self.opened()
