@@ -188,7 +188,13 @@ class OnePage(ToolCase):
         browser.run('draw_paper()')
         browser.mouse('mouseReleased', *place)
         page.settled('stops.length===1&&stops[0].line===28')
-        # So it does while a run goes on, which draws them whenever it is at another line.
+        # The margin has no scroll of its own, so that numbers and lines stay side by side; a wheel over it moves both.
+        browser.run("$('source').scrollTop=0;draw_paper();$('gutter').lastChild.scrollIntoView({block:'nearest'})")
+        self.assertEqual(browser.run("$('gutter').scrollTop"), 0)
+        x, y = browser.middle('#gutter [data-line="4"]')
+        browser.call('Input.dispatchMouseEvent', type='mouseWheel', x=x, y=y, deltaX=0, deltaY=36)
+        browser.until("$('source').scrollTop===36&&$('gutter').firstChild.textContent==='3'")
+        # A click counts also while a run goes on, which draws them whenever it is at another line.
         page.write('SEGMENT RESET AT 0FFFFh\nbusy:   INC AX\n        INC BX\n        INC CX\n        JMP SHORT busy\nENDS\n')
         page.click('#assemble', "assembled.includes('busy')&&stops.length===0")
         browser.run('run_or_pause();0')
