@@ -222,8 +222,7 @@ class OnePage(ToolCase):
         browser.until('running!==null')
         for sign in 'bye':
             browser.press(sign)
-        browser.until(f"{SHOWN}[0].startsWith('BYE')")
-        self.assertEqual(browser.run('view.keys.length'), 6)
+        browser.until(f"{SHOWN}[0].startsWith('BYE')&&view.keys.length===6")  # the last release may be stamped after its letter is seen
         browser.run('run_or_pause()')
         page.settled()
         # A key behind a way back drops the later ones, once asked.
