@@ -22,7 +22,7 @@ use Rattle.board.specs.Alone.{IsAlone, IsUnseen, StaysIdleAnyhow, passed_alone}
 use Rattle.board.specs.Arrivals.{HaveArrived}
 use Rattle.board.specs.Leap.{ComesAfter}
 use Rattle.board.specs.declared.arrivals.Arrived.{Arrived}
-use Rattle.board.proofs.Calm.{no_key_by}
+use Rattle.board.proofs.RestOfStep.{no_key_by}
 use Rattle.board.proofs.KeyOrder.{have_later, next_of}
 use Rattle.board.proofs.Leap.{LooksSame, busy_by, busy_still, bytes_stay, free_still, holding_same, idle_clocks, none_gathered, not_free, nothing_begins}
 use Rattle.board.proofs.Ticking.{no_change}
@@ -118,6 +118,6 @@ no_key_to a s to have after within =
 pub synced : (a : Arrived) (s : Plain) (to busy : ℕ) (c : ChipsState) → WiresHold s.chips → HaveArrived a (s.chips.clock + 1) s.keys → ComesAfter to a.next → clock_of s < to → StaysIdleAnyhow s (to - clock_of s) → GoesOnAlone s.chips → c ≡ wires.after_clocks s.chips (to - s.chips.clock) → busy ≡ s.busy - (to - s.chips.clock) → IsUnseen s (to - clock_of s) (record s { busy = busy; chips = c })
 unfolding clock_of passed_alone
 synced a s to busy c wired have after later idle alone chips left =
-    let quiet : IsAlone s (to - s.chips.clock) = record { idle = idle; no_key = no_key_to a s to have after (omega (arith, later)); alone = alone } in
+    let may_leap : IsAlone s (to - s.chips.clock) = record { idle = idle; no_key = no_key_to a s to have after (omega (arith, later)); alone = alone } in
     subst (IsUnseen s (to - s.chips.clock)) (λ k. record s { busy = sym left k; chips = sym chips k })
-    (alone_unseen s (to - s.chips.clock) wired quiet)
+    (alone_unseen s (to - s.chips.clock) wired may_leap)

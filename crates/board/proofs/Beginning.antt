@@ -1,7 +1,7 @@
--- A clock in which the processor acts and writes to no port, the chips being calm.
+-- A clock in which the processor acts and writes to no port, the chips being quiet.
 use Rattle.std.proofs.Common.{◌≡◌, ℕ, ◌+◌, ◌-◌, ◌<◌, ◌≤◌, inl, inr, List, ◌++◌, length, refl, sym, ap, ◌∙◌, subst, arith, append-nil}
 use Rattle.std.specs.Prelude.{◌⊎◌}
-use Rattle.cached_chips.proofs.Calm.{level_stays}
+use Rattle.cached_chips.proofs.Quiet.{level_stays}
 use Rattle.board_types.specs.Lines.{from_bool}
 use Rattle.board_types.specs.declared.keys.StampedKey.{StampedKey}
 use Rattle.execute.specs.Meaning.{StepResult}
@@ -13,7 +13,7 @@ use Rattle.wiring.proofs.Clocks.{clock_of_arrivals, clock_of_clocked, clock_of_k
 use Rattle.board_plain.specs.declared.act.Act.{Act}
 use Rattle.board_plain.specs.Board.{BoardState}
 use Rattle.board.specs.Alone.{PassesOver}
-use Rattle.board.specs.Leap.{ActsCalmly, PassesOn}
+use Rattle.board.specs.Leap.{ActsQuietly, PassesOn}
 use Rattle.board_plain.specs.Plain.{Plain, after_act, after_clock, chips_after_clock, clock_of, codes_at, next_act, speaker_level}
 use Rattle.board_plain.specs.Trail.{last, trail_next}
 use Rattle.board.specs.Turns.{IsLeapOn, IsStepOn}
@@ -24,13 +24,13 @@ use Rattle.board.proofs.Ticking.{no_change}
 use Rattle.board.proofs.Works.{acts_now}
 
 -- the speaker's level stays
-same_level : (s : Plain) → ActsCalmly s → speaker_level (after_clock s) ≡ speaker_level s
+same_level : (s : Plain) → ActsQuietly s → speaker_level (after_clock s) ≡ speaker_level s
 unfolding speaker_level
-same_level s calmly =
-    foreseen s calmly.wires
+same_level s quietly =
+    foreseen s quietly.wires
     ∙ ap from_bool (
-    ap (is_speaker_high_after s.chips) calmly.act.silent
-    ∙ sym (level_stays s.chips (s.chips.clock + 1) (omega arith) calmly.calm))
+    ap (is_speaker_high_after s.chips) quietly.act.silent
+    ∙ sym (level_stays s.chips (s.chips.clock + 1) (omega arith) quietly.quiet))
 
 -- a clock goes by
 chips_go_on : (c : ChipsState) (keys : List StampedKey) → (chips_after_clock c keys).clock ≡ c.clock + 1
@@ -57,7 +57,7 @@ rest_on end p new (inr passed) = inr (
     some = passed.turn.some;
     within = passed.turn.within;
     wires = passed.turn.wires;
-    quiet = passed.turn.quiet;
+    may_leap = passed.turn.may_leap;
     tight = passed.turn.tight;
     plain = passed.plain;
     changes = refl;
@@ -67,24 +67,24 @@ rest_on end p new (inr passed) = inr (
   },
 )
 
-pub step_made : (end : ℕ) (old new : BoardState) → ActsCalmly old.plain → PassesOn end (after_clock old.plain) new.plain → new.changes ≡ old.changes → new.trail ≡ last 32 (old.trail ++ trail_next old.plain) → new.room ≡ old.room → new.turns ≡ old.turns + 1 → IsStepOn end old new
-step_made end old new calmly passed changes trail room turns = record {
+pub step_made : (end : ℕ) (old new : BoardState) → ActsQuietly old.plain → PassesOn end (after_clock old.plain) new.plain → new.changes ≡ old.changes → new.trail ≡ last 32 (old.trail ++ trail_next old.plain) → new.room ≡ old.room → new.turns ≡ old.turns + 1 → IsStepOn end old new
+step_made end old new quietly passed changes trail room turns = record {
   begun = record new { plain = after_clock old.plain };
   first = record {
     plain = refl;
     clock = clock_goes_by old.plain;
-    changes = changes ∙ sym (append-nil old.changes) ∙ ap (λ xs. old.changes ++ xs) (sym (no_change old.plain (same_level old.plain calmly)));
+    changes = changes ∙ sym (append-nil old.changes) ∙ ap (λ xs. old.changes ++ xs) (sym (no_change old.plain (same_level old.plain quietly)));
     trail = trail;
     room = let size : length new.changes ≡ length old.changes = ap length changes in omega (arith, room, size);
     turns = turns;
   };
-  work = acts_now old.plain calmly.act.some;
+  work = acts_now old.plain quietly.act.some;
   rest = rest_on end (after_clock old.plain) new passed;
 }
 
-pub step_of : (end : ℕ) (old seen new : BoardState) → old ≡ seen → ActsCalmly old.plain → PassesOn end (after_clock old.plain) new.plain → new.changes ≡ old.changes → new.trail ≡ last 32 (old.trail ++ trail_next old.plain) → new.room ≡ old.room → new.turns ≡ old.turns + 1 → IsStepOn end seen new
-step_of end old seen new same calmly passed changes trail room turns =
-    subst (λ b. IsStepOn end b new) same (step_made end old new calmly passed changes trail room turns)
+pub step_of : (end : ℕ) (old seen new : BoardState) → old ≡ seen → ActsQuietly old.plain → PassesOn end (after_clock old.plain) new.plain → new.changes ≡ old.changes → new.trail ≡ last 32 (old.trail ++ trail_next old.plain) → new.room ≡ old.room → new.turns ≡ old.turns + 1 → IsStepOn end seen new
+step_of end old seen new same quietly passed changes trail room turns =
+    subst (λ b. IsStepOn end b new) same (step_made end old new quietly passed changes trail room turns)
 
 -- time goes on by a clock at least, and not past the end
 pub record GoesOn (end : ℕ) (s t : Plain) : Type 0 where

@@ -11,7 +11,7 @@ use Rattle.board.specs.Found.{found_at, found_before}
 use Rattle.board_plain.specs.Lasts.{IsLastOf}
 use Rattle.board_plain.specs.Plain.{Plain, after_clock, after_clocks, clock_of}
 use Rattle.board_plain.specs.Stops.{holding}
-use Rattle.board.specs.ClearSteps.{AreClearSteps, Noted}
+use Rattle.board.specs.QuietSteps.{AreQuietSteps, Noted}
 use Rattle.board.specs.Turns.{AreStepsOn, IsLeapOverEdgesOn, IsTickOn, IsTurnOn, IsTurnOverEdgesOn}
 use Rattle.board_plain.specs.Work.{work_next}
 use Rattle.board.specs.Reach.{PassesNone}
@@ -103,8 +103,8 @@ looked_over stops end s t u last waits looked is before (inr act) =
     looked_rest stops end s act.begun u last waits (looked_tick stops end s t act.begun last None looked is before act.first act.work) act.rest
 
 -- steps at once, between which none holds
-looked_each : (passes : ℕ → Type 0) (n : ℕ) (stops : List Condition) (end : ℕ) (s t : BoardState) (v : Noted) (last : Option (ℕ × ℕ)) → AllAwaitFree stops → PassesNone passes stops → Looked stops end s t last → holding stops t.plain ≡ None → AreClearSteps passes n end (record { plain = t.plain; trail = t.trail }) v → Looked stops end s (behind t n v) last
-unfolding AreClearSteps
+looked_each : (passes : ℕ → Type 0) (n : ℕ) (stops : List Condition) (end : ℕ) (s t : BoardState) (v : Noted) (last : Option (ℕ × ℕ)) → AllAwaitFree stops → PassesNone passes stops → Looked stops end s t last → holding stops t.plain ≡ None → AreQuietSteps passes n end (record { plain = t.plain; trail = t.trail }) v → Looked stops end s (behind t n v) last
+unfolding AreQuietSteps
 looked_each passes zero stops end s t v last waits none looked here same =
     let counted : t.turns ≡ t.turns + 0 = omega arith in
     subst (λ b. Looked stops end s b last) (λ k. record t { plain = (sym same k).plain; trail = (sym same k).trail; turns = counted k }) looked

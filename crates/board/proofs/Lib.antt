@@ -1,5 +1,5 @@
 pub mod Beginning
-pub mod Calm
+pub mod RestOfStep
 pub mod Entries
 pub mod KeyOrder
 pub mod Rounds
@@ -10,7 +10,7 @@ pub mod Passing
 pub mod PassingOver
 pub mod Acting
 pub mod BySlots
-pub mod Clear
+pub mod Quiet
 pub mod Coded
 pub mod Steps
 pub mod Reach

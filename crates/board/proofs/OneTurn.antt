@@ -16,13 +16,13 @@ use Rattle.decode.specs.Fields.{is_found}
 use Rattle.board.proofs.Entries.{found_size}
 use Rattle.board_plain.proofs.Runs.{ran_none}
 use Rattle.board.specs.declared.one_turn.Begun.{Begun}
-use Rattle.board.specs.Leap.{IsQuiet, leapt}
+use Rattle.board.specs.Leap.{MayLeap, leapt}
 use Rattle.board.specs.OneTurn.{begun_of, HaveSameWires, IsOneTurn}
-use Rattle.board.specs.Turns.{IsLeapOn, IsStrideOn, IsTickOn}
-use Rattle.board.proofs.Leap.{board_leaps, level_stays, no_entries, out_0_stays, out_2_stays, quiet_for}
+use Rattle.board.specs.Turns.{IsLeapOn, IsTickOn, IsTurnOrStepOn}
+use Rattle.board.proofs.Leap.{board_leaps, level_stays, may_leap_for, no_entries, out_0_stays, out_2_stays}
 use Rattle.board.proofs.Ticking.{ran_more}
 use Rattle.board.proofs.Turns.{before_rest, leap_runs, ran_leap}
-use Rattle.board.proofs.Unseen.{leap_over, quiet_leap}
+use Rattle.board.proofs.Unseen.{leap_over, unseen_leap}
 
 -- what begins
 
@@ -49,16 +49,16 @@ begins_by s act begun next is = is ∙ ap (λ (a : Act). map begun_of (entry_at 
 
 -- wires that stay
 
-same_wires : (s : Plain) (n k : ℕ) → k ≤ n → WiresHold s.chips → IsQuiet s n → HaveSameWires s (after_clocks s k)
+same_wires : (s : Plain) (n k : ℕ) → k ≤ n → WiresHold s.chips → MayLeap s n → HaveSameWires s (after_clocks s k)
 unfolding leapt
-same_wires s n k within holds quiet =
-    let less : IsQuiet s k = quiet_for s n k within quiet in
+same_wires s n k within holds may_leap =
+    let less : MayLeap s k = may_leap_for s n k within may_leap in
     let at : after_clocks s k ≡ leapt s k = board_leaps k s holds less in
     record {
       pic = ap (λ (p : Plain). p.chips.pic) at;
       out_0 = ap (λ (p : Plain). p.chips.pit.counter_0.out) at ∙ out_0_stays s k less;
       out_2 = ap (λ (p : Plain). p.chips.pit.counter_2.out) at ∙ out_2_stays s k less;
-      speaker = level_stays s n k within holds quiet;
+      speaker = level_stays s n k within holds may_leap;
     }
 
 same_then : (s t u : Plain) → HaveSameWires s t → HaveSameWires s u → HaveSameWires t u
@@ -90,20 +90,20 @@ first_entry s =
 
 -- a leap
 once_leapt : (end count : ℕ) (s u : BoardState) (begun : Option Begun) → length s.trail ≤ 32 → clock_of s.plain < end → IsLeapOn end count s u → option_to_list begun ≡ map begun_of (trail_next s.plain) → IfSome begun (λ b. b.clock ≡ clock_of s.plain) → IsOneTurn end s u begun
-unfolding leap_over quiet_leap
+unfolding leap_over unseen_leap
 once_leapt end count s u begun few before leap is clock =
     let within = leap.within in
-    let none : trail_next s.plain ≡ [] = sym (first_entry s.plain) ∙ no_entries s.plain 1 leap.wires (quiet_for s.plain leap.clocks 1 leap.some leap.quiet) in
+    let none : trail_next s.plain ≡ [] = sym (first_entry s.plain) ∙ no_entries s.plain 1 leap.wires (may_leap_for s.plain leap.clocks 1 leap.some leap.may_leap) in
     let first : HaveSameWires s.plain (after_clock s.plain) =
-    subst (HaveSameWires s.plain) (first_clock s.plain) (same_wires s.plain leap.clocks 1 leap.some leap.wires leap.quiet) in
+    subst (HaveSameWires s.plain) (first_clock s.plain) (same_wires s.plain leap.clocks 1 leap.some leap.wires leap.may_leap) in
     record {
       passed = leap.clocks;
       some = leap.some;
       within = omega (arith, within, before);
       ran = leap_runs end count s u (leap_over end count s u leap) few;
-      begins = ap (map begun_of) (no_entries s.plain leap.clocks leap.wires leap.quiet ∙ sym none) ∙ sym is;
+      begins = ap (map begun_of) (no_entries s.plain leap.clocks leap.wires leap.may_leap ∙ sym none) ∙ sym is;
       clock = clock;
-      wires = λ j some last. same_then s.plain (after_clock s.plain) (after_clocks s.plain j) first (same_wires s.plain leap.clocks j last leap.wires leap.quiet);
+      wires = λ j some last. same_then s.plain (after_clock s.plain) (after_clocks s.plain j) first (same_wires s.plain leap.clocks j last leap.wires leap.may_leap);
     }
 
 -- a clock
@@ -121,7 +121,7 @@ once_ticked end s u begun few before tick is clock = record {
 
 -- a clock with a leap behind it
 once_stepped : (end : ℕ) (s b u : BoardState) (begun : Option Begun) → length s.trail ≤ 32 → clock_of s.plain < end → IsTickOn s b → (u ≡ b) ⊎ ((1 ≤ b.plain.busy) × IsLeapOn end 0 b u) → option_to_list begun ≡ map begun_of (trail_next s.plain) → IfSome begun (λ x. x.clock ≡ clock_of s.plain) → IsOneTurn end s u begun
-unfolding leap_over quiet_leap
+unfolding leap_over unseen_leap
 once_stepped end s b u begun few before tick (inl same) is clock =
     subst (λ x. IsOneTurn end s x begun) (sym same) (once_ticked end s b begun few before tick is clock)
 once_stepped end s b u begun few before tick (inr rest) is clock =
@@ -132,7 +132,7 @@ once_stepped end s b u begun few before tick (inr rest) is clock =
     let here : after_clocks s.plain 1 ≡ b.plain = first_clock s.plain ∙ sym tick.plain in
     let entries : trail_in s.plain (1 + leap.clocks) ≡ trail_next s.plain =
     gathered_add after_clock trail_next 1 leap.clocks s.plain
-    ∙ ap (λ xs. trail_in s.plain 1 ++ xs) (ap (λ p. trail_in p leap.clocks) here ∙ no_entries b.plain leap.clocks leap.wires leap.quiet)
+    ∙ ap (λ xs. trail_in s.plain 1 ++ xs) (ap (λ p. trail_in p leap.clocks) here ∙ no_entries b.plain leap.clocks leap.wires leap.may_leap)
     ∙ append-nil (trail_in s.plain 1) ∙ first_entry s.plain in
     record {
       passed = 1 + leap.clocks;
@@ -145,11 +145,11 @@ once_stepped end s b u begun few before tick (inr rest) is clock =
           let whole : j ≡ 1 + (j - 1) = omega (arith, some) in
           let at : after_clocks s.plain j ≡ after_clocks b.plain (j - 1) =
           ap (after_clocks s.plain) whole ∙ iterate_add after_clock 1 (j - 1) s.plain ∙ ap (λ p. after_clocks p (j - 1)) here in
-          let stay : HaveSameWires b.plain (after_clocks b.plain (j - 1)) = same_wires b.plain leap.clocks (j - 1) (omega (arith, last, some)) leap.wires leap.quiet in
+          let stay : HaveSameWires b.plain (after_clocks b.plain (j - 1)) = same_wires b.plain leap.clocks (j - 1) (omega (arith, last, some)) leap.wires leap.may_leap in
           subst (λ p. HaveSameWires p (after_clocks s.plain j)) tick.plain (subst (HaveSameWires b.plain) (sym at) stay);
     }
 
-pub once_strode : (end : ℕ) (s u : BoardState) (begun : Option Begun) → length s.trail ≤ 32 → clock_of s.plain < end → IsStrideOn end s u → option_to_list begun ≡ map begun_of (trail_next s.plain) → IfSome begun (λ b. b.clock ≡ clock_of s.plain) → IsOneTurn end s u begun
-once_strode end s u begun few before (inl (inl leap)) is clock = once_leapt end 1 s u begun few before leap is clock
-once_strode end s u begun few before (inl (inr tick)) is clock = once_ticked end s u begun few before tick.0 is clock
-once_strode end s u begun few before (inr step) is clock = once_stepped end s step.begun u begun few before step.first step.rest is clock
+pub once_turned : (end : ℕ) (s u : BoardState) (begun : Option Begun) → length s.trail ≤ 32 → clock_of s.plain < end → IsTurnOrStepOn end s u → option_to_list begun ≡ map begun_of (trail_next s.plain) → IfSome begun (λ b. b.clock ≡ clock_of s.plain) → IsOneTurn end s u begun
+once_turned end s u begun few before (inl (inl leap)) is clock = once_leapt end 1 s u begun few before leap is clock
+once_turned end s u begun few before (inl (inr tick)) is clock = once_ticked end s u begun few before tick.0 is clock
+once_turned end s u begun few before (inr step) is clock = once_stepped end s step.begun u begun few before step.first step.rest is clock

@@ -21,7 +21,7 @@ use Rattle.wiring.specs.Wires.{is_requested}
 use Rattle.board_plain.specs.declared.act.Act.TheVariants.{Nothing}
 use Rattle.board.specs.Arrivals.{Awaits, IsNextStamp}
 use Rattle.board_plain.specs.Laws.{NoKeyComes, WiresHold}
-use Rattle.board.specs.Leap.{AreDeadlines, IsFreeClock, IsLastQuiet, IsQuiet, IsTight, StaysIdle, acts_before, is_idle, last_of, leapt}
+use Rattle.board.specs.Leap.{AreDeadlines, IsFreeClock, IsLastToLeap, IsTight, MayLeap, StaysIdle, acts_before, is_idle, last_of, leapt}
 use Rattle.board_plain.specs.Plain.{Plain, act_at, clock_of, codes_at, is_free, next_act}
 use Rattle.board_plain.specs.Work.{work_next}
 use Rattle.board_plain.proofs.Codes.{codes_append, codes_more}
@@ -56,16 +56,16 @@ not_later Processor place at when some (inr tie) few = absurd (omega (arith, tie
 not_later End place at when some (inl sooner) few = sooner
 not_later End place at when some (inr tie) few = absurd (omega (arith, tie.1, few))
 
-before_it : (d : DeadlinesState) (last : ℕ) (other : Source) (when : ℕ) → IsLastQuiet d last → acts_before other ≡ true → deadline_of d other ≡ Some when → 1 ≤ when → last < when
-before_it d last other when quiet acts due some =
-    subst (λ l. l < when) (sym quiet.is)
-    (not_later quiet.source (place_of other) quiet.at when some (quiet.next.first other when due) (early other acts))
+before_it : (d : DeadlinesState) (last : ℕ) (other : Source) (when : ℕ) → IsLastToLeap d last → acts_before other ≡ true → deadline_of d other ≡ Some when → 1 ≤ when → last < when
+before_it d last other when may_leap acts due some =
+    subst (λ l. l < when) (sym may_leap.is)
+    (not_later may_leap.source (place_of other) may_leap.at when some (may_leap.next.first other when due) (early other acts))
 
-up_to_it : (d : DeadlinesState) (last : ℕ) (other : Source) (when : ℕ) → IsLastQuiet d last → deadline_of d other ≡ Some when → last ≤ when
-up_to_it d last other when quiet due =
-    let small = not_after quiet.source quiet.at in
-    let is = quiet.is in
-    elim (quiet.next.first other when due) [
+up_to_it : (d : DeadlinesState) (last : ℕ) (other : Source) (when : ℕ) → IsLastToLeap d last → deadline_of d other ≡ Some when → last ≤ when
+up_to_it d last other when may_leap due =
+    let small = not_after may_leap.source may_leap.at in
+    let is = may_leap.is in
+    elim (may_leap.next.first other when due) [
       | inl sooner ↦ omega (arith, small, is, sooner)
       | inr tie ↦ omega (arith, small, is, tie.0)
     ]
@@ -136,40 +136,40 @@ from_now s end d End at deadlines within due =
     let same : Some end ≡ Some at = sym deadlines.end ∙ due in
     let is : end ≡ at = cc in omega (arith, is, within)
 
--- all that is said of a room up to the last quiet clock
+-- all that is said of a room up to the last clock that may be leapt over
 pub record IsRoom (limit : ℕ) (s : Plain) (n : ℕ) : Type 0 where
   pub within : n ≤ limit
-  pub quiet : IsQuiet s n
+  pub may_leap : MayLeap s n
   pub tight : IsTight limit s n
 
 keys_then : (s : Plain) (n at : ℕ) → at ≡ s.chips.clock + n + 1 → 1 ≤ length (codes_at s.keys at) → 1 ≤ length (codes_at (leapt s n).keys (clock_of (leapt s n) + 1))
 unfolding leapt clock_of
 keys_then s n at is some = subst (λ c. 1 ≤ length (codes_at s.keys c)) is some
 
-tight_by : (s : Plain) (end : ℕ) (d : DeadlinesState) (source : Source) (at n : ℕ) → WiresHold s.chips → AreDeadlines s end d → deadline_of d source ≡ Some at → s.chips.clock + n ≡ last_of (acts_before source) at → IsQuiet s n → IsTight (end - s.chips.clock) s n
-tight_by s end d Counter0 at n holds deadlines due is quiet =
+tight_by : (s : Plain) (end : ℕ) (d : DeadlinesState) (source : Source) (at n : ℕ) → WiresHold s.chips → AreDeadlines s end d → deadline_of d source ≡ Some at → s.chips.clock + n ≡ last_of (acts_before source) at → MayLeap s n → IsTight (end - s.chips.clock) s n
+tight_by s end d Counter0 at n holds deadlines due is may_leap =
     let edge : TurnsIn s.chips.pit.counter_0 s.chips.clock at = subst (λ p. IsEdgeOf s.chips.pit.counter_0 s.chips.clock p) due deadlines.counter_0 in
-    let first = edge.later in inr (inr (edge_0_works s n at holds quiet (omega (arith, first, is)) edge))
-tight_by s end d Counter2 at n holds deadlines due is quiet =
+    let first = edge.later in inr (inr (edge_0_works s n at holds may_leap (omega (arith, first, is)) edge))
+tight_by s end d Counter2 at n holds deadlines due is may_leap =
     let edge : TurnsIn s.chips.pit.counter_2 s.chips.clock at = subst (λ p. IsEdgeOf s.chips.pit.counter_2 s.chips.clock p) due deadlines.counter_2 in
-    let first = edge.later in inr (inr (edge_2_works s n at holds quiet (omega (arith, first, is)) edge))
-tight_by s end d Keys at n holds deadlines due is quiet =
+    let first = edge.later in inr (inr (edge_2_works s n at holds may_leap (omega (arith, first, is)) edge))
+tight_by s end d Keys at n holds deadlines due is may_leap =
     let next : IsNextStamp s.chips.clock s.keys (Some at) = subst (λ p. IsNextStamp s.chips.clock s.keys p) due deadlines.keys in
     let first = next.0 in inr (inr (keys_come (leapt s n) (keys_then s n at (omega (arith, first, is)) next.2)))
-tight_by s end d Processor at n holds deadlines due is quiet =
+tight_by s end d Processor at n holds deadlines due is may_leap =
     let free : IsFreeClock s (Some at) = subst (λ p. IsFreeClock s p) due deadlines.processor in
     let some = free.0 in
     let when = free.1 in inr (inl (some, omega (arith, when, is)))
-tight_by s end d End at n holds deadlines due is quiet =
+tight_by s end d End at n holds deadlines due is may_leap =
     let same : Some end ≡ Some at = sym deadlines.end ∙ due in
     let when : end ≡ at = cc in inl (omega (arith, when, is))
 
-pub room : (s : Plain) (end : ℕ) (d : DeadlinesState) (last : ℕ) → WiresHold s.chips → AreDeadlines s end d → s.chips.clock ≤ end → end ≤ 2 ^ 40 → next_act s ≡ Nothing → IsLastQuiet d last → (s.chips.clock ≤ last) × IsRoom (end - s.chips.clock) s (last - s.chips.clock)
+pub room : (s : Plain) (end : ℕ) (d : DeadlinesState) (last : ℕ) → WiresHold s.chips → AreDeadlines s end d → s.chips.clock ≤ end → end ≤ 2 ^ 40 → next_act s ≡ Nothing → IsLastToLeap d last → (s.chips.clock ≤ last) × IsRoom (end - s.chips.clock) s (last - s.chips.clock)
 room s end d last holds deadlines within limit nothing next =
     let from : s.chips.clock ≤ last = subst (λ l. s.chips.clock ≤ l) (sym next.is) (from_now s end d next.source next.at deadlines within next.next.due) in
     let upto : last ≤ end = up_to_it d last End end next deadlines.end in
     let most : last ≤ 2 ^ 40 = omega (arith, upto, limit) in
-    let quiet : IsQuiet s (last - s.chips.clock) = record {
+    let may_leap : MayLeap s (last - s.chips.clock) = record {
       idle = idle_by s last d.processor deadlines.processor nothing (λ when due. up_to_it d last Processor when next due) most;
       no_key = no_key_of s last d.keys deadlines.keys (λ when due some. before_it d last Keys when next refl due some) from;
       out_0 = steady_by s.chips.pit.counter_0 s.chips.clock last d.counter_0 deadlines.counter_0 (λ when due some. before_it d last Counter0 when next refl due some) from most;
@@ -179,12 +179,12 @@ room s end d last holds deadlines within limit nothing next =
       from,
       record {
         within = omega (arith, upto);
-        quiet = quiet;
-        tight = tight_by s end d next.source next.at (last - s.chips.clock) holds deadlines next.next.due whole quiet;
+        may_leap = may_leap;
+        tight = tight_by s end d next.source next.at (last - s.chips.clock) holds deadlines next.next.due whole may_leap;
       },
     )
 
--- no clock is quiet where the processor does something
+-- no clock may be leapt over where the processor does something
 
 steady_at_once : (c : CounterState) (clock : ℕ) → IsSteady after_ticks out_of c (ticks_between clock (clock + 0))
 steady_at_once c clock k few =
@@ -199,7 +199,7 @@ no_key_at_once s j d inside =
       | inr later ↦ let less = later.1 in inr (omega (arith, less))
     ]
 
-pub at_once : (s : Plain) → IsQuiet s 0
+pub at_once : (s : Plain) → MayLeap s 0
 at_once s = record {
   idle = inl (omega arith);
   no_key = no_key_at_once s;
@@ -210,7 +210,7 @@ at_once s = record {
 pub no_room : (limit : ℕ) (s : Plain) → WiresHold s.chips → is_idle (next_act s) ≡ false → IsRoom limit s 0
 no_room limit s holds acts = record {
   within = omega arith;
-  quiet = at_once s;
+  may_leap = at_once s;
   tight = inr (inr (subst (λ p. 1 ≤ work_next p) (sym (no_leap s holds (at_once s))) (acts_now s acts)));
 }
 
@@ -271,7 +271,7 @@ works_at_once limit n s holds (inr (inl ends)) none some =
 works_at_once limit n s holds (inr (inr works)) none some =
     subst (λ p. 1 ≤ work_next p) (ap (λ k. leapt s k) none ∙ no_leap s holds (at_once s)) works
 
-pub room_at : (s : Plain) (now limit until : ℕ) (d : DeadlinesState) (last : ℕ) → WiresHold s.chips → now ≡ s.chips.clock → until ≡ now + limit → until ≤ 2 ^ 40 → AreDeadlines s until d → next_act s ≡ Nothing → IsLastQuiet d last → (now ≤ last) × IsRoom limit s (last - now)
+pub room_at : (s : Plain) (now limit until : ℕ) (d : DeadlinesState) (last : ℕ) → WiresHold s.chips → now ≡ s.chips.clock → until ≡ now + limit → until ≤ 2 ^ 40 → AreDeadlines s until d → next_act s ≡ Nothing → IsLastToLeap d last → (now ≤ last) × IsRoom limit s (last - now)
 room_at s now limit until d last holds is sum most deadlines nothing next =
     let all = room s until d last holds deadlines (omega (arith, is, sum)) most nothing next in
     let first : s.chips.clock ≤ last = all.0 in

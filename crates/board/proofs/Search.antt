@@ -11,7 +11,7 @@ use Rattle.board_plain.specs.Board.{BoardState, Ran}
 use Rattle.board.specs.HeldBack.{IsHeldBack}
 use Rattle.board_plain.specs.Plain.{Plain, after_clock, after_clocks, clock_of, is_free}
 use Rattle.board_plain.specs.Stops.{holding, holds, FitsRoom, NoStop, StopsAt}
-use Rattle.board.specs.ClearSteps.{AreClearSteps, MayGoOn, Noted}
+use Rattle.board.specs.QuietSteps.{AreQuietSteps, MayGoOn, Noted}
 use Rattle.board.specs.Reach.{PassesNone}
 use Rattle.board.specs.Turns.{AreStepsOn, IsLeapOverEdgesOn, IsTickOn, IsTurnOn, IsTurnOverEdgesOn}
 use Rattle.board_plain.specs.Work.{work_next}
@@ -109,13 +109,13 @@ searched_over stops end s t u waits searched here before (inr act) =
     searched_rest stops end s act.begun u waits (searched_tick stops end s t act.begun searched here before act.first act.work) act.rest
 
 -- nor where IP may be passed
-pub none_between : (passes : ℕ → Type 0) (stops : List Condition) (n end : ℕ) (t w : Noted) → PassesNone passes stops → holding stops t.plain ≡ None → AreClearSteps passes n end t w → MayGoOn passes n w → holding stops w.plain ≡ None
-unfolding AreClearSteps
+pub none_between : (passes : ℕ → Type 0) (stops : List Condition) (n end : ℕ) (t w : Noted) → PassesNone passes stops → holding stops t.plain ≡ None → AreQuietSteps passes n end t w → MayGoOn passes n w → holding stops w.plain ≡ None
+unfolding AreQuietSteps
 none_between passes stops zero end t w none here same goes_on = ap (λ (x : Noted). holding stops x.plain) same ∙ here
 none_between passes stops (suc n) end t w none here steps goes_on = none w.plain goes_on
 
-searched_each : (passes : ℕ → Type 0) (n : ℕ) (stops : List Condition) (end : ℕ) (s t : BoardState) (v : Noted) → AllAwaitFree stops → PassesNone passes stops → Searched stops end s t → holding stops t.plain ≡ None → AreClearSteps passes n end (record { plain = t.plain; trail = t.trail }) v → Searched stops end s (behind t n v)
-unfolding AreClearSteps
+searched_each : (passes : ℕ → Type 0) (n : ℕ) (stops : List Condition) (end : ℕ) (s t : BoardState) (v : Noted) → AllAwaitFree stops → PassesNone passes stops → Searched stops end s t → holding stops t.plain ≡ None → AreQuietSteps passes n end (record { plain = t.plain; trail = t.trail }) v → Searched stops end s (behind t n v)
+unfolding AreQuietSteps
 searched_each passes zero stops end s t v waits none searched here same =
     let counted : t.turns ≡ t.turns + 0 = omega arith in
     subst (λ b. Searched stops end s b) (λ k. record t { plain = (sym same k).plain; trail = (sym same k).trail; turns = counted k }) searched
@@ -167,11 +167,11 @@ pub record HeldSearch (stops : List Condition) (count : ℕ) (s u : BoardState) 
 pub held_search : (stops : List Condition) (end count : ℕ) (s t u : BoardState) → Searched stops end s t → holding stops t.plain ≡ None → end ≡ clock_of s.plain + count → clock_of t.plain < end → IsHeldBack t u → HeldSearch stops count s u
 held_search stops end count s t u searched here is before held =
     let n : ℕ = searched.so_far.passed in
-    let clear = none_here stops end s t searched here in
+    let unheld = none_here stops end s t searched here in
     let clock = searched.so_far.ran.clock in record {
       run = held_run 2 end count s t u searched.so_far (omega arith) is before held;
-      none = none_passed stops n s t u clear searched.so_far.ran held;
-      fits = λ enough. not_held_before_stop stops count n s t u (omega (arith, clock, is, before)) searched.so_far.ran clear held enough;
+      none = none_passed stops n s t u unheld searched.so_far.ran held;
+      fits = λ enough. not_held_before_stop stops count n s t u (omega (arith, clock, is, before)) searched.so_far.ran unheld held enough;
     }
 
 -- nor is there a stop before the first clock

@@ -5,14 +5,14 @@ use Rattle.board_types.proofs.Iterate.{iterate_zero, total_zero, total_more, tot
 use Rattle.board_plain.specs.Board.{BoardState, Ran, StoppedEarly}
 use Rattle.board.specs.HeldBack.{IsHeldBack}
 use Rattle.board_plain.specs.Laws.{WiresHold}
-use Rattle.board.specs.Leap.{IsQuiet, IsTight, IsTightTo, leapt}
+use Rattle.board.specs.Leap.{IsTight, IsTightTo, MayLeap, leapt}
 use Rattle.board_plain.specs.Plain.{Plain, after_clock, after_clocks, changes_in, clock_of}
 use Rattle.board_plain.specs.Trail.{last}
-use Rattle.board.specs.ClearSteps.{AreClearSteps, IsClearStep, Noted}
-use Rattle.board.specs.Turns.{AreStepsOn, IsActOn, IsHeldBehind, IsLeapOverEdgesOn, IsLongTurnOn, IsStepOn, IsStrideOn, IsTickOn, IsTurnOn, IsTurnOverEdgesOn}
+use Rattle.board.specs.QuietSteps.{AreQuietSteps, IsQuietStep, Noted}
+use Rattle.board.specs.Turns.{AreStepsOn, IsActOn, IsHeldBehind, IsLeapOverEdgesOn, IsLongTurnOn, IsStepOn, IsTickOn, IsTurnOn, IsTurnOrStepOn, IsTurnOverEdgesOn}
 use Rattle.board_plain.specs.Work.{steps_in, steps_next, work_in, work_next}
 use Rattle.board_plain.proofs.LastEntries.{last_within, nothing_added}
-use Rattle.board.proofs.Mutely.{act_made, calmly_mutely}
+use Rattle.board.proofs.Mutely.{act_made, quietly_mutely}
 use Rattle.board.proofs.Rooms.{works_at_once}
 use Rattle.board.proofs.Steps.{have_gone}
 use Rattle.board.proofs.Ticking.{not_held, ran_more, stopped}
@@ -234,13 +234,13 @@ whole_run spare end count s t so_far few is past = record {
 }
 
 -- a turn, told of the plain board within
-pub leap_turn : (end limit n : ℕ) (p : Plain) (old new : BoardState) → p ≡ old.plain → limit ≡ end - clock_of old.plain → 1 ≤ n → n ≤ limit → IsQuiet p n → IsTight limit p n → WiresHold p.chips → new.plain ≡ leapt old.plain n → new.changes ≡ old.changes → new.trail ≡ old.trail → new.room ≡ old.room → new.turns ≡ old.turns + 1 → IsTurnOn end old new
-leap_turn end limit n p old new now most some within quiet tight wires plain changes trail room turns = inl (record {
+pub leap_turn : (end limit n : ℕ) (p : Plain) (old new : BoardState) → p ≡ old.plain → limit ≡ end - clock_of old.plain → 1 ≤ n → n ≤ limit → MayLeap p n → IsTight limit p n → WiresHold p.chips → new.plain ≡ leapt old.plain n → new.changes ≡ old.changes → new.trail ≡ old.trail → new.room ≡ old.room → new.turns ≡ old.turns + 1 → IsTurnOn end old new
+leap_turn end limit n p old new now most some within may_leap tight wires plain changes trail room turns = inl (record {
   clocks = n;
   some = some;
   within = omega (arith, within, most);
   wires = subst (λ (q : Plain). WiresHold q.chips) now wires;
-  quiet = subst (λ (q : Plain). IsQuiet q n) now quiet;
+  may_leap = subst (λ (q : Plain). MayLeap q n) now may_leap;
   tight = subst (λ l. IsTight l old.plain n) most (subst (λ (q : Plain). IsTight limit q n) now tight);
   plain = plain;
   changes = changes;
@@ -253,8 +253,8 @@ pub tick_turn : (end limit n : ℕ) (p : Plain) (old new : BoardState) → p ≡
 tick_turn end limit n p old new now most before none tight wires tick =
     inr (tick, subst (λ (q : Plain). 1 ≤ work_next q) now (works_at_once limit n p wires tight none (omega (arith, most, before))))
 
--- a turn is a stride
-pub if_turn : {E : Type 0} (end : ℕ) (old new : BoardState) (result : Result Unit E) → OnOk result (IsTurnOn end old new) → OnOk result (IsStrideOn end old new)
+-- a turn is a turn or a leapt step
+pub if_turn : {E : Type 0} (end : ℕ) (old new : BoardState) (result : Result Unit E) → OnOk result (IsTurnOn end old new) → OnOk result (IsTurnOrStepOn end old new)
 if_turn end old new (Ok x) turn = inl turn
 if_turn end old new (Err e) turn = turn
 
@@ -303,12 +303,12 @@ over_moves end t u before (inr act) = rest_moves end t act.begun u before act.fi
 abbrev pub behind : BoardState → ℕ → Noted → BoardState
 behind t n v = record t { plain = v.plain; trail = v.trail; turns = t.turns + n }
 
-pub one_more : (n end : ℕ) (t : BoardState) (w v : Noted) → IsClearStep end w v → IsActOn end (behind t n w) (behind t (suc n) v)
+pub one_more : (n end : ℕ) (t : BoardState) (w v : Noted) → IsQuietStep end w v → IsActOn end (behind t n w) (behind t (suc n) v)
 one_more n end t w v step =
-    act_made end (behind t n w) (behind t (suc n) v) (calmly_mutely w.plain step.calmly) step.passed refl step.entries refl (omega arith)
+    act_made end (behind t n w) (behind t (suc n) v) (quietly_mutely w.plain step.quietly) step.passed refl step.entries refl (omega arith)
 
-so_far_each : (passes : ℕ → Type 0) (n spare end : ℕ) (s t : BoardState) (v : Noted) → AreClearSteps passes n end (record { plain = t.plain; trail = t.trail }) v → SoFar spare end s t → SoFar spare end s (behind t n v)
-unfolding AreClearSteps
+so_far_each : (passes : ℕ → Type 0) (n spare end : ℕ) (s t : BoardState) (v : Noted) → AreQuietSteps passes n end (record { plain = t.plain; trail = t.trail }) v → SoFar spare end s t → SoFar spare end s (behind t n v)
+unfolding AreQuietSteps
 so_far_each passes zero spare end s t v same so_far =
     let counted : t.turns ≡ t.turns + 0 = omega arith in
     subst (λ b. SoFar spare end s b) (λ k. record t { plain = (sym same k).plain; trail = (sym same k).trail; turns = counted k }) so_far
@@ -357,15 +357,15 @@ if_held passes end s t u (Err e) steps before held = record { between = t; steps
 if_held passes end s t u (Ok x) steps before held = held
 
 -- steps that end with the next clock are one
-one_alone : (passes : ℕ → Type 0) (n end : ℕ) (t : BoardState) (v : Noted) → clock_of t.plain < clock_of v.plain → AreClearSteps passes n (clock_of t.plain + 1) (record { plain = t.plain; trail = t.trail }) v → IsTurnOn end t (behind t n v)
-unfolding AreClearSteps
+one_alone : (passes : ℕ → Type 0) (n end : ℕ) (t : BoardState) (v : Noted) → clock_of t.plain < clock_of v.plain → AreQuietSteps passes n (clock_of t.plain + 1) (record { plain = t.plain; trail = t.trail }) v → IsTurnOn end t (behind t n v)
+unfolding AreQuietSteps
 one_alone passes zero end t v moved same =
     let here : clock_of v.plain ≡ clock_of t.plain = ap (λ (x : Noted). clock_of x.plain) same in absurd (omega (arith, here, moved))
 one_alone passes (suc zero) end t v moved steps =
     let first : steps.0 ≡ record { plain = t.plain; trail = t.trail } = steps.1 in
-    let step = subst (λ w. IsClearStep (clock_of t.plain + 1) w v) first steps.2 in
+    let step = subst (λ w. IsQuietStep (clock_of t.plain + 1) w v) first steps.2 in
     act_alone end t (behind t 1 v)
-    (act_made (clock_of t.plain + 1) t (behind t 1 v) (calmly_mutely t.plain step.calmly) step.passed refl step.entries refl refl)
+    (act_made (clock_of t.plain + 1) t (behind t 1 v) (quietly_mutely t.plain step.quietly) step.passed refl step.entries refl refl)
 one_alone passes (suc (suc n)) end t v moved steps =
     let gone = have_gone passes (suc n) (clock_of t.plain + 1) _ steps.0 steps.1 in
     let some = gone.some in

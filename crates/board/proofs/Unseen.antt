@@ -1,4 +1,4 @@
--- Quiet clocks are clocks of which nothing is seen, so that each turn is one that may leap over edges.
+-- Of clocks that may be leapt over nothing is seen, so that each turn is one that may leap over edges.
 use Rattle.std.proofs.Common.{◌≡◌, ℕ, ◌-◌, ◌≤◌, inl, inr, true, refl, sym, subst}
 use Rattle.std.specs.Prelude.{◌⊎◌, OnOk, Result, Ok, Err}
 use Rattle.board_plain.specs.Board.{BoardState}
@@ -6,39 +6,39 @@ use Rattle.board_plain.specs.Laws.{WiresHold}
 use Rattle.board_plain.specs.Plain.{Plain, clock_of}
 use Rattle.board.specs.Alone.{IsLeapOverEdges, IsUnseen, PassesOver}
 use Rattle.board.specs.AwaitFree.{IsTurnBetween}
-use Rattle.board.specs.Leap.{IsQuiet, IsTight, IsTightTo, PassesOn, leapt}
-use Rattle.board.specs.Turns.{IsActOn, IsLeapOn, IsLeapOverEdgesOn, IsStepOn, IsStrideOn, IsTurnOn, IsTurnOverEdgesOn}
+use Rattle.board.specs.Leap.{IsTight, IsTightTo, MayLeap, PassesOn, leapt}
+use Rattle.board.specs.Turns.{IsActOn, IsLeapOn, IsLeapOverEdgesOn, IsStepOn, IsTurnOn, IsTurnOrStepOn, IsTurnOverEdgesOn}
 use Rattle.board.proofs.Leap.{board_leaps, clock_of_leap, holding_stays, no_changes, no_entries}
 use Rattle.board.proofs.Works.{busy_of_leap, none_to_step}
 
-pub quiet_unseen : (s : Plain) (n : ℕ) → WiresHold s.chips → IsQuiet s n → IsUnseen s n (leapt s n)
-quiet_unseen s n holds quiet = record {
-  plain = sym (board_leaps n s holds quiet);
+pub leapt_unseen : (s : Plain) (n : ℕ) → WiresHold s.chips → MayLeap s n → IsUnseen s n (leapt s n)
+leapt_unseen s n holds may_leap = record {
+  plain = sym (board_leaps n s holds may_leap);
   clock = clock_of_leap s n;
   busy = busy_of_leap s n;
-  changes = no_changes s n holds quiet;
-  entries = no_entries s n holds quiet;
-  steps = none_to_step s n holds quiet;
-  conditions = λ stops k before. holding_stays stops s n k before holds quiet;
+  changes = no_changes s n holds may_leap;
+  entries = no_entries s n holds may_leap;
+  steps = none_to_step s n holds may_leap;
+  conditions = λ stops k before. holding_stays stops s n k before holds may_leap;
 }
 
-unfoldable pub quiet_leap : (end n : ℕ) (s t : Plain) → 1 ≤ n → n ≤ end - clock_of s → WiresHold s.chips → IsQuiet s n → IsTight (end - clock_of s) s n → t ≡ leapt s n → IsLeapOverEdges end s t
-quiet_leap end n s t some within wires quiet tight plain = record {
+unfoldable pub unseen_leap : (end n : ℕ) (s t : Plain) → 1 ≤ n → n ≤ end - clock_of s → WiresHold s.chips → MayLeap s n → IsTight (end - clock_of s) s n → t ≡ leapt s n → IsLeapOverEdges end s t
+unseen_leap end n s t some within wires may_leap tight plain = record {
   clocks = n;
   some = some;
   within = within;
-  unseen = subst (IsUnseen s n) (sym plain) (quiet_unseen s n wires quiet);
+  unseen = subst (IsUnseen s n) (sym plain) (leapt_unseen s n wires may_leap);
   tight = subst (IsTightTo (end - clock_of s) s n) (sym plain) tight;
 }
 
 pub passes_over : (end : ℕ) (s t : Plain) → PassesOn end s t → PassesOver end s t
 passes_over end s t (inl same) = inl same
 passes_over end s t (inr passed) =
-    let turn = passed.turn in inr (passed.busy, quiet_leap end passed.clocks s t turn.some turn.within turn.wires turn.quiet turn.tight passed.plain)
+    let turn = passed.turn in inr (passed.busy, unseen_leap end passed.clocks s t turn.some turn.within turn.wires turn.may_leap turn.tight passed.plain)
 
 unfoldable pub leap_over : (end count : ℕ) (t u : BoardState) → IsLeapOn end count t u → IsLeapOverEdgesOn end count t u
 leap_over end count t u on = record {
-  leap = quiet_leap end on.clocks t.plain u.plain on.some on.within on.wires on.quiet on.tight on.plain;
+  leap = unseen_leap end on.clocks t.plain u.plain on.some on.within on.wires on.may_leap on.tight on.plain;
   changes = on.changes;
   trail = on.trail;
   room = on.room;
@@ -57,14 +57,14 @@ pub step_over : (end : ℕ) (t u : BoardState) → IsStepOn end t u → IsActOn 
 step_over end t u step =
     record { begun = step.begun; first = step.first; work = step.work; rest = rest_over end step.begun u step.rest }
 
-pub stride_over : (end : ℕ) (t u : BoardState) → IsStrideOn end t u → IsTurnOverEdgesOn end t u
-stride_over end t u (inl turn) = turn_over end t u turn
-stride_over end t u (inr step) = inr (step_over end t u step)
+pub turn_or_step_over : (end : ℕ) (t u : BoardState) → IsTurnOrStepOn end t u → IsTurnOverEdgesOn end t u
+turn_or_step_over end t u (inl turn) = turn_over end t u turn
+turn_or_step_over end t u (inr step) = inr (step_over end t u step)
 
 -- the same where it may be held back
-pub if_stride : {E : Type 0} (end : ℕ) (old new : BoardState) (result : Result Unit E) → OnOk result (IsStrideOn end old new) → OnOk result (IsTurnOverEdgesOn end old new)
-if_stride end old new (Ok x) stride = stride_over end old new stride
-if_stride end old new (Err e) stride = stride
+pub if_turn_or_step : {E : Type 0} (end : ℕ) (old new : BoardState) (result : Result Unit E) → OnOk result (IsTurnOrStepOn end old new) → OnOk result (IsTurnOverEdgesOn end old new)
+if_turn_or_step end old new (Ok x) turn_or_step = turn_or_step_over end old new turn_or_step
+if_turn_or_step end old new (Err e) turn_or_step = turn_or_step
 
 -- and between two looks for a stop
 pub if_over : {E : Type 0} (passes : ℕ → Type 0) (end : ℕ) (old new : BoardState) (result : Result Unit E) → OnOk result (IsTurnOverEdgesOn end old new) → OnOk result (IsTurnBetween true passes end old new)

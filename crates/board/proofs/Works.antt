@@ -1,4 +1,4 @@
--- Work: none in quiet clocks, and some in the clock at which they end.
+-- Work: none in clocks that may be leapt over, and some in the clock at which they end.
 use Rattle.std.proofs.Common.{◌≡◌, ◌≢◌, ℕ, zero, suc, ◌+◌, ◌-◌, ◌<◌, ◌≤◌, Bool, true, false, List, [], ◌∷◌, length, refl, sym, ap, ◌∙◌, arith}
 use Rattle.board_types.proofs.Iterate.{iterate_more, iterate_zero, iterate_add, total_zero, total_more}
 use Rattle.board_types.specs.Iterate.{iterate, total}
@@ -22,13 +22,13 @@ use Rattle.wiring.specs.Wires.{after_arrival, after_arrivals, after_gate_wire, a
 use Rattle.board_plain.specs.declared.act.Act.{Act}
 use Rattle.board_plain.specs.declared.act.Act.TheVariants.{Nothing, Request, SingleStep, Iteration, Instruction}
 use Rattle.board_plain.specs.Laws.{NoKeyComes, WiresHold}
-use Rattle.board.specs.Leap.{IsQuiet, is_idle, leapt}
+use Rattle.board.specs.Leap.{MayLeap, is_idle, leapt}
 use Rattle.board_plain.specs.Plain.{Plain, after_act, after_clock, after_clocks, chips_after_clock, clock_of, codes_at, next_act}
 use Rattle.board_plain.specs.Work.{edges_next, edges_of, jams_of, keys_next, steps_in, steps_next, steps_of, work_in, work_next}
-use Rattle.board.proofs.Leap.{board_leaps, clock_of_leap, does_nothing, out_0_stays, out_2_stays, quiet_for}
+use Rattle.board.proofs.Leap.{board_leaps, clock_of_leap, does_nothing, may_leap_for, out_0_stays, out_2_stays}
 use Rattle.board_plain.proofs.Quiet.{none_comes}
 
--- none in a quiet clock
+-- none in a clock that may be leapt over
 
 same_level : (a b : Line) → b ≡ a → edges_of a b ≡ 0
 same_level Low Low same = refl
@@ -58,14 +58,14 @@ none_in_all step cost (suc n) s none =
     let last = none n (omega arith) in
     ap (λ k. total step cost k s) more ∙ total_more step cost n s ∙ omega (arith, before, last)
 
-out_0_at : (s : Plain) (n k : ℕ) → k ≤ n → WiresHold s.chips → IsQuiet s n → (after_clocks s k).chips.pit.counter_0.out ≡ s.chips.pit.counter_0.out
-out_0_at s n k within holds quiet =
-    let less = quiet_for s n k within quiet in
+out_0_at : (s : Plain) (n k : ℕ) → k ≤ n → WiresHold s.chips → MayLeap s n → (after_clocks s k).chips.pit.counter_0.out ≡ s.chips.pit.counter_0.out
+out_0_at s n k within holds may_leap =
+    let less = may_leap_for s n k within may_leap in
     ap (λ (p : Plain). p.chips.pit.counter_0.out) (board_leaps k s holds less) ∙ out_0_stays s k less
 
-out_2_at : (s : Plain) (n k : ℕ) → k ≤ n → WiresHold s.chips → IsQuiet s n → (after_clocks s k).chips.pit.counter_2.out ≡ s.chips.pit.counter_2.out
-out_2_at s n k within holds quiet =
-    let less = quiet_for s n k within quiet in
+out_2_at : (s : Plain) (n k : ℕ) → k ≤ n → WiresHold s.chips → MayLeap s n → (after_clocks s k).chips.pit.counter_2.out ≡ s.chips.pit.counter_2.out
+out_2_at s n k within holds may_leap =
+    let less = may_leap_for s n k within may_leap in
     ap (λ (p : Plain). p.chips.pit.counter_2.out) (board_leaps k s holds less) ∙ out_2_stays s k less
 
 keys_of_leap : (s : Plain) (n : ℕ) → (leapt s n).keys ≡ s.keys
@@ -79,28 +79,28 @@ no_codes : (s : Plain) (n i : ℕ) → i < n → NoKeyComes s n → codes_at s.k
 unfolding clock_of
 no_codes s n i before no_key = none_comes s.keys s.chips.clock n i before no_key
 
-codes_in_leap : (s : Plain) (n i : ℕ) → i < n → WiresHold s.chips → IsQuiet s n → codes_at (after_clocks s i).keys (clock_of (after_clocks s i) + 1) ≡ []
-codes_in_leap s n i before holds quiet =
-    let leap = board_leaps i s holds (quiet_for s n i (omega (arith, before)) quiet) in
+codes_in_leap : (s : Plain) (n i : ℕ) → i < n → WiresHold s.chips → MayLeap s n → codes_at (after_clocks s i).keys (clock_of (after_clocks s i) + 1) ≡ []
+codes_in_leap s n i before holds may_leap =
+    let leap = board_leaps i s holds (may_leap_for s n i (omega (arith, before)) may_leap) in
     codes_then (after_clocks s i) s.keys (clock_of s + i)
-    (ap (λ (p : Plain). p.keys) leap ∙ keys_of_leap s i) (ap clock_of leap ∙ clock_of_leap s i) (no_codes s n i before quiet.no_key)
+    (ap (λ (p : Plain). p.keys) leap ∙ keys_of_leap s i) (ap clock_of leap ∙ clock_of_leap s i) (no_codes s n i before may_leap.no_key)
 
-one_quiet : (s : Plain) (n i : ℕ) → WiresHold s.chips → IsQuiet s n → i < n → work_next (after_clocks s i) ≡ 0
-one_quiet s n i holds quiet before =
+one_leapt : (s : Plain) (n i : ℕ) → WiresHold s.chips → MayLeap s n → i < n → work_next (after_clocks s i) ≡ 0
+one_leapt s n i holds may_leap before =
     let next = iterate_more after_clock i s in
-    no_work (after_clocks s i) (does_nothing s n i holds quiet before)
-    (ap (λ (p : Plain). p.chips.pit.counter_0.out) (sym next) ∙ out_0_at s n (i + 1) (omega (arith, before)) holds quiet ∙ sym (out_0_at s n i (omega (arith, before)) holds quiet))
-    (ap (λ (p : Plain). p.chips.pit.counter_2.out) (sym next) ∙ out_2_at s n (i + 1) (omega (arith, before)) holds quiet ∙ sym (out_2_at s n i (omega (arith, before)) holds quiet))
-    (codes_in_leap s n i before holds quiet)
+    no_work (after_clocks s i) (does_nothing s n i holds may_leap before)
+    (ap (λ (p : Plain). p.chips.pit.counter_0.out) (sym next) ∙ out_0_at s n (i + 1) (omega (arith, before)) holds may_leap ∙ sym (out_0_at s n i (omega (arith, before)) holds may_leap))
+    (ap (λ (p : Plain). p.chips.pit.counter_2.out) (sym next) ∙ out_2_at s n (i + 1) (omega (arith, before)) holds may_leap ∙ sym (out_2_at s n i (omega (arith, before)) holds may_leap))
+    (codes_in_leap s n i before holds may_leap)
 
-pub none_to_do : (s : Plain) (n : ℕ) → WiresHold s.chips → IsQuiet s n → work_in s n ≡ 0
-none_to_do s n holds quiet = none_in_all after_clock work_next n s (λ i before. one_quiet s n i holds quiet before)
+pub none_to_do : (s : Plain) (n : ℕ) → WiresHold s.chips → MayLeap s n → work_in s n ≡ 0
+none_to_do s n holds may_leap = none_in_all after_clock work_next n s (λ i before. one_leapt s n i holds may_leap before)
 
-pub none_to_step : (s : Plain) (n : ℕ) → WiresHold s.chips → IsQuiet s n → steps_in s n ≡ 0
-none_to_step s n holds quiet = none_in_all after_clock steps_next n s (λ i before. no_step (after_clocks s i) (does_nothing s n i holds quiet before))
+pub none_to_step : (s : Plain) (n : ℕ) → WiresHold s.chips → MayLeap s n → steps_in s n ≡ 0
+none_to_step s n holds may_leap = none_in_all after_clock steps_next n s (λ i before. no_step (after_clocks s i) (does_nothing s n i holds may_leap before))
 
-pub first_has_none : (s : Plain) (n : ℕ) → 1 ≤ n → WiresHold s.chips → IsQuiet s n → work_next s ≡ 0
-first_has_none s n some holds quiet = ap work_next (sym (iterate_zero after_clock s)) ∙ one_quiet s n 0 holds quiet (omega (arith, some))
+pub first_has_none : (s : Plain) (n : ℕ) → 1 ≤ n → WiresHold s.chips → MayLeap s n → work_next s ≡ 0
+first_has_none s n some holds may_leap = ap work_next (sym (iterate_zero after_clock s)) ∙ one_leapt s n 0 holds may_leap (omega (arith, some))
 
 -- what the processor does is work
 
@@ -199,39 +199,39 @@ chips_next p nothing =
 ticks_add : (p : PitState) (a b c : ℕ) → a + b ≡ c → pit.after_ticks (pit.after_ticks p a) b ≡ pit.after_ticks p c
 ticks_add p a b c is = sym (iterate_add pit.after_tick a b p) ∙ ap (λ k. pit.after_ticks p k) is
 
--- the timer at the end of the clock after quiet ones
-pit_then : (s : Plain) (n : ℕ) → WiresHold s.chips → IsQuiet s n → next_act (leapt s n) ≡ Nothing → (after_clock (leapt s n)).chips.pit ≡ pit.after_ticks s.chips.pit (ticks_between s.chips.clock (s.chips.clock + n + 1))
+-- the timer at the end of the clock after those that may be leapt over
+pit_then : (s : Plain) (n : ℕ) → WiresHold s.chips → MayLeap s n → next_act (leapt s n) ≡ Nothing → (after_clock (leapt s n)).chips.pit ≡ pit.after_ticks s.chips.pit (ticks_between s.chips.clock (s.chips.clock + n + 1))
 unfolding leapt
-pit_then s n holds quiet nothing =
+pit_then s n holds may_leap nothing =
     let c : ChipsState = leaps.leapt s.chips n in
     ap (λ (t : ChipsState). t.pit) (chips_next (leapt s n) nothing)
-    ∙ pit_of_clock c s.keys (settled_leap n s.chips holds.settled quiet.out_0)
+    ∙ pit_of_clock c s.keys (settled_leap n s.chips holds.settled may_leap.out_0)
     ∙ ticks_add s.chips.pit (ticks_between s.chips.clock (s.chips.clock + n)) (ticks_between (s.chips.clock + n) (s.chips.clock + n + 1))
     (ticks_between s.chips.clock (s.chips.clock + n + 1)) (omega arith)
 
-pub edge_0_works : (s : Plain) (n at : ℕ) → WiresHold s.chips → IsQuiet s n → at ≡ s.chips.clock + n + 1 → TurnsIn s.chips.pit.counter_0 s.chips.clock at → 1 ≤ work_next (leapt s n)
-edge_0_works s n at holds quiet is edge =
+pub edge_0_works : (s : Plain) (n at : ℕ) → WiresHold s.chips → MayLeap s n → at ≡ s.chips.clock + n + 1 → TurnsIn s.chips.pit.counter_0 s.chips.clock at → 1 ≤ work_next (leapt s n)
+edge_0_works s n at holds may_leap is edge =
     unless_it_acts (leapt s n) (is_idle (next_act (leapt s n))) refl (λ nothing.
     turn_0_works (leapt s n) (λ same.
     edge.turns.turns
     (ap (λ k. (one.after_ticks s.chips.pit.counter_0 (ticks_between s.chips.clock k)).out) is
     ∙ sym (ap (λ (q : PitState). q.counter_0.out) (each_counter (ticks_between s.chips.clock (s.chips.clock + n + 1)) s.chips.pit))
-    ∙ sym (ap (λ (q : PitState). q.counter_0.out) (pit_then s n holds quiet nothing))
-    ∙ same ∙ out_0_stays s n quiet)))
+    ∙ sym (ap (λ (q : PitState). q.counter_0.out) (pit_then s n holds may_leap nothing))
+    ∙ same ∙ out_0_stays s n may_leap)))
 
-pub edge_2_works : (s : Plain) (n at : ℕ) → WiresHold s.chips → IsQuiet s n → at ≡ s.chips.clock + n + 1 → TurnsIn s.chips.pit.counter_2 s.chips.clock at → 1 ≤ work_next (leapt s n)
-edge_2_works s n at holds quiet is edge =
+pub edge_2_works : (s : Plain) (n at : ℕ) → WiresHold s.chips → MayLeap s n → at ≡ s.chips.clock + n + 1 → TurnsIn s.chips.pit.counter_2 s.chips.clock at → 1 ≤ work_next (leapt s n)
+edge_2_works s n at holds may_leap is edge =
     unless_it_acts (leapt s n) (is_idle (next_act (leapt s n))) refl (λ nothing.
     turn_2_works (leapt s n) (λ same.
     edge.turns.turns
     (ap (λ k. (one.after_ticks s.chips.pit.counter_2 (ticks_between s.chips.clock k)).out) is
     ∙ sym (ap (λ (q : PitState). q.counter_2.out) (each_counter (ticks_between s.chips.clock (s.chips.clock + n + 1)) s.chips.pit))
-    ∙ sym (ap (λ (q : PitState). q.counter_2.out) (pit_then s n holds quiet nothing))
-    ∙ same ∙ out_2_stays s n quiet)))
+    ∙ sym (ap (λ (q : PitState). q.counter_2.out) (pit_then s n holds may_leap nothing))
+    ∙ same ∙ out_2_stays s n may_leap)))
 
 -- a leap over no clocks
-pub no_leap : (s : Plain) → WiresHold s.chips → IsQuiet s 0 → leapt s 0 ≡ s
-no_leap s holds quiet = sym (board_leaps 0 s holds quiet) ∙ iterate_zero after_clock s
+pub no_leap : (s : Plain) → WiresHold s.chips → MayLeap s 0 → leapt s 0 ≡ s
+no_leap s holds may_leap = sym (board_leaps 0 s holds may_leap) ∙ iterate_zero after_clock s
 
 -- a clock has one step at most
 one_of_act : (a : Act) → steps_of a ≤ 1

@@ -5,7 +5,7 @@ use Rattle.std.specs.Prelude.{ℕ, ◌≡◌, ◌≢◌, ◌+◌, ◌-◌, ◌<�
 use Rattle.board_types.specs.declared.choice.ClockTable.{ClockTable}
 use Rattle.board_types.specs.Timed.{IsSteady}
 use Rattle.board_types.specs.declared.keys.StampedKey.{StampedKey}
-use Rattle.cached_chips.specs.Calm.{IsCalm}
+use Rattle.cached_chips.specs.Quiet.{IsQuiet}
 use Rattle.execute.specs.Boundaries.{boundary_of}
 use Rattle.execute.specs.Cpu.{CpuState}
 use Rattle.execute.specs.declared.boundary.Boundary.{Boundary}
@@ -34,7 +34,7 @@ is_idle _ = false
 abbrev pub StaysIdle : Plain → ℕ → Type 0
 StaysIdle s n = (n ≤ s.busy) ⊎ ((s.busy ≡ 0) × (boundary_of s.cpu (is_requested s.chips) ≡ boundaries.Nothing))
 
-pub record IsQuiet (s : Plain) (n : ℕ) : Type 0 where
+pub record MayLeap (s : Plain) (n : ℕ) : Type 0 where
   pub idle : StaysIdle s n
   pub no_key : NoKeyComes s n
   pub out_0 : IsSteady after_ticks out_of s.chips.pit.counter_0 (ticks_between s.chips.clock (s.chips.clock + n))
@@ -46,15 +46,15 @@ ComesAfter clock None = Unit {0}
 ComesAfter clock (Some at) = clock < at
 
 -- nothing happens up to the end of the processor's step
-pub record IsCalmStep (s : Plain) : Type 0 where
+pub record MayLeapRest (s : Plain) : Type 0 where
   pub some : 1 ≤ s.busy
-  pub quiet : IsQuiet s s.busy
+  pub may_leap : MayLeap s s.busy
 
--- the processor is at a free boundary of this case, and the chips are calm up to the next clock
-pub record IsCalmBoundary (s : Plain) (boundary : Boundary) : Type 0 where
+-- the processor is at a free boundary of this case, and the chips are quiet up to the next clock
+pub record IsQuietBoundary (s : Plain) (boundary : Boundary) : Type 0 where
   pub free : s.busy ≡ 0
   pub at : boundary ≡ boundary_of s.cpu (is_requested s.chips)
-  pub calm : IsCalm s.chips (s.chips.clock + 1)
+  pub quiet : IsQuiet s.chips (s.chips.clock + 1)
   pub wires : WiresHold s.chips
 
 -- an act that isn't to do nothing, and that writes to no port
@@ -62,10 +62,10 @@ pub record IsSilentAct (cpu : CpuState) (act : Act) : Type 0 where
   pub some : is_idle act ≡ false
   pub silent : writes_of cpu act ≡ []
 
--- the processor makes such an act, and the chips are calm up to the next clock
-pub record ActsCalmly (s : Plain) : Type 0 where
+-- the processor makes such an act, and the chips are quiet up to the next clock
+pub record ActsQuietly (s : Plain) : Type 0 where
   pub act : IsSilentAct s.cpu (next_act s)
-  pub calm : IsCalm s.chips (s.chips.clock + 1)
+  pub quiet : IsQuiet s.chips (s.chips.clock + 1)
   pub wires : WiresHold s.chips
 
 -- n such clocks at once
@@ -82,10 +82,10 @@ abbrev pub IsTight : ℕ → Plain → ℕ → Type 0
 IsTight limit s n = IsTightTo limit s n (leapt s n)
 
 -- n clocks that a turn may leap over, at most `limit`: up to the end of the processor's step
-pub record IsCalmTurn (limit : ℕ) (s : Plain) (n : ℕ) : Type 0 where
+pub record IsLeap (limit : ℕ) (s : Plain) (n : ℕ) : Type 0 where
   pub some : 1 ≤ n
   pub within : n ≤ limit
-  pub quiet : IsQuiet s n
+  pub may_leap : MayLeap s n
   pub tight : IsTight limit s n
   pub wires : WiresHold s.chips
 
@@ -93,7 +93,7 @@ pub record IsCalmTurn (limit : ℕ) (s : Plain) (n : ℕ) : Type 0 where
 pub record IsPassed (end : ℕ) (s t : Plain) : Type 0 where
   pub busy : 1 ≤ s.busy
   pub clocks : ℕ
-  pub turn : IsCalmTurn (end - clock_of s) s clocks
+  pub turn : IsLeap (end - clock_of s) s clocks
   pub plain : t ≡ leapt s clocks
 
 -- all of it, or nothing
@@ -138,7 +138,7 @@ last_of true at = at - 1
 last_of false at = at
 
 -- the last clock up to which nothing is due
-pub record IsLastQuiet (d : DeadlinesState) (last : ℕ) : Type 0 where
+pub record IsLastToLeap (d : DeadlinesState) (last : ℕ) : Type 0 where
   pub source : Source
   pub at : ℕ
   pub next : IsNext d at source

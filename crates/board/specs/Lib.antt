@@ -5,11 +5,11 @@ pub mod KeptAgain
 pub mod HeldBack
 pub mod Leap
 pub mod Alone
-pub mod Clear
+pub mod Quiet
 pub mod Turns
 pub mod AwaitFree
 pub mod Found
-pub mod ClearSteps
+pub mod QuietSteps
 pub mod Mutely
 pub mod OneTurn
 pub mod StillSteps

@@ -3,10 +3,10 @@
 use Rattle.std.specs.Prelude.{ℕ, ◌≡◌, ◌+◌, ◌-◌, ◌<◌, ◌≤◌, ◌⊎◌, ◌++◌, length}
 use Rattle.board_plain.specs.Board.{BoardState}
 use Rattle.board.specs.Alone.{IsLeapOverEdges}
-use Rattle.board.specs.ClearSteps.{AreClearSteps}
+use Rattle.board.specs.QuietSteps.{AreQuietSteps}
 use Rattle.board.specs.HeldBack.{IsHeldBack}
 use Rattle.board_plain.specs.Laws.{WiresHold}
-use Rattle.board.specs.Leap.{IsQuiet, IsTight, leapt}
+use Rattle.board.specs.Leap.{IsTight, MayLeap, leapt}
 use Rattle.board_plain.specs.Plain.{after_clock, change_next, clock_of}
 use Rattle.board_plain.specs.Trail.{last, trail_next}
 use Rattle.board_plain.specs.Work.{work_next}
@@ -26,7 +26,7 @@ pub record IsLeapOn (end count : ℕ) (old new : BoardState) : Type 0 where
   pub some : 1 ≤ clocks
   pub within : clocks ≤ end - clock_of old.plain
   pub wires : WiresHold old.plain.chips
-  pub quiet : IsQuiet old.plain clocks
+  pub may_leap : MayLeap old.plain clocks
   pub tight : IsTight (end - clock_of old.plain) old.plain clocks
   pub plain : new.plain ≡ leapt old.plain clocks
   pub changes : new.changes ≡ old.changes
@@ -45,9 +45,9 @@ pub record IsStepOn (end : ℕ) (old new : BoardState) : Type 0 where
   pub work : 1 ≤ work_next old.plain
   pub rest : (new ≡ begun) ⊎ ((1 ≤ begun.plain.busy) × IsLeapOn end 0 begun new)
 
--- a turn, or such a step
-abbrev pub IsStrideOn : ℕ → BoardState → BoardState → Type 0
-IsStrideOn end old new = IsTurnOn end old new ⊎ IsStepOn end old new
+-- a turn, or such a leapt step
+abbrev pub IsTurnOrStepOn : ℕ → BoardState → BoardState → Type 0
+IsTurnOrStepOn end old new = IsTurnOn end old new ⊎ IsStepOn end old new
 
 -- a leap of a board over edges of the timer, at most to a clock, which counts as so many turns
 pub record IsLeapOverEdgesOn (end count : ℕ) (old new : BoardState) : Type 0 where
@@ -71,7 +71,7 @@ IsTurnOverEdgesOn end old new = IsLeapOverEdgesOn end 1 old new ⊎ IsActOn end 
 -- so many steps at once, while nothing comes
 pub record AreStepsOn (passes : ℕ → Type 0) (end : ℕ) (old new : BoardState) : Type 0 where
   pub count : ℕ
-  pub steps : AreClearSteps passes count end (record { plain = old.plain; trail = old.trail })
+  pub steps : AreQuietSteps passes count end (record { plain = old.plain; trail = old.trail })
       (record { plain = new.plain; trail = new.trail })
   pub changes : new.changes ≡ old.changes
   pub room : new.room ≡ old.room

@@ -8,7 +8,7 @@ ghost use Rattle.board_plain.specs.declared.fault.BoardFault.TheVariants.{Memory
 ghost use Rattle.board_plain.specs.Board.{Ran, StoppedEarly, board_fault_name, board_fault_number};
 ghost use Rattle.board.specs.HeldBack.{IsHeldBack};
 ghost use Rattle.board.specs.KeptAgain.{IsExact};
-ghost use Rattle.board.specs.Leap.{IsQuiet, leapt};
+ghost use Rattle.board.specs.Leap.{MayLeap, leapt};
 ghost use Rattle.board.specs.Reach.{AllWithin, all_pass, may_pass};
 ghost use Rattle.board_plain.specs.Plain.{after_clock, after_clocks, byte_of, change_next, changes_in, clock_of, is_free, lost_codes, next_act, power_on, registers_of, screen_of, speaker_level, state_of};
 ghost use Rattle.board_plain.specs.Stops.{FitsRoom, HasAddress, IsStopOf, NoStop, holding, run_length};
@@ -16,7 +16,7 @@ ghost use Rattle.board_plain.specs.Lasts.{IsLastOf};
 ghost use Rattle.board.specs.Found.{found_at, found_before};
 ghost use Rattle.board_plain.specs.Trail.{last, trail_in, trail_next};
 ghost use Rattle.board.specs.AwaitFree.{IsTurnBetween};
-ghost use Rattle.board.specs.Turns.{AreStepsOn, IsHeldBehind, IsLeapOverEdgesOn, IsLongTurnOn, IsStepOn, IsStrideOn, IsTickOn, IsTurnOn, IsTurnOverEdgesOn};
+ghost use Rattle.board.specs.Turns.{AreStepsOn, IsHeldBehind, IsLeapOverEdgesOn, IsLongTurnOn, IsStepOn, IsTickOn, IsTurnOn, IsTurnOrStepOn, IsTurnOverEdgesOn};
 ghost use Rattle.board_plain.specs.Work.{steps_in, work_in, work_next};
 ghost use Rattle.board_types.specs.Lines.{from_bool};
 
@@ -320,7 +320,7 @@ impl<A: Allocator> Board<A> {
         ensures err { OnErr result (IsHeldBack self.old self.new) }
         ensures fault { IfErr result (λ fault. fault ≡ BoardFault.Memory) }
     {
-        if self.stride_clearly(end, reach) {
+        if self.quiet_steps(end, reach) {
             return Ok(());
         }
         self.turn_over_edges(end)
@@ -347,7 +347,7 @@ impl<A: Allocator> Board<A> {
         ensures not_made { ¬ (IsTrue result) → self.new ≡ self.old }
     {
         let next = self.clock().get() + 1;
-        if self.stride_clearly(next, &Nothing) {
+        if self.quiet_steps(next, &Nothing) {
             return true;
         }
         self.step(next)
@@ -363,7 +363,7 @@ impl<A: Allocator> Board<A> {
         ensures err { OnErr result (IsHeldBehind all_pass end self.old self.new) }
         ensures fault { IfErr result (λ fault. fault ≡ BoardFault.Memory) }
     {
-        self.stride_clearly(end, &Nothing);
+        self.quiet_steps(end, &Nothing);
         if self.clock().get() >= end {
             return Ok(());
         }
@@ -371,7 +371,7 @@ impl<A: Allocator> Board<A> {
     }
 
     /// A turn of a run that ends at the clock `end`: one that leaves the speaker's level as it is, over edges of the timer,
-    /// or else a stride.
+    /// or else a turn or a leapt step.
     #[inline(always)]
     fn turn_over_edges(&mut self, end: u64) -> Result<(), BoardFault>
         requires before_end { clock_of self.old.plain < end }
@@ -383,7 +383,7 @@ impl<A: Allocator> Board<A> {
         if self.mute_turn(end) {
             return Ok(());
         }
-        self.stride(end)
+        self.turn_or_step(end)
     }
 
     /// Such a turn over edges, if it can be made. Answers whether it was made.
@@ -403,14 +403,14 @@ impl<A: Allocator> Board<A> {
 
     /// Those steps. Answers whether there were any.
     #[inline(always)]
-    fn stride_clearly<W: Watch>(&mut self, end: u64, watch: &W) -> bool
+    fn quiet_steps<W: Watch>(&mut self, end: u64, watch: &W) -> bool
         requires before_end { clock_of self.old.plain < end }
         requires within { end ≤ 2 ^ 40 }
         ensures steps { AreStepsOn (W.passes watch.now) end self.old self.new }
         ensures made { IsTrue result → clock_of self.old.plain < clock_of self.new.plain }
         ensures not_made { ¬ (IsTrue result) → self.new ≡ self.old }
     {
-        let made = self.engine.stride_clearly(&mut self.trail, end, watch);
+        let made = self.engine.quiet_steps(&mut self.trail, end, watch);
         if made == 0 {
             return false;
         }
@@ -421,10 +421,10 @@ impl<A: Allocator> Board<A> {
     /// A turn of a run that ends at the clock `end`; or a step of an instruction or of a repeat with the leap over its
     /// clocks, as one.
     #[inline(always)]
-    pub(crate) fn stride(&mut self, end: u64) -> Result<(), BoardFault>
+    pub(crate) fn turn_or_step(&mut self, end: u64) -> Result<(), BoardFault>
         requires before_end { clock_of self.old.plain < end }
         requires within { end ≤ 2 ^ 40 }
-        ensures ok { OnOk result (IsStrideOn end self.old self.new) }
+        ensures ok { OnOk result (IsTurnOrStepOn end self.old self.new) }
         ensures err { OnErr result (IsHeldBack self.old self.new) }
         ensures fault { IfErr result (λ fault. fault ≡ BoardFault.Memory) }
     {
@@ -447,7 +447,7 @@ impl<A: Allocator> Board<A> {
         if self.engine.is_free() {
             return self.free_turn(end);
         }
-        if let Some(clocks) = self.engine.calm_clocks(end - self.clock().get()) {
+        if let Some(clocks) = self.engine.rest_of_step(end - self.clock().get()) {
             self.leap(clocks);
             return Ok(());
         }
@@ -471,7 +471,7 @@ impl<A: Allocator> Board<A> {
         self.turn_by(&next, end)
     }
 
-    /// The next clock, where it is known that the chips are calm and that in it an instruction begins that isn't OUT, or a
+    /// The next clock, where it is known that the chips are quiet and that in it an instruction begins that isn't OUT, or a
     /// repeat goes on, with the leap over its other clocks up to `end`, as one turn. Else nothing is done. Answers
     /// whether it was made.
     #[inline(always)]
@@ -481,7 +481,7 @@ impl<A: Allocator> Board<A> {
         ensures made { IsTrue result → IsStepOn end self.old self.new }
         ensures not_made { ¬ (IsTrue result) → self.new ≡ self.old }
     {
-        if !self.engine.stride(&mut self.trail, end) {
+        if !self.engine.leapt_step(&mut self.trail, end) {
             return false;
         }
         self.turns += 1;
@@ -499,16 +499,16 @@ impl<A: Allocator> Board<A> {
         ensures err { OnErr result (IsHeldBack self.old self.new) }
         ensures fault { IfErr result (λ fault. fault ≡ BoardFault.Memory) }
     {
-        let quiet = self.engine.quiet_clocks(next, end - self.clock().get());
-        if quiet == 0 {
+        let clocks = self.engine.clocks_to_leap(next, end - self.clock().get());
+        if clocks == 0 {
             self.run_clock(next)?;
             return Ok(());
         }
-        self.leap(quiet);
+        self.leap(clocks);
         Ok(())
     }
 
-    /// What the processor does in this clock. How long the chips stay calm is known then.
+    /// What the processor does in this clock. How long the chips stay quiet is known then.
     fn next_act(&mut self) -> Act
         ensures act { result ≡ next_act self.old.plain }
         ensures exact { IsExact self.old.plain.cpu self.old.plain.chips result }
@@ -533,7 +533,7 @@ impl<A: Allocator> Board<A> {
     fn leap(&mut self, clocks: u64)
         requires within { clock_of self.old.plain + clocks ≤ 2 ^ 40 }
         requires some { 1 ≤ clocks }
-        requires quiet { IsQuiet self.old.plain clocks }
+        requires may_leap { MayLeap self.old.plain clocks }
         ensures plain { self.new.plain ≡ leapt self.old.plain clocks }
         ensures clock { clock_of self.new.plain ≡ clock_of self.old.plain + clocks }
         ensures changes { self.new.changes ≡ self.old.changes }

@@ -4,9 +4,9 @@
 mod arrivals;
 pub mod board;
 mod chips;
-mod clearly;
 mod engine;
 pub mod one_turn;
+mod quietly;
 mod stop;
 mod trail;
 mod waiting;

@@ -104,7 +104,7 @@ impl<A: Allocator> Board<A> {
         ensures fault { IfErr result (λ fault. fault ≡ BoardFault.Memory) }
     {
         let begun = self.engine.begins();
-        self.stride(end.get())?;
+        self.turn_or_step(end.get())?;
         Ok(begun)
     }
 }

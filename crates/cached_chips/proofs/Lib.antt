@@ -1,5 +1,5 @@
 pub mod Kept
-pub mod Calm
+pub mod Quiet
 pub mod Lag
 pub mod AtPresent
 pub mod Controller

@@ -1,2 +1,2 @@
-pub mod Calm
+pub mod Quiet
 pub mod Lag

@@ -6,7 +6,7 @@ use Rattle.board.specs.Arrivals.{HaveArrived}
 use Rattle.board.specs.Leap.{ComesAfter}
 use Rattle.board_plain.specs.Plain.{codes_at}
 use Rattle.board.specs.declared.arrivals.Arrived.{Arrived}
-use Rattle.board.proofs.Calm.{no_key_by}
+use Rattle.board.proofs.RestOfStep.{no_key_by}
 use Rattle.board.proofs.KeyOrder.{have_later, next_of}
 use Rattle.board_plain.proofs.Quiet.{none_comes}
 use Rattle.board.proofs.arrivals.let_arrive.Goals as goal
@@ -20,9 +20,9 @@ none a clock keys some have later =
 pub returns-then-comes_after-clause-chips : goal.returns-then-comes_after-clause-chips
 returns-then-comes_after-clause-chips c =
     let some = c.requires.some in
-    let clear = none c.args.arrived.now c.args.clock c.args.keys.now some c.requires.arrived (c.comes_after.ensures c.if-comes_after.true) in
+    let none_due = none c.args.arrived.now c.args.clock c.args.keys.now some c.requires.arrived (c.comes_after.ensures c.if-comes_after.true) in
     let no_codes : codes_at c.args.keys.now c.args.clock ≡ [] =
-    ap (codes_at c.args.keys.now) (omega (arith, some)) ∙ none_comes c.args.keys.now (c.args.clock - 1) 1 0 (omega arith) clear in
+    ap (codes_at c.args.keys.now) (omega (arith, some)) ∙ none_comes c.args.keys.now (c.args.clock - 1) 1 0 (omega arith) none_due in
     ap (after_arrivals c.args.chips.now) (sym no_codes)
 
 pub returns-then-comes_after-clause-arrived : goal.returns-then-comes_after-clause-arrived

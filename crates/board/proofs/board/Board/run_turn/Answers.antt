@@ -1,11 +1,11 @@
 use Rattle.std.proofs.Common.{◌≡◌, ◌≤◌, length, map, ap, ◌∙◌, subst}
 use Rattle.std.specs.Prelude.{IfSome}
 use Rattle.board.specs.OneTurn.{begun_of}
-use Rattle.board.specs.Turns.{IsStrideOn}
+use Rattle.board.specs.Turns.{IsTurnOrStepOn}
 use Rattle.board_plain.specs.Board.{BoardState}
 use Rattle.board_plain.specs.Plain.{Plain, clock_of}
 use Rattle.board_plain.specs.Trail.{trail_next}
-use Rattle.board.proofs.OneTurn.{once_strode}
+use Rattle.board.proofs.OneTurn.{once_turned}
 use Rattle.board.proofs.board.Board.run_turn.Goals as goal
 
 pub returns-clause-ok : goal.returns-clause-ok
@@ -13,7 +13,7 @@ returns-clause-ok g c =
     let s : BoardState = c.args.self.now in
     let same : c.self.inside.engine ≡ s.plain = ap (λ (b : BoardState). b.plain) c.self.view_is in
     let few : length s.trail ≤ 32 = subst (λ (b : BoardState). length b.trail ≤ 32) c.self.view_is c.self.invariant.1 in
-    once_strode c.args.end s c.stride.new.self c.begins-begun.result few c.requires
-    (subst (λ n. IsStrideOn n s c.stride.new.self) c.get.ensures.value c.in_ok-stride.ensures.ok)
+    once_turned c.args.end s c.turn_or_step.new.self c.begins-begun.result few c.requires
+    (subst (λ n. IsTurnOrStepOn n s c.turn_or_step.new.self) c.get.ensures.value c.in_ok-turn_or_step.ensures.ok)
     (c.begins-begun.ensures.begun ∙ ap (λ (p : Plain). map begun_of (trail_next p)) same)
     (subst (λ (p : Plain). IfSome c.begins-begun.result (λ b. b.clock ≡ clock_of p)) same c.begins-begun.ensures.clock)

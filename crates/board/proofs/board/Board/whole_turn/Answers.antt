@@ -6,16 +6,16 @@ use Rattle.board.specs.Turns.{IsTurnOverEdgesOn}
 use Rattle.board.proofs.Unseen.{if_over}
 use Rattle.board.proofs.board.Board.whole_turn.Goals as goal
 
-pub returns-then-stride_clearly-clause-ok : goal.returns-then-stride_clearly-clause-ok
-returns-then-stride_clearly-clause-ok g c = inl (c.stride_clearly.ensures.steps, c.stride_clearly.ensures.made c.if-stride_clearly.true)
+pub returns-then-quiet_steps-clause-ok : goal.returns-then-quiet_steps-clause-ok
+returns-then-quiet_steps-clause-ok g c = inl (c.quiet_steps.ensures.steps, c.quiet_steps.ensures.made c.if-quiet_steps.true)
 
 pub returns-clause-ok : goal.returns-clause-ok
 returns-clause-ok g c =
     if_over _ c.args.end _ _ c.turn_over_edges.result
     (subst (λ (b : BoardState). OnOk c.turn_over_edges.result (IsTurnOverEdgesOn c.args.end b c.turn_over_edges.new.self))
-    (c.stride_clearly.ensures.not_made (λ yes. let no = c.if-stride_clearly.false in cc)) c.turn_over_edges.ensures.ok)
+    (c.quiet_steps.ensures.not_made (λ yes. let no = c.if-quiet_steps.false in cc)) c.turn_over_edges.ensures.ok)
 
 pub returns-clause-err : goal.returns-clause-err
 returns-clause-err g c =
     subst (λ (b : BoardState). OnErr c.turn_over_edges.result (IsHeldBack b c.turn_over_edges.new.self))
-    (c.stride_clearly.ensures.not_made (λ yes. let no = c.if-stride_clearly.false in cc)) c.turn_over_edges.ensures.err
+    (c.quiet_steps.ensures.not_made (λ yes. let no = c.if-quiet_steps.false in cc)) c.turn_over_edges.ensures.err
