@@ -1,0 +1,123 @@
+//! How clocks pass: keys arrive, and the chips go on.
+ghost use Rattle.std.specs.Prelude.{◌≡◌, ◌+◌, ◌-◌, ◌*◌, ◌<◌, ◌≤◌, ◌^◌, Some};
+ghost use Rattle.board_plain.specs.Plain.{chips_after_clock};
+ghost use Rattle.board_plain.specs.Laws.{WiresHold};
+ghost use Rattle.board.specs.Mutely.{PassOver, last_before};
+ghost use Rattle.board.specs.Leap.{PassStep};
+ghost use Rattle.board.specs.Quiet.{IsKnownQuiet};
+ghost use Rattle.board.specs.Arrivals.{HaveArrived};
+ghost use Rattle.board_types.specs.Keys.{IsInOrder};
+
+use crate::arrivals::{Arrived, comes_after, pass_clock};
+use board_types::clock::Clock;
+use board_types::keys::StampedKey;
+use cached_chips::cached::CachedChips;
+
+/// The clock `end`, or the last before a stamp where that one is earlier.
+pub(crate) fn before_stamp(stamp: Option<Clock>, end: u64) -> u64
+    ensures { result ≡ last_before stamp end }
+{
+    match stamp {
+        Some(at) => end.min(at.get().saturating_sub(1)),
+        None => end,
+    }
+}
+
+/// A clock up to which nothing comes to a processor that is busy for so many clocks, as far as that is known.
+#[inline(always)]
+pub(crate) fn known_quiet_to(busy: u16, chips: &CachedChips, arrived: &Arrived) -> u64
+    ensures { IsKnownQuiet result busy chips.now arrived.now.next }
+{
+    if busy != 0 {
+        return 0;
+    }
+    let unasked = chips.unasked_to();
+    match arrived.next {
+        Some(at) => unasked.min(at.get().saturating_sub(1)),
+        None => unasked,
+    }
+}
+
+/// The same of a step that ends behind that clock.
+#[inline(never)]
+pub(crate) fn pass_behind(
+    chips: &mut CachedChips,
+    keys: &[StampedKey],
+    arrived: &mut Arrived,
+    quiet_to: &mut u64,
+    busy: u16,
+    end: u64,
+) -> u16
+    requires within { end ≤ 2 ^ 40 }
+    requires before_end { chips.old.clock < end }
+    requires in_order { IsInOrder keys.now }
+    requires arrived { HaveArrived arrived.old (chips.old.clock + 1) keys.now }
+    requires wires { WiresHold (chips_after_clock chips.old keys.now) }
+    ensures passed { PassOver end busy chips.old keys.now result chips.new }
+    ensures arrived { HaveArrived arrived.new (chips.new.clock + 1) keys.now }
+    ensures quiet { IsKnownQuiet quiet_to.new result chips.new arrived.new.next }
+{
+    let left = pass_over(chips, keys, arrived, busy, end);
+    *quiet_to = known_quiet_to(left, chips, arrived);
+    left
+}
+
+/// The chips' part of a step of `busy` clocks: of all of them, where they end by `end` and it is known that nothing happens
+/// in them, and else of the first. Answers how many are left.
+#[inline(always)]
+pub(crate) fn pass_step(
+    chips: &mut CachedChips,
+    keys: &[StampedKey],
+    arrived: &mut Arrived,
+    busy: u16,
+    end: u64,
+) -> u16
+    requires within { end ≤ 2 ^ 40 }
+    requires before_end { chips.old.clock < end }
+    requires in_order { IsInOrder keys.now }
+    requires arrived { HaveArrived arrived.old (chips.old.clock + 1) keys.now }
+    ensures passed { PassStep end busy chips.old keys.now result chips.new }
+    ensures arrived { HaveArrived arrived.new (chips.new.clock + 1) keys.now }
+{
+    let free = chips.clock().get() + u64::from(busy.max(1));
+    if free <= end && chips.stays_quiet(free) && comes_after(free, arrived.next) {
+        chips.sync(Clock::new(free).unwrap());
+        return 0;
+    }
+    pass_clock(chips, keys, arrived);
+    busy.saturating_sub(1)
+}
+
+/// The same over edges of the timer, where port B holds the speaker low. It is found out how long the chips stay quiet then.
+#[inline(always)]
+pub(crate) fn pass_over(
+    chips: &mut CachedChips,
+    keys: &[StampedKey],
+    arrived: &mut Arrived,
+    busy: u16,
+    end: u64,
+) -> u16
+    requires within { end ≤ 2 ^ 40 }
+    requires before_end { chips.old.clock < end }
+    requires in_order { IsInOrder keys.now }
+    requires arrived { HaveArrived arrived.old (chips.old.clock + 1) keys.now }
+    requires wires { WiresHold (chips_after_clock chips.old keys.now) }
+    ensures passed { PassOver end busy chips.old keys.now result chips.new }
+    ensures arrived { HaveArrived arrived.new (chips.new.clock + 1) keys.now }
+{
+    let free = chips.clock().get() + u64::from(busy.max(1));
+    if free <= end && comes_after(free, arrived.next) {
+        if chips.stays_quiet(free) {
+            chips.sync(Clock::new(free).unwrap());
+            return 0;
+        }
+        if chips.goes_on_alone() {
+            chips.sync(Clock::new(free).unwrap());
+            chips.look_ahead();
+            return 0;
+        }
+    }
+    pass_clock(chips, keys, arrived);
+    chips.look_ahead();
+    busy.saturating_sub(1)
+}
