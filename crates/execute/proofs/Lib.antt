@@ -8,4 +8,4 @@ mod Counted
 pub mod BySlot
 pub mod Commutes
 mod Quiet
-mod Delay
+pub mod Delay
