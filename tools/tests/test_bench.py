@@ -107,6 +107,22 @@ class Count(ToolCase):
                     steps += 1
                 self.assertEqual(steps, count, f'{name} at {budget}')
 
+    def test_each_loop_ends_with_the_registers_that_are_known(self) -> None:
+        count = module('count')
+        for name, loop in count.known().items():
+            for budget, registers in zip(loop.budgets, loop.registers, strict=True):
+                done = self.pcboard('run', count.source(name), count.run_file(self.room, name, budget))
+                self.assertEqual(done.stdout.splitlines()[1:3], registers, f'{name} at {budget}')
+
+    def test_the_trail_of_a_delay_that_is_leapt_over(self) -> None:
+        """By the table of clocks: the first LOOP of w1 begins at clock 23, and each next one 17 clocks later."""
+        for clock in (1000, 99999, 1000000):
+            begun = -(-(clock - 23) // 17)  # so many before it
+            done = self.pcboard('debug', f'{BENCH}/loops/w1.asm', f'{BENCH}/loops/w1.json', given=f'go {clock}\nregs\ntrail\n')
+            lines = done.stdout.splitlines()
+            self.assertIn(f' CX={0xFFFF - begun:04X} ', lines[1])
+            self.assertEqual(lines[3:], [f'{23 + 17 * it} F000:0006 E2FE LOOP 00006h' for it in range(begun - 32, begun)])
+
     def test_refusals(self) -> None:
         self.assertIn("valgrind, which counts, isn't there", self.count('--only', 'a', status=2)[1])
         for words, told in (
