@@ -26,7 +26,8 @@ TIMES = f'{STAGE}/times'  # the seconds of the last build from nothing, and its 
 QUIET_SECONDS = 8
 # Of a build from nothing on four processors: what a lane proves in a second, and what the compilation takes behind it.
 BYTES_A_SECOND, COMPILATION_SECONDS = 800, 110
-# How long the proof of each crate of pcboard takes, with one job: sizes tell that badly, and only the order hangs on it.
+# About how many seconds the proof of each crate of pcboard takes, with one job: sizes tell that badly, and only the order
+# hangs on it.
 SECONDS = {
     'board_types': 40,
     'bus': 7,
