@@ -143,12 +143,12 @@ fn print_task<F: Opener, I: ByteInput, O: Write>(
     match task {
         Task::Stored => {
             let report = stored_report(alloc, input)?;
-            print_report(&report, out)
+            print_report(report, out)
         }
         Task::Asm { file, list } => print_assembled(alloc, files, file, list, out),
         Task::Run { file, run, hex } => {
             let report = read_report(alloc, files, file, run, hex)?;
-            print_report(&report, out)
+            print_report(report, out)
         }
         Task::Debug { file, run, hex } => {
             let board = read_board(alloc, files, file, run, hex)?;
@@ -157,14 +157,16 @@ fn print_task<F: Opener, I: ByteInput, O: Write>(
     }
 }
 
-/// Prints a report.
-fn print_report<O: Write>(report: &Report, out: &mut O) -> Result<(), Unanswered>
+/// Prints a report, and lets go of it.
+fn print_report<O: Write>(report: Report, out: &mut O) -> Result<(), Unanswered>
     ensures printed { OnOk result (Appends (O.contents out.old) (O.contents out.new)
-        (string_bytes report.now.text)) }
+        (string_bytes report.text)) }
     ensures kept { IfErr result (WhereRefused (O.contents out.new ≡ O.contents out.old)) }
     ensures end { IfErr result (λ end. end ≡ Unanswered.Failed) }
 {
-    Ok(print(out, report.text.as_str())?)
+    let printed = print(out, report.text.as_str());
+    drop(report);
+    Ok(printed?)
 }
 
 /// Prints the listing of a source, if `list`, else the HEX text of its image.
