@@ -36,7 +36,9 @@ pub(crate) fn print_session<I: ByteInput, O: Write>(
     ensures unfailed { UnlessFailed (CountsNone (I.failures input.old) (I.failures input.new)) result }
 {
     let mut session = Session::new(alloc, board)?;
-    answer_lines(alloc, &mut session, input, out)
+    let answered = answer_lines(alloc, &mut session, input, out);
+    drop(session);
+    answered
 }
 
 /// Answers lines as they come until one is `quit` or the input ends. An input of more than `u64::MAX` lines fails.
