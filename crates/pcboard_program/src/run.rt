@@ -1,6 +1,8 @@
 //! Running a source, an image or texts for a number of clocks.
-ghost use Rattle.std.specs.Prelude.{◌≡◌, ℕ, List, IfErr, IfOk, Ok, string_bytes};
-ghost use Rattle.board_plain.specs.Plain.{clock_of};
+ghost use Rattle.std.specs.Prelude.{◌≡◌, ◌+◌, ◌++◌, ◌≤◌, ◌^◌, ℕ, List, IfErr, IfOk, Ok, OnOk, string_bytes};
+ghost use Rattle.board_plain.specs.declared.fault.BoardFault.TheVariants.{Memory};
+ghost use Rattle.board_plain.specs.Plain.{after_clocks, changes_in, clock_of};
+ghost use Rattle.board_report.specs.Text.{report_text};
 ghost use Rattle.assembler.specs.Gives.{Gives};
 ghost use Rattle.loader.specs.declared.run_file.RunFile.{RunFile};
 ghost use Rattle.loader.specs.RunFile.{Answers, run_of_text};
@@ -60,9 +62,26 @@ pub fn run_image(alloc: Global, image: &Image, run: &RunFile) -> Result<Report, 
     ensures accepted { FitsBoard image.now run.now → IfErr result IsWantOfMemory }
 {
     let mut board = new_board(alloc, image, run)?;
-    board.run(run.budget.get())?;
-    let text = report_text(alloc, &board)?;
-    Ok(Report { board, text })
+    match text_after(alloc, &mut board, run.budget.get()) {
+        Ok(text) => Ok(Report { board, text }),
+        Err(fault) => {
+            drop(board);
+            Err(fault)
+        }
+    }
+}
+
+/// Runs a board for `count` clocks, and gives the text of its report.
+fn text_after(alloc: Global, board: &mut Board, count: u64) -> Result<String, Fault>
+    requires { clock_of board.old.plain + count ≤ 2 ^ 40 }
+    ensures plain { OnOk result (board.new.plain ≡ after_clocks board.old.plain count) }
+    ensures clock { OnOk result (clock_of board.new.plain ≡ clock_of board.old.plain + count) }
+    ensures changes { OnOk result (board.new.changes ≡ board.old.changes ++ changes_in board.old.plain count) }
+    ensures text { IfOk result (λ text. string_bytes text ≡ report_text board.new.plain board.new.changes) }
+    ensures fault { IfErr result (λ fault. fault ≡ Fault.Board Memory) }
+{
+    board.run(count)?;
+    Ok(report_text(alloc, board)?)
 }
 
 /// The board of an image at power-on, as the run file says.
