@@ -28,4 +28,7 @@ pub mod OneTurn
 pub mod StillSteps
 mod SameRegisters
 mod StillChips
+mod Repeated
+mod Standing
 mod Delays
+mod Countdowns

@@ -9,3 +9,4 @@ pub mod BySlot
 pub mod Commutes
 mod Quiet
 pub mod Delay
+pub mod Countdown
