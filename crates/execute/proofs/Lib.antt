@@ -4,6 +4,7 @@ mod Rows
 pub mod GoesPlainly
 pub mod Elements
 mod Again
+pub mod Iterating
 mod Counted
 pub mod BySlot
 pub mod Commutes

@@ -8,6 +8,7 @@ pub mod Plain
 pub mod Store
 pub mod Elements
 pub mod Iterations
+pub mod Iterating
 pub mod Accesses
 pub mod BySlot
 pub mod Made
