@@ -4,6 +4,7 @@
 pub mod boundary;
 pub mod by_slot;
 mod bytes_by_slot;
+pub mod course;
 pub mod cpu;
 mod jumps_by_slot;
 pub mod laws;
