@@ -115,10 +115,14 @@ impl Board {
         ensures few { length self.now.trail ≤ 32 }
         ensures err { IfErr result (λ fault. fault ≡ BoardFault.Memory) }
     {
+        let changes = self.changes.clone()?;
+        let trail = self.trail.copy()?;
+        // last, so that a copy of all chips needn't be let go where there is no memory for the lists
+        let engine = self.engine.copy()?;
         Ok(Board {
-            engine: self.engine.copy()?,
-            changes: self.changes.clone()?,
-            trail: self.trail.copy()?,
+            engine,
+            changes,
+            trail,
             turns: self.turns,
         })
     }
