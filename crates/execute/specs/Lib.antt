@@ -6,7 +6,6 @@ pub mod PortReads
 pub mod Laws
 pub mod Plain
 pub mod Store
-pub mod Elements
 pub mod Iterations
 pub mod Iterating
 pub mod Accesses

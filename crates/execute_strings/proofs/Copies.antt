@@ -20,7 +20,8 @@ use Rattle.execute_machine.specs.Locations.{Machine, chosen_or, segment_for, val
 use Rattle.execute_machine.specs.Memory.{HoldsBytes, HoldsWords}
 use Rattle.execute_machine.proofs.Memory.{word_fixed, word_leaves, word_reads_back}
 use Rattle.execute_strings.specs.Meaning.{after_iteration, after_movs, after_element, destination, element_at, element_size, source}
-use Rattle.execute_strings.specs.Laws.{CopiesInOrder, IsOutside, TakesElement, after_copies, destination_element, element_offset, movs_of, source_element}
+use Rattle.execute_strings.specs.Elements.{movs_of}
+use Rattle.execute_strings.specs.Laws.{CopiesInOrder, IsOutside, TakesElement, after_copies, destination_element, element_offset, source_element}
 
 -- one iteration
 

@@ -3,23 +3,17 @@
 use Rattle.std.specs.Prelude.{ℕ, ◌≡◌, ◌≢◌, ◌+◌, ◌*◌, ◌-◌, ◌%◌, Bool, true, false}
 use Rattle.board_types.specs.Address.{physical, offset_after}
 use Rattle.board_types.specs.Iterate.{iterate}
-use Rattle.isa.specs.declared.operation.Strings.{Strings}
-use Rattle.isa.specs.declared.operation.Strings.TheVariants.{Movsb, Movsw}
 use Rattle.isa.specs.declared.register.SegmentRegister.TheVariants.{Ds}
 use Rattle.isa.specs.declared.form.Instr.{Instr}
 use Rattle.bus.specs.Bus.{BusMeaning}
 use Rattle.execute_machine.specs.declared.width.Width.{Width}
-use Rattle.execute_machine.specs.declared.width.Width.TheVariants as widths
 use Rattle.execute_machine.specs.RegisterFile.{Registers}
 use Rattle.execute_machine.specs.declared.location.OperandLocation.{OperandLocation}
 use Rattle.execute_machine.specs.declared.location.OperandLocation.TheVariants.{ByteAt, WordAt}
 use Rattle.execute_machine.specs.Locations.{Machine, segment_for, value_at}
 use Rattle.execute_machine.specs.Memory.{HoldsBytes, HoldsWords, TakesWord}
+use Rattle.execute_strings.specs.Elements.{movs_of}
 use Rattle.execute_strings.specs.Meaning.{after_iteration, element_at, element_size}
-
-abbrev pub movs_of : Width → Strings
-movs_of widths.Byte = Movsb
-movs_of widths.Word = Movsw
 
 -- the machine after n iterations of MOVS
 abbrev pub after_copies : {S : Type 0} → BusMeaning S → Machine S → Width → Instr → ℕ → Machine S
