@@ -65,6 +65,7 @@ pub fn run_image(alloc: Global, image: &Image, run: &RunFile) -> Result<Report, 
     match text_after(alloc, &mut board, run.budget.get()) {
         Ok(text) => Ok(Report { board, text }),
         Err(fault) => {
+            // let go by a call, which is proved once
             drop(board);
             Err(fault)
         }

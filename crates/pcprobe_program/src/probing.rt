@@ -37,6 +37,7 @@ pub(crate) fn print_session<I: ByteInput, O: Write>(
 {
     let mut session = Session::new(alloc, board)?;
     let answered = answer_lines(alloc, &mut session, input, out);
+    // let go by one call, whatever came of it: each place that lets one go is proved anew
     drop(session);
     answered
 }
