@@ -4,7 +4,7 @@ use Rattle.std.specs.Prelude.{◌⊎◌}
 use Rattle.cached_chips.proofs.Quiet.{level_stays}
 use Rattle.board_types.specs.Lines.{from_bool}
 use Rattle.board_types.specs.declared.keys.StampedKey.{StampedKey}
-use Rattle.execute.specs.Meaning.{StepResult}
+use Rattle.execute_meaning.specs.Meaning.{StepResult}
 use Rattle.wiring.specs.Chips.{ChipsState}
 use Rattle.wiring.specs.Speaker.{is_speaker_high_after}
 use Rattle.wiring.specs.Wires as wires

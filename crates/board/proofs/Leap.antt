@@ -8,9 +8,9 @@ use Rattle.board_types.specs.Bits.{has_bit}
 use Rattle.board_types.specs.Iterate.{iterate, gathered}
 use Rattle.board_types.specs.Lines.{from_bool, is_high}
 use Rattle.board_types.specs.declared.line.Line.{Line}
-use Rattle.execute.specs.Boundaries.{boundary_of, is_halted}
-use Rattle.execute.specs.Cpu.{CpuState}
-use Rattle.execute.specs.Meaning.{StepResult}
+use Rattle.execute_meaning.specs.Boundaries.{boundary_of, is_halted}
+use Rattle.execute_meaning.specs.Cpu.{CpuState}
+use Rattle.execute_meaning.specs.Meaning.{StepResult}
 use Rattle.mda_text.proofs.Raster.{clocks_move_beam}
 use Rattle.mda_text.specs.Mda.{text_byte}
 use Rattle.memory.specs.Map as map

@@ -6,7 +6,7 @@ use Rattle.board_types.specs.declared.keys.StampedKey.{StampedKey}
 use Rattle.board_types.specs.declared.line.Line.{Line}
 use Rattle.board_types.specs.declared.line.Line.TheVariants.{Low, High}
 use Rattle.decode.specs.declared.decoding.Decoding.TheVariants.{Found, NoRow}
-use Rattle.execute.specs.Meaning.{StepResult}
+use Rattle.execute_meaning.specs.Meaning.{StepResult}
 use Rattle.pit8253.proofs.PitTicks.{each_counter}
 use Rattle.pit8253.specs.Counter as one
 use Rattle.pit8253.specs.Pit as pit

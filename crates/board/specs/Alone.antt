@@ -2,8 +2,8 @@
 -- where the leap ends.
 -- For proofs alone: no public contract rests on it.
 use Rattle.std.specs.Prelude.{ℕ, ◌≡◌, ◌+◌, ◌-◌, ◌<◌, ◌≤◌, ◌⊎◌, List, [], Bool}
-use Rattle.execute.specs.Boundaries.{boundary_of}
-use Rattle.execute.specs.declared.boundary.Boundary.TheVariants as boundaries
+use Rattle.execute_meaning.specs.Boundaries.{boundary_of}
+use Rattle.execute_meaning.specs.declared.boundary.Boundary.TheVariants as boundaries
 use Rattle.wiring.specs.Alone.{GoesOnAlone}
 use Rattle.wiring.specs.Wires as wires
 use Rattle.board_plain.specs.declared.stop.Condition.{Condition}

@@ -6,10 +6,10 @@ use Rattle.board_types.specs.declared.choice.ClockTable.{ClockTable}
 use Rattle.board_types.specs.Timed.{IsSteady}
 use Rattle.board_types.specs.declared.keys.StampedKey.{StampedKey}
 use Rattle.cached_chips.specs.Quiet.{IsQuiet}
-use Rattle.execute.specs.Boundaries.{boundary_of}
-use Rattle.execute.specs.Cpu.{CpuState}
-use Rattle.execute.specs.declared.boundary.Boundary.{Boundary}
-use Rattle.execute.specs.declared.boundary.Boundary.TheVariants as boundaries
+use Rattle.execute_meaning.specs.Boundaries.{boundary_of}
+use Rattle.execute_meaning.specs.Cpu.{CpuState}
+use Rattle.execute_meaning.specs.declared.boundary.Boundary.{Boundary}
+use Rattle.execute_meaning.specs.declared.boundary.Boundary.TheVariants as boundaries
 use Rattle.pit8253.specs.Counter.{after_ticks, out_of}
 use Rattle.scheduler.specs.declared.deadlines.Source.{Source}
 use Rattle.scheduler.specs.declared.deadlines.Source.TheVariants.{Counter0, Counter2, Keys, Processor, End}

@@ -5,7 +5,7 @@ ghost use Rattle.mda_text.specs.Registers.{registers_of};
 
 use crate::board::Board;
 use board_types::line::Line;
-use execute::shadow::Shadow;
+use execute_meaning::shadow::Shadow;
 use keyboard::keyboard::Keyboard;
 use mda_text::registers::Registers;
 use pic8259::Pic;

@@ -13,7 +13,7 @@ use crate::engine::Engine;
 use board_plain::fault::BoardFault;
 use board_types::clock::Clock;
 use decode::decode::decode;
-use execute::boundary::Boundary;
+use execute_meaning::boundary::Boundary;
 use std::alloc::Allocator;
 
 /// What began at a clock: an instruction, or, where it has a type, the entry of an interrupt. Of an entry CS:IP are those

@@ -5,14 +5,14 @@ use Rattle.board_types.specs.Lines.{from_bool}
 use Rattle.board_types.specs.declared.keys.StampedKey.{StampedKey}
 use Rattle.bus.specs.PortWrites.{after_port_writes}
 use Rattle.decode.specs.declared.decoding.Decoding.{Decoding as Decoded}
-use Rattle.execute.specs.Cpu.{CpuState}
-use Rattle.execute.specs.Meaning.{after_step}
-use Rattle.execute.specs.Boundaries.{after_enter}
-use Rattle.execute.specs.declared.boundary.Cause.{Cause}
-use Rattle.execute.specs.declared.boundary.Cause.TheVariants as causes
-use Rattle.execute.specs.PortWrites.{port_writes_of}
-use Rattle.execute.specs.Laws.{EachAccessKeeps, WritesAlone}
-use Rattle.execute.proofs.Writes.{port_writes_tell, again_keeps_any, enter_keeps_any}
+use Rattle.execute_meaning.specs.Cpu.{CpuState}
+use Rattle.execute_meaning.specs.Meaning.{after_step}
+use Rattle.execute_meaning.specs.Boundaries.{after_enter}
+use Rattle.execute_meaning.specs.declared.boundary.Cause.{Cause}
+use Rattle.execute_meaning.specs.declared.boundary.Cause.TheVariants as causes
+use Rattle.execute_meaning.specs.PortWrites.{port_writes_of}
+use Rattle.execute_meaning.specs.Laws.{EachAccessKeeps, WritesAlone}
+use Rattle.execute_meaning.proofs.Writes.{port_writes_tell, again_keeps_any, enter_keeps_any}
 use Rattle.mda_text.specs.Mda.{with_text_byte}
 use Rattle.memory.specs.Regions.{is_text_address}
 use Rattle.memory.specs.Map as map

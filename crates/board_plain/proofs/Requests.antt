@@ -4,12 +4,12 @@ use Rattle.std.specs.Prelude.{◌==◌, ◌&&◌, is_some}
 use Rattle.std.proofs.lemmas.Bool.Decides.{eqb_tells, nat_tests}
 use Rattle.board_types.specs.declared.state.State.{State}
 use Rattle.board_types.specs.declared.state.State.TheVariants.{Running, Halted, Jammed}
-use Rattle.execute.specs.Boundaries.{boundary_of, is_halted, is_jammed, lets_requests, takes_requests, takes_single_step}
-use Rattle.execute.specs.Cpu.{CpuState}
-use Rattle.execute.specs.declared.boundary.Boundary.{Boundary}
-use Rattle.execute.specs.declared.boundary.Boundary.TheVariants as boundaries
-use Rattle.execute.specs.declared.shadow.Shadow.{Shadow}
-use Rattle.execute.specs.declared.shadow.Shadow.TheVariants as shadows
+use Rattle.execute_meaning.specs.Boundaries.{boundary_of, is_halted, is_jammed, lets_requests, takes_requests, takes_single_step}
+use Rattle.execute_meaning.specs.Cpu.{CpuState}
+use Rattle.execute_meaning.specs.declared.boundary.Boundary.{Boundary}
+use Rattle.execute_meaning.specs.declared.boundary.Boundary.TheVariants as boundaries
+use Rattle.execute_meaning.specs.declared.shadow.Shadow.{Shadow}
+use Rattle.execute_meaning.specs.declared.shadow.Shadow.TheVariants as shadows
 use Rattle.wiring.specs.Chips.{ChipsState}
 use Rattle.wiring.specs.Wires.{is_requested}
 use Rattle.board_plain.specs.declared.act.Act.{Act}

@@ -14,9 +14,9 @@ use Rattle.isa.specs.Table.{rows}
 use Rattle.isa.specs.Words.{clocks_in, data_words, whole_words}
 use Rattle.decode.specs.declared.decoding.Decoding.{Decoding as Decoded}
 use Rattle.decode.specs.Decoding.{decoded_behind, decoded_from, form_at, values_at}
-use Rattle.execute.specs.Boundaries.{boundary_of}
-use Rattle.execute.specs.Cpu.{initial_cpu}
-use Rattle.execute.specs.Meaning.{StepResult, after_found, after_operation, after_step, after_whole, is_taken, lacks_quotient}
+use Rattle.execute_meaning.specs.Boundaries.{boundary_of}
+use Rattle.execute_meaning.specs.Cpu.{initial_cpu}
+use Rattle.execute_meaning.specs.Meaning.{StepResult, after_found, after_operation, after_step, after_whole, is_taken, lacks_quotient}
 use Rattle.execute_control.specs.Meaning.{after_flag_operation}
 use Rattle.keyboard.specs.Keyboard as keyboard
 use Rattle.memory.specs.Map.{address_count}

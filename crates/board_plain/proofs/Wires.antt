@@ -4,12 +4,12 @@ use Rattle.board_types.specs.declared.choice.ClockTable.{ClockTable}
 use Rattle.board_types.specs.declared.choice.TimerKind.{TimerKind}
 use Rattle.board_types.specs.Iterate.{iterate}
 use Rattle.board_types.specs.declared.keys.StampedKey.{StampedKey}
-use Rattle.execute.specs.Cpu.{CpuState}
-use Rattle.execute.specs.Boundaries.{after_enter}
-use Rattle.execute.specs.Meaning.{StepResult}
-use Rattle.execute.specs.declared.boundary.Cause.{Cause}
-use Rattle.execute.specs.declared.boundary.Cause.TheVariants as causes
-use Rattle.execute.proofs.Writes.{again_keeps_any, enter_keeps_any, step_keeps_any}
+use Rattle.execute_meaning.specs.Cpu.{CpuState}
+use Rattle.execute_meaning.specs.Boundaries.{after_enter}
+use Rattle.execute_meaning.specs.Meaning.{StepResult}
+use Rattle.execute_meaning.specs.declared.boundary.Cause.{Cause}
+use Rattle.execute_meaning.specs.declared.boundary.Cause.TheVariants as causes
+use Rattle.execute_meaning.proofs.Writes.{again_keeps_any, enter_keeps_any, step_keeps_any}
 use Rattle.wiring.proofs.FixedWires.{wires_stay}
 use Rattle.wiring.proofs.PowerOn.{power_on_settled, power_on_keys_settled}
 use Rattle.wiring.proofs.Settling.{settles_once, keys_settle_once}

@@ -7,11 +7,11 @@ use Rattle.board_types.specs.declared.choice.ClockTable.{ClockTable}
 use Rattle.board_types.specs.declared.choice.TimerKind.{TimerKind}
 use Rattle.board_types.specs.Iterate.{iterate}
 use Rattle.board_types.specs.declared.keys.StampedKey.{StampedKey}
-use Rattle.execute.specs.Cpu.{CpuState}
-use Rattle.execute.specs.Boundaries.{after_enter}
-use Rattle.execute.specs.declared.boundary.Cause.{Cause}
-use Rattle.execute.specs.declared.boundary.Cause.TheVariants as causes
-use Rattle.execute.proofs.Writes.{again_keeps_any, enter_keeps_any, step_keeps_any}
+use Rattle.execute_meaning.specs.Cpu.{CpuState}
+use Rattle.execute_meaning.specs.Boundaries.{after_enter}
+use Rattle.execute_meaning.specs.declared.boundary.Cause.{Cause}
+use Rattle.execute_meaning.specs.declared.boundary.Cause.TheVariants as causes
+use Rattle.execute_meaning.proofs.Writes.{again_keeps_any, enter_keeps_any, step_keeps_any}
 use Rattle.mda_text.proofs.ScreenLaws.{is_blank}
 use Rattle.mda_text.specs.Mda as mda
 use Rattle.memory.specs.Regions.{is_text_address, IsTextAddress}

@@ -4,9 +4,9 @@ use Rattle.std.specs.Prelude.{ℕ, ◌≡◌, ◌≢◌, ◌+◌, ◌-◌, ◌*�
 use Rattle.board_types.specs.declared.keys.StampedKey.{StampedKey}
 use Rattle.board_types.specs.declared.state.State.TheVariants.{Halted, Jammed}
 use Rattle.board_types.specs.Lines.{from_bool}
-use Rattle.execute.specs.Cpu.{CpuState}
-use Rattle.execute.specs.declared.shadow.Shadow.TheVariants as shadows
-use Rattle.execute.specs.PortWrites.{port_writes_of}
+use Rattle.execute_meaning.specs.Cpu.{CpuState}
+use Rattle.execute_meaning.specs.declared.shadow.Shadow.TheVariants as shadows
+use Rattle.execute_meaning.specs.PortWrites.{port_writes_of}
 use Rattle.mda_text.specs.Mda as mda
 use Rattle.memory.specs.Regions.{IsTextAddress}
 use Rattle.memory.specs.Map.{IsRamSize}

@@ -11,12 +11,12 @@ use Rattle.board_types.specs.declared.regs.Regs.{Regs}
 use Rattle.board_types.specs.declared.state.State.{State}
 use Rattle.decode.specs.declared.decoding.Decoding.{Decoding as Decoded}
 use Rattle.decode.specs.Decoding.{code_at, decoded_from}
-use Rattle.execute.specs.Cpu.{CpuState, initial_cpu, regs_of}
-use Rattle.execute.specs.Meaning.{StepResult, step_result, after_step, after_again}
-use Rattle.execute.specs.Boundaries.{boundary_of, after_enter}
-use Rattle.execute.specs.declared.boundary.Boundary.{Boundary}
-use Rattle.execute.specs.declared.boundary.Boundary.TheVariants as boundaries
-use Rattle.execute.specs.declared.boundary.Cause.TheVariants as causes
+use Rattle.execute_meaning.specs.Cpu.{CpuState, initial_cpu, regs_of}
+use Rattle.execute_meaning.specs.Meaning.{StepResult, step_result, after_step, after_again}
+use Rattle.execute_meaning.specs.Boundaries.{boundary_of, after_enter}
+use Rattle.execute_meaning.specs.declared.boundary.Boundary.{Boundary}
+use Rattle.execute_meaning.specs.declared.boundary.Boundary.TheVariants as boundaries
+use Rattle.execute_meaning.specs.declared.boundary.Cause.TheVariants as causes
 use Rattle.mda_text.specs.Screen.{screen_text}
 use Rattle.wiring.specs.Chips as chips
 use Rattle.wiring.specs.Chips.{ChipsState}

@@ -3,7 +3,7 @@
 use Rattle.std.specs.Prelude.{ℕ, ◌≡◌, ◌+◌, ◌-◌, ◌<◌, ◌≤◌, ◌^◌, ◌==◌, Bool, ◌&&◌, List, Option, None, Some, length}
 use Rattle.std.specs.List.{position_from}
 use Rattle.board_types.specs.Lines.{is_high}
-use Rattle.execute.specs.Boundaries.{is_halted}
+use Rattle.execute_meaning.specs.Boundaries.{is_halted}
 use Rattle.board_plain.specs.declared.stop.Condition.{Condition}
 use Rattle.board_plain.specs.declared.stop.Condition.TheVariants.{Free, At, Byte, Sound, Halted}
 use Rattle.board_plain.specs.declared.stop.Stop.{Stop}

@@ -6,7 +6,7 @@ use Rattle.board_types.specs.Address.{physical, offset_after}
 use Rattle.board_types.specs.Iterate.{gathered}
 use Rattle.decode.specs.declared.decoding.Decoding.{Decoding as Decoded}
 use Rattle.decode.specs.declared.decoding.Decoding.TheVariants.{Found, NoRow}
-use Rattle.execute.specs.Cpu.{CpuState}
+use Rattle.execute_meaning.specs.Cpu.{CpuState}
 use Rattle.wiring.specs.Chips.{ChipsState}
 use Rattle.wiring.specs.Ports.{byte_at}
 use Rattle.wiring.specs.Wires.{requested_type}

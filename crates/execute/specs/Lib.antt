@@ -1,15 +1,6 @@
-pub mod Cpu
-pub mod Meaning
-pub mod Boundaries
-pub mod PortWrites
-pub mod PortReads
-pub mod Laws
-pub mod Plain
 pub mod Store
 pub mod Iterations
 pub mod Iterating
-pub mod Accesses
 pub mod BySlot
 pub mod Made
-pub mod Commutes
 pub mod Still

@@ -1,7 +1,6 @@
 //! The processor's instructions, each an exact step over any bus (8086 Family User's Manual, "Instruction Set").
 #![tactic(auto)]
 
-pub mod boundary;
 pub mod by_slot;
 mod bytes_by_slot;
 pub mod course;
@@ -12,8 +11,6 @@ pub mod parts;
 mod perform;
 pub mod port_writes;
 mod ports_by_slot;
-pub mod repeating;
-pub mod shadow;
 mod shown;
 mod stack_by_slot;
 pub mod step;

@@ -1,7 +1,7 @@
 //! The port writes of a step, before it is made.
 ghost use Rattle.std.specs.Prelude.{◌≡◌, [], IsTrue};
-ghost use Rattle.execute.specs.Cpu.{CpuState};
-ghost use Rattle.execute.specs.PortWrites.{port_writes_of};
+ghost use Rattle.execute_meaning.specs.Cpu.{CpuState};
+ghost use Rattle.execute_meaning.specs.PortWrites.{port_writes_of};
 
 use crate::cpu::Cpu;
 use arrayvec::ArrayVec;
@@ -11,7 +11,7 @@ use isa::operation::{Operation, Transfer};
 
 /// Whether it is known without the registers that a step writes to no port: it isn't OUT.
 #[inline(always)]
-#[tactic(auto, using(crate::proofs::Writes::silent))]
+#[tactic(auto, using(execute_meaning::proofs::Writes::silent))]
 pub fn is_silent(decoded: &Decoded) -> bool
     ensures { IsTrue result → ((cpu : CpuState) → port_writes_of cpu decoded.now ≡ []) }
 {
@@ -25,7 +25,7 @@ pub fn is_silent(decoded: &Decoded) -> bool
 }
 
 /// The port writes that a step would make, in order: each a port and a byte. OUT alone writes to ports.
-#[tactic(auto, using(crate::proofs::Writes::writes_of))]
+#[tactic(auto, using(execute_meaning::proofs::Writes::writes_of))]
 pub fn port_writes(cpu: &Cpu, decoded: &Decoded) -> ArrayVec<(u16, u8), 2>
     ensures { result.items ≡ port_writes_of cpu.now decoded.now }
 {

@@ -2,7 +2,7 @@
 ghost use Rattle.std.specs.Prelude.{◌≡◌, is_some};
 
 use crate::cpu::Cpu;
-use crate::shadow::Shadow;
+use execute_meaning::shadow::Shadow;
 
 impl Cpu {
     /// Which interrupts the last instruction keeps off.

@@ -10,8 +10,8 @@ use Rattle.board_report.specs.Text.{state_name}
 use Rattle.board_types.specs.Digits.{hex_byte_text, hex_word}
 use Rattle.board_types.specs.declared.line.Line.{Line}
 use Rattle.debugger.specs.Dump.{spaced_byte}
-use Rattle.execute.specs.declared.shadow.Shadow.{Shadow}
-use Rattle.execute.specs.declared.shadow.Shadow.TheVariants.{Nothing, Requests, Interrupts}
+use Rattle.execute_meaning.specs.declared.shadow.Shadow.{Shadow}
+use Rattle.execute_meaning.specs.declared.shadow.Shadow.TheVariants.{Nothing, Requests, Interrupts}
 use Rattle.keyboard.specs.Keyboard.{KeyboardState}
 use Rattle.mda_text.specs.declared.registers.Registers.{Registers}
 use Rattle.mda_text.specs.Registers as adapter

@@ -15,7 +15,7 @@ use board::board::Board;
 use board_types::digits::{HexByte, HexWord};
 use board_types::line::Line;
 use board_types::state::State;
-use execute::shadow::Shadow;
+use execute_meaning::shadow::Shadow;
 use keyboard::keyboard::Keyboard;
 use mda_text::registers::Registers;
 use pit8253::pit::Pit;

@@ -10,10 +10,10 @@ use board_types::choice::ClockTable;
 use board_types::regs::Regs;
 use cases::Judged;
 use decode::decode::decode;
-use execute::boundary::{Boundary, Cause};
 use execute::cpu::Cpu;
 use execute::port_writes::port_writes;
 use execute::step::{again, enter, step};
+use execute_meaning::boundary::{Boundary, Cause};
 use std::alloc::{AllocError, Global};
 
 /// The type of the interrupt that a single step enters.

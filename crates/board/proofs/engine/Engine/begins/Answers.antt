@@ -1,7 +1,7 @@
 use Rattle.std.proofs.Common.{◌≡◌, arith, true, refl, ap, ◌∙◌}
 use Rattle.std.proofs.lemmas.Bool.Decides.{nat_tests}
-use Rattle.execute.specs.Boundaries.{boundary_of}
-use Rattle.execute.specs.declared.boundary.Boundary.{Boundary}
+use Rattle.execute_meaning.specs.Boundaries.{boundary_of}
+use Rattle.execute_meaning.specs.declared.boundary.Boundary.{Boundary}
 use Rattle.wiring.specs.Wires.{is_requested}
 use Rattle.board_plain.specs.declared.act.Act.TheVariants.{Nothing}
 use Rattle.board_plain.specs.Plain.{Plain, act_at, is_free}

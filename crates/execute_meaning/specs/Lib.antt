@@ -1,0 +1,9 @@
+pub mod Cpu
+pub mod Meaning
+pub mod Boundaries
+pub mod PortWrites
+pub mod PortReads
+pub mod Laws
+pub mod Plain
+pub mod Accesses
+pub mod Commutes

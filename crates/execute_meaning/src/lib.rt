@@ -1,0 +1,8 @@
+//! The processor by definition: what it goes on with, what a step, an iteration and an entry make of it over any bus, and what
+//! holds of them (8086 Family User's Manual, "Instruction Set", "Interrupts").
+#![tactic(auto)]
+
+pub mod boundary;
+pub mod laws;
+pub mod repeating;
+pub mod shadow;
