@@ -1,4 +1,4 @@
-//! The report of a board as text, and what other texts have in common with it: registers and hexadecimal numbers.
+//! The report of a board as text.
 #![tactic(auto)]
 
 pub mod text;

@@ -1,105 +1,14 @@
 //! The report of a board as text.
-ghost use Rattle.std.specs.Prelude.{◌≡◌, ◌++◌, IfOk, OnOk};
+ghost use Rattle.std.specs.Prelude.{◌≡◌, IfOk};
 ghost use Rattle.std.specs.String.{string_bytes};
-ghost use Rattle.std.specs.List.{flat_map};
-ghost use Rattle.board_report.specs.Text.{change_line, clock_line, general_line, register_lines, report_text, segment_line, state_lines, state_name};
+ghost use Rattle.board_lines.specs.Text.{report_text};
 
 use board::board::Board;
-use board_plain::speaker::SpeakerChange;
-use board_types::digits::HexWord;
-use board_types::regs::Regs;
-use board_types::state::State;
+use board_lines::lines::{clock_line, push_changes, register_lines, state_lines};
 use std::alloc::{AllocError, Global};
 
-#[tactic(auto, unfolding(crate::specs::Text::general_line))]
-fn general_line(alloc: Global, regs: &Regs) -> Result<String, AllocError>
-    ensures { IfOk result (λ text. string_bytes text ≡ general_line regs.now) }
-{
-    let ax = HexWord(regs.ax);
-    let bx = HexWord(regs.bx);
-    let cx = HexWord(regs.cx);
-    let dx = HexWord(regs.dx);
-    let sp = HexWord(regs.sp);
-    let bp = HexWord(regs.bp);
-    let si = HexWord(regs.si);
-    let di = HexWord(regs.di);
-    format!(in alloc; "AX={ax} BX={bx} CX={cx} DX={dx} SP={sp} BP={bp} SI={si} DI={di}\n")
-}
-
-#[tactic(auto, unfolding(crate::specs::Text::segment_line))]
-fn segment_line(alloc: Global, regs: &Regs) -> Result<String, AllocError>
-    ensures { IfOk result (λ text. string_bytes text ≡ segment_line regs.now) }
-{
-    let cs = HexWord(regs.cs);
-    let ds = HexWord(regs.ds);
-    let es = HexWord(regs.es);
-    let ss = HexWord(regs.ss);
-    let ip = HexWord(regs.ip);
-    let fl = HexWord(regs.flags.word());
-    format!(in alloc; "CS={cs} DS={ds} ES={es} SS={ss} IP={ip} FL={fl}\n")
-}
-
-/// The two lines of the registers.
-#[tactic(auto, unfolding(crate::specs::Text::register_lines))]
-pub fn register_lines(alloc: Global, regs: &Regs) -> Result<String, AllocError>
-    ensures { IfOk result (λ text. string_bytes text ≡ register_lines regs.now) }
-{
-    let mut text = general_line(alloc, regs)?;
-    let segments = segment_line(alloc, regs)?;
-    text.push_str(segments.as_str())?;
-    Ok(text)
-}
-
-#[tactic(auto, unfolding(crate::specs::Text::clock_line))]
-fn clock_line(alloc: Global, clock: u64) -> Result<String, AllocError>
-    ensures { IfOk result (λ text. string_bytes text ≡ clock_line clock) }
-{
-    format!(in alloc; "clock {clock}\n")
-}
-
-fn state_name(state: State) -> &'static str
-    ensures { result.now ≡ state_name state }
-{
-    match state {
-        State::Running => "running",
-        State::Halted => "halted",
-        State::Jammed => "jammed",
-    }
-}
-
-#[tactic(auto, unfolding(crate::specs::Text::state_lines))]
-fn state_lines(alloc: Global, state: State, lost: u64, changes: usize) -> Result<String, AllocError>
-    ensures { IfOk result (λ text. string_bytes text ≡ state_lines state lost changes) }
-{
-    let name = state_name(state);
-    format!(in alloc; "state {name}\nlost {lost}\nsound {changes}\n")
-}
-
-#[tactic(auto, unfolding(crate::specs::Text::change_line))]
-fn change_line(alloc: Global, change: SpeakerChange) -> Result<String, AllocError>
-    ensures { IfOk result (λ text. string_bytes text ≡ change_line change) }
-{
-    let clock = change.clock.get();
-    let level: u8 = if change.level.is_high() { 1 } else { 0 };
-    format!(in alloc; "{clock} {level}\n")
-}
-
-fn push_changes(
-    alloc: Global,
-    text: &mut String,
-    changes: &[SpeakerChange],
-) -> Result<(), AllocError>
-    ensures { OnOk result (string_bytes text.new ≡ string_bytes text.old ++ flat_map change_line changes.now) }
-{
-    for change in changes {
-        let line = change_line(alloc, *change)?;
-        text.push_str(line.as_str())?;
-    }
-    Ok(())
-}
-
 /// The report of a board.
-#[tactic(auto, unfolding(crate::specs::Text::report_text))]
+#[tactic(auto, unfolding(board_lines::specs::Text::report_text))]
 pub fn report_text(alloc: Global, board: &Board) -> Result<String, AllocError>
     ensures { IfOk result (λ text. string_bytes text ≡ report_text board.now.plain board.now.changes) }
 {

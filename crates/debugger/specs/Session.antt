@@ -9,7 +9,7 @@ use Rattle.board_plain.specs.Stops.{IsStopOf, NoStop, run_length}
 use Rattle.board_plain.specs.declared.stop.Condition.{Condition}
 use Rattle.board_plain.specs.declared.stop.Condition.TheVariants as conditions
 use Rattle.board_plain.specs.declared.stop.Stop.{Stop as StopType}
-use Rattle.board_report.specs.Text.{register_lines}
+use Rattle.board_lines.specs.Text.{register_lines}
 use Rattle.debugger.specs.declared.answer.Answer.{Answer}
 use Rattle.debugger.specs.declared.answer.Answer.TheVariants.{Stop, Clock, StopAt, Text}
 use Rattle.debugger.specs.declared.command.Command.{Command}

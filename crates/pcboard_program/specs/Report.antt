@@ -9,7 +9,7 @@ use Rattle.board_plain.specs.Plain.{Plain, board_after, byte_of, changes_in, clo
 use Rattle.assembler.specs.Gives.{Gives}
 use Rattle.loader.specs.declared.run_file.RunFile.{RunFile}
 use Rattle.pcboard_program.specs.declared.report.Report.{Report}
-use Rattle.board_report.specs.Text.{report_text}
+use Rattle.board_lines.specs.Text.{report_text}
 
 -- how a run file fits out the board
 abbrev pub config_of : RunFile → Config

@@ -2,7 +2,7 @@
 ghost use Rattle.std.specs.Prelude.{◌≡◌, ◌+◌, ◌++◌, ◌≤◌, ◌^◌, ℕ, List, IfErr, IfOk, Ok, OnOk, string_bytes};
 ghost use Rattle.board_plain.specs.declared.fault.BoardFault.TheVariants.{Memory};
 ghost use Rattle.board_plain.specs.Plain.{after_clocks, changes_in, clock_of};
-ghost use Rattle.board_report.specs.Text.{report_text};
+ghost use Rattle.board_lines.specs.Text.{report_text};
 ghost use Rattle.assembler.specs.Gives.{Gives};
 ghost use Rattle.loader.specs.declared.run_file.RunFile.{RunFile};
 ghost use Rattle.loader.specs.RunFile.{Answers, run_of_text};

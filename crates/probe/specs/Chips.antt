@@ -6,7 +6,7 @@ use Rattle.std.specs.Prelude.{ℕ, List, ◌++◌, codes, is_some}
 use Rattle.std.specs.Fmt.{decimal}
 use Rattle.std.specs.List.{flat_map}
 use Rattle.board_plain.specs.Plain.{Plain, registers_of, speaker_level, state_of}
-use Rattle.board_report.specs.Text.{state_name}
+use Rattle.board_lines.specs.Text.{state_name}
 use Rattle.board_types.specs.Digits.{hex_byte_text, hex_word}
 use Rattle.board_types.specs.declared.line.Line.{Line}
 use Rattle.debugger.specs.Dump.{spaced_byte}

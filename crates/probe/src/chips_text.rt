@@ -2,7 +2,7 @@
 ghost use Rattle.std.specs.Prelude.{◌≡◌, ◌++◌, IfOk, OnOk, codes};
 ghost use Rattle.std.specs.List.{flat_map};
 ghost use Rattle.std.specs.String.{string_bytes};
-ghost use Rattle.board_report.specs.Text.{state_name};
+ghost use Rattle.board_lines.specs.Text.{state_name};
 ghost use Rattle.debugger.specs.Dump.{spaced_byte};
 ghost use Rattle.ppi8255.specs.Image.{direction_by};
 ghost use Rattle.wiring.specs.Ports.{inputs_of};

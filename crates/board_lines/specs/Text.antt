@@ -1,7 +1,7 @@
 -- The report: the clock, the registers, the processor's state, lost key codes, the speaker's changes and the
 -- screen, as text.
 -- To be believed: the headline rests on it.
-use Rattle.std.specs.Prelude.{ℕ, if◌then◌else◌, List, [], ◌∷◌, ◌++◌, codes, length}
+use Rattle.std.specs.Prelude.{ℕ, if◌then◌else◌, List, ◌++◌, codes, length}
 use Rattle.std.specs.List.{flat_map}
 use Rattle.std.specs.Fmt.{decimal}
 use Rattle.board_types.specs.Digits.{hex_word}
