@@ -2,8 +2,8 @@
 use crate::tone::tone_board;
 use anyhow::{Context, Result, bail, ensure};
 use board::board::Board;
-use debugger::answer::Answer;
 use debugger::session::Session;
+use debugger_meaning::answer::Answer;
 use linked_list_allocator::LocalHeap;
 use std::alloc::{Allocator, Global};
 

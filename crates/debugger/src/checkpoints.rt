@@ -2,12 +2,12 @@
 ghost use Rattle.std.specs.Prelude.{◌≡◌, ◌+◌, ◌<◌, ◌≤◌, [], All, Contains, IfOk, IfSome, length, take, None};
 ghost use Rattle.std.specs.Result.{IfErr};
 ghost use Rattle.board_plain.specs.Plain.{clock_of};
-ghost use Rattle.debugger.specs.Kept.{AreKept};
-ghost use Rattle.debugger.specs.Stands.{shown_of};
+ghost use Rattle.debugger_meaning.specs.Kept.{AreKept};
+ghost use Rattle.debugger_meaning.specs.Stands.{shown_of};
 
-use crate::fault::DebugFault;
 use board::board::Board;
 use board_types::clock::Clock;
+use debugger_meaning::fault::DebugFault;
 use std::alloc::Allocator;
 use std::marker::Model;
 

@@ -7,21 +7,18 @@ ghost use Rattle.board_plain.specs.Lasts.{HeldLast};
 ghost use Rattle.board_plain.specs.Plain.{clock_of, registers_of, screen_of};
 ghost use Rattle.board_plain.specs.Stops.{HasAddress};
 ghost use Rattle.board_plain.specs.declared.stop.Condition.TheVariants.{Free};
-ghost use Rattle.debugger.specs.declared.answer.Answer.TheVariants as answers;
+ghost use Rattle.debugger_meaning.specs.declared.answer.Answer.TheVariants as answers;
 ghost use Rattle.board_lines.specs.Text.{register_lines};
-ghost use Rattle.debugger.specs.Back.{GoesBack, GoesBackTo, RefusesBack, RefusesBackTo, tell_clock};
-ghost use Rattle.debugger.specs.Commands.{IsWithin, command_of};
-ghost use Rattle.debugger.specs.Dump.{dump_text};
-ghost use Rattle.debugger.specs.Kept.{FindsNone, LacksMemory, StandsNow};
-ghost use Rattle.debugger.specs.Session.{Answers, AnswersLine, AnswersStop, Goes, RefusesGo, RefusesRun, RefusesStep, Runs, Shows, Steps};
-ghost use Rattle.debugger.specs.Stands.{Stands, StandsAfter, gone, session_about, shown_of};
-ghost use Rattle.debugger.specs.TrailText.{entry_line};
+ghost use Rattle.debugger_meaning.specs.Back.{GoesBack, GoesBackTo, RefusesBack, RefusesBackTo, tell_clock};
+ghost use Rattle.debugger_meaning.specs.Commands.{IsWithin, command_of};
+ghost use Rattle.debugger_meaning.specs.Dump.{dump_text};
+ghost use Rattle.debugger_meaning.specs.Kept.{FindsNone, LacksMemory, StandsNow};
+ghost use Rattle.debugger_meaning.specs.Session.{Answers, AnswersLine, AnswersStop, Goes, RefusesGo, RefusesRun, RefusesStep, Runs, Shows, Steps};
+ghost use Rattle.debugger_meaning.specs.Stands.{Stands, StandsAfter, gone, session_about, shown_of};
+ghost use Rattle.debugger_meaning.specs.TrailText.{entry_line};
 
-use crate::answer::Answer;
 use crate::checkpoints::{Checkpoints, FAR, copy_of};
-use crate::command::{Command, read_command};
 use crate::dump::dump_text;
-use crate::fault::DebugFault;
 use crate::trail_text::trail_text;
 use board::board::Board;
 use board::one_turn::Begun;
@@ -29,6 +26,9 @@ use board_lines::lines::register_lines;
 use board_plain::fault::BoardFault;
 use board_plain::stop::{Condition, Stopped, Stops};
 use board_types::clock::Clock;
+use debugger_meaning::answer::Answer;
+use debugger_meaning::command::{Command, read_command};
+use debugger_meaning::fault::DebugFault;
 use std::alloc::{Allocator, Global};
 use std::marker::Model;
 use std::mem;
@@ -47,8 +47,8 @@ pub struct Session<A: Allocator = Global> {
 }
 
 impl<A: Allocator> Model for Session<A> {
-    ghost use Rattle.debugger.specs.Kept.{IsSession};
-    ghost use Rattle.debugger.specs.Stands.{SessionState, shown_of};
+    ghost use Rattle.debugger_meaning.specs.Kept.{IsSession};
+    ghost use Rattle.debugger_meaning.specs.Stands.{SessionState, shown_of};
 
     ghost Value = { SessionState };
 

@@ -4,11 +4,11 @@ use Rattle.std.specs.Prelude.{⊤}
 use Rattle.std.specs.Fmt.{digits}
 use Rattle.std.specs.Str.{chars, is_utf8}
 use lib.Utf8.{encode}
-use Rattle.debugger.specs.declared.command.Command.TheVariants.{Go}
-use Rattle.debugger.specs.declared.fault.DebugFault.TheVariants.{BadCommand, Memory}
-use Rattle.debugger.specs.Commands.{command_of, command_with, is_quit, plain_command}
-use Rattle.debugger.specs.Stands.{SessionState}
-use Rattle.debugger.specs.Words.{count_of, words_of}
+use Rattle.debugger_meaning.specs.declared.command.Command.TheVariants.{Go}
+use Rattle.debugger_meaning.specs.declared.fault.DebugFault.TheVariants.{BadCommand, Memory}
+use Rattle.debugger_meaning.specs.Commands.{command_of, command_with, is_quit, plain_command}
+use Rattle.debugger_meaning.specs.Stands.{SessionState}
+use Rattle.debugger_meaning.specs.Words.{count_of, words_of}
 use Rattle.pcboard_program.specs.Faults.{fault_text}
 use Rattle.pcboard_program.specs.Refusal.{want_of_board, want_of_file, want_of_run_file, want_of_session}
 use Rattle.pcboard_program.specs.Transcript.{Transcript, ends_session, input_lines, refusal_text, typed_command}

@@ -6,11 +6,11 @@ use Rattle.std.proofs.lemmas.Str.{IsUtf8-from_is_utf8, is_utf8-from_IsUtf8}
 use Rattle.std.specs.Str.{IsUtf8, is_utf8}
 use Rattle.std.specs.Io.KnownBytes.{Appends, Consumes, IsAtEnd}
 use Rattle.board_types.specs.TextLines.{onto_first}
-use Rattle.debugger.specs.declared.answer.Answer.{Answer}
-use Rattle.debugger.specs.declared.fault.DebugFault.{DebugFault}
-use Rattle.debugger.specs.Commands.{command_of, is_quit}
-use Rattle.debugger.specs.Session.{AnswersLine}
-use Rattle.debugger.specs.Stands.{SessionState}
+use Rattle.debugger_meaning.specs.declared.answer.Answer.{Answer}
+use Rattle.debugger_meaning.specs.declared.fault.DebugFault.{DebugFault}
+use Rattle.debugger_meaning.specs.Commands.{command_of, is_quit}
+use Rattle.debugger_meaning.specs.Session.{AnswersLine}
+use Rattle.debugger_meaning.specs.Stands.{SessionState}
 use Rattle.loader.specs.ByteInput.{CountsNone}
 use Rattle.pcboard_program.specs.declared.unanswered.Unanswered.{Unanswered}
 use Rattle.pcboard_program.specs.declared.unanswered.Unanswered.TheVariants.{Failed, Refused}

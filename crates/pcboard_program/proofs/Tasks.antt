@@ -6,7 +6,7 @@ use Rattle.board_plain.specs.Board.{BoardState}
 use Rattle.pcboard_program.specs.declared.unanswered.Unanswered.{Unanswered}
 use Rattle.pcboard_program.specs.declared.unanswered.Unanswered.TheVariants.{Failed, Refused}
 use Rattle.pcboard_program.specs.Answer.{AppendsA, IsBoardOf, IsReport, IsSession, run_text_of, source_of}
-use Rattle.debugger.specs.Stands.{session_about}
+use Rattle.debugger_meaning.specs.Stands.{session_about}
 use Rattle.pcboard_program.specs.Refusal.{BeginsSession, BeginsTranscript}
 use Rattle.pcboard_program.specs.Transcript.{input_lines, Transcript}
 use Rattle.pcboard_program.specs.Unanswered.{WhereRefused}

@@ -9,7 +9,7 @@ use Rattle.assembler.specs.Gives.{Gives}
 use Rattle.assembler.specs.FirstFault.{IsFirst}
 use Rattle.board_plain.specs.Board.{BoardState}
 use Rattle.board_plain.specs.Plain.{power_on}
-use Rattle.debugger.specs.Stands.{session_about}
+use Rattle.debugger_meaning.specs.Stands.{session_about}
 use Rattle.pcboard_words.specs.CommandLine.{Answers as AnswersWords}
 use Rattle.pcboard_words.specs.declared.task.Task.{Task}
 use Rattle.pcboard_words.specs.declared.task.Task.TheVariants as tasks

@@ -13,8 +13,8 @@ use Rattle.loader.specs.declared.run_fault.RunFault.TheVariants as runs
 use Rattle.board_plain.specs.declared.fault.BoardFault.TheVariants as boards
 use Rattle.board_plain.specs.declared.fault.BoardFault.{BoardFault}
 use Rattle.board_plain.specs.Board.{board_fault_number, board_fault_name}
-use Rattle.debugger.specs.Answers.{fault_number as debug_fault_number, fault_name as debug_fault_name}
-use Rattle.debugger.specs.declared.fault.DebugFault.TheVariants as sessions
+use Rattle.debugger_meaning.specs.Answers.{fault_number as debug_fault_number, fault_name as debug_fault_name}
+use Rattle.debugger_meaning.specs.declared.fault.DebugFault.TheVariants as sessions
 use Rattle.pcboard_program.specs.declared.fault.Fault.{Fault}
 use Rattle.pcboard_program.specs.declared.fault.Fault.TheVariants.{Source, Hex, Run, Board, Session}
 use Rattle.pcboard_program.specs.Report.{FitsBoard}

@@ -8,7 +8,7 @@ use Rattle.loader.specs.declared.hex_fault.HexFault.TheVariants as hexes
 use Rattle.loader.specs.declared.run_fault.RunFault.TheVariants as runs
 use Rattle.board_plain.specs.Board.{BoardState}
 use Rattle.board_plain.specs.declared.fault.BoardFault.TheVariants as boards
-use Rattle.debugger.specs.declared.fault.DebugFault.TheVariants as sessions
+use Rattle.debugger_meaning.specs.declared.fault.DebugFault.TheVariants as sessions
 use Rattle.pcboard_words.specs.CommandLine.{Answers as AnswersWords}
 use Rattle.pcboard_words.specs.declared.task.LineFault.{LineFault}
 use Rattle.pcboard_words.specs.declared.task.LineFault.TheVariants.{Usage, Memory}
@@ -17,7 +17,7 @@ use Rattle.pcboard_words.specs.declared.task.Task.TheVariants as tasks
 use Rattle.pcboard_program.specs.declared.fault.Fault.{Fault}
 use Rattle.pcboard_program.specs.declared.fault.Fault.TheVariants.{Source, Hex, Run, Board, Session}
 use Rattle.pcboard_program.specs.Faults.{fault_text}
-use Rattle.debugger.specs.Stands.{SessionState, session_about}
+use Rattle.debugger_meaning.specs.Stands.{SessionState, session_about}
 use Rattle.pcboard_program.specs.Answer.{AppendsA, IsBoardOf, IsTrueRefusal, run_text_of, source_of}
 use Rattle.pcboard_program.specs.Transcript.{Transcript, input_lines}
 

@@ -4,13 +4,13 @@ use Rattle.std.specs.Prelude.{ℕ, ◌≡◌, ◌==◌, ◌&&◌, Bool, if◌the
 use Rattle.std.specs.Fmt.{decimal}
 use Rattle.std.specs.Str.{is_utf8}
 use Rattle.board_types.specs.TextLines.{onto_first}
-use Rattle.debugger.specs.declared.answer.Answer.{Answer}
-use Rattle.debugger.specs.declared.command.Command.{Command}
-use Rattle.debugger.specs.declared.fault.DebugFault.{DebugFault}
-use Rattle.debugger.specs.Answers.{answer_text, fault_clock, fault_name, fault_number}
-use Rattle.debugger.specs.Commands.{command_of, is_quit}
-use Rattle.debugger.specs.Session.{AnswersLine}
-use Rattle.debugger.specs.Stands.{SessionState}
+use Rattle.debugger_meaning.specs.declared.answer.Answer.{Answer}
+use Rattle.debugger_meaning.specs.declared.command.Command.{Command}
+use Rattle.debugger_meaning.specs.declared.fault.DebugFault.{DebugFault}
+use Rattle.debugger_meaning.specs.Answers.{answer_text, fault_clock, fault_name, fault_number}
+use Rattle.debugger_meaning.specs.Commands.{command_of, is_quit}
+use Rattle.debugger_meaning.specs.Session.{AnswersLine}
+use Rattle.debugger_meaning.specs.Stands.{SessionState}
 
 -- The lines of an input. A line feed ends a line and isn't part of it; what follows the last line feed is a line only
 -- where it isn't empty.

@@ -2,8 +2,8 @@
 ghost use Rattle.std.specs.Prelude.{◌≡◌, ◌⊎◌, option_map, IfErr, IfOk, IfSome, OnOk, vec_items};
 ghost use Rattle.std.specs.Io.KnownBytes.{Appends};
 ghost use Rattle.loader.specs.ByteInput.{CountsNone};
-ghost use Rattle.debugger.specs.Session.{AnswersLine};
-ghost use Rattle.debugger.specs.Stands.{session_about};
+ghost use Rattle.debugger_meaning.specs.Session.{AnswersLine};
+ghost use Rattle.debugger_meaning.specs.Stands.{session_about};
 ghost use Rattle.pcboard_program.specs.Answer.{AppendsA};
 ghost use Rattle.pcboard_program.specs.Refusal.{BeginsTranscript, want_of_board, want_of_session};
 ghost use Rattle.pcboard_program.specs.Taking.{TakesLine};
@@ -13,10 +13,10 @@ ghost use Rattle.pcboard_program.specs.Unanswered.{IsUnjudged, UnlessFailed, Whe
 use crate::input::next_byte;
 use crate::unanswered::Unanswered;
 use board::board::Board;
-use debugger::answer::Answer;
-use debugger::command::is_quit;
-use debugger::fault::DebugFault;
 use debugger::session::Session;
+use debugger_meaning::answer::Answer;
+use debugger_meaning::command::is_quit;
+use debugger_meaning::fault::DebugFault;
 use loader::byte_input::ByteInput;
 use std::alloc::Global;
 use std::io;

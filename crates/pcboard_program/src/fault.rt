@@ -8,7 +8,7 @@ ghost use Rattle.pcboard_program.specs.Faults.{fault_text, line_of, name_of, num
 
 use assembler::fault::AsmFault;
 use board_plain::fault::BoardFault;
-use debugger::fault::DebugFault;
+use debugger_meaning::fault::DebugFault;
 use loader::hex_fault::HexFault;
 use loader::run_fault::RunFault;
 use std::alloc::AllocError;

@@ -7,7 +7,7 @@ ghost use Rattle.pcboard_program.specs.declared.unanswered.Unanswered.TheVariant
 use crate::fault::Fault;
 use assembler::fault::AsmFault;
 use board_plain::fault::BoardFault;
-use debugger::fault::DebugFault;
+use debugger_meaning::fault::DebugFault;
 use loader::byte_input;
 use std::alloc::AllocFailed;
 use std::io;

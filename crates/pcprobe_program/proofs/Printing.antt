@@ -7,10 +7,10 @@ use Rattle.std.proofs.lemmas.Str.{IsUtf8-from_is_utf8, is_utf8-from_IsUtf8}
 use Rattle.std.specs.Str.{IsUtf8, is_utf8}
 use Rattle.std.specs.Io.KnownBytes.{Appends}
 use Rattle.board_plain.specs.Board.{BoardState}
-use Rattle.debugger.specs.declared.answer.Answer.{Answer}
-use Rattle.debugger.specs.declared.fault.DebugFault.{DebugFault}
-use Rattle.debugger.specs.declared.fault.DebugFault.TheVariants.{BadCommand}
-use Rattle.debugger.specs.Stands.{SessionState, session_about}
+use Rattle.debugger_meaning.specs.declared.answer.Answer.{Answer}
+use Rattle.debugger_meaning.specs.declared.fault.DebugFault.{DebugFault}
+use Rattle.debugger_meaning.specs.declared.fault.DebugFault.TheVariants.{BadCommand}
+use Rattle.debugger_meaning.specs.Stands.{SessionState, session_about}
 use Rattle.probe.specs.Session.{AnswersProbe}
 use Rattle.pcboard_program.specs.declared.unanswered.Unanswered.{Unanswered}
 use Rattle.pcboard_program.specs.declared.unanswered.Unanswered.TheVariants.{Failed, Refused}

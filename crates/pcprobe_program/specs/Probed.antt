@@ -2,10 +2,10 @@
 -- To be believed by callers of this crate: the headline does not rest on it.
 use Rattle.std.specs.Prelude.{ℕ, ◌≡◌, ◌⊎◌, ◌++◌, Bool, List, [], ◌∷◌, Option, IfSome, Result, Ok, Err, MatchBool}
 use Rattle.std.specs.Str.{is_utf8}
-use Rattle.debugger.specs.declared.answer.Answer.{Answer}
-use Rattle.debugger.specs.declared.fault.DebugFault.{DebugFault}
-use Rattle.debugger.specs.declared.fault.DebugFault.TheVariants.{BadCommand}
-use Rattle.debugger.specs.Stands.{SessionState, session_about}
+use Rattle.debugger_meaning.specs.declared.answer.Answer.{Answer}
+use Rattle.debugger_meaning.specs.declared.fault.DebugFault.{DebugFault}
+use Rattle.debugger_meaning.specs.declared.fault.DebugFault.TheVariants.{BadCommand}
+use Rattle.debugger_meaning.specs.Stands.{SessionState, session_about}
 use Rattle.board_plain.specs.Board.{BoardState}
 use Rattle.pcboard_words.specs.ProbeLine.{AnswersProbe as AnswersWords}
 use Rattle.pcboard_words.specs.declared.task.LineFault.{LineFault}

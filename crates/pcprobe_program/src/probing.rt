@@ -1,7 +1,7 @@
 //! Commands and inquiries, answered line by line as they come.
 ghost use Rattle.std.specs.Prelude.{◌≡◌, ◌⊎◌, IfErr, IfSome, OnOk};
 ghost use Rattle.loader.specs.ByteInput.{CountsNone};
-ghost use Rattle.debugger.specs.Stands.{session_about};
+ghost use Rattle.debugger_meaning.specs.Stands.{session_about};
 ghost use Rattle.pcboard_program.specs.Answer.{AppendsA};
 ghost use Rattle.pcboard_program.specs.Refusal.{want_of_board, want_of_session};
 ghost use Rattle.pcboard_program.specs.Transcript.{input_lines};
@@ -9,9 +9,9 @@ ghost use Rattle.pcboard_program.specs.Unanswered.{IsUnjudged, UnlessFailed, Whe
 ghost use Rattle.pcprobe_program.specs.Probed.{AnswersTyped, BeginsTranscript, Transcript};
 
 use board::board::Board;
-use debugger::answer::Answer;
-use debugger::fault::DebugFault;
 use debugger::session::Session;
+use debugger_meaning::answer::Answer;
+use debugger_meaning::fault::DebugFault;
 use loader::byte_input::ByteInput;
 use pcboard_program::debugging::{ends_session, next_line, print_reply};
 use pcboard_program::unanswered::Unanswered;

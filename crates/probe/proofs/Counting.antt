@@ -11,9 +11,9 @@ use Rattle.board_plain.specs.Board.{Ran}
 use Rattle.board_plain.specs.Plain.{Plain, after_clock, after_clocks, clock_of}
 use Rattle.board_plain.specs.Trail.{trail_in, trail_next}
 use Rattle.board_types.proofs.Iterate.{gathered_add, gathered_zero}
-use Rattle.debugger.specs.declared.fault.DebugFault.{DebugFault}
-use Rattle.debugger.specs.declared.fault.DebugFault.TheVariants.{Memory}
-use Rattle.debugger.specs.Stands.{SessionState}
+use Rattle.debugger_meaning.specs.declared.fault.DebugFault.{DebugFault}
+use Rattle.debugger_meaning.specs.declared.fault.DebugFault.TheVariants.{Memory}
+use Rattle.debugger_meaning.specs.Stands.{SessionState}
 use Rattle.probe.specs.declared.counts.Counts.{Counts}
 use Rattle.probe.specs.Counted.{IsCounted}
 use Rattle.probe.specs.Counts.{counts_of, counts_text}

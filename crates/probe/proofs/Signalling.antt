@@ -9,7 +9,7 @@ use Rattle.board_plain.specs.Plain.{Plain, after_clock, after_clocks, clock_of}
 use Rattle.board_types.proofs.Iterate.{gathered_add, gathered_more, gathered_zero, iterate_add, iterate_more, iterate_zero}
 use Rattle.board_types.specs.Iterate.{gathered, iterate}
 use Rattle.board_types.specs.Lines.{is_high}
-use Rattle.debugger.specs.Stands.{SessionState}
+use Rattle.debugger_meaning.specs.Stands.{SessionState}
 use Rattle.pic8259.specs.Levels.{contains}
 use Rattle.pic8259.specs.Pic.{is_requesting}
 use Rattle.std.specs.Prelude.{Option}

@@ -9,7 +9,7 @@ use Rattle.board_plain.specs.Plain.{Plain, registers_of, speaker_level, state_of
 use Rattle.board_lines.specs.Text.{state_name}
 use Rattle.board_types.specs.Digits.{hex_byte_text, hex_word}
 use Rattle.board_types.specs.declared.line.Line.{Line}
-use Rattle.debugger.specs.Dump.{spaced_byte}
+use Rattle.debugger_meaning.specs.Dump.{spaced_byte}
 use Rattle.execute_meaning.specs.declared.shadow.Shadow.{Shadow}
 use Rattle.execute_meaning.specs.declared.shadow.Shadow.TheVariants.{Nothing, Requests, Interrupts}
 use Rattle.keyboard.specs.Keyboard.{KeyboardState}

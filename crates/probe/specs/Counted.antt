@@ -4,7 +4,7 @@ use Rattle.std.specs.Prelude.{ℕ, ◌≡◌, ◌≤◌, IfSome}
 use Rattle.board.specs.OneTurn.{begun_in}
 use Rattle.board_plain.specs.Board.{Ran}
 use Rattle.board_plain.specs.Plain.{clock_of}
-use Rattle.debugger.specs.Stands.{SessionState}
+use Rattle.debugger_meaning.specs.Stands.{SessionState}
 use Rattle.probe.specs.declared.counts.Counts.{Counts}
 use Rattle.probe.specs.Tallied.{HasNoted, IsBefore}
 

@@ -2,10 +2,10 @@
 -- To be believed by callers of this crate: the headline does not rest on it.
 use Rattle.std.specs.Prelude.{ℕ, ◌/◌, ◌*◌, ◌%◌, ◌&&◌, nat_le, if◌then◌else◌, List, [], ◌∷◌, codes, position, Option, None, Some, is_some}
 use Rattle.std.specs.Str.{bytes_eq}
-use Rattle.debugger.specs.declared.command.Command.{Command}
-use Rattle.debugger.specs.declared.command.Command.TheVariants.{Break}
-use Rattle.debugger.specs.Commands.{break_command, is_colon}
-use Rattle.debugger.specs.Words.{count_of, hex_number, words_of}
+use Rattle.debugger_meaning.specs.declared.command.Command.{Command}
+use Rattle.debugger_meaning.specs.declared.command.Command.TheVariants.{Break}
+use Rattle.debugger_meaning.specs.Commands.{break_command, is_colon}
+use Rattle.debugger_meaning.specs.Words.{count_of, hex_number, words_of}
 use Rattle.probe.specs.declared.inquiry.Inquiry.{Inquiry}
 use Rattle.probe.specs.declared.inquiry.Inquiry.TheVariants.{Chips, List as Listing, Counts, Signals}
 use Rattle.probe.specs.declared.inquiry.Place.{Place}

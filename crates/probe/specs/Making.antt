@@ -3,11 +3,11 @@
 use Rattle.std.specs.Prelude.{ℕ, ◌≡◌, ◌+◌, ◌<◌, ◌≤◌, ◌^◌, List, None, Some, Result, MatchResult}
 use Rattle.board_plain.specs.Board.{Ran}
 use Rattle.board_plain.specs.Plain.{clock_of}
-use Rattle.debugger.specs.declared.answer.Answer.{Answer}
-use Rattle.debugger.specs.declared.fault.DebugFault.{DebugFault}
-use Rattle.debugger.specs.declared.fault.DebugFault.TheVariants.{ClockLimit, BadCommand, TooManyStops, Memory, BeforeStart}
-use Rattle.debugger.specs.Session.{IsText}
-use Rattle.debugger.specs.Stands.{SessionState, shown_of, StandsAt}
+use Rattle.debugger_meaning.specs.declared.answer.Answer.{Answer}
+use Rattle.debugger_meaning.specs.declared.fault.DebugFault.{DebugFault}
+use Rattle.debugger_meaning.specs.declared.fault.DebugFault.TheVariants.{ClockLimit, BadCommand, TooManyStops, Memory, BeforeStart}
+use Rattle.debugger_meaning.specs.Session.{IsText}
+use Rattle.debugger_meaning.specs.Stands.{SessionState, shown_of, StandsAt}
 
 -- n clocks are made, and the text is shown; the stops stay
 pub record Makes (n : ℕ) (text : List ℕ) (old new : SessionState) (answer : Answer) : Type 0 where

@@ -1,11 +1,11 @@
 -- How a session answers inquiries, beside the debugger's commands.
 -- To be believed by callers of this crate: the headline does not rest on it.
 use Rattle.std.specs.Prelude.{ℕ, ◌≡◌, List, Option, None, Some, Result}
-use Rattle.debugger.specs.declared.answer.Answer.{Answer}
-use Rattle.debugger.specs.declared.fault.DebugFault.{DebugFault}
-use Rattle.debugger.specs.Commands.{command_of}
-use Rattle.debugger.specs.Session.{AnswersLine, Shows}
-use Rattle.debugger.specs.Stands.{SessionState}
+use Rattle.debugger_meaning.specs.declared.answer.Answer.{Answer}
+use Rattle.debugger_meaning.specs.declared.fault.DebugFault.{DebugFault}
+use Rattle.debugger_meaning.specs.Commands.{command_of}
+use Rattle.debugger_meaning.specs.Session.{AnswersLine, Shows}
+use Rattle.debugger_meaning.specs.Stands.{SessionState}
 use Rattle.probe.specs.declared.inquiry.Inquiry.{Inquiry}
 use Rattle.probe.specs.declared.inquiry.Inquiry.TheVariants.{Chips, List as Listing, Counts, Signals}
 use Rattle.probe.specs.Chips.{chips_text}

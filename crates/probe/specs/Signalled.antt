@@ -4,7 +4,7 @@ use Rattle.std.specs.Prelude.{ℕ, ◌≡◌, ◌≤◌, List}
 use Rattle.board_plain.specs.Board.{Ran}
 use Rattle.board_plain.specs.Plain.{after_clock, clock_of}
 use Rattle.board_types.specs.Iterate.{gathered}
-use Rattle.debugger.specs.Stands.{SessionState}
+use Rattle.debugger_meaning.specs.Stands.{SessionState}
 use Rattle.probe.specs.declared.signals.Levels.{Levels}
 use Rattle.probe.specs.Signals.{changes_next, levels_of}
 

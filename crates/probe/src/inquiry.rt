@@ -1,10 +1,10 @@
 //! Inquiries, and the reading of a line as one.
 ghost use Rattle.std.specs.Prelude.{◌≡◌};
-ghost use Rattle.debugger.specs.Words.{count_of};
+ghost use Rattle.debugger_meaning.specs.Words.{count_of};
 ghost use Rattle.probe.specs.Inquiry.{inquiry_of, list_of, place_of, run_inquiry};
 
-use debugger::command::{Command, break_command, colon_place};
-use debugger::word::{count_of, hex_number, next_word};
+use debugger_meaning::command::{Command, break_command, colon_place};
+use debugger_meaning::word::{count_of, hex_number, next_word};
 
 /// A place in memory.
 #[derive(Clone, Copy, Debug, PartialEq, Eq)]

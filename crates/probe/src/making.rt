@@ -2,8 +2,8 @@
 ghost use Rattle.std.specs.Prelude.{◌≡◌, Some};
 ghost use Rattle.board_plain.specs.Plain.{clock_of};
 
-use debugger::fault::DebugFault;
 use debugger::session::Session;
+use debugger_meaning::fault::DebugFault;
 
 /// There is no memory at the clock that was reached.
 pub(crate) fn lacking(session: &Session) -> DebugFault

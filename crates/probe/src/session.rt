@@ -3,16 +3,16 @@ ghost use Rattle.std.specs.Prelude.{◌≡◌};
 ghost use Rattle.probe.specs.Chips.{chips_text};
 ghost use Rattle.probe.specs.Listing.{list_text};
 ghost use Rattle.probe.specs.Session.{AnswersInquiry, AnswersProbe};
-ghost use Rattle.debugger.specs.Session.{Shows};
+ghost use Rattle.debugger_meaning.specs.Session.{Shows};
 
 use crate::chips_text::chips_text;
 use crate::counts::tell_counts;
 use crate::inquiry::{Inquiry, Place, read_inquiry};
 use crate::list_text::list_text;
 use crate::signals::tell_signals;
-use debugger::answer::Answer;
-use debugger::fault::DebugFault;
 use debugger::session::Session;
+use debugger_meaning::answer::Answer;
+use debugger_meaning::fault::DebugFault;
 use std::alloc::Global;
 
 /// Does what the line commands, and answers: an inquiry by itself, and any other line as the session does. `chips` and

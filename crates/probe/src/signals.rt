@@ -10,9 +10,9 @@ use crate::making::lacking;
 use crate::shown::digit;
 use board::board::Board;
 use board_types::clock::Clock;
-use debugger::answer::Answer;
-use debugger::fault::DebugFault;
 use debugger::session::Session;
+use debugger_meaning::answer::Answer;
+use debugger_meaning::fault::DebugFault;
 use pic8259::Pic;
 use std::alloc::{AllocError, Global};
 

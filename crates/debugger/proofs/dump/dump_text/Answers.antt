@@ -1,6 +1,6 @@
 use Rattle.std.proofs.Common.{◌+◌, ◌*◌, ap}
-use Rattle.debugger.specs.Dump.{dump_line, dump_line_at}
-use Rattle.debugger.proofs.Lines.{line_more, pushed_first}
+use Rattle.debugger_meaning.specs.Dump.{dump_line, dump_line_at}
+use Rattle.debugger_meaning.proofs.Lines.{line_more, pushed_first}
 use Rattle.debugger.proofs.dump.dump_text.Goals as goal
 
 pub loop-line-preserved : goal.loop-line-preserved

@@ -1,7 +1,7 @@
 use Rattle.std.proofs.Common.{◌+◌, ◌∙◌, ap, ℕ}
 use Rattle.board_plain.specs.Plain.{byte_of}
-use Rattle.debugger.specs.Dump.{spaced_byte}
-use Rattle.debugger.proofs.Lines.{byte_more, pushed}
+use Rattle.debugger_meaning.specs.Dump.{spaced_byte}
+use Rattle.debugger_meaning.proofs.Lines.{byte_more, pushed}
 use Rattle.debugger.proofs.dump.push_bytes.Goals as goal
 
 pub loop-passed-preserved : goal.loop-passed-preserved

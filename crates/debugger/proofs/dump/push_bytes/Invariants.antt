@@ -1,7 +1,7 @@
 use Rattle.std.proofs.Common.{◌≡◌, ◌++◌}
 use Rattle.std.specs.String.{string_bytes}
 use Rattle.std.specs.List.{flat_map}
-use Rattle.debugger.specs.Dump.{spaced_byte, bytes_from}
+use Rattle.debugger_meaning.specs.Dump.{spaced_byte, bytes_from}
 use Rattle.debugger.proofs.dump.push_bytes.Given as goal
 
 abbrev pub invariant-loop-passed : goal.invariant-loop-passed

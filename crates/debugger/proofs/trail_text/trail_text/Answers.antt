@@ -1,8 +1,8 @@
 use Rattle.std.proofs.Common.{◌≡◌, ◌≤◌, ◌∙◌, sym, length, arith, Some, None}
 use Rattle.std.specs.List.{slice_get}
 use Rattle.std.proofs.lemmas.Option.{slice_get_within}
-use Rattle.debugger.specs.TrailText.{entry_line}
-use Rattle.debugger.proofs.Lines.{entry_more, entries_all, pushed_first}
+use Rattle.debugger_meaning.specs.TrailText.{entry_line}
+use Rattle.debugger_meaning.proofs.Lines.{entry_more, entries_all, pushed_first}
 use Rattle.debugger.proofs.trail_text.trail_text.Goals as goal
 
 pub loop-entry-preserved : goal.loop-entry-preserved

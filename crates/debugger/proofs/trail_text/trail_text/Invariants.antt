@@ -1,7 +1,7 @@
 use Rattle.std.proofs.Common.{◌≡◌, ◌≤◌, ◌-◌, take, length}
 use Rattle.std.specs.String.{string_bytes}
 use Rattle.std.specs.List.{flat_map}
-use Rattle.debugger.specs.TrailText.{entry_line}
+use Rattle.debugger_meaning.specs.TrailText.{entry_line}
 use Rattle.debugger.proofs.trail_text.trail_text.Given as goal
 
 abbrev pub invariant-loop-entry : goal.invariant-loop-entry

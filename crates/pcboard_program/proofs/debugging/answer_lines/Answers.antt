@@ -1,5 +1,5 @@
 use Rattle.std.proofs.Common.{◌≡◌, ◌∙◌, false, true, ap, subst, sym, option_map, vec_items}
-use Rattle.debugger.specs.Session.{AnswersLine}
+use Rattle.debugger_meaning.specs.Session.{AnswersLine}
 use Rattle.pcboard_program.specs.Taking.{TakesLine}
 use Rattle.pcboard_program.specs.Transcript.{ends_session, typed_command}
 use Rattle.pcboard_program.proofs.Listed.{holds_none}

@@ -1,5 +1,5 @@
 use Rattle.std.proofs.Common.{◌∙◌, ap, sym}
-use Rattle.debugger.specs.Commands.{is_quit}
+use Rattle.debugger_meaning.specs.Commands.{is_quit}
 use Rattle.pcboard_program.proofs.Sessions.{ends_bytes, ends_text}
 use Rattle.pcboard_program.proofs.debugging.ends_session.Goals as goal
 

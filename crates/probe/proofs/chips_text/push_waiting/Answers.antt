@@ -2,8 +2,8 @@ use Rattle.std.proofs.Common.{◌≡◌, ◌≤◌, ◌∙◌, ◌++◌, List, �
 use Rattle.std.specs.List.{slice_get}
 use Rattle.std.specs.String.{string_bytes}
 use Rattle.std.proofs.lemmas.Option.{slice_get_within}
-use Rattle.debugger.specs.Dump.{spaced_byte}
-use Rattle.debugger.proofs.Lines.{entry_more, entries_all, pushed}
+use Rattle.debugger_meaning.specs.Dump.{spaced_byte}
+use Rattle.debugger_meaning.proofs.Lines.{entry_more, entries_all, pushed}
 use Rattle.probe.proofs.chips_text.push_waiting.Goals as goal
 
 pub loop-code-preserved : goal.loop-code-preserved

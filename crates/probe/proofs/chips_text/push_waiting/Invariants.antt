@@ -1,7 +1,7 @@
 use Rattle.std.proofs.Common.{◌≡◌, ◌≤◌, ◌-◌, ◌++◌, take, length}
 use Rattle.std.specs.String.{string_bytes}
 use Rattle.std.specs.List.{flat_map}
-use Rattle.debugger.specs.Dump.{spaced_byte}
+use Rattle.debugger_meaning.specs.Dump.{spaced_byte}
 use Rattle.probe.proofs.chips_text.push_waiting.Given as goal
 
 abbrev pub invariant-loop-code : goal.invariant-loop-code

@@ -5,7 +5,7 @@ use Rattle.board.specs.OneTurn.{begun_in}
 use Rattle.board_plain.proofs.Runs.{runs_join}
 use Rattle.board_plain.specs.Board.{BoardState, Ran}
 use Rattle.board_plain.specs.Plain.{clock_of}
-use Rattle.debugger.specs.Stands.{SessionState}
+use Rattle.debugger_meaning.specs.Stands.{SessionState}
 use Rattle.probe.specs.Counts.{counts_of}
 use Rattle.probe.proofs.Counting.{all_counted, ends_at, more_counted, none_counted, on_ok, stands_short, text_counted}
 use Rattle.probe.proofs.counts.tell_counts.Goals as goal

@@ -2,7 +2,7 @@ use Rattle.std.proofs.Common.{ℕ, ◌∙◌, ap}
 use Rattle.board_plain.specs.Plain.{byte_of}
 use Rattle.board_types.specs.Address.{offset_after, physical}
 use Rattle.board_types.specs.Digits.{hex_byte_text}
-use Rattle.debugger.proofs.Lines.{byte_more, pushed_first}
+use Rattle.debugger_meaning.proofs.Lines.{byte_more, pushed_first}
 use Rattle.probe.proofs.list_text.bytes_text.Goals as goal
 
 pub loop-passed-preserved : goal.loop-passed-preserved

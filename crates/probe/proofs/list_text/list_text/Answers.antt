@@ -1,6 +1,6 @@
 use Rattle.std.proofs.Common.{◌∙◌, ap, sym}
 use Rattle.board_types.proofs.Iterate.{gathered_more, gathered_zero, iterate_more, iterate_zero}
-use Rattle.debugger.proofs.Lines.{pushed_first}
+use Rattle.debugger_meaning.proofs.Lines.{pushed_first}
 use Rattle.probe.specs.Listing.{list_line, offset_listed_next}
 use Rattle.probe.proofs.list_text.list_text.Goals as goal
 

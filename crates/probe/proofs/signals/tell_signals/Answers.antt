@@ -6,7 +6,7 @@ use Rattle.std.specs.String.{string_bytes}
 use Rattle.board_plain.proofs.Runs.{runs_join}
 use Rattle.board_plain.specs.Board.{BoardState, Ran}
 use Rattle.board_plain.specs.Plain.{clock_of}
-use Rattle.debugger.specs.Stands.{SessionState}
+use Rattle.debugger_meaning.specs.Stands.{SessionState}
 use Rattle.probe.specs.Signals.{levels_of}
 use Rattle.probe.proofs.Counting.{ends_at, on_ok, stands_short}
 use Rattle.probe.proofs.Signalling.{all_signalled, more_signalled, none_signalled, text_signalled}

@@ -1,5 +1,5 @@
 use Rattle.std.proofs.Common.{◌∙◌}
-use Rattle.debugger.proofs.Keeping.{kept_less, kept_more}
+use Rattle.debugger_meaning.proofs.Keeping.{kept_less, kept_more}
 use Rattle.debugger.proofs.checkpoints.Checkpoints.keep.Goals as goal
 
 pub returns-then-len-gt-MOST : goal.returns-then-len-gt-MOST

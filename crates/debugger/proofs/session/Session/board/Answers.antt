@@ -1,6 +1,6 @@
 use Rattle.std.proofs.Common.{◌≤◌, length, subst}
-use Rattle.debugger.specs.Stands.{SessionState, shown_of}
-use Rattle.debugger.proofs.Standing.{few_of}
+use Rattle.debugger_meaning.specs.Stands.{SessionState, shown_of}
+use Rattle.debugger_meaning.proofs.Standing.{few_of}
 use Rattle.debugger.proofs.session.Session.board.Goals as goal
 
 pub returns-clause-few : goal.returns-clause-few

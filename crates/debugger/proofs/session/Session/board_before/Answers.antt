@@ -1,4 +1,4 @@
-use Rattle.debugger.proofs.Standing.{copied, first_stands, kept_stand}
+use Rattle.debugger_meaning.proofs.Standing.{copied, first_stands, kept_stand}
 use Rattle.debugger.proofs.session.Session.board_before.Goals as goal
 
 pub returns-in-Some-clause-stands : goal.returns-in-Some-clause-stands

@@ -1,7 +1,7 @@
 use Rattle.std.specs.Prelude.{All}
 use Rattle.std.proofs.Common.{subst}
 use Rattle.board_plain.specs.Stops.{HasAddress}
-use Rattle.debugger.specs.Stands.{SessionState, Stands}
+use Rattle.debugger_meaning.specs.Stands.{SessionState, Stands}
 use Rattle.debugger.proofs.session.Session.clock.Goals as goal
 
 pub returns-clause-addresses : goal.returns-clause-addresses

@@ -1,6 +1,6 @@
 use Rattle.std.proofs.Common.{◌≤◌, subst, arith}
 use Rattle.board_plain.specs.Plain.{clock_of}
-use Rattle.debugger.specs.Stands.{SessionState}
+use Rattle.debugger_meaning.specs.Stands.{SessionState}
 use Rattle.debugger.proofs.session.Session.first_clock.Goals as goal
 
 pub returns-clause-earlier : goal.returns-clause-earlier

@@ -1,9 +1,9 @@
 use Rattle.std.proofs.Common.{ℕ, ◌≤◌, None, Some, refl, ap, subst, arith}
 use Rattle.std.proofs.lemmas.Result.{err_from_is_err_and}
-use Rattle.debugger.specs.declared.answer.Answer.TheVariants.{Clock}
-use Rattle.debugger.specs.Session.{Runs}
-use Rattle.debugger.proofs.Pieces.{OnePiece, Went, goes_to_end, goes_to_stop, refuses_go, went_none, went_on}
-use Rattle.debugger.proofs.Standing.{few_of}
+use Rattle.debugger_meaning.specs.declared.answer.Answer.TheVariants.{Clock}
+use Rattle.debugger_meaning.specs.Session.{Runs}
+use Rattle.debugger_meaning.proofs.Pieces.{OnePiece, Went, goes_to_end, goes_to_stop, refuses_go, went_none, went_on}
+use Rattle.debugger_meaning.proofs.Standing.{few_of}
 use Rattle.debugger.proofs.session.Session.go.Goals as goal
 
 pub pieces-init : goal.pieces-init

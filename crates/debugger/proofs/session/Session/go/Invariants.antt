@@ -1,4 +1,4 @@
-use Rattle.debugger.proofs.Pieces.{Went}
+use Rattle.debugger_meaning.proofs.Pieces.{Went}
 use Rattle.debugger.proofs.session.Session.go.Given as goal
 
 abbrev pub invariant-pieces : goal.invariant-pieces

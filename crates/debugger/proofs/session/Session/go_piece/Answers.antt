@@ -1,4 +1,4 @@
-use Rattle.debugger.proofs.Standing.{after_refusal, after_run}
+use Rattle.debugger_meaning.proofs.Standing.{after_refusal, after_run}
 use Rattle.debugger.proofs.session.Session.go_piece.Goals as goal
 
 pub invariant_of-self : goal.invariant_of-self

@@ -1,8 +1,8 @@
 use Rattle.std.proofs.Common.{◌≡◌, ℕ, ◌+◌, ◌-◌, subst, arith}
 use Rattle.board_plain.specs.Lasts.{HeldLast, IsLastOf, NoneHeld}
 use Rattle.board_plain.specs.Plain.{clock_of}
-use Rattle.debugger.specs.Stands.{gone}
-use Rattle.debugger.proofs.Behind.{Searched, found_behind, searched_more}
+use Rattle.debugger_meaning.specs.Stands.{gone}
+use Rattle.debugger_meaning.proofs.Behind.{Searched, found_behind, searched_more}
 use Rattle.debugger.proofs.session.Session.last_held.Goals as goal
 
 pub returns-in-Ok-Some : goal.returns-in-Ok-Some

@@ -1,4 +1,4 @@
-use Rattle.debugger.proofs.Standing.{after_keeping, after_turn}
+use Rattle.debugger_meaning.proofs.Standing.{after_keeping, after_turn}
 use Rattle.debugger.proofs.session.Session.run_turn.Goals as goal
 
 pub invariant_of-self : goal.invariant_of-self

@@ -1,8 +1,8 @@
 use Rattle.std.proofs.Common.{◌-◌, sym, ap, subst, arith}
 use Rattle.board_plain.specs.Board.{BoardState, Ran}
-use Rattle.debugger.specs.Kept.{IsSession, StandsNow}
-use Rattle.debugger.specs.Stands.{SessionState, shown_of}
-use Rattle.debugger.proofs.Standing.{at_board, at_clock, stands_from}
+use Rattle.debugger_meaning.specs.Kept.{IsSession, StandsNow}
+use Rattle.debugger_meaning.specs.Stands.{SessionState, shown_of}
+use Rattle.debugger_meaning.proofs.Standing.{at_board, at_clock, stands_from}
 use Rattle.debugger.proofs.session.Session.stand_at.Goals as goal
 
 pub invariant_of-self : goal.invariant_of-self

@@ -1,6 +1,6 @@
 use Rattle.std.proofs.Common.{sym}
-use Rattle.debugger.specs.Stands.{shown_of}
-use Rattle.debugger.proofs.Standing.{new_session, stands_none}
+use Rattle.debugger_meaning.specs.Stands.{shown_of}
+use Rattle.debugger_meaning.proofs.Standing.{new_session, stands_none}
 use Rattle.debugger.proofs.session.Session.with_checkpoints_in.Goals as goal
 
 pub invariant_of-result : goal.invariant_of-result

@@ -1,5 +1,0 @@
-use Rattle.debugger.proofs.SpelledCommands.{commands_said}
-use Rattle.debugger.proofs.laws.commands_are_said.Goals as goal
-
-pub returns : goal.returns
-returns c = commands_said

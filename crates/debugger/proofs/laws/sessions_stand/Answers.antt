@@ -1,5 +1,0 @@
-use Rattle.debugger.proofs.Walking.{sessions_stand}
-use Rattle.debugger.proofs.laws.sessions_stand.Goals as goal
-
-pub returns : goal.returns
-returns c = sessions_stand

@@ -1,5 +1,0 @@
-use Rattle.debugger.proofs.Parting.{words_are}
-use Rattle.debugger.proofs.laws.words_are_read.Goals as goal
-
-pub returns : goal.returns
-returns c = words_are

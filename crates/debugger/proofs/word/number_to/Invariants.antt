@@ -1,7 +1,0 @@
-use Rattle.std.proofs.Common.{◌≡◌, ◌≤◌, ◌-◌, ◌^◌, drop}
-use Rattle.board_types.specs.Digits.{spelled}
-use Rattle.debugger.specs.Words.{at_most_greatest}
-use Rattle.debugger.proofs.word.number_to.Given as goal
-
-abbrev pub invariant-loop-byte : goal.invariant-loop-byte
-invariant-loop-byte l = record { rest : at_most_greatest (spelled l.base l.number (drop l.byte-index l.digits)) ≡ at_most_greatest (spelled l.base 0 l.digits); small : l.number ≤ 2 ^ 64 - 1 }

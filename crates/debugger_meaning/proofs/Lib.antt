@@ -1,0 +1,13 @@
+mod Scanning
+mod Counting
+pub mod Lines
+mod Spelling
+mod Reading
+mod Parting
+mod SpelledCommands
+pub mod Keeping
+pub mod Standing
+pub mod Pieces
+pub mod Behind
+pub mod Returning
+mod Walking

@@ -1,0 +1,37 @@
+//! What a command is answered.
+ghost use Rattle.std.specs.Prelude.{Some};
+ghost use Rattle.debugger_meaning.specs.Answers.{answer_text};
+
+use board_types::clock::Clock;
+use std::fmt;
+
+/// An answer. Shown as text it is one or more whole lines, or none where a text is empty.
+#[derive(Drop)]
+pub enum Answer {
+    /// The number of the stop that was added.
+    Stop(usize),
+    /// The clock that was reached.
+    Clock(Clock),
+    /// The number of the stop that held, and the clock.
+    StopAt(usize, Clock),
+    Text(String),
+}
+
+impl fmt::Display for Answer {
+    ghost output = { λ answer. Some (answer_text answer) };
+
+    fn fmt<W: fmt::Write>(&self, f: &mut fmt::Formatter<W>) -> fmt::Result {
+        match self {
+            Answer::Stop(number) => writeln!(f, "stop {number}"),
+            Answer::Clock(clock) => {
+                let clock = clock.get();
+                writeln!(f, "clock {clock}")
+            }
+            Answer::StopAt(number, clock) => {
+                let clock = clock.get();
+                writeln!(f, "stop {number} clock {clock}")
+            }
+            Answer::Text(text) => write!(f, "{text}"),
+        }
+    }
+}

@@ -1,0 +1,40 @@
+//! Addresses and bytes of memory as text.
+ghost use Rattle.std.specs.Prelude.{◌≡◌, ◌++◌, IfOk, OnOk, Some, codes};
+ghost use Rattle.std.specs.String.{string_bytes};
+ghost use Rattle.debugger_meaning.specs.Dump.{address_text, spaced_byte};
+
+use board_types::digits::HexWord;
+use std::alloc::{AllocError, Global};
+use std::fmt;
+
+/// A physical address, below 100000h, in five hexadecimal digits.
+#[derive(Clone, Copy)]
+struct Address(u32);
+
+impl fmt::Display for Address {
+    ghost output = { λ a. Some (address_text a.0) };
+
+    #[tactic(auto, using(std::proofs::lemmas::Fmt::hex_one_digit))]
+    fn fmt<W: fmt::Write>(&self, f: &mut fmt::Formatter<W>) -> fmt::Result {
+        let bank = (self.0 / 65536 % 16) as u8;
+        let rest = HexWord((self.0 % 65536) as u16);
+        write!(f, "{bank:X}{rest}")
+    }
+}
+
+/// An address and a colon, behind a text.
+pub fn push_address(alloc: Global, text: &mut String, address: u32) -> Result<(), AllocError>
+    ensures { OnOk result (string_bytes text.new ≡ string_bytes text.old ++ (address_text address ++ codes ":")) }
+{
+    let address = Address(address);
+    let shown = format!(in alloc; "{address}:")?;
+    text.push_str(shown.as_str())
+}
+
+/// A byte with a blank before it.
+#[tactic(auto, using(std::proofs::lemmas::Fmt::hex_byte))]
+pub fn spaced_byte(alloc: Global, byte: u8) -> Result<String, AllocError>
+    ensures { IfOk result (λ text. string_bytes text ≡ spaced_byte byte) }
+{
+    format!(in alloc; " {byte:02X}")
+}

@@ -1,0 +1,75 @@
+//! Why a command is refused.
+ghost use Rattle.std.specs.Prelude.{◌≡◌, None};
+ghost use Rattle.debugger_meaning.specs.declared.fault.DebugFault.TheVariants.{Memory};
+ghost use Rattle.debugger_meaning.specs.Answers.{fault_clock, fault_name, fault_number};
+
+use board_types::clock::Clock;
+use std::alloc::AllocError;
+use thiserror::Error;
+
+/// Why a session refuses a command.
+#[derive(Clone, Copy, Debug, PartialEq, Eq, Drop, Error)]
+pub enum DebugFault {
+    #[error("the board can't go past clock 2^40")]
+    ClockLimit,
+    #[error("no such command, or not with these words")]
+    BadCommand,
+    #[error("there are sixteen stops already")]
+    TooManyStops,
+    /// There is no memory: for a text, for a copy of the board, or for the changes of the speaker's level in a run, which
+    /// then has gone up to this clock.
+    #[error("out of memory")]
+    Memory(Option<Clock>),
+    #[error("no such clock since the session's first")]
+    BeforeStart,
+}
+
+/// There is no memory for a text.
+impl From<AllocError> for DebugFault {
+    ghost from_gives = { λ _ fault. fault ≡ Memory None };
+
+    fn from(_error: AllocError) -> DebugFault {
+        DebugFault::Memory(None)
+    }
+}
+
+impl DebugFault {
+    /// The fault's number.
+    pub fn number(self) -> u8
+        ensures { result ≡ fault_number self }
+    {
+        match self {
+            DebugFault::ClockLimit => 42,
+            DebugFault::BadCommand => 51,
+            DebugFault::TooManyStops => 52,
+            DebugFault::Memory(_) => 53,
+            DebugFault::BeforeStart => 54,
+        }
+    }
+
+    /// The fault's name, as it is printed.
+    pub fn name(self) -> &'static str
+        ensures { result.now ≡ fault_name self }
+    {
+        match self {
+            DebugFault::ClockLimit => "ClockLimit",
+            DebugFault::BadCommand => "BadCommand",
+            DebugFault::TooManyStops => "TooManyStops",
+            DebugFault::Memory(_) => "Memory",
+            DebugFault::BeforeStart => "BeforeStart",
+        }
+    }
+
+    /// The clock at which a run that found no memory has stopped.
+    pub fn clock(self) -> Option<Clock>
+        ensures { result ≡ fault_clock self }
+    {
+        match self {
+            DebugFault::Memory(clock) => clock,
+            DebugFault::ClockLimit
+            | DebugFault::BadCommand
+            | DebugFault::TooManyStops
+            | DebugFault::BeforeStart => None,
+        }
+    }
+}
