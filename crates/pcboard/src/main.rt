@@ -1,8 +1,9 @@
 //! The program `pcboard`, on the files and streams of the system.
 #![tactic(auto)]
 
-use pcboard_program::opener::Opener;
-use pcboard_program::program::{program, with_unreadable_words, without_words};
+use pcboard_program::program::program;
+use pcboard_texts::opener::Opener;
+use pcboard_texts::telling::{with_unreadable_words, without_words};
 use std::fs::File;
 use std::io::{ErrorKind, Write};
 use std::process::ExitCode;

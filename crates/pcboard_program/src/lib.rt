@@ -2,14 +2,8 @@
 //! HEX texts.
 #![tactic(auto)]
 
-pub mod debugging;
-pub mod fault;
-mod input;
-mod listing;
-pub mod opener;
+mod debugging;
 pub mod program;
 pub mod ready;
 pub mod report;
 pub mod run;
-mod texts;
-pub mod unanswered;

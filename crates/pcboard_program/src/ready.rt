@@ -1,20 +1,20 @@
 //! What a task's files and input give: the report of a run, or a board that is ready for a session.
-ghost use Rattle.std.specs.Prelude.{◌≡◌, ◌<◌, length, false, ◌⊎◌, IfErr, IfOk, IfSome, IsErrAnd, string_bytes};
+ghost use Rattle.std.specs.Prelude.{◌≡◌, false, ◌⊎◌, IfErr, IfOk, IfSome, IsErrAnd, string_bytes};
 ghost use Rattle.loader.specs.ByteInput.{CountsNone};
-ghost use Rattle.pcboard_program.specs.Answer.{IsBoardOf, IsReport, IsTrueRefusal, first_line_end, run_text_of, source_of};
-ghost use Rattle.pcboard_program.specs.Refusal.{IsTrueOfFiles, IsWantOfRun, want_of_file};
-ghost use Rattle.pcboard_program.specs.Unanswered.{EndsFor, IsUnjudged, UnlessFailed};
+ghost use Rattle.pcboard_texts.specs.Answer.{IsBoardOf, IsReport, IsTrueRefusal, run_text_of, source_of};
+ghost use Rattle.pcboard_texts.specs.Refusal.{IsTrueOfFiles, IsWantOfRun, want_of_file};
+ghost use Rattle.pcboard_texts.specs.Unanswered.{EndsFor, IsUnjudged, UnlessFailed};
 
-use crate::fault::Fault;
-use crate::input::{read_files, read_whole};
-use crate::opener::Opener;
 use crate::report::Report;
 use crate::run::{new_board, run_texts};
-use crate::texts::read_texts;
-use crate::unanswered::Unanswered;
 use assembler::fault::AsmFault;
 use board::board::Board;
 use loader::byte_input::ByteInput;
+use pcboard_texts::fault::Fault;
+use pcboard_texts::input::{read_files, read_whole};
+use pcboard_texts::opener::Opener;
+use pcboard_texts::texts::{parted, read_texts};
+use pcboard_texts::unanswered::Unanswered;
 use std::alloc::Global;
 
 /// The report of a stored run: the input's first line is the run file, and the rest the source.
@@ -80,22 +80,4 @@ fn board_of(alloc: Global, hex: bool, bytes: &[u8], run: &[u8]) -> Result<Board,
 {
     let (image, run) = read_texts(alloc, hex, bytes, run)?;
     new_board(alloc, &image, &run)
-}
-
-/// The text before the first line feed, and the text after it: none where there is no line feed.
-fn parted(text: &[u8]) -> (&[u8], &[u8])
-    ensures run { result.0.now ≡ run_text_of text.now }
-    ensures source { result.1.now ≡ source_of text.now }
-{
-    match first_line_end(text) {
-        Some(at) => (text.split_at(at).0, text.split_at(at + 1).1),
-        None => (text, &[]),
-    }
-}
-
-fn first_line_end(text: &[u8]) -> Option<usize>
-    ensures end { result ≡ first_line_end text.now }
-    ensures bound { IfSome result (λ at. at < length text.now) }
-{
-    text.iter().position(|byte| *byte == b'\n')
 }

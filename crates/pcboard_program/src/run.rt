@@ -6,20 +6,21 @@ ghost use Rattle.board_lines.specs.Text.{report_text};
 ghost use Rattle.assembler.specs.Gives.{Gives};
 ghost use Rattle.loader.specs.declared.run_file.RunFile.{RunFile};
 ghost use Rattle.loader.specs.RunFile.{Answers, run_of_text};
-ghost use Rattle.pcboard_program.specs.Answer.{GivesImage, IsReport, IsTrueRefusal};
-ghost use Rattle.pcboard_program.specs.Ready.{IsAtPowerOn};
-ghost use Rattle.pcboard_program.specs.Report.{FitsBoard, ReportsImage, ReportsSource};
-ghost use Rattle.pcboard_program.specs.Faults.{IsTrueOfImage, IsTrueOfSource, IsWantOfMemory};
+ghost use Rattle.pcboard_texts.specs.Answer.{GivesImage, IsReport, IsTrueRefusal};
+ghost use Rattle.pcboard_texts.specs.Ready.{IsAtPowerOn};
+ghost use Rattle.pcboard_texts.specs.Report.{FitsBoard};
+ghost use Rattle.pcboard_program.specs.Report.{ReportsImage, ReportsSource};
+ghost use Rattle.pcboard_texts.specs.Faults.{IsTrueOfImage, IsTrueOfSource, IsWantOfMemory};
 
-use crate::fault::Fault;
 use crate::report::Report;
-use crate::texts::read_texts;
 use assembler::assembly::assemble;
 use board::board::Board;
 use board_plain::config::Config;
 use board_report::text::report_text;
 use board_types::image::Image;
 use loader::run_file::RunFile;
+use pcboard_texts::fault::Fault;
+use pcboard_texts::texts::read_texts;
 use std::alloc::Global;
 
 /// Assembles `source`, runs its image on the board that the run file describes, with the file's stamped key codes,

@@ -1,8 +1,8 @@
 //! The program `pcprobe`, on the files and streams of the system.
 #![tactic(auto)]
 
-use pcboard_program::opener::Opener;
-use pcboard_program::program::{with_unreadable_words, without_words};
+use pcboard_texts::opener::Opener;
+use pcboard_texts::telling::{with_unreadable_words, without_words};
 use pcprobe_program::program::program;
 use std::fs::File;
 use std::io::{ErrorKind, Write};

@@ -5,7 +5,7 @@ use Rattle.pcboard_words.specs.ProbeLine.{AnswersProbe}
 use Rattle.pcboard_words.specs.declared.task.LineFault.{LineFault}
 use Rattle.pcboard_words.specs.declared.task.LineFault.TheVariants.{Memory, Usage}
 use Rattle.pcboard_words.specs.declared.task.ProbeTask.{ProbeTask}
-use Rattle.pcboard_program.specs.Refusal.{LacksFile}
+use Rattle.pcboard_texts.specs.Refusal.{LacksFile}
 use Rattle.pcprobe_program.specs.Probed.{debug_of}
 
 some_alike : (a b : List ℕ) → Some a ≡ Some b → a ≡ b

@@ -12,12 +12,12 @@ use Rattle.debugger_meaning.specs.declared.fault.DebugFault.{DebugFault}
 use Rattle.debugger_meaning.specs.declared.fault.DebugFault.TheVariants.{BadCommand}
 use Rattle.debugger_meaning.specs.Stands.{SessionState, session_about}
 use Rattle.probe.specs.Session.{AnswersProbe}
-use Rattle.pcboard_program.specs.declared.unanswered.Unanswered.{Unanswered}
-use Rattle.pcboard_program.specs.declared.unanswered.Unanswered.TheVariants.{Failed, Refused}
-use Rattle.pcboard_program.specs.Answer.{AppendsA, IsBoardOf}
-use Rattle.pcboard_program.specs.Taking.{TakesLine}
-use Rattle.pcboard_program.specs.Transcript.{ends_session, input_lines, reply_text}
-use Rattle.pcboard_program.specs.Unanswered.{WhereRefused}
+use Rattle.pcboard_texts.specs.declared.unanswered.Unanswered.{Unanswered}
+use Rattle.pcboard_texts.specs.declared.unanswered.Unanswered.TheVariants.{Failed, Refused}
+use Rattle.pcboard_texts.specs.Answer.{AppendsA, IsBoardOf}
+use Rattle.pcboard_texts.specs.Taking.{TakesLine}
+use Rattle.pcboard_texts.specs.Transcript.{ends_session, input_lines, reply_text}
+use Rattle.pcboard_texts.specs.Unanswered.{WhereRefused}
 use Rattle.pcprobe_program.specs.Probed.{AnswersTyped, BeginsSession, BeginsTranscript, IsSession, Replies, Transcript}
 
 -- What a session has printed on the lines that it has answered: a text behind which a transcript of further lines stands, is one of all of them.

@@ -13,10 +13,10 @@ use Rattle.pcboard_words.specs.declared.task.ProbeTask.{ProbeTask}
 use Rattle.pcboard_words.specs.declared.task.Task.{Task}
 use Rattle.pcboard_words.specs.declared.task.Task.TheVariants as tasks
 use Rattle.probe.specs.Session.{AnswersProbe}
-use Rattle.pcboard_program.specs.declared.fault.Fault.{Fault}
-use Rattle.pcboard_program.specs.Answer.{AppendsA, IsBoardOf}
-use Rattle.pcboard_program.specs.Refusal.{IsTrueOfTask, IsWantOfTask, TellsUsage, want_of_board}
-use Rattle.pcboard_program.specs.Transcript.{ends_session, input_lines, reply_text}
+use Rattle.pcboard_texts.specs.declared.fault.Fault.{Fault}
+use Rattle.pcboard_texts.specs.Answer.{AppendsA, IsBoardOf}
+use Rattle.pcboard_texts.specs.Refusal.{IsTrueOfTask, IsWantOfTask, TellsUsage, want_of_board}
+use Rattle.pcboard_texts.specs.Transcript.{ends_session, input_lines, reply_text}
 
 -- how a session answers a line that is typed; one that isn't UTF-8 is no command
 abbrev pub AnswersTyped : List ℕ → SessionState → Result Answer DebugFault → SessionState → Type 0

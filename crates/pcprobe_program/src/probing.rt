@@ -2,10 +2,10 @@
 ghost use Rattle.std.specs.Prelude.{◌≡◌, ◌⊎◌, IfErr, IfSome, OnOk};
 ghost use Rattle.loader.specs.ByteInput.{CountsNone};
 ghost use Rattle.debugger_meaning.specs.Stands.{session_about};
-ghost use Rattle.pcboard_program.specs.Answer.{AppendsA};
-ghost use Rattle.pcboard_program.specs.Refusal.{want_of_board, want_of_session};
-ghost use Rattle.pcboard_program.specs.Transcript.{input_lines};
-ghost use Rattle.pcboard_program.specs.Unanswered.{IsUnjudged, UnlessFailed, WhereRefused};
+ghost use Rattle.pcboard_texts.specs.Answer.{AppendsA};
+ghost use Rattle.pcboard_texts.specs.Refusal.{want_of_board, want_of_session};
+ghost use Rattle.pcboard_texts.specs.Transcript.{input_lines};
+ghost use Rattle.pcboard_texts.specs.Unanswered.{IsUnjudged, UnlessFailed, WhereRefused};
 ghost use Rattle.pcprobe_program.specs.Probed.{AnswersTyped, BeginsTranscript, Transcript};
 
 use board::board::Board;
@@ -13,8 +13,8 @@ use debugger::session::Session;
 use debugger_meaning::answer::Answer;
 use debugger_meaning::fault::DebugFault;
 use loader::byte_input::ByteInput;
-use pcboard_program::debugging::{ends_session, next_line, print_reply};
-use pcboard_program::unanswered::Unanswered;
+use pcboard_texts::debugging::{ends_session, next_line, print_reply};
+use pcboard_texts::unanswered::Unanswered;
 use probe::session::command;
 use std::alloc::Global;
 use std::io::Write;

@@ -3,16 +3,16 @@ ghost use Rattle.std.specs.Prelude.{◌≡◌, ◌≢◌, ◌≤◌, ◌⊎◌, 
 ghost use Rattle.loader.specs.ByteInput.{CountsNone};
 ghost use Rattle.pcboard_words.specs.ProbeLine.{AnswersProbe as AnswersWords};
 ghost use Rattle.pcboard_words.specs.declared.task.ProbeTask.{ProbeTask};
-ghost use Rattle.pcboard_program.specs.Refusal.{EndsUnjudged, IsTrueOfTask, IsWantOfTask, LacksFile, TellsA, want_of_file};
-ghost use Rattle.pcboard_program.specs.Unanswered.{EndsFor, IsUnjudged, UnlessFailed, WhereRefused};
+ghost use Rattle.pcboard_texts.specs.Refusal.{EndsUnjudged, IsTrueOfTask, IsWantOfTask, LacksFile, TellsA, want_of_file};
+ghost use Rattle.pcboard_texts.specs.Unanswered.{EndsFor, IsUnjudged, UnlessFailed, WhereRefused};
 ghost use Rattle.pcprobe_program.specs.Probed.{IsTrueOfWords, Prints, PrintsNoAnswer, PrintsReplies, PrintsTask, RefusesWords, debug_of};
 
 use crate::probing::print_session;
 use loader::byte_input::ByteInput;
-use pcboard_program::opener::Opener;
-use pcboard_program::program::{refused, told, without_words};
 use pcboard_program::ready::read_board;
-use pcboard_program::unanswered::Unanswered;
+use pcboard_texts::opener::Opener;
+use pcboard_texts::telling::{refused, told, without_words};
+use pcboard_texts::unanswered::Unanswered;
 use pcboard_words::probe_line::read_probe_words;
 use pcboard_words::task::{LineFault, ProbeTask};
 use std::alloc::Global;

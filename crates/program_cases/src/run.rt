@@ -2,8 +2,8 @@
 use crate::case::Case;
 use crate::streams::{Calls, Input, Output};
 use anyhow::Result;
-use pcboard_program::opener::Opener;
 use pcboard_program::program::program;
+use pcboard_texts::opener::Opener;
 use std::alloc::Global;
 use std::io;
 

@@ -1,7 +1,7 @@
 -- What is told of a result is told to the caller.
 use Rattle.std.proofs.Common.{◌≡◌, ℕ, List, length, inl, inr, Result, Ok, Err, IfOk, IfErr}
 use Rattle.std.specs.Prelude.{MatchResult}
-use Rattle.pcboard_program.specs.declared.fault.Fault.{Fault}
+use Rattle.pcboard_texts.specs.declared.fault.Fault.{Fault}
 use Rattle.zebludor_run.specs.declared.run.Outcome.{Outcome}
 use Rattle.zebludor_run.specs.Outcomes.{Tells, buffer_after, fault_outcome, text_outcome}
 

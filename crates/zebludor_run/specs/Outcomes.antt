@@ -3,10 +3,10 @@
 use Rattle.std.specs.Prelude.{◌≡◌, ◌⊎◌, ℕ, Bool, List, ◌++◌, length, drop, if◌then◌else◌, nat_lt, unwrap_or, Ok}
 use Rattle.loader.specs.declared.run_file.RunFile.{RunFile}
 use Rattle.loader.specs.RunFile.{Answers, run_of_text}
-use Rattle.pcboard_program.specs.declared.fault.Fault.{Fault}
-use Rattle.pcboard_program.specs.Answer.{GivesImage}
-use Rattle.pcboard_program.specs.Faults.{line_of, number_of}
-use Rattle.pcboard_program.specs.Report.{FitsBoard}
+use Rattle.pcboard_texts.specs.declared.fault.Fault.{Fault}
+use Rattle.pcboard_texts.specs.Answer.{GivesImage}
+use Rattle.pcboard_texts.specs.Faults.{line_of, number_of}
+use Rattle.pcboard_texts.specs.Report.{FitsBoard}
 use Rattle.zebludor_run.specs.declared.run.Outcome.{Outcome}
 
 -- a text for a buffer with so much room: status 0, or 2 where it is longer, and its length

@@ -1,12 +1,12 @@
 //! Runs of sources and of HEX texts.
 ghost use Rattle.std.specs.Prelude.{◌≡◌, true, false, length, MatchResult, string_bytes};
-ghost use Rattle.pcboard_program.specs.Answer.{IsReport, IsTrueRefusal};
-ghost use Rattle.pcboard_program.specs.Faults.{IsWantOfMemory};
+ghost use Rattle.pcboard_texts.specs.Answer.{IsReport, IsTrueRefusal};
+ghost use Rattle.pcboard_texts.specs.Faults.{IsWantOfMemory};
 ghost use Rattle.zebludor_run.specs.Outcomes.{Accepts, Tells, buffer_after, fault_outcome, text_outcome};
 
-use pcboard_program::fault::Fault;
 use pcboard_program::report::Report;
 use pcboard_program::run::run_texts;
+use pcboard_texts::fault::Fault;
 use std::alloc::Global;
 
 /// The report is written.

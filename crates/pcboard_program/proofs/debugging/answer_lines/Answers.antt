@@ -1,9 +1,9 @@
 use Rattle.std.proofs.Common.{◌≡◌, ◌∙◌, false, true, ap, subst, sym, option_map, vec_items}
 use Rattle.debugger_meaning.specs.Session.{AnswersLine}
-use Rattle.pcboard_program.specs.Taking.{TakesLine}
-use Rattle.pcboard_program.specs.Transcript.{ends_session, typed_command}
-use Rattle.pcboard_program.proofs.Listed.{holds_none}
-use Rattle.pcboard_program.proofs.Sessions.{counts_first, counts_on, cut_where, printed_all, printed_cut, printed_more, printed_none, printed_quit}
+use Rattle.pcboard_texts.specs.Taking.{TakesLine}
+use Rattle.pcboard_texts.specs.Transcript.{ends_session, typed_command}
+use Rattle.pcboard_texts.proofs.Listed.{holds_none}
+use Rattle.pcboard_texts.proofs.Sessions.{counts_first, counts_on, cut_where, printed_all, printed_cut, printed_more, printed_none, printed_quit}
 use Rattle.pcboard_program.proofs.debugging.answer_lines.Goals as goal
 
 pub lines-init : goal.lines-init

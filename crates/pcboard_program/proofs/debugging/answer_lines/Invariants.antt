@@ -1,5 +1,5 @@
 use Rattle.loader.specs.ByteInput.{CountsNone}
-use Rattle.pcboard_program.proofs.Sessions.{PrintedSoFar}
+use Rattle.pcboard_texts.proofs.Sessions.{PrintedSoFar}
 use Rattle.pcboard_program.proofs.debugging.answer_lines.Given as goal
 
 abbrev pub invariant-lines : goal.invariant-lines

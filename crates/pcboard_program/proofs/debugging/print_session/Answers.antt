@@ -1,12 +1,12 @@
 use Rattle.std.proofs.Common.{◌≡◌, ◌⊎◌, inl, inr, IfErr, IfSome, OnOk, Result, Ok, Err, subst}
 use Rattle.debugger_meaning.specs.Stands.{SessionState}
-use Rattle.pcboard_program.specs.declared.unanswered.Unanswered.{Unanswered}
-use Rattle.pcboard_program.specs.declared.unanswered.Unanswered.TheVariants.{Failed, Refused}
-use Rattle.pcboard_program.specs.Answer.{AppendsA}
-use Rattle.pcboard_program.specs.Refusal.{BeginsTranscript, want_of_board, want_of_session}
-use Rattle.pcboard_program.specs.Transcript.{Transcript, input_lines}
-use Rattle.pcboard_program.specs.Unanswered.{WhereRefused}
-use Rattle.pcboard_program.proofs.Refusals.{unjudged_wider}
+use Rattle.pcboard_texts.specs.declared.unanswered.Unanswered.{Unanswered}
+use Rattle.pcboard_texts.specs.declared.unanswered.Unanswered.TheVariants.{Failed, Refused}
+use Rattle.pcboard_texts.specs.Answer.{AppendsA}
+use Rattle.pcboard_texts.specs.Refusal.{BeginsTranscript, want_of_board, want_of_session}
+use Rattle.pcboard_texts.specs.Transcript.{Transcript, input_lines}
+use Rattle.pcboard_texts.specs.Unanswered.{WhereRefused}
+use Rattle.pcboard_texts.proofs.Refusals.{unjudged_wider}
 use Rattle.pcboard_program.proofs.debugging.print_session.Goals as goal
 
 or_nothing : {T : Type 0} (A B : Type 0) (result : Result T Unanswered) → IfErr result (WhereRefused B) → IfErr result (WhereRefused (A ⊎ B))

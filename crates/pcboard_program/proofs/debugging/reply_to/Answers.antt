@@ -2,7 +2,7 @@ use Rattle.std.proofs.Common.{◌∙◌, refl, sym, ap, subst, Err}
 use Rattle.debugger_meaning.specs.declared.fault.DebugFault.TheVariants.{BadCommand}
 use Rattle.debugger_meaning.specs.Commands.{command_of}
 use Rattle.debugger_meaning.specs.Session.{AnswersLine}
-use Rattle.pcboard_program.proofs.Sessions.{typed_bytes, typed_text}
+use Rattle.pcboard_texts.proofs.Sessions.{typed_bytes, typed_text}
 use Rattle.pcboard_program.proofs.debugging.reply_to.Goals as goal
 
 pub returns-in-Ok : goal.returns-in-Ok

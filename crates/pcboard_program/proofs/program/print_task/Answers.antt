@@ -1,10 +1,10 @@
 use Rattle.std.proofs.Common.{string_bytes, subst, sym}
 use Rattle.std.specs.Prelude.{◌≡◌, ◌⊎◌, IfErr, OnOk}
 use Rattle.std.proofs.lemmas.Result.{on_ok_weaker}
-use Rattle.pcboard_program.specs.Answer.{PrintsTask}
-use Rattle.pcboard_program.specs.Refusal.{PrintsReplies}
-use Rattle.pcboard_program.specs.Unanswered.{WhereRefused}
-use Rattle.pcboard_program.proofs.Tasks.{printed_run, printed_session, printed_stored, replies_withheld}
+use Rattle.pcboard_texts.specs.Answer.{PrintsTask}
+use Rattle.pcboard_texts.specs.Refusal.{PrintsReplies}
+use Rattle.pcboard_texts.specs.Unanswered.{WhereRefused}
+use Rattle.pcboard_texts.proofs.Tasks.{printed_run, printed_session, printed_stored, replies_withheld}
 use Rattle.pcboard_program.proofs.program.print_task.Goals as goal
 
 pub returns-in_ok-report-in-Stored-clause-printed : goal.returns-in_ok-report-in-Stored-clause-printed

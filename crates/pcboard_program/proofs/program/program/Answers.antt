@@ -1,8 +1,8 @@
 use Rattle.std.proofs.Common.{◌≡◌, ◌∙◌, ap, inr, map, subst, sym}
 use Rattle.pcboard_words.specs.declared.task.LineFault.TheVariants.{Memory, Usage}
-use Rattle.pcboard_program.specs.Refusal.{hex_of, want_of_file}
-use Rattle.pcboard_program.specs.Unanswered.{IsUnjudged}
-use Rattle.pcboard_program.proofs.Opening.{named, one_task, told_unjudged}
+use Rattle.pcboard_texts.specs.Refusal.{hex_of, want_of_file}
+use Rattle.pcboard_texts.specs.Unanswered.{IsUnjudged}
+use Rattle.pcboard_texts.proofs.Opening.{named, one_task, told_unjudged}
 use Rattle.pcboard_program.proofs.program.program.Goals as goal
 
 pub returns-in-Err-Usage-clause-lacking : goal.returns-in-Err-Usage-clause-lacking

@@ -1,7 +1,7 @@
 use Rattle.std.proofs.Common.{subst}
-use Rattle.pcboard_program.specs.Answer.{IsBoardOf, IsTrueRefusal}
-use Rattle.pcboard_program.proofs.Reading.{seen_board}
-use Rattle.pcboard_program.proofs.Refusals.{passed_on, refused_files}
+use Rattle.pcboard_texts.specs.Answer.{IsBoardOf, IsTrueRefusal}
+use Rattle.pcboard_texts.proofs.Reading.{seen_board}
+use Rattle.pcboard_texts.proofs.Refusals.{passed_on, refused_files}
 use Rattle.pcboard_program.proofs.ready.read_board.Goals as goal
 
 pub returns-clause-board : goal.returns-clause-board

@@ -1,7 +1,7 @@
 use Rattle.std.proofs.Common.{subst, string_bytes}
-use Rattle.pcboard_program.specs.Answer.{IsReport, IsTrueRefusal}
-use Rattle.pcboard_program.proofs.Reading.{seen_report}
-use Rattle.pcboard_program.proofs.Refusals.{passed_on, refused_files}
+use Rattle.pcboard_texts.specs.Answer.{IsReport, IsTrueRefusal}
+use Rattle.pcboard_texts.proofs.Reading.{seen_report}
+use Rattle.pcboard_texts.proofs.Refusals.{passed_on, refused_files}
 use Rattle.pcboard_program.proofs.ready.read_report.Goals as goal
 
 pub returns-clause-report : goal.returns-clause-report

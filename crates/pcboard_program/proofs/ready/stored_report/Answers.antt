@@ -1,6 +1,6 @@
 use Rattle.std.proofs.Common.{◌∙◌, ap}
-use Rattle.pcboard_program.specs.Answer.{run_text_of, source_of}
-use Rattle.pcboard_program.proofs.Refusals.{passed_on, refused_stored}
+use Rattle.pcboard_texts.specs.Answer.{run_text_of, source_of}
+use Rattle.pcboard_texts.proofs.Refusals.{passed_on, refused_stored}
 use Rattle.pcboard_program.proofs.ready.stored_report.Goals as goal
 
 pub returns-in_err-run_texts-clause-end : goal.returns-in_err-run_texts-clause-end

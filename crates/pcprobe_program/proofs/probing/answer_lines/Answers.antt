@@ -1,8 +1,8 @@
 use Rattle.std.proofs.Common.{◌≡◌, ◌∙◌, false, true, ap, subst, sym, option_map, vec_items}
-use Rattle.pcboard_program.specs.Taking.{TakesLine}
-use Rattle.pcboard_program.specs.Transcript.{ends_session}
-use Rattle.pcboard_program.proofs.Listed.{holds_none}
-use Rattle.pcboard_program.proofs.Sessions.{counts_first, counts_on, cut_where}
+use Rattle.pcboard_texts.specs.Taking.{TakesLine}
+use Rattle.pcboard_texts.specs.Transcript.{ends_session}
+use Rattle.pcboard_texts.proofs.Listed.{holds_none}
+use Rattle.pcboard_texts.proofs.Sessions.{counts_first, counts_on, cut_where}
 use Rattle.pcprobe_program.specs.Probed.{AnswersTyped}
 use Rattle.pcprobe_program.proofs.Printing.{probed_all, probed_cut, probed_more, probed_none, probed_quit}
 use Rattle.pcprobe_program.proofs.probing.answer_lines.Goals as goal

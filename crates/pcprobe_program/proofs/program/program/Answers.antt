@@ -1,8 +1,8 @@
 use Rattle.std.proofs.Common.{◌≡◌, ◌∙◌, ap, inr, map, subst, sym}
 use Rattle.pcboard_words.specs.declared.task.LineFault.TheVariants.{Memory, Usage}
-use Rattle.pcboard_program.specs.Refusal.{want_of_file}
-use Rattle.pcboard_program.specs.Unanswered.{IsUnjudged}
-use Rattle.pcboard_program.proofs.Opening.{told_unjudged}
+use Rattle.pcboard_texts.specs.Refusal.{want_of_file}
+use Rattle.pcboard_texts.specs.Unanswered.{IsUnjudged}
+use Rattle.pcboard_texts.proofs.Opening.{told_unjudged}
 use Rattle.pcprobe_program.specs.Probed.{debug_of}
 use Rattle.pcprobe_program.proofs.Naming.{named, one_task}
 use Rattle.pcprobe_program.proofs.program.program.Goals as goal

@@ -1,8 +1,0 @@
-use Rattle.loader.specs.ByteInput.{CountsNone}
-use Rattle.pcboard_program.proofs.Sessions.{LineSoFar}
-use Rattle.pcboard_program.proofs.debugging.next_line.Given as goal
-
-abbrev pub invariant-bytes : goal.invariant-bytes
-invariant-bytes g l =
-    LineSoFar (g.I.ByteInput.remaining l.initial.input) (g.I.ByteInput.remaining l.input) l.line.items
-    × CountsNone (g.I.ByteInput.failures l.initial.input) (g.I.ByteInput.failures l.input)

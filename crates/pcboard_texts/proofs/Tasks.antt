@@ -1,0 +1,64 @@
+-- What a task prints, from what its parts tell.
+use Rattle.std.proofs.Common.{◌≡◌, ℕ, Bool, false, List, Option, None, Some, IfSome, Result, Ok, Err, IfErr, inl, inr}
+use Rattle.std.specs.Prelude.{◌⊎◌}
+use Rattle.std.specs.Io.KnownBytes.{Appends}
+use Rattle.board_plain.specs.Board.{BoardState}
+use Rattle.pcboard_texts.specs.declared.unanswered.Unanswered.{Unanswered}
+use Rattle.pcboard_texts.specs.declared.unanswered.Unanswered.TheVariants.{Failed, Refused}
+use Rattle.pcboard_texts.specs.Answer.{AppendsA, IsBoardOf, IsReport, IsSession, run_text_of, source_of}
+use Rattle.debugger_meaning.specs.Stands.{session_about}
+use Rattle.pcboard_texts.specs.Refusal.{BeginsSession, BeginsTranscript}
+use Rattle.pcboard_texts.specs.Transcript.{input_lines, Transcript}
+use Rattle.pcboard_texts.specs.Unanswered.{WhereRefused}
+
+-- a printed report of two files is the answer to `run`
+pub printed_run : (file said old new : Option (List ℕ)) (hex : Bool) (text : List ℕ)
+    → IfSome file (λ bytes. IfSome said (λ run. IsReport hex bytes run text)) → Appends old new text
+    → IfSome file (λ bytes. IfSome said (λ run. AppendsA (IsReport hex bytes run) old new))
+printed_run None said old new hex text report prints = tt
+printed_run (Some bytes) None old new hex text report prints = tt
+printed_run (Some bytes) (Some run) old new hex text report prints = (text, report, prints)
+
+-- and one of the input is the answer to a stored run
+pub printed_stored : (input old new : Option (List ℕ)) (text : List ℕ)
+    → IfSome input (λ all. IsReport false (source_of all) (run_text_of all) text) → Appends old new text
+    → IfSome input (λ all. AppendsA (IsReport false (source_of all) (run_text_of all)) old new)
+printed_stored None old new text report prints = tt
+printed_stored (Some all) old new text report prints = (text, report, prints)
+
+-- what a session about the board of two files prints is the answer to `debug`
+pub printed_session : (file said input old new : Option (List ℕ)) (hex : Bool) (board : BoardState)
+    → IfSome file (λ bytes. IfSome said (λ run. IsBoardOf hex bytes run board))
+    → IfSome input (λ typed. AppendsA (Transcript (session_about board) (input_lines typed)) old new)
+    → IfSome file (λ bytes. IfSome said (λ run. IfSome input (λ typed. AppendsA (IsSession hex bytes run typed) old new)))
+printed_session None said input old new hex board is_board adds = tt
+printed_session (Some bytes) None input old new hex board is_board adds = tt
+printed_session (Some bytes) (Some run) None old new hex board is_board adds = tt
+printed_session (Some bytes) (Some run) (Some typed) old new hex board is_board adds =
+    (adds.0, record { board = board; is_board = is_board; prints = adds.1 }, adds.2)
+
+-- so far as such a session goes, it is the beginning of that answer
+
+begun : (hex : Bool) (bytes run typed text : List ℕ) (board : BoardState) → IsBoardOf hex bytes run board → BeginsTranscript (session_about board) (input_lines typed) text → BeginsSession hex bytes run typed text
+begun hex bytes run typed text board is_board begins =
+    record { board = board; is_board = is_board; begins = begins }
+
+replies : (file said input old new : Option (List ℕ)) (hex : Bool) (board : BoardState)
+    → IfSome file (λ bytes. IfSome said (λ run. IsBoardOf hex bytes run board))
+    → IfSome input (λ typed. AppendsA (BeginsTranscript (session_about board) (input_lines typed)) old new)
+    → IfSome file (λ bytes. IfSome said (λ run. IfSome input (λ typed. AppendsA (BeginsSession hex bytes run typed) old new)))
+replies None said input old new hex board is_board adds = tt
+replies (Some bytes) None input old new hex board is_board adds = tt
+replies (Some bytes) (Some run) None old new hex board is_board adds = tt
+replies (Some bytes) (Some run) (Some typed) old new hex board is_board adds =
+    (adds.0, begun hex bytes run typed adds.0 board is_board adds.1, adds.2)
+
+pub replies_withheld : {T : Type 0} (result : Result T Unanswered) (file said input old new : Option (List ℕ)) (hex : Bool) (board : BoardState)
+    → IfSome file (λ bytes. IfSome said (λ run. IsBoardOf hex bytes run board))
+    → IfErr result (WhereRefused (new ≡ old ⊎ IfSome input (λ typed. AppendsA (BeginsTranscript (session_about board) (input_lines typed)) old new)))
+    → IfErr result (WhereRefused (new ≡ old ⊎ IfSome file (λ bytes. IfSome said (λ run. IfSome input (λ typed. AppendsA (BeginsSession hex bytes run typed) old new)))))
+replies_withheld (Ok done) file said input old new hex board is_board cut = cut
+replies_withheld (Err Failed) file said input old new hex board is_board cut = cut
+replies_withheld (Err (Refused fault)) file said input old new hex board is_board (inl same) = inl same
+replies_withheld (Err (Refused fault)) file said input old new hex board is_board (inr adds) =
+    inr (replies file said input old new hex board is_board adds)

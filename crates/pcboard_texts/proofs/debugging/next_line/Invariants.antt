@@ -1,0 +1,8 @@
+use Rattle.loader.specs.ByteInput.{CountsNone}
+use Rattle.pcboard_texts.proofs.Sessions.{LineSoFar}
+use Rattle.pcboard_texts.proofs.debugging.next_line.Given as goal
+
+abbrev pub invariant-bytes : goal.invariant-bytes
+invariant-bytes g l =
+    LineSoFar (g.I.ByteInput.remaining l.initial.input) (g.I.ByteInput.remaining l.input) l.line.items
+    × CountsNone (g.I.ByteInput.failures l.initial.input) (g.I.ByteInput.failures l.input)

@@ -1,0 +1,129 @@
+-- What the program prints.
+-- To be believed: the headline rests on it.
+use Rattle.std.specs.Prelude.{ℕ, ◌≡◌, ◌+◌, ◌==◌, Bool, true, false, List, [], ◌∷◌, ◌++◌, take, drop, Option, None, Some, IfSome, Ok, Err, position}
+use Rattle.std.specs.Io.KnownBytes.{Appends}
+use Rattle.board_types.specs.TextLines.{text_lines}
+use Rattle.assembler.specs.Rows.{Row, names_of}
+use Rattle.assembler.specs.Listing.{Names, listed}
+use Rattle.assembler.specs.Gives.{Gives}
+use Rattle.assembler.specs.FirstFault.{IsFirst}
+use Rattle.board_plain.specs.Board.{BoardState}
+use Rattle.board_plain.specs.Plain.{power_on}
+use Rattle.debugger_meaning.specs.Stands.{session_about}
+use Rattle.pcboard_words.specs.CommandLine.{Answers as AnswersWords}
+use Rattle.pcboard_words.specs.declared.task.Task.{Task}
+use Rattle.pcboard_words.specs.declared.task.Task.TheVariants as tasks
+use Rattle.loader.specs.HexText.{hex_text}
+use Rattle.loader.specs.Reading.{Fails, image_of}
+use Rattle.loader.specs.declared.run_file.RunFile.{RunFile}
+use Rattle.loader.specs.RunFile.{Answers, run_of_text}
+use Rattle.pcboard_texts.specs.declared.fault.Fault.{Fault}
+use Rattle.pcboard_texts.specs.declared.fault.Fault.TheVariants.{Source, Hex, Run, Board, Session}
+use Rattle.pcboard_texts.specs.Report.{config_of, report_of}
+use Rattle.pcboard_texts.specs.Transcript.{Transcript, input_lines}
+use Rattle.pcboard_texts.specs.Faults.{IsTrueOfBoard}
+
+-- the first line of a stored run, and what follows it
+abbrev pub up_to : Option ℕ → List ℕ → List ℕ
+up_to None text = text
+up_to (Some at) text = take at text
+
+abbrev pub past : Option ℕ → List ℕ → List ℕ
+past None text = []
+past (Some at) text = drop (at + 1) text
+
+abbrev pub first_line_end : List ℕ → Option ℕ
+first_line_end text = position (λ byte. byte == 10) text
+
+abbrev pub run_text_of : List ℕ → List ℕ
+run_text_of text = up_to (first_line_end text) text
+
+abbrev pub source_of : List ℕ → List ℕ
+source_of text = past (first_line_end text) text
+
+-- what a file's bytes give: as a HEX text, if `hex`, else as a source
+abbrev pub GivesImage : Bool → List ℕ → List (ℕ × ℕ) → Type 0
+GivesImage true bytes image = image_of bytes ≡ Ok image
+GivesImage false bytes image = Gives bytes image
+
+-- the bytes give an image, the run file's text says how to run, and this is the text of the report
+pub record IsReport (hex : Bool) (bytes run text : List ℕ) : Type 0 where
+  pub image : List (ℕ × ℕ)
+  pub gives : GivesImage hex bytes image
+  pub run_file : RunFile
+  pub says : Answers (Ok run_file) (run_of_text run)
+  pub is_text : text ≡ report_of image run_file
+
+-- the bytes give an image, the run file's text says what board it stands on, and this is that board at power-on: no
+-- change of the speaker is past, and the trail is empty
+pub record IsBoardOf (hex : Bool) (bytes run : List ℕ) (board : BoardState) : Type 0 where
+  pub image : List (ℕ × ℕ)
+  pub gives : GivesImage hex bytes image
+  pub run_file : RunFile
+  pub says : Answers (Ok run_file) (run_of_text run)
+  pub plain : board.plain ≡ power_on image (config_of run_file) run_file.keys
+  pub changes : board.changes ≡ []
+  pub trail : board.trail ≡ []
+
+-- the bytes and the run file's text give a board, and this is what a session about it prints on the typed bytes
+pub record IsSession (hex : Bool) (bytes run typed text : List ℕ) : Type 0 where
+  pub board : BoardState
+  pub is_board : IsBoardOf hex bytes run board
+  pub prints : Transcript (session_about board) (input_lines typed) text
+
+-- the source gives an image, and this is its HEX text
+pub record IsHexOf (source text : List ℕ) : Type 0 where
+  pub image : List (ℕ × ℕ)
+  pub gives : Gives source image
+  pub is_text : text ≡ hex_text image
+
+-- the lines of a listing, each ended by a line feed
+abbrev pub listing_text : Names → List (List ℕ) → List Row → List ℕ
+listing_text names (text ∷ texts) (row ∷ rows) = listed names text row ++ (10 ∷ listing_text names texts rows)
+listing_text names texts rows = []
+
+-- the source gives an image, and this is its listing
+pub record IsListingOf (source text : List ℕ) : Type 0 where
+  pub image : List (ℕ × ℕ)
+  pub gives : Gives source image
+  pub is_text : text ≡ listing_text (names_of gives.rows) (text_lines source) gives.rows
+
+-- what an assembler prints of a source
+abbrev pub IsAssembled : Bool → List ℕ → List ℕ → Type 0
+IsAssembled false source text = IsHexOf source text
+IsAssembled true source text = IsListingOf source text
+
+-- the known bytes grow by such a text
+abbrev pub AppendsA : (List ℕ → Type 0) → Option (List ℕ) → Option (List ℕ) → Type 0
+AppendsA Is old new = (text : List ℕ) × Is text × Appends old new text
+
+-- what a task's answer adds to the bytes that `out` holds, where the files and the input that it reads are known
+abbrev pub PrintsTask : Task → (List ℕ → Option (List ℕ)) → Option (List ℕ) → Option (List ℕ) → Option (List ℕ) → Type 0
+PrintsTask tasks.Stored files input old new =
+    IfSome input (λ text. AppendsA (IsReport false (source_of text) (run_text_of text)) old new)
+PrintsTask (tasks.Asm file list) files input old new =
+    IfSome (files file.now) (λ source. AppendsA (IsAssembled list source) old new)
+PrintsTask (tasks.Run file run hex) files input old new =
+    IfSome (files file.now) (λ bytes. IfSome (files run.now) (λ said. AppendsA (IsReport hex bytes said) old new))
+PrintsTask (tasks.Debug file run hex) files input old new =
+    IfSome (files file.now) (λ bytes. IfSome (files run.now)
+    (λ said. IfSome input (λ typed. AppendsA (IsSession hex bytes said typed) old new)))
+
+-- the words name a task, and its answer is added
+abbrev pub Prints : List (List ℕ) → (List ℕ → Option (List ℕ)) → Option (List ℕ) → Option (List ℕ) → Option (List ℕ)
+    → Type 0
+Prints words files input old new = (task : Task) × AnswersWords words (Ok task) × PrintsTask task files input old new
+
+-- A refusal is true: the first fault of the source or HEX text; or the run file's, where an image was given; or the
+-- board's, of what image and run file say.
+abbrev pub IsTrueRefusal : Bool → List ℕ → List ℕ → Fault → Type 0
+IsTrueRefusal false bytes run (Source fault) = IsFirst bytes fault
+IsTrueRefusal true bytes run (Source fault) = ⊥
+IsTrueRefusal false bytes run (Hex fault) = ⊥
+IsTrueRefusal true bytes run (Hex fault) = Fails fault (image_of bytes)
+IsTrueRefusal hex bytes run (Run fault) =
+    Answers (Err fault) (run_of_text run) × ((image : List (ℕ × ℕ)) × GivesImage hex bytes image)
+IsTrueRefusal hex bytes run (Board fault) =
+    (run_file : RunFile) × Answers (Ok run_file) (run_of_text run)
+    × ((image : List (ℕ × ℕ)) × GivesImage hex bytes image × IsTrueOfBoard image run_file fault)
+IsTrueRefusal hex bytes run (Session fault) = ⊥

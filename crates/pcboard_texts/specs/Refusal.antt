@@ -1,0 +1,146 @@
+-- What the program tells where it gives no answer.
+-- To be believed: the headline rests on it.
+use Rattle.std.specs.Prelude.{ℕ, ◌≡◌, ◌⊎◌, ◌++◌, Bool, true, false, List, codes, Option, None, IfSome, Ok, Err, string_bytes}
+use Rattle.std.specs.Io.KnownBytes.{Appends}
+use Rattle.assembler.specs.FirstFault.{IsFirst}
+use Rattle.assembler.specs.declared.fault.AsmFault.TheVariants as asm
+use Rattle.loader.specs.declared.hex_fault.HexFault.TheVariants as hexes
+use Rattle.loader.specs.declared.run_fault.RunFault.TheVariants as runs
+use Rattle.board_plain.specs.Board.{BoardState}
+use Rattle.board_plain.specs.declared.fault.BoardFault.TheVariants as boards
+use Rattle.debugger_meaning.specs.declared.fault.DebugFault.TheVariants as sessions
+use Rattle.pcboard_words.specs.CommandLine.{Answers as AnswersWords}
+use Rattle.pcboard_words.specs.declared.task.LineFault.{LineFault}
+use Rattle.pcboard_words.specs.declared.task.LineFault.TheVariants.{Usage, Memory}
+use Rattle.pcboard_words.specs.declared.task.Task.{Task}
+use Rattle.pcboard_words.specs.declared.task.Task.TheVariants as tasks
+use Rattle.pcboard_texts.specs.declared.fault.Fault.{Fault}
+use Rattle.pcboard_texts.specs.declared.fault.Fault.TheVariants.{Source, Hex, Run, Board, Session}
+use Rattle.pcboard_texts.specs.Faults.{fault_text}
+use Rattle.debugger_meaning.specs.Stands.{SessionState, session_about}
+use Rattle.pcboard_texts.specs.Answer.{AppendsA, IsBoardOf, IsTrueRefusal, run_text_of, source_of}
+use Rattle.pcboard_texts.specs.Transcript.{Transcript, input_lines}
+
+-- the want of memory for a program's bytes: fault 27 of a HEX text, if `hex`, else 13 of a source
+abbrev pub want_of_file : Bool → Fault
+want_of_file true = Hex hexes.Memory
+want_of_file false = Source asm.Memory
+
+-- the want of memory for the words, a board, its report or a session's line: fault 41
+abbrev pub want_of_board : Fault
+want_of_board = Board boards.Memory
+
+-- the want of memory for a run file: fault 37
+abbrev pub want_of_run_file : Fault
+want_of_run_file = Run runs.Memory
+
+-- the want of memory for a session that is to begin: fault 53
+abbrev pub want_of_session : Fault
+want_of_session = Session (sessions.Memory None)
+
+-- a want of memory of a run
+abbrev pub IsWantOfRun : Bool → Fault → Type 0
+IsWantOfRun hex fault = (fault ≡ want_of_file hex) ⊎ ((fault ≡ want_of_run_file) ⊎ (fault ≡ want_of_board))
+
+-- a want of memory of a task
+abbrev pub IsWantOfTask : Task → Fault → Type 0
+IsWantOfTask tasks.Stored fault = IsWantOfRun false fault
+IsWantOfTask (tasks.Asm file list) fault = fault ≡ want_of_file false
+IsWantOfTask (tasks.Run file run hex) fault = IsWantOfRun hex fault
+IsWantOfTask (tasks.Debug file run hex) fault = IsWantOfRun hex fault ⊎ (fault ≡ want_of_session)
+
+-- a refusal is true of a source that is to be assembled: it is its first fault
+abbrev pub IsTrueOfText : List ℕ → Fault → Type 0
+IsTrueOfText source (Source fault) = IsFirst source fault
+IsTrueOfText source (Hex fault) = ⊥
+IsTrueOfText source (Run fault) = ⊥
+IsTrueOfText source (Board fault) = ⊥
+IsTrueOfText source (Session fault) = ⊥
+
+-- a refusal is true of the bytes of a program and of a run file, where these are known
+abbrev pub IsTrueOfFiles : Bool → Option (List ℕ) → Option (List ℕ) → Fault → Type 0
+IsTrueOfFiles hex file run fault = IfSome file (λ bytes. IfSome run (λ said. IsTrueRefusal hex bytes said fault))
+
+-- a refusal is true of a task, where the files and the input that it is judged by are known
+abbrev pub IsTrueOfTask : Task → (List ℕ → Option (List ℕ)) → Option (List ℕ) → Fault → Type 0
+IsTrueOfTask tasks.Stored files input fault =
+    IfSome input (λ text. IsTrueRefusal false (source_of text) (run_text_of text) fault)
+IsTrueOfTask (tasks.Asm file list) files input fault = IfSome (files file.now) (λ source. IsTrueOfText source fault)
+IsTrueOfTask (tasks.Run file run hex) files input fault = IsTrueOfFiles hex (files file.now) (files run.now) fault
+IsTrueOfTask (tasks.Debug file run hex) files input fault = IsTrueOfFiles hex (files file.now) (files run.now) fault
+
+-- The refusal is the want of memory for the words; or these name a task, and it is a want of memory of that, or true of
+-- it.
+abbrev pub IsTrueOfWords : List (List ℕ) → (List ℕ → Option (List ℕ)) → Option (List ℕ) → Fault → Type 0
+IsTrueOfWords words files input fault =
+    (fault ≡ want_of_board)
+    ⊎ ((task : Task) × AnswersWords words (Ok task) × (IsWantOfTask task fault ⊎ IsTrueOfTask task files input fault))
+
+-- the known bytes grow by the line of such a refusal
+abbrev pub TellsA : (Fault → Type 0) → Option (List ℕ) → Option (List ℕ) → Type 0
+TellsA Is old new = (fault : Fault) × Is fault × Appends old new (fault_text fault)
+
+-- a file that a task reads is one of those that can't be opened
+abbrev pub LacksFile : Task → (List ℕ → Type 0) → Type 0
+LacksFile tasks.Stored Lacks = ⊥
+LacksFile (tasks.Asm file list) Lacks = Lacks file.now
+LacksFile (tasks.Run file run hex) Lacks = Lacks file.now ⊎ Lacks run.now
+LacksFile (tasks.Debug file run hex) Lacks = Lacks file.now ⊎ Lacks run.now
+
+-- whether a task's program is a HEX text
+abbrev pub hex_of : Task → Bool
+hex_of tasks.Stored = false
+hex_of (tasks.Asm file list) = false
+hex_of (tasks.Run file run hex) = hex
+hex_of (tasks.Debug file run hex) = hex
+
+-- The program ends before anything is judged: with status 3; or with 1, and tells the want of memory for the words or for
+-- the task's program.
+abbrev pub EndsUnjudged : Task → ℕ → Option (List ℕ) → Option (List ℕ) → Type 0
+EndsUnjudged task status old new =
+    (status ≡ 3)
+    ⊎ ((status ≡ 1) × TellsA (λ fault. (fault ≡ want_of_board) ⊎ (fault ≡ want_of_file (hex_of task))) old new)
+
+-- what a session prints on the first ones of these lines, on none or on all
+pub record BeginsTranscript (session : SessionState) (lines : List (List ℕ)) (text : List ℕ) : Type 0 where
+  pub answered : List (List ℕ)
+  pub left : List (List ℕ)
+  pub are_lines : lines ≡ answered ++ left
+  pub prints : Transcript session answered text
+
+-- the bytes and the run file's text give a board, and this is what a session about it prints on the first ones of the
+-- typed lines
+pub record BeginsSession (hex : Bool) (bytes run typed text : List ℕ) : Type 0 where
+  pub board : BoardState
+  pub is_board : IsBoardOf hex bytes run board
+  pub begins : BeginsTranscript (session_about board) (input_lines typed) text
+
+-- a session's task adds replies up to where it is refused, where the files and the input that it reads are known; no
+-- other task does
+abbrev pub PrintsReplies : Task → (List ℕ → Option (List ℕ)) → Option (List ℕ) → Option (List ℕ) → Option (List ℕ)
+    → Type 0
+PrintsReplies tasks.Stored files input old new = ⊥
+PrintsReplies (tasks.Asm file list) files input old new = ⊥
+PrintsReplies (tasks.Run file run hex) files input old new = ⊥
+PrintsReplies (tasks.Debug file run hex) files input old new =
+    IfSome (files file.now) (λ bytes. IfSome (files run.now)
+    (λ said. IfSome input (λ typed. AppendsA (BeginsSession hex bytes said typed) old new)))
+
+-- Nothing is printed beside a refusal, unless the words name a session, whose replies come as it goes.
+abbrev pub PrintsNoAnswer : List (List ℕ) → (List ℕ → Option (List ℕ)) → Option (List ℕ) → Option (List ℕ)
+    → Option (List ℕ) → Type 0
+PrintsNoAnswer words files input old new =
+    (new ≡ old) ⊎ ((task : Task) × AnswersWords words (Ok task) × PrintsReplies task files input old new)
+
+-- the known bytes grow by the text of words that name no task
+abbrev pub TellsUsage : LineFault → Option (List ℕ) → Option (List ℕ) → Type 0
+TellsUsage (Usage text) old new = Appends old new (string_bytes text)
+TellsUsage Memory old new = ⊥
+
+-- the words name no task, and the known bytes grow by the text that says so
+abbrev pub RefusesWords : List (List ℕ) → Option (List ℕ) → Option (List ℕ) → Type 0
+RefusesWords words old new = (fault : LineFault) × AnswersWords words (Err fault) × TellsUsage fault old new
+
+-- the text of words that can't be read as text
+abbrev pub unreadable_text : List ℕ
+unreadable_text = codes "error: invalid UTF-8 was detected in one or more arguments\n\nFor more information, try '--help'.\n"

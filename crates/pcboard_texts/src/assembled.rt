@@ -1,0 +1,77 @@
+//! What an assembler prints of a source: its HEX text or its listing.
+ghost use Rattle.std.specs.Prelude.{◌≡◌, List, [], length, IfErr, IfSome, IsErrAnd, OnOk, false};
+ghost use Rattle.std.specs.Io.KnownBytes.{Appends};
+ghost use Rattle.board_types.specs.TextLines.{text_lines};
+ghost use Rattle.assembler.specs.Gives.{Gives};
+ghost use Rattle.assembler.specs.Rows.{AreRows, Row, names_of};
+ghost use Rattle.loader.specs.HexText.{hex_text};
+ghost use Rattle.pcboard_texts.specs.Answer.{AppendsA, IsAssembled, IsListingOf};
+ghost use Rattle.pcboard_texts.specs.Refusal.{IsTrueOfText, want_of_file};
+ghost use Rattle.pcboard_texts.specs.Unanswered.{EndsFor, IsUnjudged, WhereRefused};
+
+use crate::input::read_program;
+use crate::listing::listing_text;
+use crate::opener::Opener;
+use crate::telling::print;
+use crate::unanswered::Unanswered;
+use assembler::assembly::assemble;
+use assembler::listing::Listing;
+use board_types::image::Image;
+use loader::hex_writer::write_hex;
+use std::alloc::Global;
+use std::io::Write;
+
+/// Prints the listing of a source, if `list`, else the HEX text of its image.
+pub fn print_assembled<F: Opener, O: Write>(
+    alloc: Global,
+    files: &F,
+    file: &str,
+    list: bool,
+    out: &mut O,
+) -> Result<(), Unanswered>
+    ensures printed { OnOk result (IfSome (F.file_bytes files.now file.now)
+        (λ source. AppendsA (IsAssembled list source) (O.contents out.old) (O.contents out.new))) }
+    ensures kept { IfErr result (WhereRefused (O.contents out.new ≡ O.contents out.old)) }
+    ensures end { IfErr result (EndsFor (λ fault. fault ≡ want_of_file false)
+        (λ fault. IfSome (F.file_bytes files.now file.now) (λ source. IsTrueOfText source fault))) }
+    ensures lacking { F.lacks files.now file.now → IsErrAnd result (IsUnjudged (λ fault. fault ≡ want_of_file false)) }
+{
+    let source = read_program(alloc, files, file, false)?;
+    let listing = assemble(alloc, source.as_slice())?;
+    if list {
+        print_listing(alloc, &listing, source.len(), out)
+    } else {
+        print_hex(listing.image(), out)
+    }
+}
+
+/// Prints the listing of a source of so many bytes.
+fn print_listing<O: Write>(
+    alloc: Global,
+    listing: &Listing,
+    size: usize,
+    out: &mut O,
+) -> Result<(), Unanswered>
+    requires size { size ≡ length listing.now.source }
+    requires gives { Gives listing.now.source listing.now.image }
+    requires names { (rows : List Row) → AreRows [] (text_lines listing.now.source) rows
+        → listing.now.names ≡ names_of rows }
+    ensures printed { OnOk result (AppendsA (IsListingOf listing.now.source) (O.contents out.old) (O.contents out.new)) }
+    ensures kept { IfErr result (WhereRefused (O.contents out.new ≡ O.contents out.old)) }
+    ensures end { IfErr result (IsUnjudged (λ fault. fault ≡ want_of_file false)) }
+{
+    let text = listing_text(alloc, listing, size)?;
+    Ok(print(out, text.as_str())?)
+}
+
+/// Prints the HEX text of an image.
+fn print_hex<O: Write>(image: &Image, out: &mut O) -> Result<(), Unanswered>
+    ensures printed { OnOk result (Appends (O.contents out.old) (O.contents out.new) (hex_text image.now)) }
+    ensures kept { IfErr result (WhereRefused (O.contents out.new ≡ O.contents out.old)) }
+    ensures end { IfErr result (λ end. end ≡ Unanswered.Failed) }
+{
+    match write_hex(image, out) {
+        Ok(()) => Ok(out.flush()?),
+        Err(_) => Err(Unanswered::Failed),
+    }
+}

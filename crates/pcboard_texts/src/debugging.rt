@@ -1,0 +1,73 @@
+//! The lines that a session is typed, and its replies as they are printed.
+ghost use Rattle.std.specs.Prelude.{◌≡◌, option_map, IfErr, IfOk, OnOk, vec_items};
+ghost use Rattle.std.specs.Io.KnownBytes.{Appends};
+ghost use Rattle.loader.specs.ByteInput.{CountsNone};
+ghost use Rattle.pcboard_texts.specs.Refusal.{want_of_board};
+ghost use Rattle.pcboard_texts.specs.Taking.{TakesLine};
+ghost use Rattle.pcboard_texts.specs.Transcript.{ends_session, refusal_text, reply_text};
+ghost use Rattle.pcboard_texts.specs.Unanswered.{IsUnjudged, UnlessFailed};
+
+use crate::input::next_byte;
+use crate::unanswered::Unanswered;
+use debugger_meaning::answer::Answer;
+use debugger_meaning::command::is_quit;
+use debugger_meaning::fault::DebugFault;
+use loader::byte_input::ByteInput;
+use std::alloc::Global;
+use std::io;
+use std::io::Write;
+
+/// The next line of the input, without its line feed, or `None` at the input's end.
+pub fn next_line<I: ByteInput>(alloc: Global, input: &mut I) -> Result<Option<Vec<u8>>, Unanswered>
+    ensures line { IfOk result (λ line. TakesLine (I.remaining input.old) (I.remaining input.new)
+        (option_map vec_items line)) }
+    ensures end { IfErr result (IsUnjudged (λ fault. fault ≡ want_of_board)) }
+    ensures unfailed { UnlessFailed (CountsNone (I.failures input.old) (I.failures input.new)) result }
+{
+    let mut line = Vec::new(alloc);
+    'bytes: for _ in 0..u64::MAX {
+        let Some(byte) = next_byte(input)? else {
+            return Ok(if line.is_empty() { None } else { Some(line) });
+        };
+        if byte == b'\n' {
+            return Ok(Some(line));
+        }
+        line.push(byte)?;
+    }
+    Err(Unanswered::Failed)
+}
+
+/// Whether a line is the word `quit`.
+pub fn ends_session(line: &[u8]) -> bool
+    ensures { result ≡ ends_session line.now }
+{
+    match std::str::from_utf8(line) {
+        Ok(text) => is_quit(text),
+        Err(_) => false,
+    }
+}
+
+/// Prints an answer or a refusal, and sees to it that it reaches its end.
+pub fn print_reply<O: Write>(reply: &Result<Answer, DebugFault>, out: &mut O) -> io::Result<()>
+    ensures { OnOk result (Appends (O.contents out.old) (O.contents out.new) (reply_text reply.now)) }
+{
+    match reply {
+        Ok(answer) => write!(out, "{answer}")?,
+        Err(fault) => print_refusal(fault, out)?,
+    }
+    out.flush()
+}
+
+/// Prints a refusal: its number and name, and its clock where it has one.
+fn print_refusal<O: Write>(fault: &DebugFault, out: &mut O) -> io::Result<()>
+    ensures { OnOk result (Appends (O.contents out.old) (O.contents out.new) (refusal_text fault.now)) }
+{
+    let number = fault.number();
+    let name = fault.name();
+    write!(out, "fault {number} {name}")?;
+    if let Some(clock) = fault.clock() {
+        let clock = clock.get();
+        write!(out, " clock {clock}")?;
+    }
+    out.write_all(b"\n")
+}

@@ -1,0 +1,129 @@
+//! Why a run is refused.
+ghost use Rattle.std.specs.Prelude.{◌≡◌, ◌++◌, codes, OnOk};
+ghost use Rattle.std.specs.Fmt.{decimal};
+ghost use Rattle.std.specs.Io.KnownBytes.{Appends};
+ghost use Rattle.board_plain.specs.declared.fault.BoardFault.TheVariants.{Memory};
+ghost use Rattle.pcboard_texts.specs.declared.fault.Fault.TheVariants.{Board, Hex, Run, Source};
+ghost use Rattle.pcboard_texts.specs.Faults.{fault_text, line_of, name_of, number_of};
+
+use assembler::fault::AsmFault;
+use board_plain::fault::BoardFault;
+use debugger_meaning::fault::DebugFault;
+use loader::hex_fault::HexFault;
+use loader::run_fault::RunFault;
+use std::alloc::AllocError;
+use std::io;
+use std::io::Write;
+
+/// A refusal, by the part that refuses.
+#[derive(Clone, Copy, Debug, PartialEq, Eq)]
+pub enum Fault {
+    Source(AsmFault),
+    Hex(HexFault),
+    Run(RunFault),
+    Board(BoardFault),
+    /// A debugger's session can't be begun.
+    Session(DebugFault),
+}
+
+impl From<AsmFault> for Fault {
+    ghost from_gives = { λ part fault. fault ≡ Source part };
+
+    fn from(fault: AsmFault) -> Self {
+        Fault::Source(fault)
+    }
+}
+
+impl From<HexFault> for Fault {
+    ghost from_gives = { λ part fault. fault ≡ Hex part };
+
+    fn from(fault: HexFault) -> Self {
+        Fault::Hex(fault)
+    }
+}
+
+impl From<RunFault> for Fault {
+    ghost from_gives = { λ part fault. fault ≡ Run part };
+
+    fn from(fault: RunFault) -> Self {
+        Fault::Run(fault)
+    }
+}
+
+impl From<BoardFault> for Fault {
+    ghost from_gives = { λ part fault. fault ≡ Board part };
+
+    fn from(fault: BoardFault) -> Self {
+        Fault::Board(fault)
+    }
+}
+
+/// A want of memory that no other part tells is the board's.
+impl From<AllocError> for Fault {
+    ghost from_gives = { λ _ fault. fault ≡ Board Memory };
+
+    fn from(_error: AllocError) -> Self {
+        Fault::Board(BoardFault::Memory)
+    }
+}
+
+impl Fault {
+    /// The fault's number, from 1 on.
+    pub fn number(self) -> u8
+        ensures { result ≡ number_of self }
+    {
+        match self {
+            Fault::Source(fault) => fault.number(),
+            Fault::Hex(fault) => fault.number(),
+            Fault::Run(fault) => fault.number(),
+            Fault::Board(fault) => fault.number(),
+            Fault::Session(fault) => fault.number(),
+        }
+    }
+
+    /// The fault's name, as it is printed.
+    pub fn name(self) -> &'static str
+        ensures { result.now ≡ name_of self }
+    {
+        match self {
+            Fault::Source(fault) => fault.name(),
+            Fault::Hex(fault) => fault.name(),
+            Fault::Run(fault) => fault.name(),
+            Fault::Board(fault) => fault.name(),
+            Fault::Session(fault) => fault.name(),
+        }
+    }
+
+    /// The line of the source or HEX text, from 1 on, where the fault has one.
+    pub fn line(self) -> Option<u64>
+        ensures { result ≡ line_of self }
+    {
+        match self {
+            Fault::Source(fault) => fault.line().map(u64::from),
+            Fault::Hex(fault) => fault.line(),
+            Fault::Run(_) | Fault::Board(_) | Fault::Session(_) => None,
+        }
+    }
+}
+
+/// Writes the line that tells a fault, its number and name, and where it has one its line, and sees to it that it
+/// reaches its end.
+#[tactic(auto, unfolding(crate::specs::Faults::fault_text))]
+pub fn write_fault<W: Write>(fault: &Fault, to: &mut W) -> io::Result<()>
+    ensures { OnOk result (Appends (W.contents to.old) (W.contents to.new) (fault_text fault.now)) }
+{
+    let number = fault.number();
+    let name = fault.name();
+    write!(to, "fault {number} {name}")?;
+    if let Some(line) = fault.line() {
+        write_line_number(line, to)?;
+    }
+    to.write_all(b"\n")?;
+    to.flush()
+}
+
+fn write_line_number<W: Write>(line: u64, to: &mut W) -> io::Result<()>
+    ensures { OnOk result (Appends (W.contents to.old) (W.contents to.new) (codes " line " ++ decimal line)) }
+{
+    write!(to, " line {line}")
+}

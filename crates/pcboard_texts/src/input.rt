@@ -1,0 +1,109 @@
+//! What the program reads.
+ghost use Rattle.std.specs.Prelude.{◌≡◌, ◌⊎◌, take, IfErr, IfOk, IfSome, IsErrAnd, IsErrOf};
+ghost use Rattle.loader.specs.ByteInput.{CountsNone};
+ghost use Rattle.pcboard_texts.specs.Refusal.{want_of_file, want_of_run_file};
+ghost use Rattle.pcboard_texts.specs.Unanswered.{IsUnjudged, UnlessFailed};
+ghost use Rattle.pcboard_texts.specs.Ready.{seen_of};
+ghost use Rattle.pcboard_texts.specs.Taking.{TakesByte};
+
+use crate::fault::Fault;
+use crate::opener::Opener;
+use crate::unanswered::Unanswered;
+use assembler::fault::AsmFault;
+use loader::byte_input::{ByteInput, ReadFault, read_all};
+use loader::hex_fault::HexFault;
+use loader::run_fault::RunFault;
+use std::alloc::Global;
+
+/// One byte more than a source may have, so that a longer one is seen to be too long.
+const SOURCE_READ_LIMIT: u64 = 1_048_577;
+
+/// The bytes of a program's file: a HEX text whole, if `hex`, else a source as far as it has to be seen.
+pub(crate) fn read_program<F: Opener>(
+    alloc: Global,
+    files: &F,
+    path: &str,
+    hex: bool,
+) -> Result<Vec<u8>, Unanswered>
+    ensures bytes { IfSome (F.file_bytes files.now path.now)
+        (λ known. IfOk result (λ bytes. bytes.items ≡ seen_of hex known)) }
+    ensures end { IfErr result (IsUnjudged (λ fault. fault ≡ want_of_file hex)) }
+    ensures lacking { F.lacks files.now path.now → IsErrOf result Unanswered.Failed }
+{
+    let mut file = files.open(path)?;
+    if hex {
+        read_whole(alloc, &mut file, Fault::Hex(HexFault::Memory))
+    } else {
+        let want = Fault::Source(AsmFault::Memory);
+        read_front(alloc, &mut file, SOURCE_READ_LIMIT, want)
+    }
+}
+
+/// The bytes of a program's file, as `read_program` has them, and those of a run file. Both files are read before either
+/// is judged.
+pub fn read_files<F: Opener>(
+    alloc: Global,
+    files: &F,
+    file: &str,
+    run: &str,
+    hex: bool,
+) -> Result<(Vec<u8>, Vec<u8>), Unanswered>
+    ensures bytes { IfSome (F.file_bytes files.now file.now)
+        (λ known. IfOk result (λ read. read.0.items ≡ seen_of hex known)) }
+    ensures said { IfSome (F.file_bytes files.now run.now) (λ known. IfOk result (λ read. read.1.items ≡ known)) }
+    ensures end { IfErr result (IsUnjudged (λ fault. fault ≡ want_of_file hex ⊎ fault ≡ want_of_run_file)) }
+    ensures lacking { F.lacks files.now file.now ⊎ F.lacks files.now run.now
+        → IsErrAnd result (IsUnjudged (λ fault. fault ≡ want_of_file hex)) }
+{
+    let bytes = read_program(alloc, files, file, hex)?;
+    let mut run = files.open(run)?;
+    let said = read_whole(alloc, &mut run, Fault::Run(RunFault::Memory))?;
+    Ok((bytes, said))
+}
+
+/// All that `input` still has to give. `want` is the refusal where there is no memory for it.
+pub fn read_whole<I: ByteInput>(
+    alloc: Global,
+    input: &mut I,
+    want: Fault,
+) -> Result<Vec<u8>, Unanswered>
+    ensures bytes { IfSome (I.remaining input.old) (λ known. IfOk result (λ bytes. bytes.items ≡ known)) }
+    ensures end { IfErr result (IsUnjudged (λ fault. fault ≡ want)) }
+    ensures unfailed { UnlessFailed (CountsNone (I.failures input.old) (I.failures input.new)) result }
+{
+    // No more than this can stand in memory.
+    let bytes = read_front(alloc, input, u64::MAX, want)?;
+    Ok(bytes)
+}
+
+/// The first `limit` bytes that `input` has to give, or all of them where there are no more. `want` is the refusal where
+/// there is no memory for them.
+fn read_front<I: ByteInput>(
+    alloc: Global,
+    input: &mut I,
+    limit: u64,
+    want: Fault,
+) -> Result<Vec<u8>, Unanswered>
+    ensures bytes { IfSome (I.remaining input.old) (λ known. IfOk result (λ bytes. bytes.items ≡ take limit known)) }
+    ensures end { IfErr result (IsUnjudged (λ fault. fault ≡ want)) }
+    ensures unfailed { UnlessFailed (CountsNone (I.failures input.old) (I.failures input.new)) result }
+{
+    match read_all(alloc, input, limit) {
+        Ok(bytes) => Ok(bytes),
+        Err(ReadFault::Failed) => Err(Unanswered::Failed),
+        Err(ReadFault::Memory) => Err(Unanswered::Refused(want)),
+    }
+}
+
+/// The next byte of the input, or `None` at its end.
+pub(crate) fn next_byte<I: ByteInput>(input: &mut I) -> Result<Option<u8>, Unanswered>
+    ensures byte { IfOk result (TakesByte (I.remaining input.old) (I.remaining input.new)) }
+    ensures end { IfErr result (λ end. end ≡ Unanswered.Failed) }
+    ensures unfailed { UnlessFailed (CountsNone (I.failures input.old) (I.failures input.new)) result }
+{
+    let mut byte = [0];
+    match input.read(&mut byte)? {
+        0 => Ok(None),
+        _ => Ok(Some(byte[0])),
+    }
+}

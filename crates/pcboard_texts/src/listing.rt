@@ -1,0 +1,40 @@
+//! The listing of a source as one text.
+ghost use Rattle.std.specs.Prelude.{◌≡◌, ◌++◌, [], ◌∷◌, List, length, IfErr, IfOk, OnOk, string_bytes};
+ghost use Rattle.board_types.specs.TextLines.{text_lines};
+ghost use Rattle.assembler.specs.Gives.{Gives};
+ghost use Rattle.assembler.specs.Rows.{AreRows, Row, names_of};
+ghost use Rattle.pcboard_texts.specs.Answer.{IsListingOf};
+
+use assembler::fault::AsmFault;
+use assembler::listing::Listing;
+use std::alloc::{AllocError, Global};
+
+/// All lines of the listing of a source of so many bytes. A source has no more lines than bytes.
+pub(crate) fn listing_text(
+    alloc: Global,
+    listing: &Listing,
+    size: usize,
+) -> Result<String, AsmFault>
+    requires size { size ≡ length listing.now.source }
+    requires gives { Gives listing.now.source listing.now.image }
+    requires names { (rows : List Row) → AreRows [] (text_lines listing.now.source) rows
+        → listing.now.names ≡ names_of rows }
+    ensures listing { IfOk result (λ text. IsListingOf listing.now.source (string_bytes text)) }
+    ensures fault { IfErr result (λ fault. fault ≡ AsmFault.Memory) }
+{
+    let mut text = String::new(alloc);
+    for i in 0..size {
+        let Some(line) = listing.line(alloc, i)? else {
+            break;
+        };
+        push_line(&mut text, &line)?;
+    }
+    Ok(text)
+}
+
+fn push_line(text: &mut String, line: &str) -> Result<(), AllocError>
+    ensures { OnOk result (string_bytes text.new ≡ string_bytes text.old ++ (line.now ++ 10 ∷ [])) }
+{
+    text.push_str(line)?;
+    text.push('\n')
+}

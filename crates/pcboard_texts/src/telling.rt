@@ -1,0 +1,83 @@
+//! Texts that are printed or told, and the exit status behind them.
+ghost use Rattle.std.specs.Prelude.{◌≡◌, ◌≢◌, ◌≤◌, ◌<◌, ◌⊎◌, MatchResult, OnOk};
+ghost use Rattle.std.specs.Io.KnownBytes.{Appends};
+ghost use Rattle.pcboard_texts.specs.Faults.{fault_text};
+ghost use Rattle.pcboard_texts.specs.Refusal.{unreadable_text, want_of_board};
+
+use crate::fault::{Fault, write_fault};
+use board_plain::fault::BoardFault;
+use std::io;
+use std::io::Write;
+
+/// What is told where a word isn't UTF-8.
+const UNREADABLE_WORDS: &str =
+    "error: invalid UTF-8 was detected in one or more arguments\n\nFor more information, try '--help'.\n";
+
+/// What `program` does where the words found no memory: it tells so, and answers the exit status, 1, or 3 where that
+/// failed.
+pub fn without_words<E: Write>(err: &mut E) -> u8
+    ensures above { 0 < result }
+    ensures within { result ≤ 3 }
+    ensures status { result ≢ 2 }
+    ensures told { result ≡ 1 → Appends (E.contents err.old) (E.contents err.new) (fault_text want_of_board) }
+{
+    refused(err, Fault::Board(BoardFault::Memory))
+}
+
+/// What `program` does where a word isn't UTF-8, so that it can't be read: it tells so, and answers the exit status, 2,
+/// or 3 where that failed.
+pub fn with_unreadable_words<E: Write>(err: &mut E) -> u8
+    ensures status { result ≡ 2 ⊎ result ≡ 3 }
+    ensures told { result ≡ 2 → Appends (E.contents err.old) (E.contents err.new) unreadable_text }
+{
+    let (status, text) = unreadable_words();
+    told(err, text, status)
+}
+
+/// The exit status for words that can't be read, and what is told of them.
+pub fn unreadable_words() -> (u8, &'static str)
+    ensures status { result.0 ≡ 2 }
+    ensures text { result.1.now ≡ unreadable_text }
+{
+    (2, UNREADABLE_WORDS)
+}
+
+/// Prints a text, and sees to it that it reaches its end.
+pub fn print<W: Write>(to: &mut W, text: &str) -> io::Result<()>
+    ensures { OnOk result (Appends (W.contents to.old) (W.contents to.new) text.now) }
+{
+    to.write_all(text.as_bytes())?;
+    to.flush()
+}
+
+/// Tells a text, and answers `status`, or 3 where that failed.
+pub fn told<W: Write>(err: &mut W, text: &str, status: u8) -> u8
+    requires above { 0 < status }
+    requires within { status ≤ 3 }
+    ensures above { 0 < result }
+    ensures within { result ≤ 3 }
+    ensures status { result < 3 → result ≡ status }
+    ensures told { result < 3 → Appends (W.contents err.old) (W.contents err.new) text.now }
+{
+    status_after(&print(err, text), status)
+}
+
+/// Tells a refusal, and answers the status.
+pub fn refused<W: Write>(err: &mut W, fault: Fault) -> u8
+    ensures above { 0 < result }
+    ensures within { result ≤ 3 }
+    ensures status { result ≢ 2 }
+    ensures told { result ≡ 1 → Appends (W.contents err.old) (W.contents err.new) (fault_text fault) }
+{
+    status_after(&write_fault(&fault, err), 1)
+}
+
+/// The exit status behind a text that was to be told: 3 where writing it failed, and nowhere else.
+fn status_after(written: &io::Result<()>, status: u8) -> u8
+    ensures { MatchResult written.now (λ _. result ≡ status) (λ _. result ≡ 3) }
+{
+    match written {
+        Ok(()) => status,
+        Err(_) => 3,
+    }
+}

@@ -1,0 +1,68 @@
+//! What a program's bytes and the text of a run file give, and how a stored run has both in one text.
+ghost use Rattle.std.specs.Prelude.{◌≡◌, ◌<◌, ℕ, List, length, IfErr, IfOk, IfSome, MatchResult, Ok};
+ghost use Rattle.loader.specs.declared.run_file.RunFile.{RunFile};
+ghost use Rattle.loader.specs.RunFile.{Answers, run_of_text};
+ghost use Rattle.pcboard_texts.specs.Answer.{GivesImage, IsTrueRefusal, first_line_end, run_text_of, source_of};
+ghost use Rattle.pcboard_texts.specs.Faults.{IsWantOfMemory};
+
+use crate::fault::Fault;
+use assembler::assembly::assemble;
+use board_types::image::Image;
+use loader::hex_reader::read_hex;
+use loader::run_file::RunFile;
+use loader::run_reader::read_run_text;
+use std::alloc::Global;
+
+/// The image of a HEX text, if `hex`, else of a source, and what the text of a run file says; or the first refusal: the
+/// program's fault comes before the run file's.
+pub fn read_texts(
+    alloc: Global,
+    hex: bool,
+    bytes: &[u8],
+    run: &[u8],
+) -> Result<(Image, RunFile), Fault>
+    ensures gives { IfOk result (λ read. GivesImage hex bytes.now read.0) }
+    ensures says { IfOk result (λ read. Answers (Ok read.1) (run_of_text run.now)) }
+    ensures fault { IfErr result (IsTrueRefusal hex bytes.now run.now) }
+
+    // Where both texts give what they should, they give nothing else, and only the want of memory refuses them.
+    ensures accepted { (image : List (ℕ × ℕ)) → GivesImage hex bytes.now image → (run_file : RunFile)
+        → Answers (Ok run_file) (run_of_text run.now)
+        → MatchResult result (λ read. (read.0 ≡ image) × (read.1 ≡ run_file)) IsWantOfMemory }
+{
+    let image = read_image(alloc, hex, bytes)?;
+    let run = read_run_text(alloc, run)?;
+    Ok((image, run))
+}
+
+/// The image of a HEX text, if `hex`, else of a source; or its first fault, whatever the run file says.
+fn read_image(alloc: Global, hex: bool, bytes: &[u8]) -> Result<Image, Fault>
+    ensures gives { IfOk result (GivesImage hex bytes.now) }
+    ensures fault { IfErr result (λ fault. (run : List ℕ) → IsTrueRefusal hex bytes.now run fault) }
+    ensures accepted { (image : List (ℕ × ℕ)) → GivesImage hex bytes.now image
+        → MatchResult result (λ given. given ≡ image) IsWantOfMemory }
+{
+    if hex {
+        Ok(read_hex(alloc, bytes)?)
+    } else {
+        Ok(assemble(alloc, bytes)?.into_image())
+    }
+}
+
+/// The text before the first line feed, and the text after it: none where there is no line feed.
+pub fn parted(text: &[u8]) -> (&[u8], &[u8])
+    ensures run { result.0.now ≡ run_text_of text.now }
+    ensures source { result.1.now ≡ source_of text.now }
+{
+    match first_line_end(text) {
+        Some(at) => (text.split_at(at).0, text.split_at(at + 1).1),
+        None => (text, &[]),
+    }
+}
+
+fn first_line_end(text: &[u8]) -> Option<usize>
+    ensures end { result ≡ first_line_end text.now }
+    ensures bound { IfSome result (λ at. at < length text.now) }
+{
+    text.iter().position(|byte| *byte == b'\n')
+}

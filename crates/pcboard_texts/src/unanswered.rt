@@ -1,0 +1,69 @@
+//! Why the program ends without an answer.
+ghost use Rattle.std.specs.Prelude.{◌≡◌};
+ghost use Rattle.board_plain.specs.declared.fault.BoardFault.TheVariants.{Memory};
+ghost use Rattle.pcboard_texts.specs.declared.fault.Fault.TheVariants.{Board, Session, Source};
+ghost use Rattle.pcboard_texts.specs.declared.unanswered.Unanswered.TheVariants.{Failed, Refused};
+
+use crate::fault::Fault;
+use assembler::fault::AsmFault;
+use board_plain::fault::BoardFault;
+use debugger_meaning::fault::DebugFault;
+use loader::byte_input;
+use std::alloc::AllocFailed;
+use std::io;
+
+/// Why the program ends without an answer to its task.
+#[derive(Clone, Copy)]
+pub enum Unanswered {
+    /// An opening, a read or a write failed.
+    Failed,
+    Refused(Fault),
+}
+
+impl From<Fault> for Unanswered {
+    ghost from_gives = { λ fault end. end ≡ Refused fault };
+
+    fn from(fault: Fault) -> Self {
+        Unanswered::Refused(fault)
+    }
+}
+
+impl From<AsmFault> for Unanswered {
+    ghost from_gives = { λ fault end. end ≡ Refused (Source fault) };
+
+    fn from(fault: AsmFault) -> Self {
+        Unanswered::Refused(Fault::Source(fault))
+    }
+}
+
+impl From<DebugFault> for Unanswered {
+    ghost from_gives = { λ fault end. end ≡ Refused (Session fault) };
+
+    fn from(fault: DebugFault) -> Self {
+        Unanswered::Refused(Fault::Session(fault))
+    }
+}
+
+impl From<io::Error> for Unanswered {
+    ghost from_gives = { λ _ end. end ≡ Failed };
+
+    fn from(_error: io::Error) -> Self {
+        Unanswered::Failed
+    }
+}
+
+impl From<byte_input::Failed> for Unanswered {
+    ghost from_gives = { λ _ end. end ≡ Failed };
+
+    fn from(_failed: byte_input::Failed) -> Self {
+        Unanswered::Failed
+    }
+}
+
+impl<T: Drop> From<AllocFailed<T>> for Unanswered {
+    ghost from_gives = { λ _ end. end ≡ Refused (Board Memory) };
+
+    fn from(_refused: AllocFailed<T>) -> Self {
+        Unanswered::Refused(Fault::Board(BoardFault::Memory))
+    }
+}
