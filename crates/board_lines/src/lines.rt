@@ -57,7 +57,8 @@ pub fn clock_line(alloc: Global, clock: u64) -> Result<String, AllocError>
     format!(in alloc; "clock {clock}\n")
 }
 
-fn state_name(state: State) -> &'static str
+/// A state's name.
+pub fn state_name(state: State) -> &'static str
     ensures { result.now ≡ state_name state }
 {
     match state {

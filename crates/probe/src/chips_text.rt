@@ -2,7 +2,6 @@
 ghost use Rattle.std.specs.Prelude.{◌≡◌, ◌++◌, IfOk, OnOk, codes};
 ghost use Rattle.std.specs.List.{flat_map};
 ghost use Rattle.std.specs.String.{string_bytes};
-ghost use Rattle.board_lines.specs.Text.{state_name};
 ghost use Rattle.debugger_meaning.specs.Dump.{spaced_byte};
 ghost use Rattle.ppi8255.specs.Image.{direction_by};
 ghost use Rattle.wiring.specs.Ports.{inputs_of};
@@ -12,9 +11,9 @@ use crate::controller_text::controller_line;
 use crate::counter_text::counter_line;
 use crate::shown::{ByteOrNone, digit, line_digit};
 use board::board::Board;
+use board_lines::lines::state_name;
 use board_types::digits::{HexByte, HexWord};
 use board_types::line::Line;
-use board_types::state::State;
 use execute_meaning::shadow::Shadow;
 use keyboard::keyboard::Keyboard;
 use mda_text::registers::Registers;
@@ -169,16 +168,6 @@ fn processor_boundary(alloc: Global, board: &Board) -> Result<String, AllocError
     let step = digit(board.is_step_due());
     let repeat = digit(board.is_repeating());
     format!(in alloc; " inhibits {inhibited} step {step} repeat {repeat}\n")
-}
-
-fn state_name(state: State) -> &'static str
-    ensures { result.now ≡ state_name state }
-{
-    match state {
-        State::Running => "running",
-        State::Halted => "halted",
-        State::Jammed => "jammed",
-    }
 }
 
 fn inhibited_text(shadow: Shadow) -> &'static str
