@@ -245,6 +245,11 @@ class Build(Repository):
         self.assertEqual(max(ways, key=ways.__getitem__), 'board_types')
         self.assertEqual(ways['pcboard_program'], building.SECONDS['pcboard_program'] + building.SECONDS['pcboard'])
 
+    def test_a_second_job_fills_lanes_that_would_be_idle(self) -> None:
+        self.assertEqual(building.jobs_of('board', [], 4), 2)
+        self.assertEqual(building.jobs_of('board', [*building.SECONDS], 4), 1)
+        self.assertEqual(building.jobs_of('board', [], 1), 1)
+
     def test_a_long_silence_is_broken(self) -> None:
         progress = building.Progress('pcboard', 37)
         told = io.StringIO()

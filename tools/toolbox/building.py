@@ -25,47 +25,52 @@ SHOWN_LINES = 25
 TIMES = f'{STAGE}/times'  # the seconds of the last build from nothing, and its lanes
 QUIET_SECONDS = 8
 # Of a build from nothing on four processors: what a lane proves in a second, and what the compilation takes behind it.
-BYTES_A_SECOND, COMPILATION_SECONDS = 800, 110
+BYTES_A_SECOND, COMPILATION_SECONDS = 1100, 100
 # About how many seconds the proof of each crate of pcboard takes, with one job: sizes tell that badly, and only the order
 # hangs on it.
 SECONDS = {
-    'board_types': 40,
-    'bus': 7,
-    'pic8259': 55,
-    'pit8253': 77,
-    'ppi8255': 18,
-    'keyboard': 19,
-    'mda_text': 42,
-    'memory': 33,
-    'scheduler': 13,
-    'wiring': 82,
-    'isa': 58,
-    'dialect': 58,
-    'assembler_lexeme': 31,
-    'assembler_syntax': 130,
-    'assembler_form': 53,
-    'assembler_meaning': 75,
-    'assembler': 112,
-    'disassembler': 48,
-    'digest': 27,
-    'deeds': 91,
-    'decode': 35,
-    'decode_cache': 53,
-    'execute_machine': 51,
-    'execute_arith': 62,
-    'execute_control': 48,
-    'execute_transfer': 49,
-    'execute_strings': 46,
-    'execute': 177,
-    'cached_chips': 58,
-    'board_plain': 48,
-    'board': 290,
-    'loader': 130,
-    'pcboard_words': 100,
-    'board_report': 35,
-    'debugger': 160,
-    'pcboard_program': 190,
-    'pcboard': 58,
+    'board_types': 20,
+    'bus': 5,
+    'pic8259': 34,
+    'pit8253': 47,
+    'ppi8255': 12,
+    'keyboard': 12,
+    'mda_text': 28,
+    'memory': 18,
+    'scheduler': 9,
+    'wiring': 51,
+    'isa': 40,
+    'dialect': 38,
+    'assembler_lexeme': 23,
+    'assembler_syntax': 90,
+    'assembler_form': 35,
+    'assembler_meaning': 50,
+    'assembler': 70,
+    'disassembler': 34,
+    'digest': 25,
+    'deeds': 42,
+    'decode': 21,
+    'decode_cache': 32,
+    'execute_machine': 38,
+    'execute_arith': 41,
+    'execute_control': 25,
+    'execute_transfer': 29,
+    'execute_strings': 31,
+    'execute_meaning': 14,
+    'execute_slots': 6,
+    'execute': 104,
+    'cached_chips': 40,
+    'board_plain': 25,
+    'board_lines': 17,
+    'debugger_meaning': 38,
+    'board': 180,
+    'loader': 62,
+    'pcboard_words': 50,
+    'pcboard_texts': 45,
+    'board_report': 12,
+    'debugger': 50,
+    'pcboard_program': 50,
+    'pcboard': 62,
 }
 
 
@@ -220,10 +225,15 @@ def prove(crates, name, jobs, made_of, work):
     return status
 
 
+def jobs_of(name, meanwhile, count):
+    """Two jobs for a proof beside which the other lanes would be idle, else one. By a second job it takes two thirds of the time
+    and nearly half as much again of the processors', which other proofs use better."""
+    return 2 if sum(map(seconds, meanwhile)) < (count - 1) * seconds(name) else 1
+
+
 def build_all(crates, names, work, progress):
     """Proves and builds these crates, and so all that they stand on has to be among them: each once those that it names
-    stand, those on the longest way first, and what all else waits for with a job for each processor but one, which others
-    may need. Whether all could be built."""
+    stand, and those on the longest way first. Whether all could be built."""
     count, done, running, known = lanes(), set(), {}, {}
     below = {name: set(crates.named[name]) & names for name in names}
     to_do, way = set(names), ways(below)
@@ -231,11 +241,10 @@ def build_all(crates, names, work, progress):
         try:
             while to_do or running:
                 ready = sorted((name for name in to_do if below[name] <= done), key=way.get, reverse=True)
-                longest = max(map(way.get, [*ready, *running.values()]), default=0)
-                share = max(1, count // max(1, len(ready) + len(running)))
                 for name in ready[: count - len(running)]:
                     to_do.discard(name)
-                    jobs = max(share, count - 1) if way[name] == longest else share
+                    meanwhile = [it for it in [*to_do, *running.values()] if name not in crates.below(it)]
+                    jobs = jobs_of(name, meanwhile, count)
                     running[pool.submit(prove, crates, name, jobs, stamp(crates, name, known), work)] = name
                 for future in futures.wait(running, 1, futures.FIRST_COMPLETED)[0]:
                     name = running.pop(future)
