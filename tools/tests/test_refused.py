@@ -10,14 +10,28 @@ from tests.support import TOP, ToolCase
 from toolbox.edits import FOLDERS, edits_of, judge
 
 RT = """
-import types
+import os, re, types
 rtlib = types.SimpleNamespace(guarded=lambda: [])
+def note(text):
+    with open(os.environ['NOTES'], 'a') as notes:
+        notes.write(text + chr(10))
+def read_edit(edit, folder):
+    said = dict(line.split(': ', 1) for line in open(edit).read().splitlines())
+    text = open(f'{folder}/{said["file"]}').read()
+    return {said['file']: text.replace(said['old'], said['new'])}, None
 def must_fail(crate, edit, flags, kept):
+    note('alone ' + edit.rpartition('/')[2])
     is_refused = 'proved' not in edit
     return is_refused, f'must-fail {crate.name}/{edit.rpartition("/")[2]}: {"refused" if is_refused else "NOT REFUSED"}'
 def checked(crate, texts, flags, kept):
-    return types.SimpleNamespace(returncode=crate.name == 'broken')
+    wrong = [name for text in texts.values() for name in re.findall('fn ([a-z]+)[^}]*wrong', text)]
+    if wrong:
+        note('together ' + ' '.join(wrong))
+    why = 'no proof: expected answers in ./proofs/F/Answers.antt; `search` did not prove `returns`'
+    lines = [f'fn {crate.name}::{it}: {why}' for it in wrong]
+    return types.SimpleNamespace(returncode=crate.name == 'broken', stdout=chr(10).join([*lines, 'logic=not-proved']))
 """
+BODIES = 'pub fn first() -> u8 {\n    1\n}\n\nimpl Two {\n    fn second() -> u8 {\n        2\n    }\n}\n\nconst THIRD: u8 = 3;\n'
 RATTLE = '#!/bin/sh\nwhile [ "$1" != -o ]; do shift; done\nmkdir -p "$2"\necho logic=proved functions=1\n'
 
 
@@ -63,7 +77,7 @@ class Refused(ToolCase):
         self.file(f'top/crates/{path}.edit', 'file: src/lib.rt\nold: nothing\nnew: something\n')
 
     def refused(self, *words: str) -> 'subprocess.CompletedProcess[str]':
-        environment = {'PATH': f'{self.room}/bin:/usr/bin:/bin', 'XDG_CACHE_HOME': f'{self.room}/cache'}
+        environment = {'PATH': f'{self.room}/bin:/usr/bin:/bin', 'XDG_CACHE_HOME': f'{self.room}/cache', 'NOTES': f'{self.room}/notes'}
         return subprocess.run([sys.executable, f'{self.room}/top/dev/refused', *words], capture_output=True, text=True, env=environment, check=False)
 
     def test_all_are_refused(self) -> None:
@@ -80,6 +94,20 @@ class Refused(ToolCase):
         self.edit('low/refused/is_not')
         ran = self.refused()
         self.assertEqual((ran.returncode, ran.stdout), (1, 'must-fail low/is_proved.edit: NOT REFUSED\n1 refused, 1 not\n'))
+
+    def test_edits_of_several_functions_are_tried_at_once(self) -> None:
+        self.file('top/crates/low/src/lib.rt', BODIES)
+        for name, old, new in (
+            ('a', '    1', '    wrong'),
+            ('b', '        2', '        wrong'),
+            ('c', '3;', 'wrong;'),
+            ('is_proved', '    1', '    one'),
+        ):
+            self.file(f'top/crates/low/refused/{name}.edit', f'file: src/lib.rt\nold: {old}\nnew: {new}\n')
+        ran = self.refused('low')
+        self.assertEqual((ran.returncode, ran.stdout), (1, 'must-fail low/is_proved.edit: NOT REFUSED\n3 refused, 1 not\n'), ran.stderr)
+        with open(f'{self.room}/notes', encoding='utf-8') as notes:
+            self.assertEqual(notes.read(), 'together first second\nalone c.edit\nalone is_proved.edit\n')
 
     def test_edits_of_a_crate_that_is_not_proved_say_nothing(self) -> None:
         self.edit('broken/refused/a')
