@@ -12,6 +12,7 @@ from toolbox.edits import FOLDERS, edits_of, judge
 RT = """
 import os, re, types
 rtlib = types.SimpleNamespace(guarded=lambda: [])
+REFUSED, AT_LIMIT, MISSED = 'refused', 'limit', 'missed'
 def note(text):
     with open(os.environ['NOTES'], 'a') as notes:
         notes.write(text + chr(10))
@@ -22,7 +23,8 @@ def read_edit(edit, folder):
 def must_fail(crate, edit, flags, kept):
     note('alone ' + edit.rpartition('/')[2])
     is_refused = 'proved' not in edit
-    return is_refused, f'must-fail {crate.name}/{edit.rpartition("/")[2]}: {"refused" if is_refused else "NOT REFUSED"}'
+    said = 'refused' if is_refused else 'NOT REFUSED'
+    return REFUSED if is_refused else MISSED, f'must-fail {crate.name}/{edit.rpartition("/")[2]}: {said}'
 def checked(crate, texts, flags, kept):
     wrong = [name for text in texts.values() for name in re.findall('fn ([a-z]+)[^}]*wrong', text)]
     if wrong:

@@ -166,5 +166,6 @@ def tried(rt: types.ModuleType, crates: Crates, name: str, edits: list[str], is_
             if is_stopped():
                 return
             if edit not in refused:
-                yield rt.must_fail(crate, edit, [], kept)
+                kind, text = rt.must_fail(crate, edit, [], kept)
+                yield kind in (rt.REFUSED, rt.AT_LIMIT), text
         yield is_proved, f"{name}: {'proved' if is_proved else 'NOT PROVED, so its edits say nothing'}"
