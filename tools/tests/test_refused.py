@@ -7,7 +7,7 @@ import subprocess
 import sys
 
 from tests.support import TOP, ToolCase
-from toolbox.edits import FOLDERS, edits_of, judge
+from toolbox.edits import FOLDERS, edits_of, function_at, judge
 
 RT = """
 import os, re, types
@@ -54,6 +54,21 @@ class Edits(ToolCase):
             self.assertEqual(len(files), len(set(files)), name)
             for file in files:
                 self.assertRegex(file, r'\A[A-Za-z0-9_-]+\.edit\Z', name)
+
+    def test_a_line_of_a_contract_is_of_no_body(self) -> None:
+        lines = [
+            '    pub fn f(',
+            '        a: u8,',
+            '    ) -> u8',
+            '        ensures { result ≡ a }',
+            '    {',
+            '        a',
+            '    }',
+            '    fn g() {',
+            '        f(1)',
+        ]
+        found = [function_at(lines, at) for at in range(len(lines))]
+        self.assertEqual(found, [None, None, None, None, None, 'f', 'f', None, 'g'])
 
 
 class Refused(ToolCase):

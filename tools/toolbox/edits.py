@@ -86,11 +86,15 @@ HEAD = re.compile(r'( *)(?:pub(?:\([a-z]+\))? )?(?:const )?fn (\w+)')
 
 
 def function_at(lines: list[str], number: int) -> str | None:
-    """The name of the function whose body has a line, in `rt fmt`'s layout: it ends where a brace stands as far in as it began."""
+    """The name of the function in whose body a line stands, in `rt fmt`'s layout: signature and contract end where a brace opens
+    as far in as the function begins, and the body where one closes there. A contract is no body: callers cite it."""
     for at in range(number, -1, -1):
         head = HEAD.match(lines[at])
         if head:
-            return None if f'{head[1]}}}' in lines[at:number] else head[2]
+            opens = re.compile(rf'{head[1]}(?:{{|(?:\)|\S.*\)).* {{)')
+            begins = next((it for it in range(at, number) if opens.fullmatch(lines[it])), None)
+            is_inside = begins is not None and f'{head[1]}}}' not in lines[at:number]
+            return head[2] if is_inside else None
     return None
 
 
