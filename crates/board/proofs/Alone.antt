@@ -1,53 +1,53 @@
 -- Clocks in which the chips alone go on: what a board is after them, and that nothing is seen of them.
-use Rattle.std.proofs.Common.{◌≡◌, ℕ, ◌+◌, ◌-◌, ◌<◌, ◌≤◌, inl, inr, false, List, refl, sym, ap, ◌∙◌, subst, arith}
+use Rattle.std.proofs.Common.{◌≡◌, ℕ, ◌+◌, ◌-◌, ◌<◌, ◌≤◌, inl, inr, false, List, refl, sym, ap, ◌∙◌, arith}
 use Rattle.std.specs.Prelude.{nat_eq}
 use Rattle.board_types.proofs.Iterate.{iterate_more, iterate_zero}
 use Rattle.board_types.specs.Lines.{from_bool}
-use Rattle.board_types.specs.declared.keys.StampedKey.{StampedKey}
+use Rattle.execute_meaning.specs.Boundaries.{boundary_of}
+use Rattle.execute_meaning.specs.declared.boundary.Boundary.TheVariants as boundaries
 use Rattle.wiring.proofs.Clocks.{clock_of_clocks}
 use Rattle.wiring.proofs.Alone.{low_alone}
-use Rattle.wiring.specs.Alone.{GoesOnAlone}
-use Rattle.wiring.specs.Chips.{ChipsState}
+use Rattle.wiring.proofs.Inhibited.{request_stays}
 use Rattle.wiring.specs.Wires as wires
 use Rattle.wiring.specs.Wires.{is_requested}
 use Rattle.board_plain.specs.declared.act.Act.TheVariants.{Nothing}
 use Rattle.board_plain.specs.declared.stop.Condition.{Condition}
-use Rattle.board_plain.specs.Laws.{NoKeyComes, WiresHold}
+use Rattle.board_plain.specs.Laws.{WiresHold}
 use Rattle.board_plain.specs.Plain.{Plain, after_clock, after_clocks, change_next, clock_of, next_act, speaker_level}
 use Rattle.board_plain.specs.Stops.{holding}
 use Rattle.board_plain.specs.Trail.{trail_next}
 use Rattle.board_plain.specs.Work.{steps_next}
 use Rattle.board_plain.proofs.Quiet.{go_on_alone, nothing_by}
-use Rattle.board.specs.Alone.{IsAlone, IsUnseen, StaysIdleAnyhow, passed_alone}
-use Rattle.board.specs.Arrivals.{HaveArrived}
-use Rattle.board.specs.Leap.{ComesAfter}
-use Rattle.board.specs.declared.arrivals.Arrived.{Arrived}
-use Rattle.board.proofs.RestOfStep.{no_key_by}
-use Rattle.board.proofs.KeyOrder.{have_later, next_of}
+use Rattle.board.specs.Alone.{BeginsNothing, IsAlone, IsUnseen, StaysIdleAnyhow, passed_by}
 use Rattle.board.proofs.Leap.{LooksSame, busy_by, busy_still, bytes_stay, free_still, holding_same, idle_clocks, none_gathered, not_free, nothing_begins}
 use Rattle.board.proofs.Ticking.{no_change}
 use Rattle.board.proofs.Works.{no_step, none_in_all}
 
--- the processor does nothing, whatever the chips request
-idle_act : (s : Plain) (n i : ℕ) → i < n → StaysIdleAnyhow s n → next_act (record s { busy = s.busy - i; chips = wires.after_clocks s.chips i }) ≡ Nothing
-unfolding next_act
-idle_act s n i before (inl busy) = busy_by (nat_eq (s.busy - i) 0) _ (not_free (s.busy - i) (omega (arith, before, busy)))
-idle_act s n i before (inr idle) =
-    nothing_by (nat_eq (s.busy - i) 0) s.cpu (wires.after_clocks s.chips i) _ (idle.1 (is_requested (wires.after_clocks s.chips i)))
+-- the processor does nothing, whatever the timer does
 
-alone_leaps : (s : Plain) (n k : ℕ) → k ≤ n → WiresHold s.chips → IsAlone s n → after_clocks s k ≡ passed_alone s k
-unfolding passed_alone
+begins_nothing : (s : Plain) (i : ℕ) → WiresHold s.chips → BeginsNothing s → boundary_of s.cpu (is_requested (wires.after_clocks s.chips i)) ≡ boundaries.Nothing
+begins_nothing s i holds (inl anyhow) = anyhow (is_requested (wires.after_clocks s.chips i))
+begins_nothing s i holds (inr now) = ap (boundary_of s.cpu) (request_stays s.chips i holds.settled holds.keys now.1) ∙ now.0
+
+idle_act : (s : Plain) (n i : ℕ) → i < n → WiresHold s.chips → StaysIdleAnyhow s n → next_act (record s { busy = s.busy - i; chips = wires.after_clocks s.chips i }) ≡ Nothing
+unfolding next_act
+idle_act s n i before holds (inl busy) = busy_by (nat_eq (s.busy - i) 0) _ (not_free (s.busy - i) (omega (arith, before, busy)))
+idle_act s n i before holds (inr idle) =
+    nothing_by (nat_eq (s.busy - i) 0) s.cpu (wires.after_clocks s.chips i) _ (begins_nothing s i holds idle.1)
+
+alone_leaps : (s : Plain) (n k : ℕ) → k ≤ n → WiresHold s.chips → IsAlone s n → after_clocks s k ≡ passed_by s k
+unfolding passed_by
 alone_leaps s n k within holds alone =
-    idle_clocks n k s within holds alone.no_key (λ i before. idle_act s n i (omega (arith, before, within)) alone.idle)
+    idle_clocks n k s within holds alone.no_key (λ i before. idle_act s n i (omega (arith, before, within)) holds alone.idle)
 
 does_nothing : (s : Plain) (n i : ℕ) → WiresHold s.chips → IsAlone s n → i < n → next_act (after_clocks s i) ≡ Nothing
-unfolding passed_alone
+unfolding passed_by
 does_nothing s n i holds alone before =
-    ap next_act (alone_leaps s n i (omega (arith, before)) holds alone) ∙ idle_act s n i before alone.idle
+    ap next_act (alone_leaps s n i (omega (arith, before)) holds alone) ∙ idle_act s n i before holds alone.idle
 
 -- the speaker stays low
 low : (s : Plain) (n k : ℕ) → k ≤ n → WiresHold s.chips → IsAlone s n → speaker_level (after_clocks s k) ≡ from_bool false
-unfolding speaker_level passed_alone
+unfolding speaker_level passed_by
 low s n k within holds alone = ap speaker_level (alone_leaps s n k within holds alone) ∙ ap from_bool (low_alone s.chips k alone.alone)
 
 level_stays : (s : Plain) (n k : ℕ) → k ≤ n → WiresHold s.chips → IsAlone s n → speaker_level (after_clocks s k) ≡ speaker_level s
@@ -60,13 +60,13 @@ free_by : (s : Plain) (n k : ℕ) → k < n → StaysIdleAnyhow s n → nat_eq (
 free_by s n k before (inl busy) = busy_still s.busy n k before busy
 free_by s n k before (inr idle) = free_still s.busy k idle.0
 
-looks_same : (s : Plain) (n k : ℕ) → k < n → WiresHold s.chips → IsAlone s n → speaker_level (passed_alone s k) ≡ speaker_level s → LooksSame s (passed_alone s k)
-unfolding passed_alone
+looks_same : (s : Plain) (n k : ℕ) → k < n → WiresHold s.chips → IsAlone s n → speaker_level (passed_by s k) ≡ speaker_level s → LooksSame s (passed_by s k)
+unfolding passed_by
 looks_same s n k before holds alone level =
     let on = go_on_alone k s.chips holds in record {
       cpu = refl;
       free = free_by s n k before alone.idle;
-      bytes = bytes_stay s (passed_alone s k) _ on.memory on.mda;
+      bytes = bytes_stay s (passed_by s k) _ on.memory on.mda;
       level = level;
     }
 
@@ -74,20 +74,20 @@ holding_stays : (stops : List Condition) (s : Plain) (n k : ℕ) → k < n → W
 holding_stays stops s n k before holds alone =
     let leap = alone_leaps s n k (omega (arith, before)) holds alone in
     ap (holding stops) leap
-    ∙ holding_same stops s (passed_alone s k)
+    ∙ holding_same stops s (passed_by s k)
     (looks_same s n k before holds alone (ap speaker_level (sym leap) ∙ level_stays s n k (omega (arith, before)) holds alone))
 
 -- nothing is seen
 
-clock_of_alone : (s : Plain) (n : ℕ) → clock_of (passed_alone s n) ≡ clock_of s + n
-unfolding clock_of passed_alone
+clock_of_alone : (s : Plain) (n : ℕ) → clock_of (passed_by s n) ≡ clock_of s + n
+unfolding clock_of passed_by
 clock_of_alone s n = clock_of_clocks n s.chips
 
-busy_of_alone : (s : Plain) (n : ℕ) → (passed_alone s n).busy ≡ s.busy - n
-unfolding passed_alone
+busy_of_alone : (s : Plain) (n : ℕ) → (passed_by s n).busy ≡ s.busy - n
+unfolding passed_by
 busy_of_alone s n = refl
 
-pub alone_unseen : (s : Plain) (n : ℕ) → WiresHold s.chips → IsAlone s n → IsUnseen s n (passed_alone s n)
+pub alone_unseen : (s : Plain) (n : ℕ) → WiresHold s.chips → IsAlone s n → IsUnseen s n (passed_by s n)
 alone_unseen s n holds alone = record {
   plain = sym (alone_leaps s n n (omega arith) holds alone);
   clock = clock_of_alone s n;
@@ -100,24 +100,3 @@ alone_unseen s n holds alone = record {
   steps = none_in_all after_clock steps_next n s (λ i before. no_step (after_clocks s i) (does_nothing s n i holds alone before));
   conditions = λ stops k before. holding_stays stops s n k before holds alone;
 }
-
--- the parts after such a leap
-
-pub arrived_later : (a : Arrived) (clock to late : ℕ) (keys : List StampedKey) → HaveArrived a (clock + 1) keys → ComesAfter to a.next → clock ≤ to → late ≡ to → HaveArrived a (late + 1) keys
-arrived_later a clock to late keys have after within at =
-    let there : to ≡ clock + (to - clock) = omega (arith, within) in
-    have_later a clock (to - clock) late keys have
-    (no_key_by clock (to - clock) keys a.next (next_of a clock keys have) (subst (λ n. ComesAfter n a.next) there after)) (at ∙ there)
-
-no_key_to : (a : Arrived) (s : Plain) (to : ℕ) → HaveArrived a (s.chips.clock + 1) s.keys → ComesAfter to a.next → s.chips.clock ≤ to → NoKeyComes s (to - clock_of s)
-unfolding clock_of
-no_key_to a s to have after within =
-    no_key_by s.chips.clock (to - s.chips.clock) s.keys a.next (next_of a s.chips.clock s.keys have)
-    (subst (λ n. ComesAfter n a.next) (omega (arith, within)) after)
-
-pub synced : (a : Arrived) (s : Plain) (to busy : ℕ) (c : ChipsState) → WiresHold s.chips → HaveArrived a (s.chips.clock + 1) s.keys → ComesAfter to a.next → clock_of s < to → StaysIdleAnyhow s (to - clock_of s) → GoesOnAlone s.chips → c ≡ wires.after_clocks s.chips (to - s.chips.clock) → busy ≡ s.busy - (to - s.chips.clock) → IsUnseen s (to - clock_of s) (record s { busy = busy; chips = c })
-unfolding clock_of passed_alone
-synced a s to busy c wired have after later idle alone chips left =
-    let may_leap : IsAlone s (to - s.chips.clock) = record { idle = idle; no_key = no_key_to a s to have after (omega (arith, later)); alone = alone } in
-    subst (IsUnseen s (to - s.chips.clock)) (λ k. record s { busy = sym left k; chips = sym chips k })
-    (alone_unseen s (to - s.chips.clock) wired may_leap)

@@ -1,5 +1,5 @@
--- A clock in which the processor acts and writes to no port, the chips being quiet.
-use Rattle.std.proofs.Common.{◌≡◌, ℕ, ◌+◌, ◌-◌, ◌<◌, ◌≤◌, inl, inr, List, ◌++◌, length, refl, sym, ap, ◌∙◌, subst, arith, append-nil}
+-- A clock in which the processor acts, and the leap over the others of its step; first where it writes to no port.
+use Rattle.std.proofs.Common.{◌≡◌, ℕ, ◌+◌, ◌-◌, ◌<◌, ◌≤◌, inl, inr, List, ◌++◌, length, refl, sym, ap, ◌∙◌, subst, arith}
 use Rattle.std.specs.Prelude.{◌⊎◌}
 use Rattle.cached_chips.proofs.Quiet.{level_stays}
 use Rattle.board_types.specs.Lines.{from_bool}
@@ -13,14 +13,14 @@ use Rattle.wiring.proofs.Clocks.{clock_of_arrivals, clock_of_clocked, clock_of_k
 use Rattle.board_plain.specs.declared.act.Act.{Act}
 use Rattle.board_plain.specs.Board.{BoardState}
 use Rattle.board.specs.Alone.{PassesOver}
-use Rattle.board.specs.Leap.{ActsQuietly, PassesOn}
-use Rattle.board_plain.specs.Plain.{Plain, after_act, after_clock, chips_after_clock, clock_of, codes_at, next_act, speaker_level}
+use Rattle.board.specs.Leap.{ActsQuietly}
+use Rattle.board_plain.specs.Plain.{Plain, after_act, after_clock, change_next, chips_after_clock, clock_of, codes_at, next_act, speaker_level}
 use Rattle.board_plain.specs.Trail.{last, trail_next}
-use Rattle.board.specs.Turns.{IsLeapOn, IsStepOn}
+use Rattle.board.specs.Turns.{IsActOn, IsLeapOn}
+use Rattle.board_plain.specs.Work.{work_next}
 use Rattle.board_plain.proofs.Clocks.{clock_of_act}
 use Rattle.board_plain.proofs.Foreseen.{foreseen}
-use Rattle.board.proofs.Leap.{clock_of_leap}
-use Rattle.board.proofs.Ticking.{no_change}
+use Rattle.board.proofs.Ticking.{nothing_listed}
 use Rattle.board.proofs.Works.{acts_now}
 
 -- the speaker's level stays
@@ -46,62 +46,37 @@ clock_goes_by s =
     chips_go_on (after_act s.clocks s.cpu s.busy s.chips (next_act s)).bus s.keys
     ∙ ap (λ n. n + 1) (clock_of_act s.clocks s.cpu s.busy s.chips (next_act s))
 
--- the board's first clock of a step, in which nothing is listed, and the rest of it that is leapt over
+-- the board's first clock of a step, with what it lists, and the others that are leapt over
 
-rest_on : (end : ℕ) (p : Plain) (new : BoardState) → PassesOn end p new.plain → (new ≡ record new { plain = p }) ⊎ ((1 ≤ p.busy) × IsLeapOn end 0 (record new { plain = p }) new)
-rest_on end p new (inl same) = inl (ap (λ q. record new { plain = q }) same)
-rest_on end p new (inr passed) = inr (
-  passed.busy,
-  record {
-    clocks = passed.clocks;
-    some = passed.turn.some;
-    within = passed.turn.within;
-    wires = passed.turn.wires;
-    may_leap = passed.turn.may_leap;
-    tight = passed.turn.tight;
-    plain = passed.plain;
-    changes = refl;
-    trail = refl;
-    room = refl;
-    turns = omega arith;
-  },
-)
+rest_on : (within : ℕ) (p : Plain) (new : BoardState) → PassesOver within p new.plain → (new ≡ record new { plain = p }) ⊎ ((1 ≤ p.busy) × IsLeapOn within 0 (record new { plain = p }) new)
+rest_on within p new (inl same) = inl (ap (λ q. record new { plain = q }) same)
+rest_on within p new (inr rest) =
+    inr (rest.0, record { leap = rest.1; changes = refl; trail = refl; room = refl; turns = omega arith })
 
-pub step_made : (end : ℕ) (old new : BoardState) → ActsQuietly old.plain → PassesOn end (after_clock old.plain) new.plain → new.changes ≡ old.changes → new.trail ≡ last 32 (old.trail ++ trail_next old.plain) → new.room ≡ old.room → new.turns ≡ old.turns + 1 → IsStepOn end old new
-step_made end old new quietly passed changes trail room turns = record {
+-- `listed`: the board with the change of that clock in its list
+pub act_on : (within : ℕ) (old listed new : BoardState) → listed.plain ≡ old.plain → listed.trail ≡ old.trail → listed.turns ≡ old.turns → listed.changes ≡ old.changes ++ change_next old.plain → old.room + length old.changes ≤ listed.room + length listed.changes → 1 ≤ work_next old.plain → PassesOver within (after_clock listed.plain) new.plain → new.trail ≡ last 32 (listed.trail ++ trail_next listed.plain) → new.changes ≡ listed.changes → new.room ≡ listed.room → new.turns ≡ listed.turns + 1 → IsActOn within old new
+act_on within old listed new plain trail turns changes room work passed entries same same_room more = record {
   begun = record new { plain = after_clock old.plain };
   first = record {
     plain = refl;
     clock = clock_goes_by old.plain;
-    changes = changes ∙ sym (append-nil old.changes) ∙ ap (λ xs. old.changes ++ xs) (sym (no_change old.plain (same_level old.plain quietly)));
-    trail = trail;
-    room = let size : length new.changes ≡ length old.changes = ap length changes in omega (arith, room, size);
-    turns = turns;
+    changes = same ∙ changes;
+    trail = entries ∙ (λ k. last 32 (trail k ++ trail_next (plain k)));
+    room = let size : length new.changes ≡ length listed.changes = ap length same in omega (arith, room, size, same_room);
+    turns = omega (arith, more, turns);
   };
-  work = acts_now old.plain quietly.act.some;
-  rest = rest_on end (after_clock old.plain) new passed;
+  work = work;
+  rest = rest_on within (after_clock old.plain) new (subst (λ p. PassesOver within (after_clock p) new.plain) plain passed);
 }
 
-pub step_of : (end : ℕ) (old seen new : BoardState) → old ≡ seen → ActsQuietly old.plain → PassesOn end (after_clock old.plain) new.plain → new.changes ≡ old.changes → new.trail ≡ last 32 (old.trail ++ trail_next old.plain) → new.room ≡ old.room → new.turns ≡ old.turns + 1 → IsStepOn end seen new
-step_of end old seen new same quietly passed changes trail room turns =
-    subst (λ b. IsStepOn end b new) same (step_made end old new quietly passed changes trail room turns)
+pub act_made : (end : ℕ) (old new : BoardState) → ActsQuietly old.plain → PassesOver end (after_clock old.plain) new.plain → new.changes ≡ old.changes → new.trail ≡ last 32 (old.trail ++ trail_next old.plain) → new.room ≡ old.room → new.turns ≡ old.turns + 1 → IsActOn end old new
+act_made end old new quietly passed changes trail room turns =
+    act_on end old old new refl refl refl (nothing_listed old.changes old.plain (same_level old.plain quietly)) (omega arith) (acts_now old.plain quietly.act.some) passed trail changes room turns
 
 -- time goes on by a clock at least, and not past the end
 pub record GoesOn (end : ℕ) (s t : Plain) : Type 0 where
   pub some : clock_of s + 1 ≤ clock_of t
   pub within : clock_of t ≤ end
-
-goes_from : (end : ℕ) (s p t : Plain) → clock_of p ≡ clock_of s + 1 → clock_of s < end → PassesOn end p t → GoesOn end s t
-goes_from end s p t first before (inl same) =
-    let here : clock_of t ≡ clock_of p = ap clock_of same in record { some = omega (arith, here, first); within = omega (arith, here, first, before) }
-goes_from end s p t first before (inr passed) =
-    let here : clock_of t ≡ clock_of p + passed.clocks = ap clock_of passed.plain ∙ clock_of_leap p passed.clocks in
-    let most = passed.turn.within in record { some = omega (arith, here, first); within = omega (arith, here, first, before, most) }
-
-pub goes_on : (end : ℕ) (s t : Plain) → clock_of s < end → PassesOn end (after_clock s) t → GoesOn end s t
-goes_on end s t before passed = goes_from end s (after_clock s) t (clock_goes_by s) before passed
-
--- the same where it leaps over edges of the timer
 
 goes_over_from : (end : ℕ) (s p t : Plain) → clock_of p ≡ clock_of s + 1 → clock_of s < end → PassesOver end p t → GoesOn end s t
 goes_over_from end s p t first before (inl same) =

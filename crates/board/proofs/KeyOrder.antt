@@ -1,5 +1,5 @@
 -- Keys that arrive one by one: those before a place in the list, and those from it on.
-use Rattle.std.proofs.Common.{◌≡◌, ◌≢◌, ℕ, ◌+◌, ◌-◌, ◌<◌, ◌≤◌, ◌⊎◌, inl, inr, List, [], ◌∷◌, ◌++◌, length, take, drop, get_or, min, sym, ap, ◌∙◌, subst, arith, append-nil}
+use Rattle.std.proofs.Common.{◌≡◌, ◌≢◌, ℕ, ◌+◌, ◌-◌, ◌<◌, ◌≤◌, ◌⊎◌, inl, inr, List, [], ◌∷◌, ◌++◌, Option, None, Some, length, take, drop, get_or, max, min, sym, ap, ◌∙◌, subst, arith, append-nil}
 use Rattle.std.specs.Prelude.{All}
 use Rattle.std.proofs.lemmas.Bool.Decides.{eqb_tells}
 use Rattle.std.proofs.lemmas.List.Sums.{fold-append}
@@ -7,10 +7,12 @@ use Rattle.std.proofs.lemmas.List.{get_or-drop, get_or-take, get_or_default, len
 use Rattle.board_types.specs.declared.keys.StampedKey.{StampedKey}
 use Rattle.board_types.specs.Keys.{IsInOrder}
 use Rattle.board.specs.Arrivals.{Awaits, HaveArrived, IsNextStamp}
+use Rattle.board.specs.Leap.{ComesAfter}
 use Rattle.board.specs.declared.arrivals.Arrived.{Arrived as SoFar}
 use Rattle.wiring.specs.Chips.{ChipsState}
 use Rattle.wiring.specs.Wires.{after_arrival, after_arrivals}
-use Rattle.board_plain.specs.Plain.{codes_at}
+use Rattle.board_plain.specs.Laws.{NoKeyComes}
+use Rattle.board_plain.specs.Plain.{Plain, clock_of, codes_at}
 use Rattle.board_plain.proofs.Codes.{codes_append, none_due}
 
 -- `index` keys have arrived at a clock, `next` of them before it
@@ -150,3 +152,23 @@ have_later a clock n late keys have none at =
 -- the next stamp is that of a clock behind which so many have arrived
 pub next_of : (a : SoFar) (clock : ℕ) (keys : List StampedKey) → HaveArrived a (clock + 1) keys → IsNextStamp clock keys a.next
 next_of a clock keys have = have.next clock have.awaits
+
+-- no key comes before the next stamp
+
+pub no_key_by : (clock n : ℕ) (keys : List StampedKey) (p : Option ℕ) → IsNextStamp clock keys p → ComesAfter (clock + n) p → All (λ k. (k.stamp ≤ clock) ⊎ (clock + n < k.stamp)) keys
+no_key_by clock n keys None all after = λ j d inside. inl (all j d inside)
+no_key_by clock n keys (Some at) next after = λ j d inside.
+    elim (next.1 j d inside) [
+      | inl past ↦ inl past
+      | inr later ↦ inr (omega (arith, later, after))
+    ]
+
+pub no_key : (s : Plain) (n : ℕ) (p : Option ℕ) → IsNextStamp s.chips.clock s.keys p → ComesAfter (s.chips.clock + n) p → NoKeyComes s n
+unfolding clock_of
+no_key s n p next after = no_key_by s.chips.clock n s.keys p next after
+
+-- so many keys have still arrived behind all clocks of a step
+pub still_arrived : (a : SoFar) (clock busy free late : ℕ) (keys : List StampedKey) → HaveArrived a (clock + 1) keys → free ≡ clock + max busy 1 → ComesAfter free a.next → late ≡ free → HaveArrived a (late + 1) keys
+still_arrived a clock busy free late keys have is later at =
+    have_later a clock (max busy 1) late keys have
+    (no_key_by clock (max busy 1) keys a.next (next_of a clock keys have) (subst (λ to. ComesAfter to a.next) is later)) (at ∙ is)

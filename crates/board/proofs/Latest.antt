@@ -12,12 +12,11 @@ use Rattle.board_plain.specs.Lasts.{IsLastOf}
 use Rattle.board_plain.specs.Plain.{Plain, after_clock, after_clocks, clock_of}
 use Rattle.board_plain.specs.Stops.{holding}
 use Rattle.board.specs.QuietSteps.{AreQuietSteps, Noted}
-use Rattle.board.specs.Turns.{AreStepsOn, IsLeapOverEdgesOn, IsTickOn, IsTurnOn, IsTurnOverEdgesOn}
+use Rattle.board.specs.Turns.{AreStepsOn, IsLeapOn, IsTickOn, IsTurnOn}
 use Rattle.board_plain.specs.Work.{work_next}
 use Rattle.board.specs.Reach.{PassesNone}
 use Rattle.board.proofs.Search.{none_between, none_held}
-use Rattle.board.proofs.Turns.{SoFar, before_rest, behind, so_far_leap, so_far_none, so_far_tick, steps_lead, one_more}
-use Rattle.board.proofs.Unseen.{leap_over}
+use Rattle.board.proofs.Turns.{SoFar, before_rest, behind, so_far_leap, so_far_none, so_far_tick, act_alone, steps_lead, one_more}
 
 -- what holds at a clock after some is told from where the board stands then
 later_on : (stops : List Condition) (n j : ℕ) (s p : Plain) (here : Option ℕ) → p ≡ after_clocks s n → n ≤ j → holding stops (after_clocks p (j - n)) ≡ here → holding stops (after_clocks s j) ≡ here
@@ -66,7 +65,7 @@ looked_none stops end s few within =
       last_is = λ j before. absurd (omega (arith, before, gone));
     }
 
-looked_leap : (stops : List Condition) (end count : ℕ) (s t u : BoardState) (last : Option (ℕ × ℕ)) (here : Option ℕ) → count ≤ 1 → Looked stops end s t last → holding stops t.plain ≡ here → clock_of t.plain < end → IsLeapOverEdgesOn end count t u → Looked stops end s u (found_before last here (clock_of u.plain))
+looked_leap : (stops : List Condition) (end count : ℕ) (s t u : BoardState) (last : Option (ℕ × ℕ)) (here : Option ℕ) → count ≤ 1 → Looked stops end s t last → holding stops t.plain ≡ here → clock_of t.plain < end → IsLeapOn end count t u → Looked stops end s u (found_before last here (clock_of u.plain))
 unfolding so_far_leap
 looked_leap stops end count s t u last here one looked is before on =
     let next = so_far_leap 1 end count s t u one looked.so_far before on in
@@ -87,17 +86,18 @@ looked_tick stops end s t u last here looked is before tick work =
           (λ i within. ap (λ k. holding stops (after_clocks t.plain k)) (omega (arith, within)) ∙ ap (holding stops) (iterate_zero after_clock t.plain) ∙ is) (omega (arith, gone));
     }
 
-looked_turn : (stops : List Condition) (end : ℕ) (s t u : BoardState) (last : Option (ℕ × ℕ)) (here : Option ℕ) → Looked stops end s t last → holding stops t.plain ≡ here → clock_of t.plain < end → IsTurnOn end t u → Looked stops end s u (found_before last here (clock_of u.plain))
-looked_turn stops end s t u last here looked is before (inl leap) = looked_leap stops end 1 s t u last here (omega arith) looked is before (leap_over end 1 t u leap)
-looked_turn stops end s t u last here looked is before (inr tick) = looked_tick stops end s t u last here looked is before tick.0 tick.1
+looked_short : (stops : List Condition) (end : ℕ) (s t u : BoardState) (last : Option (ℕ × ℕ)) (here : Option ℕ) → Looked stops end s t last → holding stops t.plain ≡ here → clock_of t.plain < end → IsTurnOn (clock_of t.plain + 1) end t u → Looked stops end s u (found_before last here (clock_of u.plain))
+looked_short stops end s t u last here looked is before (inl leap) = looked_leap stops end 1 s t u last here (omega arith) looked is before leap
+looked_short stops end s t u last here looked is before (inr act) =
+    let tick = act_alone t u act in looked_tick stops end s t u last here looked is before tick.0 tick.1
 
 -- a step with the leap behind it, where nothing holds at its start and all wait for a free processor
-looked_rest : (stops : List Condition) (end : ℕ) (s b u : BoardState) (last : Option (ℕ × ℕ)) → AllAwaitFree stops → Looked stops end s b last → (u ≡ b) ⊎ ((1 ≤ b.plain.busy) × IsLeapOverEdgesOn end 0 b u) → Looked stops end s u last
+looked_rest : (stops : List Condition) (end : ℕ) (s b u : BoardState) (last : Option (ℕ × ℕ)) → AllAwaitFree stops → Looked stops end s b last → (u ≡ b) ⊎ ((1 ≤ b.plain.busy) × IsLeapOn end 0 b u) → Looked stops end s u last
 looked_rest stops end s b u last waits looked (inl same) = subst (λ x. Looked stops end s x last) (sym same) looked
 looked_rest stops end s b u last waits looked (inr rest) =
     looked_leap stops end 0 s b u last None (omega arith) looked (none_held stops b.plain rest.0 waits) (before_rest end b u rest.1) rest.1
 
-looked_over : (stops : List Condition) (end : ℕ) (s t u : BoardState) (last : Option (ℕ × ℕ)) → AllAwaitFree stops → Looked stops end s t last → holding stops t.plain ≡ None → clock_of t.plain < end → IsTurnOverEdgesOn end t u → Looked stops end s u last
+looked_over : (stops : List Condition) (end : ℕ) (s t u : BoardState) (last : Option (ℕ × ℕ)) → AllAwaitFree stops → Looked stops end s t last → holding stops t.plain ≡ None → clock_of t.plain < end → IsTurnOn end end t u → Looked stops end s u last
 looked_over stops end s t u last waits looked is before (inl leap) = looked_leap stops end 1 s t u last None (omega arith) looked is before leap
 looked_over stops end s t u last waits looked is before (inr act) =
     looked_rest stops end s act.begun u last waits (looked_tick stops end s t act.begun last None looked is before act.first act.work) act.rest
@@ -128,7 +128,7 @@ pub looked_between : (passes : ℕ → Type 0) (stops : List Condition) (end : �
 looked_between passes stops end true s t u last here waits passing looked is before on =
     let none : here ≡ None = (waits refl).1 in
     subst (λ h. Looked stops end s u (found_before last h (clock_of u.plain))) (sym none) (looked_whole passes stops end s t u last (waits refl).0 passing looked (is ∙ none) before on)
-looked_between passes stops end false s t u last here waits passing looked is before on = looked_turn stops end s t u last here looked is before on
+looked_between passes stops end false s t u last here waits passing looked is before on = looked_short stops end s t u last here looked is before on
 
 -- at the end of a run: what holds there is later than what was found
 pub found_last : (stops : List Condition) (end count : ℕ) (s t : BoardState) (last : Option (ℕ × ℕ)) (here : Option ℕ) → Looked stops end s t last → end ≡ clock_of s.plain + count → end ≤ clock_of t.plain → holding stops t.plain ≡ here → IsLastOf stops (count + 1) s.plain (found_at last here (clock_of t.plain))

@@ -31,6 +31,7 @@ use Rattle.board_plain.specs.declared.act.Act.TheVariants.{Nothing}
 use Rattle.board_plain.specs.declared.stop.Condition.{Condition}
 use Rattle.board_plain.specs.declared.stop.Condition.TheVariants.{Free, At, Byte, Sound, Halted}
 use Rattle.board_plain.specs.Laws.{NoKeyComes, WiresHold}
+use Rattle.board.specs.Alone.{passed_by}
 use Rattle.board.specs.Leap.{MayLeap, StaysIdle, leapt}
 use Rattle.board_plain.specs.Plain.{Plain, after_act, after_clock, after_clocks, byte_of, change_next, changes_in, chips_after_clock, clock_of, codes_at, is_free, next_act, speaker_level, state_of}
 use Rattle.board_plain.specs.Stops.{holding, holds}
@@ -223,12 +224,9 @@ holding_stays stops s n k before wired may_leap =
 
 -- the parts after a leap
 
-pub synced : (s : Plain) (n to busy : ℕ) (c : ChipsState) → WiresHold s.chips → MayLeap s n → to ≡ s.chips.clock + n → c ≡ wires.after_clocks s.chips (to - s.chips.clock) → busy ≡ s.busy - n → record s { busy = busy; chips = c } ≡ leapt s n
-unfolding leapt
-synced s n to busy c wired may_leap is after less =
-    let whole : to - s.chips.clock ≡ n = omega (arith, is) in
-    ap (λ b. record s { busy = b; chips = c }) less
-    ∙ ap (λ x. record s { busy = s.busy - n; chips = x }) (after ∙ ap (λ k. wires.after_clocks s.chips k) whole ∙ clocks_leap n s.chips wired.settled may_leap.out_0)
+pub leapt_by : (n : ℕ) (s : Plain) → WiresHold s.chips → MayLeap s n → leapt s n ≡ passed_by s n
+unfolding leapt passed_by
+leapt_by n s holds may_leap = ap (λ c. record s { busy = s.busy - n; chips = c }) (sym (clocks_leap n s.chips holds.settled may_leap.out_0))
 
 pub wires_later : (s t : ChipsState) (n : ℕ) → WiresHold s → t ≡ wires.after_clocks s n → WiresHold t
 wires_later s t n wired after = subst (λ (c : ChipsState). WiresHold c) (sym after) (holds_later n s wired)

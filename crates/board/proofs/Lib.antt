@@ -1,5 +1,4 @@
 pub mod Beginning
-pub mod RestOfStep
 pub mod Entries
 pub mod KeyOrder
 pub mod Rounds
@@ -7,7 +6,6 @@ pub mod Leap
 pub mod Alone
 pub mod Unseen
 pub mod Passing
-pub mod PassingOver
 pub mod Acting
 pub mod BySlots
 pub mod Quiet
@@ -18,7 +16,6 @@ pub mod Rooms
 pub mod Ticking
 pub mod Search
 pub mod Stopped
-pub mod Mutely
 pub mod Idle
 pub mod Turns
 pub mod Works
@@ -32,3 +29,4 @@ mod Repeated
 mod Standing
 mod Delays
 mod Countdowns
+mod Waits

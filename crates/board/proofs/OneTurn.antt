@@ -3,10 +3,9 @@ use Rattle.std.proofs.Common.{◌≡◌, ℕ, ◌+◌, ◌-◌, ◌<◌, ◌≤�
 use Rattle.std.proofs.lemmas.Bool.Decides.{nat_tests}
 use Rattle.std.specs.Prelude.{◌⊎◌, nat_lt, IfSome}
 use Rattle.std.specs.Option.{option_to_list}
-use Rattle.board_types.proofs.Iterate.{iterate_add, iterate_more, iterate_zero, gathered_add, gathered_more, gathered_zero}
+use Rattle.board_types.proofs.Iterate.{iterate_add, gathered_add}
 use Rattle.board_plain.specs.Board.{BoardState}
-use Rattle.board_plain.specs.Laws.{WiresHold}
-use Rattle.board_plain.specs.Plain.{Plain, after_clock, after_clocks, clock_of, next_act, speaker_level}
+use Rattle.board_plain.specs.Plain.{Plain, after_clock, after_clocks, clock_of, next_act}
 use Rattle.board_plain.specs.Trail.{entry_at, event_of, start_of, trail_in, trail_next}
 use Rattle.board_plain.specs.declared.act.Act.{Act}
 use Rattle.decode.specs.declared.decoding.Decoding.{Decoding}
@@ -16,13 +15,12 @@ use Rattle.decode.specs.Fields.{is_found}
 use Rattle.board.proofs.Entries.{found_size}
 use Rattle.board_plain.proofs.Runs.{ran_none}
 use Rattle.board.specs.declared.one_turn.Begun.{Begun}
-use Rattle.board.specs.Leap.{MayLeap, leapt}
 use Rattle.board.specs.OneTurn.{begun_of, HaveSameWires, IsOneTurn}
-use Rattle.board.specs.Turns.{IsLeapOn, IsTickOn, IsTurnOrStepOn}
-use Rattle.board.proofs.Leap.{board_leaps, level_stays, may_leap_for, no_entries, out_0_stays, out_2_stays}
-use Rattle.board.proofs.Ticking.{ran_more}
+use Rattle.board.specs.Turns.{IsLeapOn, IsTickOn, IsTurnOn}
+use Rattle.board.specs.Alone.{WiresStay, WiresStayThen}
+use Rattle.board.proofs.Beginning.{clock_goes_by}
+use Rattle.board.proofs.Ticking.{first_clock, first_seen, first_unseen, ran_more}
 use Rattle.board.proofs.Turns.{before_rest, leap_runs, ran_leap}
-use Rattle.board.proofs.Unseen.{leap_over, unseen_leap}
 
 -- what begins
 
@@ -47,19 +45,66 @@ pub begins_by : (s : Plain) (act : Act) (begun : List Begun) → act ≡ next_ac
 unfolding trail_next
 begins_by s act begun next is = is ∙ ap (λ (a : Act). map begun_of (entry_at s (event_of s.cpu s.chips a))) next
 
--- wires that stay
-
-same_wires : (s : Plain) (n k : ℕ) → k ≤ n → WiresHold s.chips → MayLeap s n → HaveSameWires s (after_clocks s k)
-unfolding leapt
-same_wires s n k within holds may_leap =
-    let less : MayLeap s k = may_leap_for s n k within may_leap in
-    let at : after_clocks s k ≡ leapt s k = board_leaps k s holds less in
+-- a leap
+once_leapt : (end : ℕ) (s u : BoardState) (begun : Option Begun) → length s.trail ≤ 32 → clock_of s.plain < end → IsLeapOn end 1 s u → WiresStayThen s.plain u.plain → option_to_list begun ≡ map begun_of (trail_next s.plain) → IfSome begun (λ b. b.clock ≡ clock_of s.plain) → IsOneTurn end s u begun
+once_leapt end s u begun few before on stay is clock =
+    let leap = on.leap in
+    let within = leap.within in
+    let passed = leap.unseen.clock in
+    let none : trail_next s.plain ≡ [] = first_unseen trail_next s.plain leap.clocks leap.some leap.unseen.entries in
     record {
-      pic = ap (λ (p : Plain). p.chips.pic) at;
-      out_0 = ap (λ (p : Plain). p.chips.pit.counter_0.out) at ∙ out_0_stays s k less;
-      out_2 = ap (λ (p : Plain). p.chips.pit.counter_2.out) at ∙ out_2_stays s k less;
-      speaker = level_stays s n k within holds may_leap;
+      passed = leap.clocks;
+      some = leap.some;
+      within = omega (arith, within, before);
+      ran = leap_runs end 1 s u on few;
+      begins = ap (map begun_of) (leap.unseen.entries ∙ sym none) ∙ sym is;
+      clock = clock;
+      wires = λ j some last. stay j some (omega (arith, last, passed));
     }
+
+-- a clock
+once_ticked : (end : ℕ) (s u : BoardState) (begun : Option Begun) → length s.trail ≤ 32 → clock_of s.plain < end → IsTickOn s u → WiresStayThen s.plain u.plain → option_to_list begun ≡ map begun_of (trail_next s.plain) → IfSome begun (λ b. b.clock ≡ clock_of s.plain) → IsOneTurn end s u begun
+once_ticked end s u begun few before tick stay is clock =
+    let passed = tick.clock in record {
+      passed = 1;
+      some = omega arith;
+      within = omega (arith, before);
+      ran = ran_more 0 s s u (ran_none s few) tick;
+      begins = ap (map begun_of) (first_seen trail_next s.plain) ∙ sym is;
+      clock = clock;
+      wires = λ j some last. stay j some (omega (arith, last, passed));
+    }
+
+-- a clock with a leap behind it
+once_acted : (end : ℕ) (s b u : BoardState) (begun : Option Begun) → length s.trail ≤ 32 → clock_of s.plain < end → IsTickOn s b → (u ≡ b) ⊎ ((1 ≤ b.plain.busy) × IsLeapOn end 0 b u) → WiresStayThen s.plain u.plain → option_to_list begun ≡ map begun_of (trail_next s.plain) → IfSome begun (λ x. x.clock ≡ clock_of s.plain) → IsOneTurn end s u begun
+once_acted end s b u begun few before tick (inl same) stay is clock =
+    once_ticked end s u begun few before (subst (IsTickOn s) (sym same) tick) stay is clock
+once_acted end s b u begun few before tick (inr rest) stay is clock =
+    let leap = rest.1.leap in
+    let within = leap.within in
+    let first = tick.clock in
+    let passed = leap.unseen.clock in
+    let past = before_rest end b u rest.1 in
+    let here : after_clocks s.plain 1 ≡ b.plain = first_clock s.plain ∙ sym tick.plain in
+    let entries : trail_in s.plain (1 + leap.clocks) ≡ trail_next s.plain =
+    gathered_add after_clock trail_next 1 leap.clocks s.plain
+    ∙ ap (λ xs. trail_in s.plain 1 ++ xs) (ap (λ p. trail_in p leap.clocks) here ∙ leap.unseen.entries)
+    ∙ append-nil (trail_in s.plain 1) ∙ first_seen trail_next s.plain in
+    record {
+      passed = 1 + leap.clocks;
+      some = omega arith;
+      within = omega (arith, within, first, past);
+      ran = ran_leap 1 end 0 s b u (ran_more 0 s s b (ran_none s few) tick) rest.1;
+      begins = ap (map begun_of) entries ∙ sym is;
+      clock = clock;
+      wires = λ j some last. stay j some (omega (arith, last, first, passed));
+    }
+
+pub once_turned : (end : ℕ) (s u : BoardState) (begun : Option Begun) → length s.trail ≤ 32 → clock_of s.plain < end → IsTurnOn end end s u → WiresStayThen s.plain u.plain → option_to_list begun ≡ map begun_of (trail_next s.plain) → IfSome begun (λ b. b.clock ≡ clock_of s.plain) → IsOneTurn end s u begun
+once_turned end s u begun few before (inl leap) stay is clock = once_leapt end s u begun few before leap stay is clock
+once_turned end s u begun few before (inr act) stay is clock = once_acted end s act.begun u begun few before act.first act.rest stay is clock
+
+-- the wires behind the first clock
 
 same_then : (s t u : Plain) → HaveSameWires s t → HaveSameWires s u → HaveSameWires t u
 same_then s t u first second = record {
@@ -69,87 +114,16 @@ same_then s t u first second = record {
   speaker = second.speaker ∙ sym first.speaker;
 }
 
-same_as : (s t : Plain) → t ≡ s → HaveSameWires s t
-same_as s t same = record {
-  pic = ap (λ (p : Plain). p.chips.pic) same;
-  out_0 = ap (λ (p : Plain). p.chips.pit.counter_0.out) same;
-  out_2 = ap (λ (p : Plain). p.chips.pit.counter_2.out) same;
-  speaker = ap speaker_level same;
-}
+-- in a leap they stay in the first clock too
+pub stay_then : (s t : Plain) → clock_of s < clock_of t → WiresStay s t → WiresStayThen s t
+stay_then s t later stay = λ j some few.
+    same_then s (after_clock s) (after_clocks s j) (subst (HaveSameWires s) (first_clock s) (stay 1 (omega (arith, later)))) (stay j few)
 
--- the first clock
-
-first_clock : (s : Plain) → after_clocks s 1 ≡ after_clock s
-first_clock s = iterate_more after_clock 0 s ∙ ap after_clock (iterate_zero after_clock s)
-
-first_entry : (s : Plain) → trail_in s 1 ≡ trail_next s
-first_entry s =
-    gathered_more after_clock trail_next 0 s
-    ∙ ap (λ xs. xs ++ trail_next (after_clocks s 0)) (gathered_zero after_clock trail_next s)
-    ∙ ap trail_next (iterate_zero after_clock s)
-
--- a leap
-once_leapt : (end count : ℕ) (s u : BoardState) (begun : Option Begun) → length s.trail ≤ 32 → clock_of s.plain < end → IsLeapOn end count s u → option_to_list begun ≡ map begun_of (trail_next s.plain) → IfSome begun (λ b. b.clock ≡ clock_of s.plain) → IsOneTurn end s u begun
-unfolding leap_over unseen_leap
-once_leapt end count s u begun few before leap is clock =
-    let within = leap.within in
-    let none : trail_next s.plain ≡ [] = sym (first_entry s.plain) ∙ no_entries s.plain 1 leap.wires (may_leap_for s.plain leap.clocks 1 leap.some leap.may_leap) in
-    let first : HaveSameWires s.plain (after_clock s.plain) =
-    subst (HaveSameWires s.plain) (first_clock s.plain) (same_wires s.plain leap.clocks 1 leap.some leap.wires leap.may_leap) in
-    record {
-      passed = leap.clocks;
-      some = leap.some;
-      within = omega (arith, within, before);
-      ran = leap_runs end count s u (leap_over end count s u leap) few;
-      begins = ap (map begun_of) (no_entries s.plain leap.clocks leap.wires leap.may_leap ∙ sym none) ∙ sym is;
-      clock = clock;
-      wires = λ j some last. same_then s.plain (after_clock s.plain) (after_clocks s.plain j) first (same_wires s.plain leap.clocks j last leap.wires leap.may_leap);
-    }
-
--- a clock
-once_ticked : (end : ℕ) (s u : BoardState) (begun : Option Begun) → length s.trail ≤ 32 → clock_of s.plain < end → IsTickOn s u → option_to_list begun ≡ map begun_of (trail_next s.plain) → IfSome begun (λ b. b.clock ≡ clock_of s.plain) → IsOneTurn end s u begun
-once_ticked end s u begun few before tick is clock = record {
-  passed = 1;
-  some = omega arith;
-  within = omega (arith, before);
-  ran = ran_more 0 s s u (ran_none s few) tick;
-  begins = ap (map begun_of) (first_entry s.plain) ∙ sym is;
-  clock = clock;
-  wires = λ j some last.
-      let one : j ≡ 1 = omega (arith, some, last) in same_as (after_clock s.plain) (after_clocks s.plain j) (ap (after_clocks s.plain) one ∙ first_clock s.plain);
-}
-
--- a clock with a leap behind it
-once_stepped : (end : ℕ) (s b u : BoardState) (begun : Option Begun) → length s.trail ≤ 32 → clock_of s.plain < end → IsTickOn s b → (u ≡ b) ⊎ ((1 ≤ b.plain.busy) × IsLeapOn end 0 b u) → option_to_list begun ≡ map begun_of (trail_next s.plain) → IfSome begun (λ x. x.clock ≡ clock_of s.plain) → IsOneTurn end s u begun
-unfolding leap_over unseen_leap
-once_stepped end s b u begun few before tick (inl same) is clock =
-    subst (λ x. IsOneTurn end s x begun) (sym same) (once_ticked end s b begun few before tick is clock)
-once_stepped end s b u begun few before tick (inr rest) is clock =
-    let leap = rest.1 in
-    let within = leap.within in
-    let on = tick.clock in
-    let past = before_rest end b u (leap_over end 0 b u leap) in
-    let here : after_clocks s.plain 1 ≡ b.plain = first_clock s.plain ∙ sym tick.plain in
-    let entries : trail_in s.plain (1 + leap.clocks) ≡ trail_next s.plain =
-    gathered_add after_clock trail_next 1 leap.clocks s.plain
-    ∙ ap (λ xs. trail_in s.plain 1 ++ xs) (ap (λ p. trail_in p leap.clocks) here ∙ no_entries b.plain leap.clocks leap.wires leap.may_leap)
-    ∙ append-nil (trail_in s.plain 1) ∙ first_entry s.plain in
-    record {
-      passed = 1 + leap.clocks;
-      some = omega arith;
-      within = omega (arith, within, on, past);
-      ran = ran_leap 1 end 0 s b u (ran_more 0 s s b (ran_none s few) tick) (leap_over end 0 b u leap);
-      begins = ap (map begun_of) entries ∙ sym is;
-      clock = clock;
-      wires = λ j some last.
-          let whole : j ≡ 1 + (j - 1) = omega (arith, some) in
-          let at : after_clocks s.plain j ≡ after_clocks b.plain (j - 1) =
-          ap (after_clocks s.plain) whole ∙ iterate_add after_clock 1 (j - 1) s.plain ∙ ap (λ p. after_clocks p (j - 1)) here in
-          let stay : HaveSameWires b.plain (after_clocks b.plain (j - 1)) = same_wires b.plain leap.clocks (j - 1) (omega (arith, last, some)) leap.wires leap.may_leap in
-          subst (λ p. HaveSameWires p (after_clocks s.plain j)) tick.plain (subst (HaveSameWires b.plain) (sym at) stay);
-    }
-
-pub once_turned : (end : ℕ) (s u : BoardState) (begun : Option Begun) → length s.trail ≤ 32 → clock_of s.plain < end → IsTurnOrStepOn end s u → option_to_list begun ≡ map begun_of (trail_next s.plain) → IfSome begun (λ b. b.clock ≡ clock_of s.plain) → IsOneTurn end s u begun
-once_turned end s u begun few before (inl (inl leap)) is clock = once_leapt end 1 s u begun few before leap is clock
-once_turned end s u begun few before (inl (inr tick)) is clock = once_ticked end s u begun few before tick.0 is clock
-once_turned end s u begun few before (inr step) is clock = once_stepped end s step.begun u begun few before step.first step.rest is clock
+-- behind the first clock they stay as that leaves them
+pub stay_behind : (s t : Plain) → WiresStay (after_clock s) t → WiresStayThen s t
+stay_behind s t stay = λ j some few.
+    let clock = clock_goes_by s in
+    let whole : 1 + (j - 1) ≡ j = omega (arith, some) in
+    let there : after_clocks s j ≡ after_clocks (after_clock s) (j - 1) =
+    ap (after_clocks s) (sym whole) ∙ iterate_add after_clock 1 (j - 1) s ∙ ap (λ p. after_clocks p (j - 1)) (first_clock s) in
+    subst (HaveSameWires (after_clock s)) (sym there) (stay (j - 1) (omega (arith, few, clock, some)))

@@ -3,7 +3,6 @@ use Rattle.std.proofs.Common.{◌≡◌, ℕ, ◌+◌, ◌-◌, ◌<◌, ◌≤�
 use Rattle.std.specs.Prelude.{All, ◌⊎◌, nat_eq}
 use Rattle.std.proofs.lemmas.Bool.Decides.{eqb_tells, leb_tells}
 use Rattle.std.proofs.lemmas.List.{get_or_default, length-append, take-append-drop}
-use Rattle.board_types.proofs.Iterate.{iterate_zero}
 use Rattle.board_types.specs.Keys.{IsInOrder}
 use Rattle.board_types.specs.Timed.{IsSteady}
 use Rattle.board_types.specs.declared.keys.StampedKey.{StampedKey}
@@ -11,7 +10,7 @@ use Rattle.execute_meaning.specs.Boundaries.{boundary_of}
 use Rattle.execute_meaning.specs.Cpu.{CpuState}
 use Rattle.execute_meaning.specs.declared.boundary.Boundary.{Boundary}
 use Rattle.execute_meaning.specs.declared.boundary.Boundary.TheVariants as boundaries
-use Rattle.pit8253.specs.Counter.{CounterState, after_tick, after_ticks, out_of}
+use Rattle.pit8253.specs.Counter.{CounterState, after_ticks, out_of}
 use Rattle.scheduler.specs.declared.deadlines.Source.{Source}
 use Rattle.scheduler.specs.declared.deadlines.Source.TheVariants.{Counter0, Counter2, Keys, Processor, End}
 use Rattle.scheduler.specs.Deadlines.{DeadlinesState, deadline_of, no_deadlines, place_of, with_deadline}
@@ -21,12 +20,11 @@ use Rattle.wiring.specs.Wires.{is_requested}
 use Rattle.board_plain.specs.declared.act.Act.TheVariants.{Nothing}
 use Rattle.board.specs.Arrivals.{Awaits, IsNextStamp}
 use Rattle.board_plain.specs.Laws.{NoKeyComes, WiresHold}
-use Rattle.board.specs.Leap.{AreDeadlines, IsFreeClock, IsLastToLeap, IsTight, MayLeap, StaysIdle, acts_before, is_idle, last_of, leapt}
+use Rattle.board.specs.Leap.{AreDeadlines, IsFreeClock, IsLastToLeap, IsTight, MayLeap, StaysIdle, acts_before, last_of, leapt}
 use Rattle.board_plain.specs.Plain.{Plain, act_at, clock_of, codes_at, is_free, next_act}
-use Rattle.board_plain.specs.Work.{work_next}
 use Rattle.board_plain.proofs.Codes.{codes_append, codes_more}
 use Rattle.board.proofs.KeyOrder.{past_at, to_come_at}
-use Rattle.board.proofs.Works.{acts_now, edge_0_works, edge_2_works, keys_come, no_leap}
+use Rattle.board.proofs.Works.{edge_0_works, edge_2_works, keys_come}
 
 -- a last clock is behind every deadline that acts before it, and up to every other
 
@@ -83,7 +81,7 @@ same_act true cpu chips boundaries.Instruction is nothing = absurd (cc)
 free_at : (busy : ℕ) → busy ≡ 0 → nat_eq busy 0 ≡ true
 free_at busy is = ap (λ b. nat_eq b 0) is
 
-idle_boundary : (s : Plain) → s.busy ≡ 0 → next_act s ≡ Nothing → boundary_of s.cpu (is_requested s.chips) ≡ boundaries.Nothing
+pub idle_boundary : (s : Plain) → s.busy ≡ 0 → next_act s ≡ Nothing → boundary_of s.cpu (is_requested s.chips) ≡ boundaries.Nothing
 unfolding next_act
 idle_boundary s free nothing = same_act (is_free s) s.cpu s.chips (boundary_of s.cpu (is_requested s.chips)) (free_at s.busy free) nothing
 
@@ -184,36 +182,6 @@ room s end d last holds deadlines within limit nothing next =
       },
     )
 
--- no clock may be leapt over where the processor does something
-
-steady_at_once : (c : CounterState) (clock : ℕ) → IsSteady after_ticks out_of c (ticks_between clock (clock + 0))
-steady_at_once c clock k few =
-    let none : k ≡ 0 = omega (arith, few) in
-    ap (λ j. (after_ticks c j).out) none ∙ ap (λ (d : CounterState). d.out) (iterate_zero after_tick c)
-
-no_key_at_once : (s : Plain) → NoKeyComes s 0
-unfolding clock_of
-no_key_at_once s j d inside =
-    elim (leb_tells (get_or s.keys j d).stamp s.chips.clock) [
-      | inl past ↦ inl past.1
-      | inr later ↦ let less = later.1 in inr (omega (arith, less))
-    ]
-
-pub at_once : (s : Plain) → MayLeap s 0
-at_once s = record {
-  idle = inl (omega arith);
-  no_key = no_key_at_once s;
-  out_0 = steady_at_once s.chips.pit.counter_0 s.chips.clock;
-  out_2 = steady_at_once s.chips.pit.counter_2 s.chips.clock;
-}
-
-pub no_room : (limit : ℕ) (s : Plain) → WiresHold s.chips → is_idle (next_act s) ≡ false → IsRoom limit s 0
-no_room limit s holds acts = record {
-  within = omega arith;
-  may_leap = at_once s;
-  tight = inr (inr (subst (λ p. 1 ≤ work_next p) (sym (no_leap s holds (at_once s))) (acts_now s acts)));
-}
-
 -- where keys have arrived up to a place, the next stamp is that of the key there
 
 not_sooner : (next j : ℕ) (keys : List StampedKey) (d e : StampedKey) → IsInOrder keys → next ≤ j → j < length keys → (get_or keys next d).stamp ≤ (get_or keys j e).stamp
@@ -261,25 +229,6 @@ stamp_told clock next keys key in_order awaits within is =
 pub no_stamp : (clock next : ℕ) (keys : List StampedKey) → Awaits next (clock + 1) keys → length keys ≤ next → IsNextStamp clock keys None
 no_stamp clock next keys awaits all = λ j e inside.
     let past = past_at next (clock + 1) keys awaits j e (omega (arith, inside, all)) in omega (arith, past)
-
--- a clock that can't be leapt over has work
-pub works_at_once : (limit n : ℕ) (s : Plain) → WiresHold s.chips → IsTight limit s n → n ≡ 0 → 1 ≤ limit → 1 ≤ work_next s
-works_at_once limit n s holds (inl all) none some = absurd (omega (arith, all, none, some))
-works_at_once limit n s holds (inr (inl ends)) none some =
-    let first = ends.0 in
-    let last = ends.1 in absurd (omega (arith, first, last, none))
-works_at_once limit n s holds (inr (inr works)) none some =
-    subst (λ p. 1 ≤ work_next p) (ap (λ k. leapt s k) none ∙ no_leap s holds (at_once s)) works
-
-pub room_at : (s : Plain) (now limit until : ℕ) (d : DeadlinesState) (last : ℕ) → WiresHold s.chips → now ≡ s.chips.clock → until ≡ now + limit → until ≤ 2 ^ 40 → AreDeadlines s until d → next_act s ≡ Nothing → IsLastToLeap d last → (now ≤ last) × IsRoom limit s (last - now)
-room_at s now limit until d last holds is sum most deadlines nothing next =
-    let all = room s until d last holds deadlines (omega (arith, is, sum)) most nothing next in
-    let first : s.chips.clock ≤ last = all.0 in
-    let size : until - s.chips.clock ≡ limit = omega (arith, is, sum) in (
-      omega (arith, first, is),
-      subst (λ k. IsRoom k s (last - now)) size
-          (subst (λ c. IsRoom (until - s.chips.clock) s (last - c)) (sym is) all.1),
-    )
 
 -- all deadlines, one set after another
 pub all_set : (s : Plain) (until : ℕ) (e0 e2 k p : Option ℕ) (d0 d1 d2 d3 d4 d5 : DeadlinesState) → d0 ≡ no_deadlines → d1 ≡ with_deadline d0 Counter0 e0 → d2 ≡ with_deadline d1 Counter2 e2 → d3 ≡ with_deadline d2 Keys k → d4 ≡ with_deadline d3 Processor p → d5 ≡ with_deadline d4 End (Some until) → IsEdgeOf s.chips.pit.counter_0 s.chips.clock e0 → IsEdgeOf s.chips.pit.counter_2 s.chips.clock e2 → IsNextStamp s.chips.clock s.keys k → IsFreeClock s p → AreDeadlines s until d5

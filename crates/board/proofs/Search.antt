@@ -13,13 +13,12 @@ use Rattle.board_plain.specs.Plain.{Plain, after_clock, after_clocks, clock_of, 
 use Rattle.board_plain.specs.Stops.{holding, holds, FitsRoom, NoStop, StopsAt}
 use Rattle.board.specs.QuietSteps.{AreQuietSteps, MayGoOn, Noted}
 use Rattle.board.specs.Reach.{PassesNone}
-use Rattle.board.specs.Turns.{AreStepsOn, IsLeapOverEdgesOn, IsTickOn, IsTurnOn, IsTurnOverEdgesOn}
+use Rattle.board.specs.Turns.{AreStepsOn, IsLeapOn, IsTickOn, IsTurnOn}
 use Rattle.board_plain.specs.Work.{work_next}
 use Rattle.board_plain.proofs.Runs.{ran_none}
 use Rattle.board_plain.proofs.Stopping.{no_stop_more, no_stop_none}
 use Rattle.board.proofs.Stopped.{none_passed, none_there, not_held_before_stop, ran_to_stop, stops_here}
-use Rattle.board.proofs.Turns.{Counts, HeldRun, SoFar, before_rest, behind, counted, held_run, not_counted, ran_whole, so_far_first, so_far_leap, so_far_none, so_far_tick, steps_lead, over_moves, one_more}
-use Rattle.board.proofs.Unseen.{leap_over, turn_over}
+use Rattle.board.proofs.Turns.{Counts, HeldRun, SoFar, before_rest, behind, counted, held_run, not_counted, ran_whole, so_far_first, so_far_leap, so_far_none, so_far_tick, steps_lead, act_alone, one_more, short_moves, turn_moves}
 
 -- a run so far that passed no stop; at its clock it hasn't looked for one
 pub record Searched (stops : List Condition) (end : ℕ) (s t : BoardState) : Type 0 where
@@ -46,7 +45,7 @@ none_here stops end s t searched here =
     (ap (λ k. holding stops (after_clocks s.plain k)) whole ∙ ap (holding stops) (sym searched.so_far.ran.plain) ∙ here))
 
 -- nor in a leap, short of its end
-none_in_leap : (stops : List Condition) (n end count : ℕ) (s t u : BoardState) → Ran n s t → NoStop stops n s.plain → holding stops t.plain ≡ None → (on : IsLeapOverEdgesOn end count t u) → NoStop stops (n + on.leap.clocks - 1) s.plain
+none_in_leap : (stops : List Condition) (n end count : ℕ) (s t u : BoardState) → Ran n s t → NoStop stops n s.plain → holding stops t.plain ≡ None → (on : IsLeapOn end count t u) → NoStop stops (n + on.leap.clocks - 1) s.plain
 none_in_leap stops n end count s t u ran none here on j first within =
     elim (leb_tells j n) [
       | inl before ↦ none j first before.1
@@ -60,7 +59,7 @@ none_in_leap stops n end count s t u ran none here on j first within =
           ∙ here
     ]
 
-searched_leap : (stops : List Condition) (end count : ℕ) (s t u : BoardState) → count ≤ 1 → Searched stops end s t → holding stops t.plain ≡ None → clock_of t.plain < end → IsLeapOverEdgesOn end count t u → Searched stops end s u
+searched_leap : (stops : List Condition) (end count : ℕ) (s t u : BoardState) → count ≤ 1 → Searched stops end s t → holding stops t.plain ≡ None → clock_of t.plain < end → IsLeapOn end count t u → Searched stops end s u
 unfolding so_far_leap
 searched_leap stops end count s t u one searched here before leap = record {
   so_far = so_far_leap 2 end count s t u one searched.so_far before leap;
@@ -76,9 +75,10 @@ searched_tick stops end s t u searched here before tick work = record {
   none = subst (λ n. NoStop stops n s.plain) (omega arith) (none_here stops end s t searched here);
 }
 
-pub searched_turn : (stops : List Condition) (end : ℕ) (s t u : BoardState) → Searched stops end s t → holding stops t.plain ≡ None → clock_of t.plain < end → IsTurnOn end t u → Searched stops end s u
-searched_turn stops end s t u searched here before (inl leap) = searched_leap stops end 1 s t u (omega arith) searched here before (leap_over end 1 t u leap)
-searched_turn stops end s t u searched here before (inr tick) = searched_tick stops end s t u searched here before tick.0 tick.1
+searched_short : (stops : List Condition) (end : ℕ) (s t u : BoardState) → Searched stops end s t → holding stops t.plain ≡ None → clock_of t.plain < end → IsTurnOn (clock_of t.plain + 1) end t u → Searched stops end s u
+searched_short stops end s t u searched here before (inl leap) = searched_leap stops end 1 s t u (omega arith) searched here before leap
+searched_short stops end s t u searched here before (inr act) =
+    let tick = act_alone t u act in searched_tick stops end s t u searched here before tick.0 tick.1
 
 -- a busy processor isn't free, so none of those that await that holds
 
@@ -98,12 +98,12 @@ unfolding holding
 none_held stops s some waits =
     none_there (λ (condition : Condition). holds condition s) 1 stops Free (λ k below. one_not_held (slice_index_or stops k Free) s some (waits k below))
 
-searched_rest : (stops : List Condition) (end : ℕ) (s b u : BoardState) → AllAwaitFree stops → Searched stops end s b → (u ≡ b) ⊎ ((1 ≤ b.plain.busy) × IsLeapOverEdgesOn end 0 b u) → Searched stops end s u
+searched_rest : (stops : List Condition) (end : ℕ) (s b u : BoardState) → AllAwaitFree stops → Searched stops end s b → (u ≡ b) ⊎ ((1 ≤ b.plain.busy) × IsLeapOn end 0 b u) → Searched stops end s u
 searched_rest stops end s b u waits searched (inl same) = subst (Searched stops end s) (sym same) searched
 searched_rest stops end s b u waits searched (inr rest) =
     searched_leap stops end 0 s b u (omega arith) searched (none_held stops b.plain rest.0 waits) (before_rest end b u rest.1) rest.1
 
-searched_over : (stops : List Condition) (end : ℕ) (s t u : BoardState) → AllAwaitFree stops → Searched stops end s t → holding stops t.plain ≡ None → clock_of t.plain < end → IsTurnOverEdgesOn end t u → Searched stops end s u
+searched_over : (stops : List Condition) (end : ℕ) (s t u : BoardState) → AllAwaitFree stops → Searched stops end s t → holding stops t.plain ≡ None → clock_of t.plain < end → IsTurnOn end end t u → Searched stops end s u
 searched_over stops end s t u waits searched here before (inl leap) = searched_leap stops end 1 s t u (omega arith) searched here before leap
 searched_over stops end s t u waits searched here before (inr act) =
     searched_rest stops end s act.begun u waits (searched_tick stops end s t act.begun searched here before act.first act.work) act.rest
@@ -134,12 +134,12 @@ searched_steps passes stops end s t u waits none searched here on =
 pub searched_between : (passes : ℕ → Type 0) (stops : List Condition) (end : ℕ) (whole : Bool) (s t u : BoardState) → (IsTrue whole → AllAwaitFree stops) → PassesNone passes stops → Searched stops end s t → holding stops t.plain ≡ None → clock_of t.plain < end → IsTurnBetween whole passes end t u → Searched stops end s u
 searched_between passes stops end true s t u waits none searched here before (inl on) = searched_steps passes stops end s t u (waits refl) none searched here on.0
 searched_between passes stops end true s t u waits none searched here before (inr on) = searched_over stops end s t u (waits refl) searched here before on
-searched_between passes stops end false s t u waits none searched here before on = searched_turn stops end s t u searched here before on
+searched_between passes stops end false s t u waits none searched here before on = searched_short stops end s t u searched here before on
 
 pub between_moves : (passes : ℕ → Type 0) (end : ℕ) (whole : Bool) (t u : BoardState) → clock_of t.plain < end → IsTurnBetween whole passes end t u → end - clock_of u.plain < end - clock_of t.plain
 between_moves passes end true t u before (inl on) = let moved = on.1 in omega (arith, before, moved)
-between_moves passes end true t u before (inr on) = over_moves end t u before on
-between_moves passes end false t u before on = over_moves end t u before (turn_over end t u on)
+between_moves passes end true t u before (inr on) = turn_moves end t u before on
+between_moves passes end false t u before on = short_moves end t u before on
 
 -- a condition holds where it looks
 pub stop_found : (stops : List Condition) (end count : ℕ) (s t : BoardState) (number clock : ℕ) → Searched stops end s t → end ≡ clock_of s.plain + count → holding stops t.plain ≡ Some number → clock ≡ clock_of t.plain → StopsAt stops count s.plain (record { number = number; clock = clock })

@@ -2,7 +2,8 @@
 use Rattle.std.proofs.Common.{◌≡◌, ◌≢◌, ℕ, ◌+◌, ◌-◌, ◌<◌, ◌≤◌, List, [], ◌∷◌, ◌++◌, length, Bool, true, false, if◌then◌else◌, refl, sym, ap, ◌∙◌, subst, arith, append_assoc, append-nil}
 use Rattle.std.specs.Bool.{beq}
 use Rattle.std.proofs.lemmas.List.{length-append}
-use Rattle.board_types.proofs.Iterate.{iterate_more, gathered_more, gathered_add}
+use Rattle.board_types.proofs.Iterate.{iterate_more, iterate_zero, gathered_more, gathered_add, gathered_zero}
+use Rattle.board_types.specs.Iterate.{gathered}
 use Rattle.board_types.specs.declared.line.Line.{Line}
 use Rattle.board_types.specs.declared.line.Line.TheVariants.{Low, High}
 use Rattle.board_plain.specs.declared.speaker.SpeakerChange.{SpeakerChange}
@@ -109,3 +110,26 @@ high_again false false e = refl
 high_again false true e = absurd (cc)
 high_again true false e = absurd (cc)
 high_again true true e = refl
+
+-- the first clock
+
+pub first_clock : (s : Plain) → after_clocks s 1 ≡ after_clock s
+first_clock s = iterate_more after_clock 0 s ∙ ap after_clock (iterate_zero after_clock s)
+
+pub first_seen : {A : Type 0} (seen : Plain → List A) (s : Plain) → gathered after_clock seen 1 s ≡ seen s
+first_seen seen s =
+    gathered_more after_clock seen 0 s
+    ∙ ap (λ xs. xs ++ seen (after_clocks s 0)) (gathered_zero after_clock seen s)
+    ∙ ap seen (iterate_zero after_clock s)
+
+-- nothing is seen in it where nothing is in it and some more
+left_empty : {A : Type 0} (xs ys : List A) → xs ++ ys ≡ [] → xs ≡ []
+left_empty [] ys none = refl
+left_empty (x ∷ xs) ys none = absurd (let never : x ∷ (xs ++ ys) ≡ [] = none in cc)
+
+pub first_unseen : {A : Type 0} (seen : Plain → List A) (s : Plain) (n : ℕ) → 1 ≤ n → gathered after_clock seen n s ≡ [] → seen s ≡ []
+first_unseen seen s n some none =
+    let whole : 1 + (n - 1) ≡ n = omega (arith, some) in
+    sym (first_seen seen s)
+    ∙ left_empty (gathered after_clock seen 1 s) (gathered after_clock seen (n - 1) (after_clocks s 1))
+    (sym (gathered_add after_clock seen 1 (n - 1) s) ∙ ap (λ k. gathered after_clock seen k s) whole ∙ none)

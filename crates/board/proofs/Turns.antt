@@ -1,21 +1,21 @@
 -- The turns of a run against its work: a clock with work pays for three, and the run for what is left.
-use Rattle.std.proofs.Common.{zero, suc, refl, ◌≡◌, ℕ, ◌+◌, ◌-◌, ◌*◌, ◌<◌, ◌≤◌, min, inl, inr, ◌++◌, length, sym, ap, ◌∙◌, subst, arith, append-nil}
-use Rattle.std.specs.Prelude.{◌⊎◌, OnErr, OnOk, Result, Ok, Err}
+use Rattle.std.proofs.Common.{zero, suc, ◌≡◌, ℕ, ◌+◌, ◌-◌, ◌*◌, ◌<◌, ◌≤◌, min, inl, inr, [], ◌++◌, length, refl, sym, ap, ◌∙◌, subst, arith, append-nil}
+use Rattle.std.specs.Prelude.{◌⊎◌, true, OnOk, Result, Ok, Err}
 use Rattle.board_types.proofs.Iterate.{iterate_zero, total_zero, total_more, total_add}
 use Rattle.board_plain.specs.Board.{BoardState, Ran, StoppedEarly}
 use Rattle.board.specs.HeldBack.{IsHeldBack}
-use Rattle.board_plain.specs.Laws.{WiresHold}
-use Rattle.board.specs.Leap.{IsTight, IsTightTo, MayLeap, leapt}
-use Rattle.board_plain.specs.Plain.{Plain, after_clock, after_clocks, changes_in, clock_of}
-use Rattle.board_plain.specs.Trail.{last}
+use Rattle.board.specs.Leap.{IsTightTo}
+use Rattle.board_plain.specs.Plain.{Plain, after_clock, after_clocks, change_next, changes_in, clock_of}
+use Rattle.board_plain.specs.Trail.{last, trail_next}
 use Rattle.board.specs.QuietSteps.{AreQuietSteps, IsQuietStep, Noted}
-use Rattle.board.specs.Turns.{AreStepsOn, IsActOn, IsHeldBehind, IsLeapOverEdgesOn, IsLongTurnOn, IsStepOn, IsTickOn, IsTurnOn, IsTurnOrStepOn, IsTurnOverEdgesOn}
+use Rattle.board.specs.Alone.{IsLeap}
+use Rattle.board.specs.AwaitFree.{IsTurnBetween}
+use Rattle.board.specs.Turns.{AreStepsOn, IsActOn, IsLeapOn, IsTickOn, IsTurnOn}
 use Rattle.board_plain.specs.Work.{steps_in, steps_next, work_in, work_next}
 use Rattle.board_plain.proofs.LastEntries.{last_within, nothing_added}
-use Rattle.board.proofs.Mutely.{act_made, quietly_mutely}
-use Rattle.board.proofs.Rooms.{works_at_once}
+use Rattle.board.proofs.Beginning.{act_made}
 use Rattle.board.proofs.Steps.{have_gone}
-use Rattle.board.proofs.Ticking.{not_held, ran_more, stopped}
+use Rattle.board.proofs.Ticking.{first_clock, first_unseen, not_held, ran_more, stopped}
 use Rattle.board_plain.proofs.Runs.{ran_none, runs_join}
 use Rattle.board.proofs.Works.{one_step_at_most}
 
@@ -24,7 +24,7 @@ use Rattle.board.proofs.Works.{one_step_at_most}
 few_of_run : (n : ℕ) (s t : BoardState) → Ran n s t → length t.trail ≤ 32
 few_of_run n s t ran = subst (λ xs. length xs ≤ 32) (sym ran.trail) (last_within 32 _)
 
-pub leap_runs : (end count : ℕ) (t u : BoardState) → (on : IsLeapOverEdgesOn end count t u) → length t.trail ≤ 32 → Ran on.leap.clocks t u
+pub leap_runs : (end count : ℕ) (t u : BoardState) → (on : IsLeapOn end count t u) → length t.trail ≤ 32 → Ran on.leap.clocks t u
 leap_runs end count t u on few =
     let unseen = on.leap.unseen in record {
       plain = unseen.plain;
@@ -34,7 +34,7 @@ leap_runs end count t u on few =
       room = let same = on.room in let size : length u.changes ≡ length t.changes = ap length on.changes in omega (arith, same, size);
     }
 
-pub ran_leap : (n end count : ℕ) (s t u : BoardState) → Ran n s t → (on : IsLeapOverEdgesOn end count t u) → Ran (n + on.leap.clocks) s u
+pub ran_leap : (n end count : ℕ) (s t u : BoardState) → Ran n s t → (on : IsLeapOn end count t u) → Ran (n + on.leap.clocks) s u
 ran_leap n end count s t u ran on = runs_join n on.leap.clocks s t u ran (leap_runs end count t u on (few_of_run n s t ran))
 
 -- work and steps, a clock more or a leap more
@@ -52,14 +52,14 @@ work_of_first m p some =
     let first : work_in p 1 ≡ work_in p 0 + work_next p = total_more after_clock work_next 0 p ∙ ap (λ q. work_in p 0 + work_next q) (iterate_zero after_clock p) in
     omega (arith, whole, parts, first)
 
-pub work_leap : (n end count : ℕ) (s t u : BoardState) → Ran n s t → (on : IsLeapOverEdgesOn end count t u) → work_in s.plain n + work_next t.plain ≤ work_in s.plain (n + on.leap.clocks)
+pub work_leap : (n end count : ℕ) (s t u : BoardState) → Ran n s t → (on : IsLeapOn end count t u) → work_in s.plain n + work_next t.plain ≤ work_in s.plain (n + on.leap.clocks)
 work_leap n end count s t u ran on =
     let first = work_of_first on.leap.clocks t.plain on.leap.some in
     let parts : work_in s.plain (n + on.leap.clocks) ≡ work_in s.plain n + work_in t.plain on.leap.clocks =
     total_add after_clock work_next n on.leap.clocks s.plain ∙ ap (λ p. work_in s.plain n + work_in p on.leap.clocks) (sym ran.plain) in
     omega (arith, first, parts)
 
-pub steps_leap : (n end count : ℕ) (s t u : BoardState) → Ran n s t → (on : IsLeapOverEdgesOn end count t u) → steps_in s.plain (n + on.leap.clocks) ≡ steps_in s.plain n
+pub steps_leap : (n end count : ℕ) (s t u : BoardState) → Ran n s t → (on : IsLeapOn end count t u) → steps_in s.plain (n + on.leap.clocks) ≡ steps_in s.plain n
 steps_leap n end count s t u ran on =
     let none = on.leap.unseen.steps in
     let parts : steps_in s.plain (n + on.leap.clocks) ≡ steps_in s.plain n + steps_in t.plain on.leap.clocks =
@@ -136,7 +136,7 @@ after_leap limit n p q (inr (inl ends)) less some busy =
     let last = ends.1 in omega (arith, busy, first, last)
 after_leap limit n p q (inr (inr works)) less some busy = omega (arith, busy, works)
 
-unfoldable pub so_far_leap : (spare end count : ℕ) (s t u : BoardState) → count ≤ 1 → SoFar spare end s t → clock_of t.plain < end → IsLeapOverEdgesOn end count t u → SoFar spare end s u
+unfoldable pub so_far_leap : (spare end count : ℕ) (s t u : BoardState) → count ≤ 1 → SoFar spare end s t → clock_of t.plain < end → IsLeapOn end count t u → SoFar spare end s u
 so_far_leap spare end count s t u one so_far before on =
     let n : ℕ = so_far.passed in
     let m : ℕ = on.leap.clocks in
@@ -157,16 +157,16 @@ so_far_leap spare end count s t u one so_far before on =
       least = omega (arith, turns, steps, least);
     }
 
-pub before_rest : (end : ℕ) (t u : BoardState) → IsLeapOverEdgesOn end 0 t u → clock_of t.plain < end
+pub before_rest : (end : ℕ) (t u : BoardState) → IsLeapOn end 0 t u → clock_of t.plain < end
 before_rest end t u on = let some = on.leap.some in let within = on.leap.within in omega (arith, some, within)
 
-so_far_rest : (spare end : ℕ) (s b u : BoardState) → SoFar spare end s b → (u ≡ b) ⊎ ((1 ≤ b.plain.busy) × IsLeapOverEdgesOn end 0 b u) → SoFar spare end s u
+so_far_rest : (spare end : ℕ) (s b u : BoardState) → SoFar spare end s b → (u ≡ b) ⊎ ((1 ≤ b.plain.busy) × IsLeapOn end 0 b u) → SoFar spare end s u
 so_far_rest spare end s b u so_far (inl same) = subst (SoFar spare end s) (sym same) so_far
 so_far_rest spare end s b u so_far (inr rest) = so_far_leap spare end 0 s b u (omega arith) so_far (before_rest end b u rest.1) rest.1
 
-pub so_far_over : (spare end : ℕ) (s t u : BoardState) → SoFar spare end s t → clock_of t.plain < end → IsTurnOverEdgesOn end t u → SoFar spare end s u
-so_far_over spare end s t u so_far before (inl leap) = so_far_leap spare end 1 s t u (omega arith) so_far before leap
-so_far_over spare end s t u so_far before (inr act) =
+pub so_far_turn : (spare end : ℕ) (s t u : BoardState) → SoFar spare end s t → clock_of t.plain < end → IsTurnOn end end t u → SoFar spare end s u
+so_far_turn spare end s t u so_far before (inl leap) = so_far_leap spare end 1 s t u (omega arith) so_far before leap
+so_far_turn spare end s t u so_far before (inr act) =
     so_far_rest spare end s act.begun u (so_far_tick spare end s t act.begun so_far before act.first act.work) act.rest
 
 -- at the end of a run, or where it stands
@@ -233,69 +233,60 @@ whole_run spare end count s t so_far few is past = record {
   counts = counted spare end s t so_far few;
 }
 
--- a turn, told of the plain board within
-pub leap_turn : (end limit n : ℕ) (p : Plain) (old new : BoardState) → p ≡ old.plain → limit ≡ end - clock_of old.plain → 1 ≤ n → n ≤ limit → MayLeap p n → IsTight limit p n → WiresHold p.chips → new.plain ≡ leapt old.plain n → new.changes ≡ old.changes → new.trail ≡ old.trail → new.room ≡ old.room → new.turns ≡ old.turns + 1 → IsTurnOn end old new
-leap_turn end limit n p old new now most some within may_leap tight wires plain changes trail room turns = inl (record {
-  clocks = n;
-  some = some;
-  within = omega (arith, within, most);
-  wires = subst (λ (q : Plain). WiresHold q.chips) now wires;
-  may_leap = subst (λ (q : Plain). MayLeap q n) now may_leap;
-  tight = subst (λ l. IsTight l old.plain n) most (subst (λ (q : Plain). IsTight limit q n) now tight);
-  plain = plain;
-  changes = changes;
-  trail = trail;
-  room = room;
-  turns = turns;
-})
-
-pub tick_turn : (end limit n : ℕ) (p : Plain) (old new : BoardState) → p ≡ old.plain → limit ≡ end - clock_of old.plain → clock_of old.plain < end → n ≡ 0 → IsTight limit p n → WiresHold p.chips → IsTickOn old new → IsTurnOn end old new
-tick_turn end limit n p old new now most before none tight wires tick =
-    inr (tick, subst (λ (q : Plain). 1 ≤ work_next q) now (works_at_once limit n p wires tight none (omega (arith, most, before))))
-
--- a turn is a turn or a leapt step
-pub if_turn : {E : Type 0} (end : ℕ) (old new : BoardState) (result : Result Unit E) → OnOk result (IsTurnOn end old new) → OnOk result (IsTurnOrStepOn end old new)
-if_turn end old new (Ok x) turn = inl turn
-if_turn end old new (Err e) turn = turn
-
--- a step that ends with the next clock
-pub step_alone : (end : ℕ) (old new : BoardState) → IsStepOn (clock_of old.plain + 1) old new → IsTurnOn end old new
-step_alone end old new step =
-    elim step.rest [
-      | inl same ↦ inr (subst (IsTickOn old) (sym same) step.first, step.work)
-      | inr rest ↦
-          let clock = step.first.clock in
-          let some = rest.1.some in
-          let within = rest.1.within in absurd (omega (arith, clock, some, within))
-    ]
-
-pub act_alone : (end : ℕ) (old new : BoardState) → IsActOn (clock_of old.plain + 1) old new → IsTurnOn end old new
-act_alone end old new act =
+-- an act that ends with the next clock
+pub act_alone : (old new : BoardState) → IsActOn (clock_of old.plain + 1) old new → IsTickOn old new × (1 ≤ work_next old.plain)
+act_alone old new act =
     elim act.rest [
-      | inl same ↦ inr (subst (IsTickOn old) (sym same) act.first, act.work)
+      | inl same ↦ (subst (IsTickOn old) (sym same) act.first, act.work)
       | inr rest ↦
           let clock = act.first.clock in
           let some = rest.1.leap.some in
           let within = rest.1.leap.within in absurd (omega (arith, clock, some, within))
     ]
 
+-- so does a leap
+leap_alone : (old new : BoardState) → length old.trail ≤ 32 → IsLeapOn (clock_of old.plain + 1) 1 old new → IsTickOn old new
+leap_alone old new few on =
+    let some = on.leap.some in
+    let within = on.leap.within in
+    let one : on.leap.clocks ≡ 1 = omega (arith, some, within) in
+    let clock = on.leap.unseen.clock in
+    let none : change_next old.plain ≡ [] = first_unseen change_next old.plain on.leap.clocks some on.leap.unseen.changes in
+    let no_entry : trail_next old.plain ≡ [] = first_unseen trail_next old.plain on.leap.clocks some on.leap.unseen.entries in
+    record {
+      plain = on.leap.unseen.plain ∙ ap (after_clocks old.plain) one ∙ first_clock old.plain;
+      clock = omega (arith, clock, one);
+      changes = on.changes ∙ sym (append-nil old.changes) ∙ ap (λ xs. old.changes ++ xs) (sym none);
+      trail = on.trail ∙ nothing_added 32 old.trail few ∙ ap (λ xs. last 32 (old.trail ++ xs)) (sym no_entry);
+      room = let same = on.room in let size : length new.changes ≡ length old.changes = ap length on.changes in omega (arith, same, size);
+      turns = on.turns;
+    }
+
+pub turn_alone : (old new : BoardState) → length old.trail ≤ 32 → IsTurnOn (clock_of old.plain + 1) (clock_of old.plain + 1) old new → IsTickOn old new
+turn_alone old new few (inl leap) = leap_alone old new few leap
+turn_alone old new few (inr act) = (act_alone old new act).0
+
 -- it goes on
 
-leap_moves : (end count : ℕ) (t u : BoardState) → clock_of t.plain < end → IsLeapOverEdgesOn end count t u → end - clock_of u.plain < end - clock_of t.plain
+leap_moves : (end count : ℕ) (t u : BoardState) → clock_of t.plain < end → IsLeapOn end count t u → end - clock_of u.plain < end - clock_of t.plain
 leap_moves end count t u before on =
     let clock = on.leap.unseen.clock in
     let some = on.leap.some in omega (arith, clock, some, before)
 
-rest_moves : (end : ℕ) (t b u : BoardState) → clock_of t.plain < end → IsTickOn t b → (u ≡ b) ⊎ ((1 ≤ b.plain.busy) × IsLeapOverEdgesOn end 0 b u) → end - clock_of u.plain < end - clock_of t.plain
+rest_moves : (end : ℕ) (t b u : BoardState) → clock_of t.plain < end → IsTickOn t b → (u ≡ b) ⊎ ((1 ≤ b.plain.busy) × IsLeapOn end 0 b u) → end - clock_of u.plain < end - clock_of t.plain
 rest_moves end t b u before first (inl same) =
     let clock = first.clock in let here : clock_of u.plain ≡ clock_of b.plain = ap (λ (x : BoardState). clock_of x.plain) same in omega (arith, clock, here, before)
 rest_moves end t b u before first (inr rest) =
     let clock = first.clock in
     let less = leap_moves end 0 b u (before_rest end b u rest.1) rest.1 in omega (arith, clock, before, less)
 
-pub over_moves : (end : ℕ) (t u : BoardState) → clock_of t.plain < end → IsTurnOverEdgesOn end t u → end - clock_of u.plain < end - clock_of t.plain
-over_moves end t u before (inl leap) = leap_moves end 1 t u before leap
-over_moves end t u before (inr act) = rest_moves end t act.begun u before act.first act.rest
+pub turn_moves : (end : ℕ) (t u : BoardState) → clock_of t.plain < end → IsTurnOn end end t u → end - clock_of u.plain < end - clock_of t.plain
+turn_moves end t u before (inl leap) = leap_moves end 1 t u before leap
+turn_moves end t u before (inr act) = rest_moves end t act.begun u before act.first act.rest
+
+pub short_moves : (end : ℕ) (t u : BoardState) → clock_of t.plain < end → IsTurnOn (clock_of t.plain + 1) end t u → end - clock_of u.plain < end - clock_of t.plain
+short_moves end t u before (inl leap) = leap_moves end 1 t u before leap
+short_moves end t u before (inr act) = let clock = (act_alone t u act).0.clock in omega (arith, clock, before)
 
 -- steps at once, while nothing comes
 
@@ -305,7 +296,7 @@ behind t n v = record t { plain = v.plain; trail = v.trail; turns = t.turns + n 
 
 pub one_more : (n end : ℕ) (t : BoardState) (w v : Noted) → IsQuietStep end w v → IsActOn end (behind t n w) (behind t (suc n) v)
 one_more n end t w v step =
-    act_made end (behind t n w) (behind t (suc n) v) (quietly_mutely w.plain step.quietly) step.passed refl step.entries refl (omega arith)
+    act_made end (behind t n w) (behind t (suc n) v) step.quietly step.passed refl step.entries refl (omega arith)
 
 so_far_each : (passes : ℕ → Type 0) (n spare end : ℕ) (s t : BoardState) (v : Noted) → AreQuietSteps passes n end (record { plain = t.plain; trail = t.trail }) v → SoFar spare end s t → SoFar spare end s (behind t n v)
 unfolding AreQuietSteps
@@ -315,7 +306,7 @@ so_far_each passes zero spare end s t v same so_far =
 so_far_each passes (suc n) spare end s t v steps so_far =
     let w : Noted = steps.0 in
     let before = so_far_each passes n spare end s t w steps.1 so_far in
-    so_far_over spare end s (behind t n w) (behind t (suc n) v) before steps.2.before
+    so_far_turn spare end s (behind t n w) (behind t (suc n) v) before steps.2.before
     (inr (one_more n end t w v steps.2))
 
 -- where they lead
@@ -327,51 +318,41 @@ so_far_steps passes spare end s t u so_far on =
     subst (λ b. SoFar spare end s b) (steps_lead passes end t u on)
     (so_far_each passes on.count spare end s t (record { plain = u.plain; trail = u.trail }) on.steps so_far)
 
-pub so_far_long : (passes : ℕ → Type 0) (spare end : ℕ) (s t u : BoardState) → SoFar spare end s t → IsLongTurnOn passes end t u → SoFar spare end s u
-so_far_long passes spare end s t u so_far long =
-    let mid = so_far_steps passes spare end s t long.between so_far long.steps in
-    elim long.rest [
-      | inl last ↦ subst (SoFar spare end s) (sym last.0) mid
-      | inr turn ↦ so_far_over spare end s long.between u mid turn.0 turn.1
-    ]
-
-pub long_moves : (passes : ℕ → Type 0) (end : ℕ) (t u : BoardState) → clock_of t.plain < end → IsLongTurnOn passes end t u → end - clock_of u.plain < end - clock_of t.plain
-long_moves passes end t u before long =
-    let gone = have_gone passes long.steps.count end _ _ long.steps.steps in
-    let some : long.steps.count + clock_of t.plain ≤ clock_of long.between.plain = gone.some in
-    elim long.rest [
-      | inl last ↦
-          let here : clock_of u.plain ≡ clock_of long.between.plain = ap (λ (x : BoardState). clock_of x.plain) last.0 in
-          let past = last.1 in omega (arith, here, past, before)
-      | inr turn ↦ let less = over_moves end long.between u turn.0 turn.1 in omega (arith, less, some)
-    ]
-
--- behind such steps
-
-pub if_long : {E : Type 0} (passes : ℕ → Type 0) (end : ℕ) (s t u : BoardState) (result : Result Unit E) → AreStepsOn passes end s t → clock_of t.plain < end → OnOk result (IsTurnOverEdgesOn end t u) → OnOk result (IsLongTurnOn passes end s u)
-if_long passes end s t u (Ok x) steps before turn = record { between = t; steps = steps; rest = inr (before, turn) }
-if_long passes end s t u (Err e) steps before turn = turn
-
-pub if_held : {E : Type 0} (passes : ℕ → Type 0) (end : ℕ) (s t u : BoardState) (result : Result Unit E) → AreStepsOn passes end s t → clock_of t.plain < end → OnErr result (IsHeldBack t u) → OnErr result (IsHeldBehind passes end s u)
-if_held passes end s t u (Err e) steps before held = record { between = t; steps = steps; before = before; held = held }
-if_held passes end s t u (Ok x) steps before held = held
+pub steps_move : (passes : ℕ → Type 0) (end : ℕ) (t u : BoardState) → AreStepsOn passes end t u → clock_of t.plain ≤ clock_of u.plain
+steps_move passes end t u on =
+    let gone = have_gone passes on.count end _ _ on.steps in
+    let some = gone.some in omega (arith, some)
 
 -- steps that end with the next clock are one
-one_alone : (passes : ℕ → Type 0) (n end : ℕ) (t : BoardState) (v : Noted) → clock_of t.plain < clock_of v.plain → AreQuietSteps passes n (clock_of t.plain + 1) (record { plain = t.plain; trail = t.trail }) v → IsTurnOn end t (behind t n v)
+one_alone : (passes : ℕ → Type 0) (n : ℕ) (t : BoardState) (v : Noted) → clock_of t.plain < clock_of v.plain → AreQuietSteps passes n (clock_of t.plain + 1) (record { plain = t.plain; trail = t.trail }) v → IsActOn (clock_of t.plain + 1) t (behind t n v)
 unfolding AreQuietSteps
-one_alone passes zero end t v moved same =
+one_alone passes zero t v moved same =
     let here : clock_of v.plain ≡ clock_of t.plain = ap (λ (x : Noted). clock_of x.plain) same in absurd (omega (arith, here, moved))
-one_alone passes (suc zero) end t v moved steps =
+one_alone passes (suc zero) t v moved steps =
     let first : steps.0 ≡ record { plain = t.plain; trail = t.trail } = steps.1 in
     let step = subst (λ w. IsQuietStep (clock_of t.plain + 1) w v) first steps.2 in
-    act_alone end t (behind t 1 v)
-    (act_made (clock_of t.plain + 1) t (behind t 1 v) (quietly_mutely t.plain step.quietly) step.passed refl step.entries refl refl)
-one_alone passes (suc (suc n)) end t v moved steps =
+    act_made (clock_of t.plain + 1) t (behind t 1 v) step.quietly step.passed refl step.entries refl refl
+one_alone passes (suc (suc n)) t v moved steps =
     let gone = have_gone passes (suc n) (clock_of t.plain + 1) _ steps.0 steps.1 in
     let some = gone.some in
     let before = steps.2.before in absurd (omega (arith, some, before))
 
-pub steps_alone : (passes : ℕ → Type 0) (end : ℕ) (t u : BoardState) → clock_of t.plain < clock_of u.plain → AreStepsOn passes (clock_of t.plain + 1) t u → IsTurnOn end t u
-steps_alone passes end t u moved on =
-    subst (IsTurnOn end t) (steps_lead passes (clock_of t.plain + 1) t u on)
-    (one_alone passes on.count end t (record { plain = u.plain; trail = u.trail }) moved on.steps)
+pub steps_alone : (passes : ℕ → Type 0) (t u : BoardState) → clock_of t.plain < clock_of u.plain → AreStepsOn passes (clock_of t.plain + 1) t u → IsActOn (clock_of t.plain + 1) t u
+steps_alone passes t u moved on =
+    subst (IsActOn (clock_of t.plain + 1) t) (steps_lead passes (clock_of t.plain + 1) t u on)
+    (one_alone passes on.count t (record { plain = u.plain; trail = u.trail }) moved on.steps)
+
+-- a turn, told of the plain board within
+pub board_leaps : (end : ℕ) (old seen new : BoardState) → old ≡ seen → IsLeap end old.plain new.plain → new.changes ≡ old.changes → new.trail ≡ old.trail → new.room ≡ old.room → new.turns ≡ old.turns + 1 → IsLeapOn end 1 seen new
+board_leaps end old seen new same leap changes trail room turns =
+    subst (λ b. IsLeapOn end 1 b new) same (record { leap = leap; changes = changes; trail = trail; room = room; turns = turns })
+
+-- the same between two looks for a stop
+pub if_whole : {E : Type 0} (passes : ℕ → Type 0) (end : ℕ) (old new : BoardState) (result : Result Unit E) → OnOk result (IsTurnOn end end old new) → OnOk result (IsTurnBetween true passes end old new)
+if_whole passes end old new (Ok x) turn = inr turn
+if_whole passes end old new (Err e) turn = turn
+
+-- an act is a turn
+pub if_act : {E : Type 0} (within end : ℕ) (old left new : BoardState) (result : Result Unit E) → left ≡ old → OnOk result (IsActOn within left new) → OnOk result (IsTurnOn within end old new)
+if_act within end old left new (Ok x) same act = inr (subst (λ b. IsActOn within b new) same act)
+if_act within end old left new (Err e) same act = act

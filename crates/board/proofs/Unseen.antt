@@ -1,17 +1,26 @@
--- Of clocks that may be leapt over nothing is seen, so that each turn is one that may leap over edges.
-use Rattle.std.proofs.Common.{◌≡◌, ℕ, ◌-◌, ◌≤◌, inl, inr, true, refl, sym, subst}
-use Rattle.std.specs.Prelude.{◌⊎◌, OnOk, Result, Ok, Err}
-use Rattle.board_plain.specs.Board.{BoardState}
-use Rattle.board_plain.specs.Laws.{WiresHold}
-use Rattle.board_plain.specs.Plain.{Plain, clock_of}
-use Rattle.board.specs.Alone.{IsLeapOverEdges, IsUnseen, PassesOver}
-use Rattle.board.specs.AwaitFree.{IsTurnBetween}
-use Rattle.board.specs.Leap.{IsTight, IsTightTo, MayLeap, PassesOn, leapt}
-use Rattle.board.specs.Turns.{IsActOn, IsLeapOn, IsLeapOverEdgesOn, IsStepOn, IsTurnOn, IsTurnOrStepOn, IsTurnOverEdgesOn}
-use Rattle.board.proofs.Leap.{board_leaps, clock_of_leap, holding_stays, no_changes, no_entries}
+-- Clocks of which nothing is seen: what a board is after them, which wires stay, and how a leap over them is told.
+use Rattle.std.proofs.Common.{◌≡◌, ℕ, ◌+◌, ◌-◌, ◌≤◌, inl, inr, Option, sym, ap, ◌∙◌, subst, arith}
+use Rattle.board_types.proofs.Iterate.{iterate_zero}
+use Rattle.cached_chips.proofs.Quiet.{quiet_for}
+use Rattle.cached_chips.specs.Quiet.{IsQuiet}
+use Rattle.execute_meaning.specs.Boundaries.{boundary_of}
+use Rattle.execute_meaning.specs.declared.boundary.Boundary.TheVariants as boundaries
+use Rattle.wiring.specs.Chips.{ChipsState}
+use Rattle.wiring.specs.Wires as wires
+use Rattle.wiring.specs.Wires.{is_requested}
+use Rattle.board_plain.specs.Laws.{NoKeyComes, WiresHold}
+use Rattle.board_plain.specs.Plain.{Plain, after_clock, after_clocks, clock_of, speaker_level}
+use Rattle.board.specs.Alone.{BeginsNothing, GoUnseen, IsUnseen, MayPass, StaysIdleAnyhow, WiresStay, passed_by}
+use Rattle.board.specs.Arrivals.{HaveArrived, IsNextStamp}
+use Rattle.board.specs.declared.arrivals.Arrived.{Arrived}
+use Rattle.board.specs.Leap.{ComesAfter, MayLeap, StaysIdle, leapt}
+use Rattle.board.specs.OneTurn.{HaveSameWires}
+use Rattle.board.proofs.Alone.{alone_unseen}
+use Rattle.board.proofs.KeyOrder.{have_later, no_key}
+use Rattle.board.proofs.Leap.{board_leaps, clock_of_leap, holding_stays, leapt_by, level_stays, may_leap_for, no_changes, no_entries, out_0_stays, out_2_stays}
 use Rattle.board.proofs.Works.{busy_of_leap, none_to_step}
 
-pub leapt_unseen : (s : Plain) (n : ℕ) → WiresHold s.chips → MayLeap s n → IsUnseen s n (leapt s n)
+leapt_unseen : (s : Plain) (n : ℕ) → WiresHold s.chips → MayLeap s n → IsUnseen s n (leapt s n)
 leapt_unseen s n holds may_leap = record {
   plain = sym (board_leaps n s holds may_leap);
   clock = clock_of_leap s n;
@@ -22,51 +31,86 @@ leapt_unseen s n holds may_leap = record {
   conditions = λ stops k before. holding_stays stops s n k before holds may_leap;
 }
 
-unfoldable pub unseen_leap : (end n : ℕ) (s t : Plain) → 1 ≤ n → n ≤ end - clock_of s → WiresHold s.chips → MayLeap s n → IsTight (end - clock_of s) s n → t ≡ leapt s n → IsLeapOverEdges end s t
-unseen_leap end n s t some within wires may_leap tight plain = record {
-  clocks = n;
-  some = some;
-  within = within;
-  unseen = subst (IsUnseen s n) (sym plain) (leapt_unseen s n wires may_leap);
-  tight = subst (IsTightTo (end - clock_of s) s n) (sym plain) tight;
+pub pass_unseen : (s : Plain) (n : ℕ) → WiresHold s.chips → MayPass s n → IsUnseen s n (passed_by s n)
+pass_unseen s n holds (inl may_leap) = subst (IsUnseen s n) (leapt_by n s holds may_leap) (leapt_unseen s n holds may_leap)
+pass_unseen s n holds (inr alone) = alone_unseen s n holds alone
+
+-- when there are such clocks
+
+begins_now : (s : Plain) → BeginsNothing s → boundary_of s.cpu (is_requested s.chips) ≡ boundaries.Nothing
+begins_now s (inl anyhow) = anyhow (is_requested s.chips)
+begins_now s (inr now) = now.0
+
+idle_of : (s : Plain) (n : ℕ) → StaysIdleAnyhow s n → StaysIdle s n
+idle_of s n (inl busy) = inl busy
+idle_of s n (inr idle) = inr (idle.0, begins_now s idle.1)
+
+pub quiet_leaps : (s : Plain) (n to : ℕ) (p : Option ℕ) → to ≡ s.chips.clock + n → StaysIdleAnyhow s n → IsNextStamp s.chips.clock s.keys p → ComesAfter to p → IsQuiet s.chips to → MayLeap s n
+quiet_leaps s n to p is idle next after quiet =
+    let here : IsQuiet s.chips (s.chips.clock + n) = subst (IsQuiet s.chips) is quiet in
+    record {
+      idle = idle_of s n idle;
+      no_key = no_key s n p next (subst (λ k. ComesAfter k p) is after);
+      out_0 = here.out_0;
+      out_2 = here.out_2;
+    }
+
+pub may_pass : (s : Plain) (n to : ℕ) (p : Option ℕ) → to ≡ s.chips.clock + n → StaysIdleAnyhow s n → IsNextStamp s.chips.clock s.keys p → ComesAfter to p → GoUnseen s.chips to → MayPass s n
+may_pass s n to p is idle next after (inl quiet) = inl (quiet_leaps s n to p is idle next after quiet)
+may_pass s n to p is idle next after (inr alone) =
+    inr (record { idle = idle; no_key = no_key s n p next (subst (λ k. ComesAfter k p) is after); alone = alone })
+
+pub unseen_for : (c : ChipsState) (to sooner : ℕ) → sooner ≤ to → GoUnseen c to → GoUnseen c sooner
+unseen_for c to sooner within (inl quiet) = inl (quiet_for c to sooner within quiet)
+unseen_for c to sooner within (inr alone) = inr alone
+
+pub no_key_comes : (s : Plain) (n : ℕ) → MayPass s n → NoKeyComes s n
+no_key_comes s n (inl may_leap) = may_leap.no_key
+no_key_comes s n (inr alone) = alone.no_key
+
+-- wires that stay
+
+same_wires : (s : Plain) (n k : ℕ) → k ≤ n → WiresHold s.chips → MayLeap s n → HaveSameWires s (after_clocks s k)
+unfolding leapt
+same_wires s n k within holds may_leap =
+    let less : MayLeap s k = may_leap_for s n k within may_leap in
+    let at : after_clocks s k ≡ leapt s k = board_leaps k s holds less in
+    record {
+      pic = ap (λ (p : Plain). p.chips.pic) at;
+      out_0 = ap (λ (p : Plain). p.chips.pit.counter_0.out) at ∙ out_0_stays s k less;
+      out_2 = ap (λ (p : Plain). p.chips.pit.counter_2.out) at ∙ out_2_stays s k less;
+      speaker = level_stays s n k within holds may_leap;
+    }
+
+clock_of_passed : (s : Plain) (n : ℕ) → WiresHold s.chips → MayLeap s n → clock_of (passed_by s n) ≡ clock_of s + n
+clock_of_passed s n holds may_leap = (pass_unseen s n holds (inl may_leap)).clock
+
+pub wires_stay : (s : Plain) (n : ℕ) → WiresHold s.chips → MayLeap s n → WiresStay s (passed_by s n)
+wires_stay s n holds may_leap = λ j few.
+    let clock = clock_of_passed s n holds may_leap in same_wires s n j (omega (arith, few, clock)) holds may_leap
+
+pub same_as : (s t : Plain) → t ≡ s → HaveSameWires s t
+same_as s t same = record {
+  pic = ap (λ (p : Plain). p.chips.pic) same;
+  out_0 = ap (λ (p : Plain). p.chips.pit.counter_0.out) same;
+  out_2 = ap (λ (p : Plain). p.chips.pit.counter_2.out) same;
+  speaker = ap speaker_level same;
 }
 
-pub passes_over : (end : ℕ) (s t : Plain) → PassesOn end s t → PassesOver end s t
-passes_over end s t (inl same) = inl same
-passes_over end s t (inr passed) =
-    let turn = passed.turn in inr (passed.busy, unseen_leap end passed.clocks s t turn.some turn.within turn.wires turn.may_leap turn.tight passed.plain)
+pub stay_here : (s t : Plain) → t ≡ s → WiresStay s t
+stay_here s t same = λ j few.
+    let clock : clock_of t ≡ clock_of s = ap clock_of same in
+    let none : j ≡ 0 = omega (arith, few, clock) in
+    same_as s (after_clocks s j) (ap (after_clocks s) none ∙ iterate_zero after_clock s)
 
-unfoldable pub leap_over : (end count : ℕ) (t u : BoardState) → IsLeapOn end count t u → IsLeapOverEdgesOn end count t u
-leap_over end count t u on = record {
-  leap = unseen_leap end on.clocks t.plain u.plain on.some on.within on.wires on.may_leap on.tight on.plain;
-  changes = on.changes;
-  trail = on.trail;
-  room = on.room;
-  turns = on.turns;
-}
+-- the parts after such a leap
 
-pub turn_over : (end : ℕ) (t u : BoardState) → IsTurnOn end t u → IsTurnOverEdgesOn end t u
-turn_over end t u (inl leap) = inl (leap_over end 1 t u leap)
-turn_over end t u (inr tick) = inr (record { begun = u; first = tick.0; work = tick.1; rest = inl refl })
+pub left_by : (s : Plain) (n to busy : ℕ) (c : ChipsState) → to ≡ s.chips.clock + n → c ≡ wires.after_clocks s.chips (to - s.chips.clock) → busy ≡ s.busy - (to - s.chips.clock) → record s { busy = busy; chips = c } ≡ passed_by s n
+unfolding passed_by
+left_by s n to busy c is chips left =
+    let whole : to - s.chips.clock ≡ n = omega (arith, is) in
+    λ k. record s { busy = (left ∙ ap (λ m. s.busy - m) whole) k; chips = (chips ∙ ap (wires.after_clocks s.chips) whole) k }
 
-rest_over : (end : ℕ) (b u : BoardState) → (u ≡ b) ⊎ ((1 ≤ b.plain.busy) × IsLeapOn end 0 b u) → (u ≡ b) ⊎ ((1 ≤ b.plain.busy) × IsLeapOverEdgesOn end 0 b u)
-rest_over end b u (inl same) = inl same
-rest_over end b u (inr rest) = inr (rest.0, leap_over end 0 b u rest.1)
-
-pub step_over : (end : ℕ) (t u : BoardState) → IsStepOn end t u → IsActOn end t u
-step_over end t u step =
-    record { begun = step.begun; first = step.first; work = step.work; rest = rest_over end step.begun u step.rest }
-
-pub turn_or_step_over : (end : ℕ) (t u : BoardState) → IsTurnOrStepOn end t u → IsTurnOverEdgesOn end t u
-turn_or_step_over end t u (inl turn) = turn_over end t u turn
-turn_or_step_over end t u (inr step) = inr (step_over end t u step)
-
--- the same where it may be held back
-pub if_turn_or_step : {E : Type 0} (end : ℕ) (old new : BoardState) (result : Result Unit E) → OnOk result (IsTurnOrStepOn end old new) → OnOk result (IsTurnOverEdgesOn end old new)
-if_turn_or_step end old new (Ok x) turn_or_step = turn_or_step_over end old new turn_or_step
-if_turn_or_step end old new (Err e) turn_or_step = turn_or_step
-
--- and between two looks for a stop
-pub if_over : {E : Type 0} (passes : ℕ → Type 0) (end : ℕ) (old new : BoardState) (result : Result Unit E) → OnOk result (IsTurnOverEdgesOn end old new) → OnOk result (IsTurnBetween true passes end old new)
-if_over passes end old new (Ok x) turn = inr turn
-if_over passes end old new (Err e) turn = turn
+pub arrived_by : (a : Arrived) (s : Plain) (n late : ℕ) → HaveArrived a (s.chips.clock + 1) s.keys → NoKeyComes s n → late ≡ s.chips.clock + n → HaveArrived a (late + 1) s.keys
+unfolding clock_of
+arrived_by a s n late have none at = have_later a s.chips.clock n late s.keys have none at

@@ -7,6 +7,7 @@ use Rattle.board_types.specs.declared.line.Line.{Line}
 use Rattle.board_types.specs.declared.line.Line.TheVariants.{Low, High}
 use Rattle.decode.specs.declared.decoding.Decoding.TheVariants.{Found, NoRow}
 use Rattle.execute_meaning.specs.Meaning.{StepResult}
+use Rattle.execute_meaning.specs.declared.boundary.Boundary.{Boundary}
 use Rattle.pit8253.proofs.PitTicks.{each_counter}
 use Rattle.pit8253.specs.Counter as one
 use Rattle.pit8253.specs.Pit as pit
@@ -23,7 +24,7 @@ use Rattle.board_plain.specs.declared.act.Act.{Act}
 use Rattle.board_plain.specs.declared.act.Act.TheVariants.{Nothing, Request, SingleStep, Iteration, Instruction}
 use Rattle.board_plain.specs.Laws.{NoKeyComes, WiresHold}
 use Rattle.board.specs.Leap.{MayLeap, is_idle, leapt}
-use Rattle.board_plain.specs.Plain.{Plain, after_act, after_clock, after_clocks, chips_after_clock, clock_of, codes_at, next_act}
+use Rattle.board_plain.specs.Plain.{Plain, act_at, after_act, after_clock, after_clocks, chips_after_clock, clock_of, codes_at, next_act}
 use Rattle.board_plain.specs.Work.{edges_next, edges_of, jams_of, keys_next, steps_in, steps_next, steps_of, work_in, work_next}
 use Rattle.board.proofs.Leap.{board_leaps, clock_of_leap, does_nothing, may_leap_for, out_0_stays, out_2_stays}
 use Rattle.board_plain.proofs.Quiet.{none_comes}
@@ -116,7 +117,11 @@ pub acts_now : (p : Plain) → is_idle (next_act p) ≡ false → 1 ≤ work_nex
 unfolding work_next steps_next
 acts_now p not = let some = act_works (next_act p) not in omega (arith, some)
 
-pub nothing_done : (a : Act) → is_idle a ≡ true → a ≡ Nothing
+-- so it is at a boundary where it does something
+pub acts_there : (s : Plain) (boundary : Boundary) → act_at s.cpu s.chips boundary ≡ next_act s → is_idle (act_at s.cpu s.chips boundary) ≡ false → 1 ≤ work_next s
+acts_there s boundary at acts = acts_now s (ap is_idle (sym at) ∙ acts)
+
+nothing_done : (a : Act) → is_idle a ≡ true → a ≡ Nothing
 nothing_done Nothing is = refl
 nothing_done Request is = absurd (cc)
 nothing_done SingleStep is = absurd (cc)
@@ -228,10 +233,6 @@ edge_2_works s n at holds may_leap is edge =
     ∙ sym (ap (λ (q : PitState). q.counter_2.out) (each_counter (ticks_between s.chips.clock (s.chips.clock + n + 1)) s.chips.pit))
     ∙ sym (ap (λ (q : PitState). q.counter_2.out) (pit_then s n holds may_leap nothing))
     ∙ same ∙ out_2_stays s n may_leap)))
-
--- a leap over no clocks
-pub no_leap : (s : Plain) → WiresHold s.chips → MayLeap s 0 → leapt s 0 ≡ s
-no_leap s holds may_leap = sym (board_leaps 0 s holds may_leap) ∙ iterate_zero after_clock s
 
 -- a clock has one step at most
 one_of_act : (a : Act) → steps_of a ≤ 1

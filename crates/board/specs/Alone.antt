@@ -1,22 +1,40 @@
--- Clocks in which the chips alone go on, whatever the timer does, and leaps over them: nothing is seen of such clocks but
--- where the leap ends.
+-- Clocks in which the processor does nothing and of which nothing is seen but where they end, and leaps over them: no wire
+-- changes in them, or the chips go on alone, whatever the timer does.
 -- For proofs alone: no public contract rests on it.
-use Rattle.std.specs.Prelude.{ℕ, ◌≡◌, ◌+◌, ◌-◌, ◌<◌, ◌≤◌, ◌⊎◌, List, [], Bool}
+use Rattle.std.specs.Prelude.{ℕ, ◌≡◌, ◌+◌, ◌-◌, ◌<◌, ◌≤◌, ◌⊎◌, List, [], Bool, true, min, Option, None, Some}
+use Rattle.board_types.specs.declared.choice.ClockTable.{ClockTable}
+use Rattle.board_types.specs.declared.keys.StampedKey.{StampedKey}
+use Rattle.cached_chips.specs.Quiet.{IsQuiet}
 use Rattle.execute_meaning.specs.Boundaries.{boundary_of}
+use Rattle.execute_meaning.specs.Cpu.{CpuState}
 use Rattle.execute_meaning.specs.declared.boundary.Boundary.TheVariants as boundaries
-use Rattle.wiring.specs.Alone.{GoesOnAlone}
+use Rattle.wiring.specs.Alone.{GoesOnAlone, IsTimerInhibited}
+use Rattle.wiring.specs.Chips.{ChipsState}
 use Rattle.wiring.specs.Wires as wires
+use Rattle.wiring.specs.Wires.{is_requested}
 use Rattle.board_plain.specs.declared.stop.Condition.{Condition}
-use Rattle.board_plain.specs.Laws.{NoKeyComes}
-use Rattle.board_plain.specs.Plain.{Plain, after_clocks, changes_in, clock_of}
+use Rattle.board_plain.specs.Laws.{NoKeyComes, WiresHold}
+use Rattle.board_plain.specs.Plain.{Plain, after_clock, after_clocks, changes_in, chips_after_clock, clock_of}
 use Rattle.board_plain.specs.Stops.{holding}
 use Rattle.board_plain.specs.Trail.{trail_in}
 use Rattle.board_plain.specs.Work.{steps_in}
-use Rattle.board.specs.Leap.{IsTightTo}
+use Rattle.board.specs.Leap.{IsTightTo, MayLeap}
+use Rattle.board.specs.OneTurn.{HaveSameWires}
 
--- the processor does nothing for n clocks, whatever is requested in them: it is busy in them, or free and takes no request
+-- a free processor begins nothing whatever the timer does: whatever is requested, or by what is requested now, which the
+-- timer doesn't change
+abbrev pub BeginsNothing : Plain → Type 0
+BeginsNothing s =
+    ((request : Bool) → boundary_of s.cpu request ≡ boundaries.Nothing)
+    ⊎ ((boundary_of s.cpu (is_requested s.chips) ≡ boundaries.Nothing) × IsTimerInhibited s.chips)
+
+-- the processor does nothing for n clocks, whatever the timer does in them: it is busy in them, or free and begins nothing
 abbrev pub StaysIdleAnyhow : Plain → ℕ → Type 0
-StaysIdleAnyhow s n = (n ≤ s.busy) ⊎ ((s.busy ≡ 0) × ((request : Bool) → boundary_of s.cpu request ≡ boundaries.Nothing))
+StaysIdleAnyhow s n = (n ≤ s.busy) ⊎ ((s.busy ≡ 0) × BeginsNothing s)
+
+-- what is enough for it of a processor that does nothing now
+abbrev pub TimerBeginsNothing : Plain → Type 0
+TimerBeginsNothing s = (1 ≤ s.busy) ⊎ ((boundaries.Nothing ≡ boundary_of s.cpu true) ⊎ IsTimerInhibited s.chips)
 
 -- n clocks in which it does so and no key comes, while the chips go on alone
 pub record IsAlone (s : Plain) (n : ℕ) : Type 0 where
@@ -24,9 +42,17 @@ pub record IsAlone (s : Plain) (n : ℕ) : Type 0 where
   pub no_key : NoKeyComes s n
   pub alone : GoesOnAlone s.chips
 
+-- n clocks of which nothing is seen
+abbrev pub MayPass : Plain → ℕ → Type 0
+MayPass s n = MayLeap s n ⊎ IsAlone s n
+
 -- a board n such clocks later
-unfoldable pub passed_alone : Plain → ℕ → Plain
-passed_alone s n = record s { busy = s.busy - n; chips = wires.after_clocks s.chips n }
+unfoldable pub passed_by : Plain → ℕ → Plain
+passed_by s n = record s { busy = s.busy - n; chips = wires.after_clocks s.chips n }
+
+-- up to a clock nothing is seen of the chips: they are quiet, or they go on alone
+abbrev pub GoUnseen : ChipsState → ℕ → Type 0
+GoUnseen chips to = IsQuiet chips to ⊎ GoesOnAlone chips
 
 -- a board n clocks later, of which nothing is seen: no change of the speaker's level and no entry is listed, no step
 -- begins, and no condition changes before the last of them
@@ -39,8 +65,20 @@ pub record IsUnseen (s : Plain) (n : ℕ) (t : Plain) : Type 0 where
   pub steps : steps_in s n ≡ 0
   pub conditions : (stops : List Condition) (k : ℕ) → k < n → holding stops (after_clocks s k) ≡ holding stops s
 
--- a leap over such clocks, at most to a clock, whatever the timer does in them
-pub record IsLeapOverEdges (end : ℕ) (s t : Plain) : Type 0 where
+-- a clock, or the last before a stamp where that one is earlier
+abbrev pub last_before : Option ℕ → ℕ → ℕ
+last_before None end = end
+last_before (Some at) end = min end (at - 1)
+
+-- a clock, at most `end`, up to which nothing is seen; up to a later one there may be
+pub record IsUnseenTo (end : ℕ) (s : Plain) (to : ℕ) : Type 0 where
+  pub from : clock_of s ≤ to
+  pub within : to ≤ end
+  pub may_pass : MayPass s (to - clock_of s)
+  pub tight : IsTightTo (end - clock_of s) s (to - clock_of s) (passed_by s (to - clock_of s))
+
+-- a leap over such clocks, at most to a clock
+pub record IsLeap (end : ℕ) (s t : Plain) : Type 0 where
   pub clocks : ℕ
   pub some : 1 ≤ clocks
   pub within : clocks ≤ end - clock_of s
@@ -49,4 +87,23 @@ pub record IsLeapOverEdges (end : ℕ) (s t : Plain) : Type 0 where
 
 -- other clocks of a step are leapt over so, or none
 abbrev pub PassesOver : ℕ → Plain → Plain → Type 0
-PassesOver end s t = (t ≡ s) ⊎ ((1 ≤ s.busy) × IsLeapOverEdges end s t)
+PassesOver end s t = (t ≡ s) ⊎ ((1 ≤ s.busy) × IsLeap end s t)
+
+-- the chips pass the first clock of a step of so many clocks, or all, as this relation of boards says, whatever processor makes
+-- it, and by whatever table
+abbrev pub PassBy : (Plain → Plain → Type 0) → ℕ → ChipsState → List StampedKey → ℕ → ChipsState → Type 0
+PassBy passes busy chips keys left after =
+    (cpu : CpuState) (table : ClockTable) → WiresHold (chips_after_clock chips keys)
+    → passes (record { cpu = cpu; busy = busy - 1; chips = chips_after_clock chips keys; keys = keys; clocks = table })
+    (record { cpu = cpu; busy = left; chips = after; keys = keys; clocks = table })
+
+abbrev pub PassOver : ℕ → ℕ → ChipsState → List StampedKey → ℕ → ChipsState → Type 0
+PassOver end busy chips keys left after = PassBy (PassesOver end) busy chips keys left after
+
+-- no wire changes on the way from a board to a later one
+abbrev pub WiresStay : Plain → Plain → Type 0
+WiresStay s t = (j : ℕ) → j ≤ clock_of t - clock_of s → HaveSameWires s (after_clocks s j)
+
+-- nor on the way from its first clock
+abbrev pub WiresStayThen : Plain → Plain → Type 0
+WiresStayThen s t = (j : ℕ) → 1 ≤ j → j ≤ clock_of t - clock_of s → HaveSameWires (after_clock s) (after_clocks s j)

@@ -1,11 +1,11 @@
 -- Stops that wait for a free processor: none of them is passed in the midst of a step.
 -- For proofs alone: no public contract rests on it.
-use Rattle.std.specs.Prelude.{ℕ, ◌≡◌, ◌<◌, ◌⊎◌, Bool, true, false, List, length, slice_index_or}
+use Rattle.std.specs.Prelude.{ℕ, ◌≡◌, ◌+◌, ◌<◌, ◌⊎◌, Bool, true, false, List, length, slice_index_or}
 use Rattle.board_plain.specs.declared.stop.Condition.{Condition}
 use Rattle.board_plain.specs.declared.stop.Condition.TheVariants.{Free, At, Byte, Sound, Halted}
 use Rattle.board_plain.specs.Board.{BoardState}
 use Rattle.board_plain.specs.Plain.{clock_of}
-use Rattle.board.specs.Turns.{AreStepsOn, IsTurnOn, IsTurnOverEdgesOn}
+use Rattle.board.specs.Turns.{AreStepsOn, IsTurnOn}
 
 -- whether it holds only where the processor is free
 abbrev pub awaits_free : Condition → Bool
@@ -22,8 +22,8 @@ AllAwaitFree stops = (k : ℕ) → k < length stops → awaits_free (slice_index
 abbrev pub ArePassedOn : (ℕ → Type 0) → ℕ → BoardState → BoardState → Type 0
 ArePassedOn passes end old new = AreStepsOn passes end old new × (clock_of old.plain < clock_of new.plain)
 
--- a turn between two looks for a stop: where all wait for a free processor, one that may leap over edges, or steps at once,
--- between which IP is one that may be passed
+-- a turn between two looks for a stop: where all wait for a free processor, an act may have all its clocks, and there may be steps
+-- at once, between which IP is one that may be passed; else an act has its first clock
 abbrev pub IsTurnBetween : Bool → (ℕ → Type 0) → ℕ → BoardState → BoardState → Type 0
-IsTurnBetween true passes end old new = ArePassedOn passes end old new ⊎ IsTurnOverEdgesOn end old new
-IsTurnBetween false passes end old new = IsTurnOn end old new
+IsTurnBetween true passes end old new = ArePassedOn passes end old new ⊎ IsTurnOn end end old new
+IsTurnBetween false passes end old new = IsTurnOn (clock_of old.plain + 1) end old new

@@ -1,10 +1,8 @@
 -- Clocks in which nothing happens but that the beam moves, the counters tick and the processor is busy or idle: how
 -- many there are at least, and what is left of a board after them.
 -- For proofs alone: no public contract rests on it.
-use Rattle.std.specs.Prelude.{ℕ, ◌≡◌, ◌≢◌, ◌+◌, ◌-◌, ◌<◌, ◌≤◌, ◌^◌, ◌⊎◌, List, [], Bool, true, false, Option, None, Some}
-use Rattle.board_types.specs.declared.choice.ClockTable.{ClockTable}
+use Rattle.std.specs.Prelude.{ℕ, ◌≡◌, ◌≢◌, ◌+◌, ◌-◌, ◌<◌, ◌≤◌, ◌^◌, ◌⊎◌, [], Bool, true, false, min, Option, None, Some}
 use Rattle.board_types.specs.Timed.{IsSteady}
-use Rattle.board_types.specs.declared.keys.StampedKey.{StampedKey}
 use Rattle.cached_chips.specs.Quiet.{IsQuiet}
 use Rattle.execute_meaning.specs.Boundaries.{boundary_of}
 use Rattle.execute_meaning.specs.Cpu.{CpuState}
@@ -14,7 +12,6 @@ use Rattle.pit8253.specs.Counter.{after_ticks, out_of}
 use Rattle.scheduler.specs.declared.deadlines.Source.{Source}
 use Rattle.scheduler.specs.declared.deadlines.Source.TheVariants.{Counter0, Counter2, Keys, Processor, End}
 use Rattle.scheduler.specs.Deadlines.{DeadlinesState, IsNext}
-use Rattle.wiring.specs.Chips.{ChipsState}
 use Rattle.wiring.specs.Edges.{ticks_between, IsEdgeOf}
 use Rattle.wiring.specs.Leap as wires
 use Rattle.wiring.specs.Wires.{is_requested}
@@ -22,7 +19,7 @@ use Rattle.board_plain.specs.declared.act.Act.{Act}
 use Rattle.board_plain.specs.declared.act.Act.TheVariants.{Nothing}
 use Rattle.board.specs.Arrivals.{IsNextStamp}
 use Rattle.board_plain.specs.Laws.{NoKeyComes, WiresHold, writes_of}
-use Rattle.board_plain.specs.Plain.{Plain, chips_after_clock, clock_of, next_act}
+use Rattle.board_plain.specs.Plain.{Plain, clock_of, next_act}
 use Rattle.board_plain.specs.Work.{work_next}
 
 -- an act that does nothing
@@ -44,11 +41,6 @@ pub record MayLeap (s : Plain) (n : ℕ) : Type 0 where
 abbrev pub ComesAfter : ℕ → Option ℕ → Type 0
 ComesAfter clock None = Unit {0}
 ComesAfter clock (Some at) = clock < at
-
--- nothing happens up to the end of the processor's step
-pub record MayLeapRest (s : Plain) : Type 0 where
-  pub some : 1 ≤ s.busy
-  pub may_leap : MayLeap s s.busy
 
 -- the processor is at a free boundary of this case, and the chips are quiet up to the next clock
 pub record IsQuietBoundary (s : Plain) (boundary : Boundary) : Type 0 where
@@ -81,36 +73,14 @@ IsTightTo limit s n t = (n ≡ limit) ⊎ (((1 ≤ s.busy) × (n ≡ s.busy)) �
 abbrev pub IsTight : ℕ → Plain → ℕ → Type 0
 IsTight limit s n = IsTightTo limit s n (leapt s n)
 
--- n clocks that a turn may leap over, at most `limit`: up to the end of the processor's step
-pub record IsLeap (limit : ℕ) (s : Plain) (n : ℕ) : Type 0 where
-  pub some : 1 ≤ n
-  pub within : n ≤ limit
-  pub may_leap : MayLeap s n
-  pub tight : IsTight limit s n
-  pub wires : WiresHold s.chips
-
--- the rest of a step that is leapt over, at most to a clock
-pub record IsPassed (end : ℕ) (s t : Plain) : Type 0 where
-  pub busy : 1 ≤ s.busy
-  pub clocks : ℕ
-  pub turn : IsLeap (end - clock_of s) s clocks
-  pub plain : t ≡ leapt s clocks
-
--- all of it, or nothing
-abbrev pub PassesOn : ℕ → Plain → Plain → Type 0
-PassesOn end s t = (t ≡ s) ⊎ IsPassed end s t
-
--- the chips pass the first clock of a step of so many clocks, or all, whatever processor makes it, and by whatever table
-abbrev pub PassStep : ℕ → ℕ → ChipsState → List StampedKey → ℕ → ChipsState → Type 0
-PassStep end busy chips keys left after =
-    (cpu : CpuState) (table : ClockTable) → WiresHold (chips_after_clock chips keys)
-    → PassesOn end (record { cpu = cpu; busy = busy - 1; chips = chips_after_clock chips keys; keys = keys; clocks = table })
-    (record { cpu = cpu; busy = left; chips = after; keys = keys; clocks = table })
-
 -- the clock at which a busy processor is free, where there is such a clock
 abbrev pub IsFreeClock : Plain → Option ℕ → Type 0
 IsFreeClock s None = (s.busy ≡ 0) ⊎ (2 ^ 40 < s.chips.clock + s.busy)
 IsFreeClock s (Some at) = (1 ≤ s.busy) × (at ≡ s.chips.clock + s.busy)
+
+-- the clock at which a busy processor is free, at most an end; of a free one that end
+abbrev pub IsFreeBy : ℕ → Plain → ℕ → Type 0
+IsFreeBy end s free = ((s.busy ≡ 0) × (free ≡ end)) ⊎ ((1 ≤ s.busy) × (free ≡ min end (clock_of s + s.busy)))
 
 -- when the parts of a board are due next, its processor doing nothing now
 pub record AreDeadlines (s : Plain) (until : ℕ) (d : DeadlinesState) : Type 0 where

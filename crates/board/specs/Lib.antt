@@ -10,6 +10,5 @@ pub mod Turns
 pub mod AwaitFree
 pub mod Found
 pub mod QuietSteps
-pub mod Mutely
 pub mod OneTurn
 pub mod StillSteps

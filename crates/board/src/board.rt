@@ -1,22 +1,22 @@
 //! The board: run for a number of clocks, and read.
-ghost use Rattle.std.specs.Prelude.{ℕ, IsTrue, None, true, All, ◌-◌, slice_get, ◌≡◌, ◌+◌, ◌*◌, ◌<◌, ◌≤◌, ◌^◌, [], ◌∷◌, ◌++◌, length, OnErr, OnOk, IfOk, IsOk, ◌↔◌, ◌⊎◌};
+ghost use Rattle.std.specs.Prelude.{ℕ, IsTrue, None, true, All, ◌-◌, slice_get, ◌≡◌, ◌+◌, ◌*◌, ◌<◌, ◌≤◌, ◌^◌, [], ◌∷◌, ◌++◌, length, OnErr, OnOk, IfOk, IsOk, ◌↔◌};
 ghost use Rattle.std.specs.Result.{IfErr, IsErrOf};
 ghost use Rattle.std.specs.String.{string_bytes};
 ghost use Rattle.memory.specs.Map.{IsRamSize, FitsRam};
-ghost use Rattle.board_plain.specs.declared.act.Act.TheVariants.{Instruction};
+ghost use Rattle.board_plain.specs.declared.act.Act.TheVariants as acts;
 ghost use Rattle.board_plain.specs.declared.fault.BoardFault.TheVariants.{Memory};
 ghost use Rattle.board_plain.specs.Board.{Ran, StoppedEarly, board_fault_name, board_fault_number};
+ghost use Rattle.board.specs.Alone.{PassesOver, WiresStay, WiresStayThen};
 ghost use Rattle.board.specs.HeldBack.{IsHeldBack};
 ghost use Rattle.board.specs.KeptAgain.{IsExact};
-ghost use Rattle.board.specs.Leap.{MayLeap, leapt};
-ghost use Rattle.board.specs.Reach.{AllWithin, all_pass, may_pass};
-ghost use Rattle.board_plain.specs.Plain.{after_clock, after_clocks, byte_of, change_next, changes_in, clock_of, is_free, lost_codes, next_act, power_on, registers_of, screen_of, speaker_level, state_of};
+ghost use Rattle.board.specs.Reach.{AllWithin, may_pass};
+ghost use Rattle.board_plain.specs.Plain.{after_clock, after_clocks, byte_of, change_next, changes_in, clock_of, lost_codes, next_act, power_on, registers_of, screen_of, speaker_level, state_of};
 ghost use Rattle.board_plain.specs.Stops.{FitsRoom, HasAddress, IsStopOf, NoStop, holding, run_length};
 ghost use Rattle.board_plain.specs.Lasts.{IsLastOf};
 ghost use Rattle.board.specs.Found.{found_at, found_before};
 ghost use Rattle.board_plain.specs.Trail.{last, trail_in, trail_next};
 ghost use Rattle.board.specs.AwaitFree.{IsTurnBetween};
-ghost use Rattle.board.specs.Turns.{AreStepsOn, IsHeldBehind, IsLeapOverEdgesOn, IsLongTurnOn, IsStepOn, IsTickOn, IsTurnOn, IsTurnOrStepOn, IsTurnOverEdgesOn};
+ghost use Rattle.board.specs.Turns.{AreStepsOn, IsActOn, IsLeapOn, IsTurnOn};
 ghost use Rattle.board_plain.specs.Work.{steps_in, work_in, work_next};
 ghost use Rattle.board_types.specs.Lines.{from_bool};
 
@@ -38,6 +38,7 @@ use board_types::line::Line;
 use board_types::regs::Regs;
 use board_types::state::State;
 use decode::decoded::Decoded;
+use execute_meaning::boundary::Boundary;
 use memory::map::MemoryFault;
 use std::alloc::{AllocError, Allocator, Global};
 use std::marker::Model;
@@ -171,7 +172,10 @@ impl<A: Allocator> Board<A> {
         }
         let end = self.clock().get() + count;
         'turns: while self.clock().get() < end {
-            self.long_turn(end)?;
+            self.quiet_steps(end, &Nothing);
+            if self.clock().get() < end {
+                self.turn(end, end)?;
+            }
         }
         Ok(())
     }
@@ -209,7 +213,8 @@ impl<A: Allocator> Board<A> {
         let whole = all_await_free(stops.as_slice());
         let reach = Reach::of(stops.as_slice());
         // a stop that holds at the start is none there, so the first clock is made by itself
-        self.make_clock()?;
+        let next = self.clock().get() + 1;
+        self.turn(next, next)?;
         'turns: loop {
             if let Some(number) = self.holding(stops, &reach) {
                 let clock = self.clock();
@@ -218,7 +223,7 @@ impl<A: Allocator> Board<A> {
             if self.clock().get() == end {
                 return Ok(None);
             }
-            self.turn(end, whole, &reach)?;
+            self.turn_between(end, whole, &reach)?;
         }
     }
 
@@ -255,7 +260,7 @@ impl<A: Allocator> Board<A> {
         'turns: while self.clock().get() < end {
             let here = self.holding(stops, &reach);
             // where none holds, a step with the leap behind it passes none
-            self.turn(end, passes_none(whole, here), &reach)?;
+            self.turn_between(end, passes_none(whole, here), &reach)?;
             // what holds before a turn does so up to the clock before the one that the turn comes to
             last = later(last, here, self.clock());
         }
@@ -298,12 +303,11 @@ impl<A: Allocator> Board<A> {
         Clock::LAST - self.engine.chips.clock().get() < count
     }
 
-    /// One turn of a run that ends at the clock `end`: time leaps to the next clock at which something is due, or, where
-    /// that is this one, goes on by a clock. No condition changes on the way of a leap, short of its last clock. Where it may
-    /// be `whole`, a step with the leap behind it is one, too, and as many steps at once as come to no IP within `reach`
-    /// before the last.
+    /// A turn between two looks for a stop: where it may be `whole`, an act with all its clocks, or as many steps at once as come
+    /// to no IP within `reach` before the last; else an act's first clock. Or time leaps, where nothing is seen up to `end`: no
+    /// condition changes on the way, short of the last clock.
     #[inline(always)]
-    fn turn(&mut self, end: u64, whole: bool, reach: &Reach) -> Result<(), BoardFault>
+    fn turn_between(&mut self, end: u64, whole: bool, reach: &Reach) -> Result<(), BoardFault>
         requires before_end { clock_of self.old.plain < end }
         requires within { end ≤ 2 ^ 40 }
         ensures ok { OnOk result (IsTurnBetween whole (may_pass reach.now) end self.old self.new) }
@@ -313,10 +317,11 @@ impl<A: Allocator> Board<A> {
         if whole {
             return self.whole_turn(end, reach);
         }
-        self.short_turn(end)
+        self.clock_turn(end)
     }
 
-    /// Such a turn.
+    /// Such a turn, which may be whole.
+    #[inline(always)]
     fn whole_turn(&mut self, end: u64, reach: &Reach) -> Result<(), BoardFault>
         requires before_end { clock_of self.old.plain < end }
         requires within { end ≤ 2 ^ 40 }
@@ -327,85 +332,144 @@ impl<A: Allocator> Board<A> {
         if self.quiet_steps(end, reach) {
             return Ok(());
         }
-        self.turn_over_edges(end)
+        self.turn(end, end)
     }
 
-    /// A turn in which no leap stands behind a step.
-    fn short_turn(&mut self, end: u64) -> Result<(), BoardFault>
+    /// Such a turn, in which an act has its first clock.
+    #[inline(always)]
+    fn clock_turn(&mut self, end: u64) -> Result<(), BoardFault>
         requires before_end { clock_of self.old.plain < end }
         requires within { end ≤ 2 ^ 40 }
-        ensures ok { OnOk result (IsTurnOn end self.old self.new) }
+        ensures ok { OnOk result (IsTurnOn (clock_of self.old.plain + 1) end self.old self.new) }
         ensures err { OnErr result (IsHeldBack self.old self.new) }
         ensures fault { IfErr result (λ fault. fault ≡ BoardFault.Memory) }
-    {
-        if self.short_step() {
-            return Ok(());
-        }
-        self.other_turn(end)
-    }
-
-    /// The first clock of a step, if it can be made so. Answers whether it was made.
-    fn short_step(&mut self) -> bool
-        requires { clock_of self.old.plain < 2 ^ 40 }
-        ensures made { IsTrue result → (end : ℕ) → IsTurnOn end self.old self.new }
-        ensures not_made { ¬ (IsTrue result) → self.new ≡ self.old }
     {
         let next = self.clock().get() + 1;
         if self.quiet_steps(next, &Nothing) {
-            return true;
-        }
-        self.step(next)
-    }
-
-    /// As many steps at once as can be made, while nothing comes; and where the run doesn't end with them, a turn that may
-    /// leap over edges of the timer.
-    #[inline(always)]
-    fn long_turn(&mut self, end: u64) -> Result<(), BoardFault>
-        requires before_end { clock_of self.old.plain < end }
-        requires within { end ≤ 2 ^ 40 }
-        ensures ok { OnOk result (IsLongTurnOn all_pass end self.old self.new) }
-        ensures err { OnErr result (IsHeldBehind all_pass end self.old self.new) }
-        ensures fault { IfErr result (λ fault. fault ≡ BoardFault.Memory) }
-    {
-        self.quiet_steps(end, &Nothing);
-        if self.clock().get() >= end {
             return Ok(());
         }
-        self.turn_over_edges(end)
+        self.turn(next, end)
     }
 
-    /// A turn of a run that ends at the clock `end`: one that leaves the speaker's level as it is, over edges of the timer,
-    /// or else a turn or a leapt step.
-    #[inline(always)]
-    fn turn_over_edges(&mut self, end: u64) -> Result<(), BoardFault>
-        requires before_end { clock_of self.old.plain < end }
-        requires within { end ≤ 2 ^ 40 }
-        ensures ok { OnOk result (IsTurnOverEdgesOn end self.old self.new) }
+    /// One turn, beside the steps that are made at once: where the processor does nothing and nothing is seen, time leaps, at most
+    /// to the clock `end`; else what the processor does is made, with those of its clocks that end by `within`. It is kept out of
+    /// the run's loop, whose values then stay in registers.
+    #[inline(never)]
+    fn turn(&mut self, within: u64, end: u64) -> Result<(), BoardFault>
+        requires before { clock_of self.old.plain < within }
+        requires order { within ≤ end }
+        requires limit { end ≤ 2 ^ 40 }
+        ensures ok { OnOk result (IsTurnOn within end self.old self.new) }
         ensures err { OnErr result (IsHeldBack self.old self.new) }
         ensures fault { IfErr result (λ fault. fault ≡ BoardFault.Memory) }
     {
-        if self.mute_turn(end) {
-            return Ok(());
-        }
-        self.turn_or_step(end)
+        self.turn_by(true, within, end)
     }
 
-    /// Such a turn over edges, if it can be made. Answers whether it was made.
+    /// The same, which leaps over edges of the timer only where it may: else no wire changes but in its first clock.
     #[inline(always)]
-    fn mute_turn(&mut self, end: u64) -> bool
-        requires before_end { clock_of self.old.plain < end }
-        requires within { end ≤ 2 ^ 40 }
-        ensures made { IsTrue result → IsTurnOverEdgesOn end self.old self.new }
-        ensures not_made { ¬ (IsTrue result) → self.new ≡ self.old }
+    pub(crate) fn turn_by(
+        &mut self,
+        over_edges: bool,
+        within: u64,
+        end: u64,
+    ) -> Result<(), BoardFault>
+        requires before { clock_of self.old.plain < within }
+        requires order { within ≤ end }
+        requires limit { end ≤ 2 ^ 40 }
+        ensures ok { OnOk result (IsTurnOn within end self.old self.new) }
+        ensures steady { ¬ (IsTrue over_edges) → OnOk result (WiresStayThen self.old.plain self.new.plain) }
+        ensures err { OnErr result (IsHeldBack self.old self.new) }
+        ensures fault { IfErr result (λ fault. fault ≡ BoardFault.Memory) }
     {
-        if !self.engine.turn_over_edges(&mut self.trail, end) {
+        self.engine.look_ahead();
+        match self.engine.boundary() {
+            Boundary::Nothing => self.pass(over_edges, within, end),
+            Boundary::Instruction => {
+                let next = self.engine.instruction();
+                self.act(&next, over_edges, within)
+            }
+            Boundary::Request => self.act(&Act::Request, over_edges, within),
+            Boundary::SingleStep => self.act(&Act::SingleStep, over_edges, within),
+            Boundary::Iteration => self.act(&Act::Iteration, over_edges, within),
+        }
+    }
+
+    /// A turn in which the processor does nothing: a leap of time, or where this clock has work, the clock, and the rest of a step.
+    #[inline(always)]
+    fn pass(&mut self, over_edges: bool, within: u64, end: u64) -> Result<(), BoardFault>
+        requires idle { acts.Nothing ≡ next_act self.old.plain }
+        requires before { clock_of self.old.plain < within }
+        requires order { within ≤ end }
+        requires limit { end ≤ 2 ^ 40 }
+        ensures ok { OnOk result (IsTurnOn within end self.old self.new) }
+        ensures steady { ¬ (IsTrue over_edges) → OnOk result (WiresStayThen self.old.plain self.new.plain) }
+        ensures err { OnErr result (IsHeldBack self.old self.new) }
+        ensures fault { IfErr result (λ fault. fault ≡ BoardFault.Memory) }
+    {
+        if self.leap(over_edges, end) {
+            return Ok(());
+        }
+        self.act(&Act::Nothing, over_edges, within)
+    }
+
+    /// A leap of time as a turn. Answers whether there is one: else this clock has work.
+    #[inline(always)]
+    fn leap(&mut self, over_edges: bool, end: u64) -> bool
+        requires idle { acts.Nothing ≡ next_act self.old.plain }
+        requires before { clock_of self.old.plain < end }
+        requires limit { end ≤ 2 ^ 40 }
+        ensures made { IsTrue result → IsLeapOn end 1 self.old self.new }
+        ensures steady { ¬ (IsTrue over_edges) → IsTrue result → WiresStay self.old.plain self.new.plain }
+        ensures not_made { ¬ (IsTrue result) → self.new ≡ self.old }
+        ensures works { ¬ (IsTrue result) → 1 ≤ work_next self.old.plain }
+    {
+        if !self.engine.leap(over_edges, end) {
             return false;
         }
         self.turns += 1;
         true
     }
 
-    /// Those steps. Answers whether there were any.
+    /// What the processor does in this clock, `next`, as a turn, with those of its clocks that end by `within`. The list of changes
+    /// grows before anything else changes.
+    #[inline(always)]
+    fn act(&mut self, next: &Act, over_edges: bool, within: u64) -> Result<(), BoardFault>
+        requires next { next.now ≡ next_act self.old.plain }
+        requires exact { IsExact self.old.plain.cpu self.old.plain.chips next.now }
+        requires works { 1 ≤ work_next self.old.plain }
+        requires before { clock_of self.old.plain < within }
+        requires limit { within ≤ 2 ^ 40 }
+        ensures ok { OnOk result (IsActOn within self.old self.new) }
+        ensures steady { ¬ (IsTrue over_edges) → OnOk result (WiresStayThen self.old.plain self.new.plain) }
+        ensures err { OnErr result (IsHeldBack self.old self.new) }
+        ensures fault { IfErr result (λ fault. fault ≡ BoardFault.Memory) }
+    {
+        let high = self.engine.is_high_next(next);
+        self.list_change(high)?;
+        self.make(next, over_edges, within);
+        Ok(())
+    }
+
+    /// Makes that turn, whose change is listed.
+    #[inline(always)]
+    fn make(&mut self, next: &Act, over_edges: bool, within: u64)
+        requires next { next.now ≡ next_act self.old.plain }
+        requires exact { IsExact self.old.plain.cpu self.old.plain.chips next.now }
+        requires before { clock_of self.old.plain < within }
+        requires limit { within ≤ 2 ^ 40 }
+        ensures passed { PassesOver within (after_clock self.old.plain) self.new.plain }
+        ensures steady { ¬ (IsTrue over_edges) → WiresStay (after_clock self.old.plain) self.new.plain }
+        ensures trail { self.new.trail ≡ last 32 (self.old.trail ++ trail_next self.old.plain) }
+        ensures changes { self.new.changes ≡ self.old.changes }
+        ensures room { self.new.room ≡ self.old.room }
+        ensures turns { self.new.turns ≡ self.old.turns + 1 }
+    {
+        self.engine.act(next, &mut self.trail, over_edges, within);
+        self.turns += 1;
+    }
+
+    /// Steps at once, while nothing comes. Answers whether there were any.
     #[inline(always)]
     fn quiet_steps<W: Watch>(&mut self, end: u64, watch: &W) -> bool
         requires before_end { clock_of self.old.plain < end }
@@ -420,157 +484,6 @@ impl<A: Allocator> Board<A> {
         }
         self.turns += made;
         true
-    }
-
-    /// A turn of a run that ends at the clock `end`; or a step of an instruction or of a repeat with the leap over its
-    /// clocks, as one.
-    #[inline(always)]
-    pub(crate) fn turn_or_step(&mut self, end: u64) -> Result<(), BoardFault>
-        requires before_end { clock_of self.old.plain < end }
-        requires within { end ≤ 2 ^ 40 }
-        ensures ok { OnOk result (IsTurnOrStepOn end self.old self.new) }
-        ensures err { OnErr result (IsHeldBack self.old self.new) }
-        ensures fault { IfErr result (λ fault. fault ≡ BoardFault.Memory) }
-    {
-        if self.step(end) {
-            return Ok(());
-        }
-        self.other_turn(end)
-    }
-
-    /// A turn that isn't such a step. It is kept out of the run's loop, whose values then stay in registers.
-    #[inline(never)]
-    fn other_turn(&mut self, end: u64) -> Result<(), BoardFault>
-        requires before_end { clock_of self.old.plain < end }
-        requires within { end ≤ 2 ^ 40 }
-        ensures ok { OnOk result (IsTurnOn end self.old self.new) }
-        ensures err { OnErr result (IsHeldBack self.old self.new) }
-        ensures fault { IfErr result (λ fault. fault ≡ BoardFault.Memory) }
-    {
-        self.engine.look_ahead();
-        if self.engine.is_free() {
-            return self.free_turn(end);
-        }
-        if let Some(clocks) = self.engine.rest_of_step(end - self.clock().get()) {
-            self.leap(clocks);
-            return Ok(());
-        }
-        self.turn_by(&Act::Nothing, end)
-    }
-
-    /// The same where the processor is free.
-    #[inline(never)]
-    fn free_turn(&mut self, end: u64) -> Result<(), BoardFault>
-        requires free { is_free self.old.plain ≡ true }
-        requires before_end { clock_of self.old.plain < end }
-        requires within { end ≤ 2 ^ 40 }
-        ensures ok { OnOk result (IsTurnOn end self.old self.new) }
-        ensures err { OnErr result (IsHeldBack self.old self.new) }
-        ensures fault { IfErr result (λ fault. fault ≡ BoardFault.Memory) }
-    {
-        if self.engine.takes_request() {
-            return self.turn_by(&Act::Request, end);
-        }
-        let next = self.engine.next_act();
-        self.turn_by(&next, end)
-    }
-
-    /// The next clock, where it is known that the chips are quiet and that in it an instruction begins that isn't OUT, or a
-    /// repeat goes on, with the leap over its other clocks up to `end`, as one turn. Else nothing is done. Answers
-    /// whether it was made.
-    #[inline(always)]
-    fn step(&mut self, end: u64) -> bool
-        requires before_end { clock_of self.old.plain < end }
-        requires within { end ≤ 2 ^ 40 }
-        ensures made { IsTrue result → IsStepOn end self.old self.new }
-        ensures not_made { ¬ (IsTrue result) → self.new ≡ self.old }
-    {
-        if !self.engine.leapt_step(&mut self.trail, end) {
-            return false;
-        }
-        self.turns += 1;
-        true
-    }
-
-    /// That turn, `next` being what the processor does in its first clock.
-    #[inline(always)]
-    fn turn_by(&mut self, next: &Act, end: u64) -> Result<(), BoardFault>
-        requires next { next.now ≡ next_act self.old.plain }
-        requires exact { IsExact self.old.plain.cpu self.old.plain.chips next.now }
-        requires before_end { clock_of self.old.plain < end }
-        requires within { end ≤ 2 ^ 40 }
-        ensures ok { OnOk result (IsTurnOn end self.old self.new) }
-        ensures err { OnErr result (IsHeldBack self.old self.new) }
-        ensures fault { IfErr result (λ fault. fault ≡ BoardFault.Memory) }
-    {
-        let clocks = self.engine.clocks_to_leap(next, end - self.clock().get());
-        if clocks == 0 {
-            self.run_clock(next)?;
-            return Ok(());
-        }
-        self.leap(clocks);
-        Ok(())
-    }
-
-    /// What the processor does in this clock. How long the chips stay quiet is known then.
-    fn next_act(&mut self) -> Act
-        ensures act { result ≡ next_act self.old.plain }
-        ensures exact { IsExact self.old.plain.cpu self.old.plain.chips result }
-        ensures kept { self.new ≡ self.old }
-    {
-        self.engine.look_ahead();
-        self.engine.next_act()
-    }
-
-    /// The next clock, made by itself.
-    fn make_clock(&mut self) -> Result<(), BoardFault>
-        requires { clock_of self.old.plain < 2 ^ 40 }
-        ensures ok { OnOk result (IsTickOn self.old self.new) }
-        ensures err { OnErr result (IsHeldBack self.old self.new) }
-        ensures fault { IfErr result (λ fault. fault ≡ BoardFault.Memory) }
-    {
-        let next = self.next_act();
-        self.run_clock(&next)
-    }
-
-    /// Time leaps over `clocks` clocks.
-    fn leap(&mut self, clocks: u64)
-        requires within { clock_of self.old.plain + clocks ≤ 2 ^ 40 }
-        requires some { 1 ≤ clocks }
-        requires may_leap { MayLeap self.old.plain clocks }
-        ensures plain { self.new.plain ≡ leapt self.old.plain clocks }
-        ensures clock { clock_of self.new.plain ≡ clock_of self.old.plain + clocks }
-        ensures changes { self.new.changes ≡ self.old.changes }
-        ensures trail { self.new.trail ≡ self.old.trail }
-        ensures room { self.new.room ≡ self.old.room }
-        ensures turns { self.new.turns ≡ self.old.turns + 1 }
-    {
-        self.engine.leap(clocks);
-        self.turns += 1;
-    }
-
-    /// One processor clock, `next` being what the processor does in it. The list of changes grows before anything else
-    /// changes.
-    #[inline(always)]
-    fn run_clock(&mut self, next: &Act) -> Result<(), BoardFault>
-        requires within { clock_of self.old.plain < 2 ^ 40 }
-        requires next { next.now ≡ next_act self.old.plain }
-        requires exact { IsExact self.old.plain.cpu self.old.plain.chips next.now }
-        ensures plain { OnOk result (self.new.plain ≡ after_clock self.old.plain) }
-        ensures clock { OnOk result (clock_of self.new.plain ≡ clock_of self.old.plain + 1) }
-        ensures changes { OnOk result (self.new.changes ≡ self.old.changes ++ change_next self.old.plain) }
-        ensures trail { OnOk result (self.new.trail ≡ last 32 (self.old.trail ++ trail_next self.old.plain)) }
-        ensures room { OnOk result (self.old.room + length self.old.changes ≤ self.new.room + length self.new.changes) }
-        ensures turns { OnOk result (self.new.turns ≡ self.old.turns + 1) }
-        ensures err { OnErr result (IsHeldBack self.old self.new) }
-        ensures fault { IfErr result (λ fault. fault ≡ BoardFault.Memory) }
-    {
-        let high = self.engine.is_high_next(next);
-        self.list_change(high)?;
-        self.engine.note(next, &mut self.trail);
-        self.engine.tick(next);
-        self.turns += 1;
-        Ok(())
     }
 
     /// Lists the change that the next clock brings, if it brings one; at it the speaker is `high`.

@@ -104,7 +104,8 @@ impl<A: Allocator> Board<A> {
         ensures fault { IfErr result (λ fault. fault ≡ BoardFault.Memory) }
     {
         let begun = self.engine.begins();
-        self.turn_or_step(end.get())?;
+        let to = end.get();
+        self.turn_by(false, to, to)?;
         Ok(begun)
     }
 }

@@ -1,9 +1,9 @@
 //! How clocks pass: keys arrive, and the chips go on.
-ghost use Rattle.std.specs.Prelude.{◌≡◌, ◌+◌, ◌-◌, ◌*◌, ◌<◌, ◌≤◌, ◌^◌, Some};
+ghost use Rattle.std.specs.Prelude.{◌≡◌, ◌+◌, ◌<◌, ◌≤◌, ◌^◌, IsTrue};
+ghost use Rattle.cached_chips.specs.Quiet.{IsQuiet};
 ghost use Rattle.board_plain.specs.Plain.{chips_after_clock};
 ghost use Rattle.board_plain.specs.Laws.{WiresHold};
-ghost use Rattle.board.specs.Mutely.{PassOver, last_before};
-ghost use Rattle.board.specs.Leap.{PassStep};
+ghost use Rattle.board.specs.Alone.{GoUnseen, PassBy, PassOver, WiresStay, last_before};
 ghost use Rattle.board.specs.Quiet.{IsKnownQuiet};
 ghost use Rattle.board.specs.Arrivals.{HaveArrived};
 ghost use Rattle.board_types.specs.Keys.{IsInOrder};
@@ -38,7 +38,7 @@ pub(crate) fn known_quiet_to(busy: u16, chips: &CachedChips, arrived: &Arrived) 
     }
 }
 
-/// The same of a step that ends behind that clock.
+/// The chips' part of a step of so many clocks, up to `end`, in a run that may leap over edges; and what is known then.
 #[inline(never)]
 pub(crate) fn pass_behind(
     chips: &mut CachedChips,
@@ -57,44 +57,20 @@ pub(crate) fn pass_behind(
     ensures arrived { HaveArrived arrived.new (chips.new.clock + 1) keys.now }
     ensures quiet { IsKnownQuiet quiet_to.new result chips.new arrived.new.next }
 {
-    let left = pass_over(chips, keys, arrived, busy, end);
+    let left = pass_over(chips, keys, arrived, busy, true, end);
     *quiet_to = known_quiet_to(left, chips, arrived);
     left
 }
 
-/// The chips' part of a step of `busy` clocks: of all of them, where they end by `end` and it is known that nothing happens
-/// in them, and else of the first. Answers how many are left.
-#[inline(always)]
-pub(crate) fn pass_step(
-    chips: &mut CachedChips,
-    keys: &[StampedKey],
-    arrived: &mut Arrived,
-    busy: u16,
-    end: u64,
-) -> u16
-    requires within { end ≤ 2 ^ 40 }
-    requires before_end { chips.old.clock < end }
-    requires in_order { IsInOrder keys.now }
-    requires arrived { HaveArrived arrived.old (chips.old.clock + 1) keys.now }
-    ensures passed { PassStep end busy chips.old keys.now result chips.new }
-    ensures arrived { HaveArrived arrived.new (chips.new.clock + 1) keys.now }
-{
-    let free = chips.clock().get() + u64::from(busy.max(1));
-    if free <= end && chips.stays_quiet(free) && comes_after(free, arrived.next) {
-        chips.sync(Clock::new(free).unwrap());
-        return 0;
-    }
-    pass_clock(chips, keys, arrived);
-    busy.saturating_sub(1)
-}
-
-/// The same over edges of the timer, where port B holds the speaker low. It is found out how long the chips stay quiet then.
+/// The chips' part of a step of `busy` clocks: of all of them, where they end by `end` and it is known that nothing is seen of
+/// them, and else of the first. Then it is found out how long the chips stay quiet. Answers how many clocks are left.
 #[inline(always)]
 pub(crate) fn pass_over(
     chips: &mut CachedChips,
     keys: &[StampedKey],
     arrived: &mut Arrived,
     busy: u16,
+    over_edges: bool,
     end: u64,
 ) -> u16
     requires within { end ≤ 2 ^ 40 }
@@ -103,21 +79,27 @@ pub(crate) fn pass_over(
     requires arrived { HaveArrived arrived.old (chips.old.clock + 1) keys.now }
     requires wires { WiresHold (chips_after_clock chips.old keys.now) }
     ensures passed { PassOver end busy chips.old keys.now result chips.new }
+    ensures steady { ¬ (IsTrue over_edges) → PassBy WiresStay busy chips.old keys.now result chips.new }
     ensures arrived { HaveArrived arrived.new (chips.new.clock + 1) keys.now }
 {
     let free = chips.clock().get() + u64::from(busy.max(1));
-    if free <= end && comes_after(free, arrived.next) {
-        if chips.stays_quiet(free) {
-            chips.sync(Clock::new(free).unwrap());
-            return 0;
-        }
-        if chips.goes_on_alone() {
-            chips.sync(Clock::new(free).unwrap());
-            chips.look_ahead();
-            return 0;
-        }
+    if free <= end && comes_after(free, arrived.next) && goes_unseen(chips, free, over_edges) {
+        chips.sync(Clock::new(free).unwrap());
+        chips.look_ahead();
+        return 0;
     }
     pass_clock(chips, keys, arrived);
     chips.look_ahead();
     busy.saturating_sub(1)
+}
+
+/// Whether it is known that nothing is seen of the chips up to the clock `to`: they are quiet, or, where edges of the timer may
+/// be leapt over, they go on alone.
+#[inline(always)]
+pub(crate) fn goes_unseen(chips: &CachedChips, to: u64, over_edges: bool) -> bool
+    requires { chips.now.clock < to }
+    ensures unseen { IsTrue result → GoUnseen chips.now to }
+    ensures quiet { ¬ (IsTrue over_edges) → IsTrue result → IsQuiet chips.now to }
+{
+    chips.stays_quiet(to) || (over_edges && chips.goes_on_alone())
 }

@@ -3,8 +3,10 @@
 #![tactic(auto)]
 
 ghost use Rattle.std.specs.Prelude.{◌≡◌, ◌<◌, ◌^◌, ℕ};
-ghost use Rattle.bus.specs.Bus.{BusMeaning};
+ghost use Rattle.bus.specs.Bus.{BusMeaning, with_word_at, word_at};
 ghost use Rattle.bus.specs.Kept.{IsBus};
+
+use board_types::address::physical;
 
 /// Memory and ports, as an instruction reaches them. What stands behind the bus is seen as a state of its own,
 /// which may be kept in another form.
@@ -34,6 +36,26 @@ pub trait Bus {
     /// Writes `value` to `port`.
     fn out8(&mut self, port: u16, value: u8)
         ensures { state self.new ≡ meaning.after_output (state self.old) port value };
+
+    /// The word at a segment and an offset. A bus that reaches it at once has a body of its own.
+    #[tactic(auto, unfolding(crate::specs::Bus::word_at))]
+    fn read_word(&self, segment: u16, offset: u16) -> u16
+        ensures { result ≡ word_at meaning (state self.now) segment offset }
+    {
+        let low = self.read8(physical(segment, offset));
+        let high = self.read8(physical(segment, offset.wrapping_add(1)));
+        u16::from(low) + 256 * u16::from(high)
+    }
+
+    /// Writes a word at a segment and an offset, low byte first. A bus that reaches it at once has a body of its own.
+    #[tactic(auto, unfolding(crate::specs::Bus::with_word_at))]
+    fn write_word(&mut self, segment: u16, offset: u16, word: u16)
+        ensures { state self.new ≡ with_word_at meaning (state self.old) segment offset word }
+    {
+        let high = physical(segment, offset.wrapping_add(1));
+        self.write8(physical(segment, offset), (word % 256) as u8);
+        self.write8(high, (word / 256) as u8);
+    }
 
     // a byte that is written reads back where the address takes one, all else stays, and no port changes memory
     ghost keeps_bytes: { IsBus meaning };

@@ -3,7 +3,8 @@ ghost use Rattle.std.specs.Prelude.{◌≡◌, ◌+◌, ◌-◌, ◌<◌, ◌≤
 ghost use Rattle.std.specs.Result.{IfErr};
 ghost use Rattle.std.specs.List.{flat_map};
 ghost use Rattle.board.specs.OneTurn.{IsOneTurn};
-ghost use Rattle.board_plain.specs.Lasts.{HeldLast};
+ghost use Rattle.board_plain.specs.Board.{Ran};
+ghost use Rattle.board_plain.specs.Lasts.{HeldLast, IsLastOf};
 ghost use Rattle.board_plain.specs.Plain.{clock_of, registers_of, screen_of};
 ghost use Rattle.board_plain.specs.Stops.{HasAddress};
 ghost use Rattle.board_plain.specs.declared.stop.Condition.TheVariants.{Free};
@@ -35,6 +36,9 @@ use std::mem;
 
 /// The clocks of a run after which it is asked whether a copy of the board is to be kept.
 const PIECE: u64 = 1 << 26;
+
+/// The last clocks of a stretch among which a free processor is looked for first: no instruction takes half as many.
+const NEAR: u64 = 1024;
 
 /// A board that runs and stops by commands, and goes back. Copies of the board are listed in memory of the allocator `A`.
 #[derive(Drop)]
@@ -251,19 +255,20 @@ impl<A: Allocator> Session<A> {
         if now - self.first_clock().get() < count {
             return Err(DebugFault::BeforeStart);
         }
-        self.stand_at(now - count)?;
+        let board = self.board_at(now - count)?;
+        self.stand(board);
         Ok(Answer::Clock(self.clock()))
     }
 
-    /// Goes back to the last earlier clock at which the processor was free.
+    /// Goes back to the last earlier clock at which the processor was free. It mostly was so shortly before.
     fn back_step(&mut self) -> Result<Answer, DebugFault>
         ensures { MatchResult result (GoesBackTo (Free ∷ []) tell_clock self.old self.new) (RefusesBackTo (Free ∷ []) self.old self.new) }
     {
         let mut free = Stops::new();
         free.push(Condition::Free);
-        let (clock, _) = self.last_held(&free)?;
-        self.stand_at(clock.get())?;
-        Ok(Answer::Clock(clock))
+        let (board, found) = self.last_held(&free, NEAR)?;
+        self.stand(board);
+        Ok(Answer::Clock(found.0))
     }
 
     /// Goes back to the last earlier clock at which a stop held.
@@ -273,51 +278,64 @@ impl<A: Allocator> Session<A> {
         if self.stops.is_empty() {
             return Err(DebugFault::BeforeStart);
         }
-        let (clock, number) = self.last_held(&self.stops)?;
-        self.stand_at(clock.get())?;
-        Ok(Answer::StopAt(number, clock))
+        let (board, found) = self.last_held(&self.stops, u64::MAX)?;
+        self.stand(board);
+        Ok(Answer::StopAt(found.1, found.0))
     }
 
-    /// The last earlier clock at which one of `stops` held, with the least number of one there.
-    fn last_held(&self, stops: &Stops) -> Result<(Clock, usize), DebugFault>
+    /// A board at the last earlier clock at which one of `stops` held, that clock, and the least number of one there. The last
+    /// `near` clocks are looked at first, so that a board runs up to them only once.
+    fn last_held(&self, stops: &Stops, near: u64) -> Result<(Board, (Clock, usize)), DebugFault>
         requires { All HasAddress stops.now.items }
-        ensures { MatchResult result (λ found. HeldLast stops.now.items (gone self.now) self.now.first.plain found.0 found.1)
+        ensures { MatchResult result
+            (λ held. StandsAfter self.now.first held.0 × (clock_of held.0.plain ≡ held.1.0)
+            × HeldLast stops.now.items (gone self.now) self.now.first.plain held.1.0 held.1.1)
             (FindsNone stops.now.items self.now) }
     {
         let first = self.first_clock().get();
         let mut bound = self.clock().get();
+        let mut near = near;
         // stretch by stretch, each from a board that is kept
         'stretches: while first < bound {
             let mut board = self.board_before(bound - 1)?;
-            let from = board.clock().get();
-            let last = board.run_last(bound - 1 - from, stops);
-            drop(board);
-            match last {
-                Ok(Some(found)) => return Ok(found),
-                Ok(None) => bound = from,
-                Err(_) => return Err(DebugFault::Memory(None)),
+            let from = board.clock().get().max((bound - 1).saturating_sub(near));
+            run_to(&mut board, from)?;
+            match last_from(&board, bound - 1, stops)? {
+                Some(found) => {
+                    run_to(&mut board, found.0.get())?;
+                    return Ok((board, found));
+                }
+                None => {
+                    drop(board);
+                    bound = from;
+                    near = u64::MAX;
+                }
             }
         }
         Err(DebugFault::BeforeStart)
     }
 
-    /// Goes to an earlier clock, by a copy.
-    fn stand_at(&mut self, clock: u64) -> Result<(), DebugFault>
-        requires from { clock_of self.old.first.plain ≤ clock }
-        ensures ok { OnOk result (StandsNow clock self.old self.new) }
+    /// Goes to where a board stands that is some clocks after the first one.
+    fn stand(&mut self, board: Board)
+        requires { StandsAfter self.old.first board }
+        ensures { StandsNow (clock_of board.plain) self.old self.new }
+    {
+        drop(mem::replace(&mut self.board, board));
+    }
+
+    /// A board at an earlier clock, by a copy.
+    fn board_at(&self, clock: u64) -> Result<Board, DebugFault>
+        requires from { clock_of self.now.first.plain ≤ clock }
+        ensures stands { IfOk result (StandsAfter self.now.first) }
+        ensures clock { IfOk result (λ board. clock_of board.plain ≡ clock) }
         ensures fault { IfErr result LacksMemory }
-        ensures err { OnErr result (self.new ≡ self.old) }
     {
         let mut board = self.board_before(clock)?;
-        let left = clock - board.clock().get();
-        match board.run(left) {
-            Ok(()) => {
-                drop(mem::replace(&mut self.board, board));
-                Ok(())
-            }
-            Err(_) => {
+        match run_to(&mut board, clock) {
+            Ok(()) => Ok(board),
+            Err(fault) => {
                 drop(board);
-                Err(DebugFault::Memory(None))
+                Err(fault)
             }
         }
     }
@@ -361,6 +379,37 @@ impl<A: Allocator> Session<A> {
         ensures { Shows (flat_map entry_line self.now.board.trail) result }
     {
         Ok(Answer::Text(trail_text(alloc, &self.board)?))
+    }
+}
+
+/// Runs a board to a clock, not before its own.
+fn run_to(board: &mut Board, clock: u64) -> Result<(), DebugFault>
+    requires { clock_of board.old.plain ≤ clock }
+    ensures ok { OnOk result (Ran (clock - clock_of board.old.plain) board.old board.new) }
+    ensures fault { IfErr result LacksMemory }
+{
+    let left = clock - board.clock().get();
+    match board.run(left) {
+        Ok(()) => Ok(()),
+        Err(_) => Err(DebugFault::Memory(None)),
+    }
+}
+
+/// The last clock up to `to` at which one of `stops` holds from where this board stands, by a copy, with the least number of one
+/// there.
+fn last_from(board: &Board, to: u64, stops: &Stops) -> Result<Option<(Clock, usize)>, DebugFault>
+    requires address { All HasAddress stops.now.items }
+    requires from { clock_of board.now.plain ≤ to }
+    ensures last { IfOk result (λ found. IsLastOf stops.now.items (to - clock_of board.now.plain + 1) board.now.plain found) }
+    ensures fault { IfErr result LacksMemory }
+{
+    let mut ahead = copy_of(board)?;
+    let count = to - ahead.clock().get();
+    let last = ahead.run_last(count, stops);
+    drop(ahead);
+    match last {
+        Ok(found) => Ok(found),
+        Err(_) => Err(DebugFault::Memory(None)),
     }
 }
 

@@ -2,11 +2,11 @@
 #![tactic(auto)]
 
 pub mod by_slot;
-mod bytes_by_slot;
 pub mod course;
 pub mod cpu;
 mod jumps_by_slot;
 pub mod laws;
+mod operands_by_slot;
 pub mod parts;
 mod perform;
 pub mod port_writes;
@@ -17,6 +17,5 @@ pub mod step;
 pub mod still;
 pub mod store;
 mod strings_by_slot;
-mod words_by_slot;
 
 pub use bus::Bus;

@@ -3,8 +3,7 @@ ghost use Rattle.std.specs.Prelude.{◌≡◌, ◌<◌};
 ghost use Rattle.execute_arith.specs.Meaning.{after_arithmetic, keeps_result, result_of, with_flags_of};
 ghost use Rattle.execute_machine.specs.Flags.{forgetting};
 ghost use Rattle.execute_machine.specs.Locations.{location_of, machine, operand_at, width_at};
-ghost use Rattle.execute_machine.specs.LocationsBy.{IsGeneral};
-ghost use Rattle.isa.specs.Row.{first_of, second_of};
+ghost use Rattle.isa.specs.Row.{second_of};
 ghost use Rattle.execute_machine.specs.Sums.{with_logic};
 ghost use Rattle.execute_machine.specs.Widths.{size_of};
 
@@ -12,15 +11,14 @@ use crate::sums::{add, subtract};
 use bus::Bus;
 use digest::digest::Digest;
 use execute_machine::flags::FlagRegister;
-use execute_machine::location::{
-    OperandLocation, locate_first, locate_second, operand, put, put_in_register,
-};
+use execute_machine::location::{OperandLocation, locate_first, locate_second, operand, put};
 use execute_machine::registers::Registers;
 use execute_machine::width::Width;
 use isa::operation::Arithmetic;
 
 /// Performs ADD, OR, ADC, SBB, AND, SUB, XOR, CMP or TEST on the instruction's operands.
 #[inline(always)]
+#[tactic(auto, unfolding(crate::specs::Meaning::after_arithmetic))]
 pub fn perform_arithmetic<B: Bus>(
     bus: &mut B,
     registers: &mut Registers,
@@ -31,64 +29,6 @@ pub fn perform_arithmetic<B: Bus>(
         ≡ after_arithmetic B.meaning (machine registers.old (B.state bus.old)) operation instr.now }
 {
     let to = locate_first(registers, instr);
-    match to {
-        OperandLocation::Word(register) => {
-            perform_on_register(
-                bus,
-                registers,
-                operation,
-                OperandLocation::Word(register),
-                instr,
-            );
-        }
-        OperandLocation::Byte(register) => {
-            perform_on_register(
-                bus,
-                registers,
-                operation,
-                OperandLocation::Byte(register),
-                instr,
-            );
-        }
-        _ => perform_in_memory(bus, registers, operation, to, instr),
-    }
-}
-
-/// Performs it on a general register, its first operand. Inlined, a call with a word register has no other case left.
-#[inline(always)]
-#[tactic(auto, unfolding(crate::specs::Meaning::after_arithmetic))]
-fn perform_on_register<B: Bus>(
-    bus: &B,
-    registers: &mut Registers,
-    operation: Arithmetic,
-    to: OperandLocation,
-    instr: &Digest,
-)
-    requires general { IsGeneral to }
-    requires first { to ≡ location_of registers.old instr.now (first_of instr.now.form.row) }
-    ensures { machine registers.new (B.state bus.now)
-        ≡ after_arithmetic B.meaning (machine registers.old (B.state bus.now)) operation instr.now }
-{
-    let result = combine(bus, registers, operation, to, instr);
-    if keeps_result(operation) {
-        put_in_register(bus, registers, to, result);
-    }
-}
-
-/// Performs it on what stands in memory.
-#[inline(never)]
-#[tactic(auto, unfolding(crate::specs::Meaning::after_arithmetic))]
-fn perform_in_memory<B: Bus>(
-    bus: &mut B,
-    registers: &mut Registers,
-    operation: Arithmetic,
-    to: OperandLocation,
-    instr: &Digest,
-)
-    requires { to ≡ location_of registers.old instr.now (first_of instr.now.form.row) }
-    ensures { machine registers.new (B.state bus.new)
-        ≡ after_arithmetic B.meaning (machine registers.old (B.state bus.old)) operation instr.now }
-{
     let result = combine(bus, registers, operation, to, instr);
     if keeps_result(operation) {
         put(bus, registers, to, result);

@@ -1,22 +1,21 @@
 //! Arithmetic and logic on one operand.
 ghost use Rattle.std.specs.Prelude.{◌≡◌, ◌<◌, ◌-◌};
 ghost use Rattle.execute_arith.specs.Meaning.{after_unary, unary_result_of, with_unary_flags_of};
-ghost use Rattle.execute_machine.specs.Locations.{location_of, machine};
-ghost use Rattle.execute_machine.specs.LocationsBy.{IsGeneral};
-ghost use Rattle.isa.specs.Row.{first_of};
+ghost use Rattle.execute_machine.specs.Locations.{machine};
 ghost use Rattle.execute_machine.specs.Widths.{size_of};
 
 use crate::sums::subtract;
 use bus::Bus;
 use digest::digest::Digest;
 use execute_machine::flags::FlagRegister;
-use execute_machine::location::{OperandLocation, locate_first, operand, put, put_in_register};
+use execute_machine::location::{locate_first, operand, put};
 use execute_machine::registers::Registers;
 use execute_machine::width::Width;
 use isa::operation::Unary;
 
 /// Performs INC, DEC, NOT or NEG on the instruction's operand.
 #[inline(always)]
+#[tactic(auto, unfolding(crate::specs::Meaning::after_unary))]
 pub fn perform_unary<B: Bus>(
     bus: &mut B,
     registers: &mut Registers,
@@ -27,57 +26,6 @@ pub fn perform_unary<B: Bus>(
         ≡ after_unary B.meaning (machine registers.old (B.state bus.old)) operation instr.now }
 {
     let to = locate_first(registers, instr);
-    match to {
-        OperandLocation::Word(register) => {
-            perform_unary_on_register(
-                bus,
-                registers,
-                operation,
-                OperandLocation::Word(register),
-                instr,
-            );
-        }
-        _ => perform_elsewhere(bus, registers, operation, to, instr),
-    }
-}
-
-/// Performs it on a general register, its operand. Inlined, a call with a word register has no other case left.
-#[inline(always)]
-#[tactic(auto, unfolding(crate::specs::Meaning::after_unary))]
-fn perform_unary_on_register<B: Bus>(
-    bus: &B,
-    registers: &mut Registers,
-    operation: Unary,
-    to: OperandLocation,
-    instr: &Digest,
-)
-    requires general { IsGeneral to }
-    requires first { to ≡ location_of registers.old instr.now (first_of instr.now.form.row) }
-    ensures { machine registers.new (B.state bus.now)
-        ≡ after_unary B.meaning (machine registers.old (B.state bus.now)) operation instr.now }
-{
-    let _ = instr;
-    let width = to.width();
-    let a = operand(bus, registers, to, width);
-    let result = calculate_unary(&mut registers.flags, operation, width, a);
-    put_in_register(bus, registers, to, result);
-}
-
-/// Performs it on a byte or in memory.
-#[inline(never)]
-#[tactic(auto, unfolding(crate::specs::Meaning::after_unary))]
-fn perform_elsewhere<B: Bus>(
-    bus: &mut B,
-    registers: &mut Registers,
-    operation: Unary,
-    to: OperandLocation,
-    instr: &Digest,
-)
-    requires { to ≡ location_of registers.old instr.now (first_of instr.now.form.row) }
-    ensures { machine registers.new (B.state bus.new)
-        ≡ after_unary B.meaning (machine registers.old (B.state bus.old)) operation instr.now }
-{
-    let _ = instr;
     let width = to.width();
     let a = operand(bus, registers, to, width);
     let result = calculate_unary(&mut registers.flags, operation, width, a);

@@ -10,4 +10,3 @@ pub mod overflow;
 pub mod registers;
 pub mod stack;
 pub mod width;
-pub mod words;

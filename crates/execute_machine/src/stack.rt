@@ -3,27 +3,27 @@ ghost use Rattle.std.specs.Prelude.{◌≡◌, ◌<◌, ◌^◌};
 ghost use Rattle.execute_machine.specs.Locations.{machine};
 ghost use Rattle.execute_machine.specs.Stack.{after_entry, after_entry_pushes, after_pop, after_push, after_vector, top_word};
 
-use crate::location::{read_word, write_word};
 use crate::registers::Registers;
-use crate::words::{Words, push_word, word_from};
 use bus::Bus;
 
 /// Lowers SP by 2 and writes the word there.
+#[inline(always)]
 #[tactic(auto, unfolding(crate::specs::Stack::after_push))]
 pub fn push<B: Bus>(bus: &mut B, registers: &mut Registers, word: u16)
     ensures { machine registers.new (B.state bus.new)
         ≡ after_push B.meaning (machine registers.old (B.state bus.old)) word }
 {
     registers.set_sp(registers.sp().wrapping_sub(2));
-    write_word(bus, registers.ss(), registers.sp(), word);
+    bus.write_word(registers.ss(), registers.sp(), word);
 }
 
 /// The word on top of the stack.
+#[inline(always)]
 #[tactic(auto, unfolding(crate::specs::Stack::top_word))]
 pub fn top<B: Bus>(bus: &B, registers: &Registers) -> u16
     ensures { result ≡ top_word B.meaning (machine registers.now (B.state bus.now)) }
 {
-    read_word(bus, registers.ss(), registers.sp())
+    bus.read_word(registers.ss(), registers.sp())
 }
 
 /// Takes so many bytes off the stack.
@@ -44,6 +44,7 @@ pub fn pop<B: Bus>(bus: &B, registers: &mut Registers) -> u16
     word
 }
 
+#[inline(always)]
 #[tactic(auto, unfolding(crate::specs::Stack::after_entry_pushes))]
 fn push_state<B: Bus>(bus: &mut B, registers: &mut Registers)
     ensures { machine registers.new (B.state bus.new)
@@ -56,6 +57,7 @@ fn push_state<B: Bus>(bus: &mut B, registers: &mut Registers)
     push(bus, registers, ip);
 }
 
+#[inline(always)]
 #[tactic(auto, unfolding(crate::specs::Stack::after_vector))]
 fn take_vector<B: Bus>(bus: &B, registers: &mut Registers, kind: u8)
     ensures { machine registers.new (B.state bus.now)
@@ -64,8 +66,8 @@ fn take_vector<B: Bus>(bus: &B, registers: &mut Registers, kind: u8)
     registers.flags.set_interrupt_enable(false);
     registers.flags.set_trap(false);
     let vector = 4 * u16::from(kind);
-    registers.ip = read_word(bus, 0, vector);
-    registers.set_cs(read_word(bus, 0, vector + 2));
+    registers.ip = bus.read_word(0, vector);
+    registers.set_cs(bus.read_word(0, vector + 2));
 }
 
 /// Enters the interrupt of this type: pushes FLAGS, CS and IP, clears IF and TF, then takes IP and CS from the vector.
@@ -76,40 +78,4 @@ pub fn enter<B: Bus>(bus: &mut B, registers: &mut Registers, kind: u8)
 {
     push_state(bus, registers);
     take_vector(bus, registers, kind);
-}
-
-/// The same over a bus whose words are reached at once.
-#[tactic(auto, unfolding(crate::specs::Stack::after_entry))]
-pub fn enter_at_once<B: Words>(bus: &mut B, registers: &mut Registers, kind: u8)
-    ensures { machine registers.new (B.state bus.new)
-        ≡ after_entry B.meaning (machine registers.old (B.state bus.old)) kind }
-{
-    push_state_at_once(bus, registers);
-    take_vector_at_once(bus, registers, kind);
-}
-
-#[inline(always)]
-#[tactic(auto, unfolding(crate::specs::Stack::after_entry_pushes))]
-fn push_state_at_once<B: Words>(bus: &mut B, registers: &mut Registers)
-    ensures { machine registers.new (B.state bus.new)
-        ≡ after_entry_pushes B.meaning (machine registers.old (B.state bus.old)) }
-{
-    let flags = registers.flags.get().word();
-    let (cs, ip) = (registers.cs(), registers.ip);
-    push_word(bus, registers, flags);
-    push_word(bus, registers, cs);
-    push_word(bus, registers, ip);
-}
-
-#[inline(always)]
-#[tactic(auto, unfolding(crate::specs::Stack::after_vector))]
-fn take_vector_at_once<B: Words>(bus: &B, registers: &mut Registers, kind: u8)
-    ensures { machine registers.new (B.state bus.now)
-        ≡ after_vector B.meaning (machine registers.old (B.state bus.now)) kind }
-{
-    registers.flags.set_interrupt_enable(false);
-    registers.flags.set_trap(false);
-    let vector = 4 * u16::from(kind);
-    registers.ip = word_from(bus, 0, vector);
-    registers.set_cs(word_from(bus, 0, vector + 2));
 }

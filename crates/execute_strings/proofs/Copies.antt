@@ -74,7 +74,12 @@ byte_is_held bus laws s place byte true is fits holds = λ address.
       | inl here ↦ subst P (sym here) (subst (λ v. v < 256) (sym (laws.written s place byte is)) fits)
       | inr other ↦ subst (λ v. v < 256) (sym (laws.others s place byte address other)) (holds address)
     ]
-byte_is_held bus laws s place byte false is fits holds = λ address. subst (λ t. bus.byte_at t address < 256) (sym (laws.refused s place byte is)) (holds address)
+byte_is_held bus laws s place byte false is fits holds = λ address.
+    let P : ℕ → Type 0 = λ a. bus.byte_at (bus.after_write s place byte) a < 256 in
+    elim (cases_eq address place) as (λ _. P address) [
+      | inl here ↦ subst P (sym here) (subst (λ v. v < 256) (sym (laws.refused s place byte is)) (holds place))
+      | inr other ↦ subst (λ v. v < 256) (sym (laws.others s place byte address other)) (holds address)
+    ]
 
 held_after_write : {S : Type 0} (bus : BusMeaning S) → IsBus bus → (s : S) (place byte : ℕ) → byte < 256 → HoldsBytes bus s → HoldsBytes bus (bus.after_write s place byte)
 held_after_write bus laws s place byte fits holds = byte_is_held bus laws s place byte (bus.is_writable s place) refl fits holds

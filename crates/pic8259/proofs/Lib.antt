@@ -5,5 +5,6 @@ pub mod OrderWhole
 pub mod Taking
 pub mod Masks
 pub mod Edges
+pub mod Inhibited
 pub mod Words
 mod Rows

@@ -1,5 +1,5 @@
 -- The list of levels with a given lowest: turned to another lowest, and its part up to each place.
-use Rattle.std.proofs.Common.{◌≡◌, ℕ, zero, suc, ◌+◌, ◌<◌, refl, take, slice_index_or, arith}
+use Rattle.std.proofs.Common.{◌≡◌, ℕ, zero, suc, ◌+◌, ◌-◌, ◌%◌, ◌<◌, refl, take, slice_index_or, arith}
 use Rattle.pic8259.specs.Levels.{order_with_lowest, with_lowest, up_to}
 
 -- what holds of each of the eight levels
@@ -44,3 +44,19 @@ up_to_place place lowest is_place within =
     (by_level (P 6) refl refl refl refl refl refl refl refl lowest within)
     (by_level (P 7) refl refl refl refl refl refl refl refl lowest within)
     place is_place
+
+-- each level stands at the place that its distance from the lowest gives
+pub stands_at : (level lowest : ℕ) → level < 8 → lowest < 8 → slice_index_or (order_with_lowest lowest) ((level + 7 - lowest) % 8) 0 ≡ level
+unfolding order_with_lowest
+stands_at level lowest is_level within =
+    let P : ℕ → ℕ → Type 0 = λ k n. slice_index_or (order_with_lowest n) ((k + 7 - n) % 8) 0 ≡ k in
+    by_level (λ k. P k lowest)
+    (by_level (P 0) refl refl refl refl refl refl refl refl lowest within)
+    (by_level (P 1) refl refl refl refl refl refl refl refl lowest within)
+    (by_level (P 2) refl refl refl refl refl refl refl refl lowest within)
+    (by_level (P 3) refl refl refl refl refl refl refl refl lowest within)
+    (by_level (P 4) refl refl refl refl refl refl refl refl lowest within)
+    (by_level (P 5) refl refl refl refl refl refl refl refl lowest within)
+    (by_level (P 6) refl refl refl refl refl refl refl refl lowest within)
+    (by_level (P 7) refl refl refl refl refl refl refl refl lowest within)
+    level is_level

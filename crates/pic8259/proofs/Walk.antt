@@ -1,8 +1,9 @@
 -- A walk along a list in search of its first element that passes a test.
-use Rattle.std.proofs.Common.{◌≡◌, ℕ, ◌+◌, ◌%◌, ◌<◌, Bool, true, false, cond, All, List, [], ◌∷◌, map, length, take, drop, get_or, find, None, Some, refl, not, ◌&&◌, ◌||◌, sym, ◌∙◌, ap, arith}
+use Rattle.std.proofs.Common.{◌≡◌, ℕ, ◌+◌, ◌%◌, ◌<◌, Bool, true, false, cond, All, List, [], ◌∷◌, map, length, take, drop, get_or, find, None, Some, refl, not, ◌&&◌, ◌||◌, sym, ◌∙◌, ap, inl, inr, arith}
 use Rattle.std.specs.Option.{option_or}
 use Rattle.std.specs.List.{list_any}
-use Rattle.std.proofs.lemmas.List.{take_more, take-append-drop}
+use Rattle.std.proofs.lemmas.Bool.{cases_lt}
+use Rattle.std.proofs.lemmas.List.{get_or_past, take_more, take-append-drop}
 use Rattle.std.proofs.lemmas.List.Folds.{find-append, list_any_more}
 use Rattle.std.proofs.lemmas.List.Elements.{All-head, All-tail, All-map, All-from_get_or}
 use Rattle.pic8259.specs.Levels.{all_levels, no_levels, contains, order_with_lowest, up_to}
@@ -55,3 +56,17 @@ none_pending s lowest is_order none =
     ∙ find_none (may_be_taken s) (order_with_lowest lowest)
     (All-map (λ level. may_be_taken s level ≡ false) (λ steps. (lowest + steps) % 8) turns
     (All-from_get_or (λ steps. may_be_taken s ((lowest + steps) % 8) ≡ false) turns 0 (λ i inside. idle ((lowest + get_or turns i 0) % 8) (omega arith))))
+
+none_of : {X : Type 0} (p : X → Bool) (xs : List X) → ((x : X) → p x ≡ false) → list_any p xs ≡ false
+none_of p [] none = refl
+none_of p (x ∷ xs) none = ap (λ b. b || list_any p xs) (none x) ∙ none_of p xs none
+
+out_of_eight : (level : ℕ) → contains no_levels level ≡ false
+out_of_eight level = elim (cases_lt level 8) as (λ _. contains no_levels level ≡ false) [
+  | inl is ↦ nothing_at level is
+  | inr beyond ↦ get_or_past no_levels level false beyond
+]
+
+-- with no level in service none is blocked
+pub none_blocks : (s : PicState) (xs : List ℕ) → s.served ≡ no_levels → list_any (blocks s) xs ≡ false
+none_blocks s xs none = none_of (blocks s) xs (λ level. ap (λ b. b && not (s.special_mask && contains s.masked level)) (ap (λ set. contains set level) none ∙ out_of_eight level))

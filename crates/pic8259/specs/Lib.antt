@@ -3,4 +3,5 @@ pub mod Masks
 pub mod Pic
 pub mod Laws
 pub mod Edges
+pub mod Inhibited
 pub mod Image

@@ -101,6 +101,8 @@ impl Model for Pic {
 
 impl Pic {
     ghost use Rattle.pic8259.specs.Image.{pic_of};
+    ghost use Rattle.pic8259.specs.Inhibited.{is_inhibited};
+    ghost use Rattle.std.specs.List.{list_any};
     ghost use Rattle.pic8259.specs.Levels.{all_levels, contains, no_levels, up_to};
     ghost use Rattle.pic8259.specs.Pic.{power_on, is_requesting, is_ready, asks, is_pending, requests, blocks, may_be_taken, level_to_take, after_taking, after_acknowledge, vector, poll_byte, byte_at, after_read, after_line, after_icw1, after_icw2, after_icw3, after_icw4, after_ocw1, after_word, after_end, after_lowering, highest_served, after_ocw2, after_ocw3, after_command, after_write, is_operating, expected_after_icw3};
 
@@ -256,6 +258,44 @@ impl Pic {
         ensures { result ≡ is_requesting self.now }
     {
         self.find_level().is_some()
+    }
+
+    /// Whether level `n`, from 0 to 7, requests nothing whatever its line does, as long as nothing is written or taken:
+    /// the controller isn't ready, or the level is masked, or not above one in service.
+    #[inline(never)]
+    pub fn is_inhibited(&self, n: u8) -> bool
+        requires { n < 8 }
+        ensures { result ≡ is_inhibited self.now n }
+    {
+        !self.is_ready() || self.masked.contains(n) || self.is_blocked(n)
+    }
+
+    /// Whether a level that blocks stands in the list at or before the place of level `n`.
+    #[tactic(auto, using(crate::proofs::Walk::none_blocks))]
+    fn is_blocked(&self, n: u8) -> bool
+        requires { n < 8 }
+        ensures { result ≡ list_any (blocks self.now) (up_to self.now.order n) }
+    {
+        // Mostly none is in service, and then the order isn't gone through.
+        if self.served.is_empty() {
+            return false;
+        }
+        let order = self.order();
+        let mut is_blocked = false;
+        for place in 0..self.place(n) + 1 {
+            is_blocked |= self.blocks(order[place]);
+        }
+        is_blocked
+    }
+
+    /// The place of level `n` in the order of priority, from 0 for the highest.
+    #[tactic(auto, using(crate::proofs::Order::stands_at))]
+    fn place(&self, n: u8) -> usize
+        requires { n < 8 }
+        ensures bound { result < 8 }
+        ensures level { slice_index_or self.now.order result 0 ≡ n }
+    {
+        usize::from((n + 7 - self.lowest) % 8)
     }
 
     /// The processor's interrupt acknowledge: takes the first level in the order of priority that asks, is unmasked

@@ -1,6 +1,7 @@
 //! Laws of the controller, proved over its definition. Each is an empty function whose contract states it.
 ghost use Rattle.pic8259.specs.Laws.{OrderIsWhole, RotationTurns, BeginsAnew, SequenceEnds, WaitsForSequence, AcknowledgeTakesFirst, ServiceBlocks, SpecialMaskExcepts, EndsFirstInService, ServesTaken, MaskHolds, PollTakes};
 ghost use Rattle.pic8259.specs.Edges.{AsksOnceARise};
+ghost use Rattle.pic8259.specs.Inhibited.{InhibitedRequestNothing};
 
 /// At any time the order of priority holds each of the eight levels once, and is a turn of their circle.
 pub fn order_is_whole()
@@ -82,4 +83,11 @@ pub fn mask_holds()
 #[tactic(auto, using(crate::proofs::Words::poll_takes))]
 pub fn poll_takes()
     ensures { PollTakes }
+{}
+
+/// A level that is masked, or at or behind one in service that blocks, requests nothing, whatever its line does; every other
+/// may be taken once its line has fallen and risen.
+#[tactic(auto, using(crate::proofs::Inhibited::inhibited_request_nothing))]
+pub fn inhibited_request_nothing()
+    ensures { InhibitedRequestNothing }
 {}

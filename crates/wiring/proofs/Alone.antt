@@ -38,6 +38,14 @@ keyboard_of_clocks s (suc n) settled =
     ap (λ (u : ChipsState). u.keyboard) (ap (λ k. after_clocks s k) more ∙ iterate_more after_clock n s)
     ∙ keyboard_of_clock t still ∙ same
 
+-- it has settled then, too
+pub keys_settled_later : (s : ChipsState) (n : ℕ) → KeysSettled s → KeysSettled (after_clocks s n)
+keys_settled_later s n settled =
+    let t : ChipsState = after_clocks s n in
+    let same : t.keyboard ≡ s.keyboard = keyboard_of_clocks s n settled in
+    ap (λ p. keys.after_settling t.keyboard (lines_b p)) (ppi_of_clocks s n) ∙ ap (λ k. keys.after_settling k (lines_b s.ppi)) same
+    ∙ settled ∙ sym same
+
 -- they go on alone at any later clock
 pub alone_later : (s : ChipsState) (n : ℕ) → GoesOnAlone s → GoesOnAlone (after_clocks s n)
 alone_later s n alone = alone_alike s (after_clocks s n) (ppi_of_clocks s n) (keyboard_of_clocks s n alone.keys) alone

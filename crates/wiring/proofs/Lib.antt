@@ -18,4 +18,5 @@ pub mod Behind
 pub mod Leap
 pub mod Alone
 pub mod Edges
+pub mod Inhibited
 mod Rows

@@ -37,7 +37,7 @@ still_high set level is_in =
     ]
 
 -- a line that takes the same level again
-line_twice : (s : PicState) (level : ℕ) (line : Line) → after_line (after_line s level line) level line ≡ after_line s level line
+pub line_twice : (s : PicState) (level : ℕ) (line : Line) → after_line (after_line s level line) level line ≡ after_line s level line
 unfolding after_line
 line_twice s level Low = ap (λ high. record s { high = high }) (written_twice s.high level false)
 line_twice s level High =
@@ -52,7 +52,7 @@ risen_either false true n m risen differ = refl
 risen_either false false n m risen differ = sym (set_comm risen n m true true differ)
 
 -- two lines in either order
-lines_either : (s : PicState) (n m : ℕ) (a b : Line) → n ≢ m → m ≢ n → after_line (after_line s m b) n a ≡ after_line (after_line s n a) m b
+pub lines_either : (s : PicState) (n m : ℕ) (a b : Line) → n ≢ m → m ≢ n → after_line (after_line s m b) n a ≡ after_line (after_line s n a) m b
 unfolding after_line
 lines_either s n m Low Low differ back = ap (λ high. record s { high = high }) (sym (set_comm s.high n m false false differ))
 lines_either s n m Low High differ back =

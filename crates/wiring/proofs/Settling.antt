@@ -21,10 +21,10 @@ cleared_twice false k = refl
 latch_twice : (k : KeyboardState) (ppi : PpiState) → after_latch_wire (after_latch_wire k ppi) ppi ≡ after_latch_wire k ppi
 latch_twice k ppi = cleared_twice (has_bit (lines_b ppi) 7) k
 
-below : (n m : ℕ) → n < m → n ≢ m
+pub below : (n m : ℕ) → n < m → n ≢ m
 below n m less same = omega arith
 
-above : (n m : ℕ) → n < m → m ≢ n
+pub above : (n m : ℕ) → n < m → m ≢ n
 above n m less same = omega arith
 
 requests_twice : (pic : PicState) (pit : PitState) (k : KeyboardState) → after_request_wires (after_request_wires pic pit k) pit k ≡ after_request_wires pic pit k

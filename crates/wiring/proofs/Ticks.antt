@@ -91,7 +91,7 @@ settled_next : (s : ChipsState) → after_settling (after_clock s) ≡ after_clo
 unfolding after_clock
 settled_next s = settles_once _
 
-settled_later : (n : ℕ) (s : ChipsState) → after_settling s ≡ s → after_settling (after_clocks s n) ≡ after_clocks s n
+pub settled_later : (n : ℕ) (s : ChipsState) → after_settling s ≡ s → after_settling (after_clocks s n) ≡ after_clocks s n
 settled_later zero s still = ap after_settling (iterate_zero after_clock s) ∙ still ∙ sym (iterate_zero after_clock s)
 settled_later (suc n) s still =
     let more : suc n ≡ n + 1 = omega arith in

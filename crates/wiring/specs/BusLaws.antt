@@ -29,7 +29,7 @@ unfolding byte_at with_byte is_writable mda.text_byte mda.with_text_byte
 written_back s address byte writable =
     let in_map = write_changes s.memory address byte in grind (arith, common_steps, in_map.0)
 
-nothing_written : (s : ChipsState) (address byte : ℕ) → is_writable s address ≡ false → with_byte s address byte ≡ s
+pub nothing_written : (s : ChipsState) (address byte : ℕ) → is_writable s address ≡ false → with_byte s address byte ≡ s
 unfolding with_byte is_writable mda.with_text_byte
 nothing_written s address byte kept =
     let in_map = write_changes s.memory address byte in grind (arith, common_steps, in_map.1)
@@ -101,7 +101,7 @@ bytes_after_output s port byte =
 pub chips_keep_bytes : IsBus chips_bus
 chips_keep_bytes = record {
   written = written_back;
-  refused = nothing_written;
+  refused = λ s address byte is. ap (λ t. byte_at t address) (nothing_written s address byte is);
   others = others_stay;
   fixed = writable_stays;
   input_fixed = λ s port other. same_writable (after_input s port) s other (bytes_after_input s port);

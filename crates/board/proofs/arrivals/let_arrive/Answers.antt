@@ -6,7 +6,7 @@ use Rattle.board.specs.Arrivals.{HaveArrived}
 use Rattle.board.specs.Leap.{ComesAfter}
 use Rattle.board_plain.specs.Plain.{codes_at}
 use Rattle.board.specs.declared.arrivals.Arrived.{Arrived}
-use Rattle.board.proofs.RestOfStep.{no_key_by}
+use Rattle.board.proofs.KeyOrder.{no_key_by}
 use Rattle.board.proofs.KeyOrder.{have_later, next_of}
 use Rattle.board_plain.proofs.Quiet.{none_comes}
 use Rattle.board.proofs.arrivals.let_arrive.Goals as goal

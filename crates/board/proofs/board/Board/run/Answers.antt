@@ -1,5 +1,7 @@
 use Rattle.std.proofs.Common.{refl, arith}
-use Rattle.board.proofs.Turns.{held_run, long_moves, not_counted, so_far_long, so_far_none, so_far_steps}
+use Rattle.board.proofs.Turns.{HeldRun, held_run, not_counted, so_far_none, so_far_steps, so_far_turn, steps_move, turn_moves}
+use Rattle.board.proofs.board.Board.run.Given.{Over}
+use Rattle.board.proofs.board.Board.run.Goals.{After-from_residual}
 use Rattle.board.proofs.board.Board.run.Goals as goal
 
 pub returns-then-is_past_limit-clause-turns_least : goal.returns-then-is_past_limit-clause-turns_least
@@ -10,31 +12,36 @@ turns-init g c = so_far_none _ _ c.is_past_limit.ensures.trail (omega (arith, c.
 
 pub turns-smaller : goal.turns-smaller
 turns-smaller g c =
-    long_moves _ _ _ _ (omega (arith, c.turns-test.true, c.clock-in-turns.ensures, c.get-in-turns.ensures.value)) c.in_ok-long_turn.ensures.ok
+    let before = c.turns-test.true in
+    let past = c.if-get-end.false in
+    omega (arith, before, past, c.clock-in-turns.ensures, c.get-in-turns.ensures.value, c.clock-in-turns-2.ensures, c.get-in-turns-2.ensures.value)
 
 pub turns-preserved : goal.turns-preserved
-turns-preserved g c = so_far_long _ 1 _ _ _ _ c.turns.invariant c.in_ok-long_turn.ensures.ok
+turns-preserved g c = so_far_steps _ 1 _ _ _ _ c.turns.invariant c.quiet_steps.ensures.steps
 
-pub returns-in_err-long_turn-clause-succeeds : goal.returns-in_err-long_turn-clause-succeeds
-returns-in_err-long_turn-clause-succeeds g c = λ within enough.
-    let held = c.in_err-long_turn.ensures.err in
-    absurd ((held_run 1 _ c.args.count _ _ _ (so_far_steps _ 1 _ _ _ _ c.turns.invariant held.steps) (omega arith) (omega (arith, c.clock.ensures, c.get.ensures.value))
-    held.before held.held).enough enough)
+pub turns-smaller-in-Continue-1 : goal.turns-smaller-in-Continue-1
+turns-smaller-in-Continue-1 g c =
+    let moved = steps_move _ _ _ _ c.quiet_steps.ensures.steps in
+    let less = turn_moves _ _ _ (omega (arith, c.if-get-end.true, c.clock-in-turns-2.ensures, c.get-in-turns-2.ensures.value)) c.in_ok-turn.ensures.ok in
+    omega (arith, moved, less)
 
-pub returns-in_err-long_turn-clause-memory : goal.returns-in_err-long_turn-clause-memory
-returns-in_err-long_turn-clause-memory g c = λ _.
-    let held = c.in_err-long_turn.ensures.err in
-    (held_run 1 _ c.args.count _ _ _ (so_far_steps _ 1 _ _ _ _ c.turns.invariant held.steps) (omega arith) (omega (arith, c.clock.ensures, c.get.ensures.value))
-    held.before held.held).early
+pub turns-preserved-in-Continue-1 : goal.turns-preserved-in-Continue-1
+turns-preserved-in-Continue-1 g c =
+    so_far_turn 1 _ _ _ _ (so_far_steps _ 1 _ _ _ _ c.turns.invariant c.quiet_steps.ensures.steps) (omega (arith, c.if-get-end.true, c.clock-in-turns-2.ensures, c.get-in-turns-2.ensures.value)) c.in_ok-turn.ensures.ok
 
-pub returns-in_err-long_turn-clause-turns_least : goal.returns-in_err-long_turn-clause-turns_least
-returns-in_err-long_turn-clause-turns_least g c =
-    let held = c.in_err-long_turn.ensures.err in
-    (held_run 1 _ c.args.count _ _ _ (so_far_steps _ 1 _ _ _ _ c.turns.invariant held.steps) (omega arith) (omega (arith, c.clock.ensures, c.get.ensures.value))
-    held.before held.held).counts.least
+held : (g : Over) (c : After-from_residual g) → HeldRun c.args.count c.args.self.now c.turn.new.self
+held g c =
+    held_run 1 _ c.args.count _ _ _ (so_far_steps _ 1 _ _ _ _ c.turns.invariant c.quiet_steps.ensures.steps) (omega arith) (omega (arith, c.clock.ensures, c.get.ensures.value))
+    (omega (arith, c.if-get-end.true, c.clock-in-turns-2.ensures, c.get-in-turns-2.ensures.value)) c.in_err-turn.ensures.err
 
-pub returns-in_err-long_turn-clause-turns_most : goal.returns-in_err-long_turn-clause-turns_most
-returns-in_err-long_turn-clause-turns_most g c =
-    let held = c.in_err-long_turn.ensures.err in
-    (held_run 1 _ c.args.count _ _ _ (so_far_steps _ 1 _ _ _ _ c.turns.invariant held.steps) (omega arith) (omega (arith, c.clock.ensures, c.get.ensures.value))
-    held.before held.held).counts.most
+pub returns-in_err-turn-clause-succeeds : goal.returns-in_err-turn-clause-succeeds
+returns-in_err-turn-clause-succeeds g c = λ within enough. absurd ((held g c).enough enough)
+
+pub returns-in_err-turn-clause-memory : goal.returns-in_err-turn-clause-memory
+returns-in_err-turn-clause-memory g c = λ _. (held g c).early
+
+pub returns-in_err-turn-clause-turns_least : goal.returns-in_err-turn-clause-turns_least
+returns-in_err-turn-clause-turns_least g c = (held g c).counts.least
+
+pub returns-in_err-turn-clause-turns_most : goal.returns-in_err-turn-clause-turns_most
+returns-in_err-turn-clause-turns_most g c = (held g c).counts.most

@@ -19,16 +19,16 @@ turns-init g c = looked_none c.args.stops.now.items _ c.args.self.now c.is_past_
 
 pub turns-smaller : goal.turns-smaller
 turns-smaller g c =
-    between_moves _ _ _ _ _ (omega (arith, c.turns-test.true, c.clock-in-turns.ensures, c.get-in-turns.ensures.value)) c.in_ok-turn.ensures.ok
+    between_moves _ _ _ _ _ (omega (arith, c.turns-test.true, c.clock-in-turns.ensures, c.get-in-turns.ensures.value)) c.in_ok-turn_between.ensures.ok
 
-pub returns-in_err-turn-clause-succeeds : goal.returns-in_err-turn-clause-succeeds
-returns-in_err-turn-clause-succeeds g c = λ within enough.
+pub returns-in_err-turn_between-clause-succeeds : goal.returns-in_err-turn_between-clause-succeeds
+returns-in_err-turn_between-clause-succeeds g c = λ within enough.
     absurd ((held_run 1 _ c.args.count _ _ _ c.turns.invariant.so_far (omega arith) (omega (arith, c.clock.ensures, c.get.ensures.value))
-    (omega (arith, c.turns-test.true, c.clock-in-turns.ensures, c.get-in-turns.ensures.value)) c.in_err-turn.ensures.err).enough enough)
+    (omega (arith, c.turns-test.true, c.clock-in-turns.ensures, c.get-in-turns.ensures.value)) c.in_err-turn_between.ensures.err).enough enough)
 
 pub later-last-requires : goal.later-last-requires
 later-last-requires g c =
-    let moves = between_moves _ (c.get.result + c.args.count) _ c.turns.self c.turn.new.self (omega (arith, c.turns-test.true, c.clock-in-turns.ensures, c.get-in-turns.ensures.value)) c.in_ok-turn.ensures.ok in
+    let moves = between_moves _ (c.get.result + c.args.count) _ c.turns.self c.turn_between.new.self (omega (arith, c.turns-test.true, c.clock-in-turns.ensures, c.get-in-turns.ensures.value)) c.in_ok-turn_between.ensures.ok in
     omega (arith, moves, c.clock-in-turns-2.ensures)
 
 pub turns-preserved : goal.turns-preserved
@@ -36,6 +36,6 @@ turns-preserved g c =
     let before : clock_of c.turns.self.plain < c.get.result + c.args.count = omega (arith, c.turns-test.true, c.clock-in-turns.ensures, c.get-in-turns.ensures.value) in
     let waits : IsTrue c.passes_none.result → AllAwaitFree c.args.stops.now.items × (c.holding-here.result ≡ None) =
     λ yes. (subst AllAwaitFree c.as_slice.ensures.value (c.all_await_free-whole.ensures (c.passes_none.ensures yes).0), (c.passes_none.ensures yes).1) in
-    subst (Looked c.args.stops.now.items (c.get.result + c.args.count) c.args.self.now c.turn.new.self) (sym (c.later-last.ensures ∙ ap (found_before c.turns.last c.holding-here.result) c.clock-in-turns-2.ensures))
-    (looked_between (may_pass c.of-reach.result) c.args.stops.now.items (c.get.result + c.args.count) c.passes_none.result c.args.self.now c.turns.self c.turn.new.self c.turns.last c.holding-here.result waits
-    (passes_none c.of-reach.result c.args.stops.now.items (subst (AllWithin c.of-reach.result) c.as_slice-2.ensures.value c.of-reach.ensures)) c.turns.invariant (sym c.holding-here.ensures) before c.in_ok-turn.ensures.ok)
+    subst (Looked c.args.stops.now.items (c.get.result + c.args.count) c.args.self.now c.turn_between.new.self) (sym (c.later-last.ensures ∙ ap (found_before c.turns.last c.holding-here.result) c.clock-in-turns-2.ensures))
+    (looked_between (may_pass c.of-reach.result) c.args.stops.now.items (c.get.result + c.args.count) c.passes_none.result c.args.self.now c.turns.self c.turn_between.new.self c.turns.last c.holding-here.result waits
+    (passes_none c.of-reach.result c.args.stops.now.items (subst (AllWithin c.of-reach.result) c.as_slice-2.ensures.value c.of-reach.ensures)) c.turns.invariant (sym c.holding-here.ensures) before c.in_ok-turn_between.ensures.ok)

@@ -1,21 +1,28 @@
-use Rattle.std.proofs.Common.{◌≡◌, ◌-◌, ap, ◌∙◌, arith}
-use Rattle.board_plain.specs.Board.{BoardState}
-use Rattle.board_plain.specs.Plain.{clock_of}
-use Rattle.board.proofs.Turns.{leap_turn, tick_turn}
+use Rattle.std.proofs.Common.{◌≡◌, ◌≤◌, refl, sym, subst}
+use Rattle.execute_meaning.specs.declared.boundary.Boundary.{Boundary}
+use Rattle.execute_meaning.specs.declared.boundary.Boundary.TheVariants as boundaries
+use Rattle.board_plain.specs.Plain.{Plain, act_at, next_act}
+use Rattle.board_plain.specs.Work.{work_next}
+use Rattle.board.proofs.Works.{acts_there}
 use Rattle.board.proofs.board.Board.turn_by.Goals as goal
 
-pub returns-then-clocks-eq0-clause-ok : goal.returns-then-clocks-eq0-clause-ok
-returns-then-clocks-eq0-clause-ok g c =
-    let on = c.in_ok-run_clock.ensures in
-    let most : c.args.end - c.get.result ≡ c.args.end - clock_of c.args.self.now.plain = ap (λ k. c.args.end - k) (c.get.ensures.value ∙ c.clock.ensures) in
-    tick_turn c.args.end (c.args.end - c.get.result) c.clocks_to_leap-clocks.result c.self.inside.engine c.args.self.now c.run_clock.new.self
-    (ap (λ (b : BoardState). b.plain) c.self.view_is) most c.requires.before_end c.if-clocks-eq0.true c.clocks_to_leap-clocks.ensures.tight c.clocks_to_leap-clocks.ensures.wires
-    (record { plain = on.plain; clock = on.clock; changes = on.changes; trail = on.trail; room = on.room; turns = on.turns })
+pub act-requires-clause-works : goal.act-requires-clause-works
+act-requires-clause-works g c =
+    let s : Plain = c.look_ahead.new.self in
+    subst (λ (p : Plain). 1 ≤ work_next p) (sym c.instruction-next.ensures.kept)
+    (acts_there s boundaries.Instruction (subst (λ (b : Boundary). act_at s.cpu s.chips b ≡ next_act s) c.in-Instruction.is c.boundary.ensures) refl)
 
-pub returns-clause-ok : goal.returns-clause-ok
-returns-clause-ok g c =
-    let on = c.leap.ensures in
-    let most : c.args.end - c.get.result ≡ c.args.end - clock_of c.args.self.now.plain = ap (λ k. c.args.end - k) (c.get.ensures.value ∙ c.clock.ensures) in
-    leap_turn c.args.end (c.args.end - c.get.result) c.clocks_to_leap-clocks.result c.self.inside.engine c.args.self.now c.leap.new.self
-    (ap (λ (b : BoardState). b.plain) c.self.view_is) most (omega (arith, c.if-clocks-eq0.false)) c.clocks_to_leap-clocks.ensures.within c.clocks_to_leap-clocks.ensures.may_leap
-    c.clocks_to_leap-clocks.ensures.tight c.clocks_to_leap-clocks.ensures.wires on.plain on.changes on.trail on.room on.turns
+pub act-requires-in-Request-clause-works : goal.act-requires-in-Request-clause-works
+act-requires-in-Request-clause-works g c =
+    let s : Plain = c.look_ahead.new.self in
+    acts_there s boundaries.Request (subst (λ (b : Boundary). act_at s.cpu s.chips b ≡ next_act s) c.in-Request.is c.boundary.ensures) refl
+
+pub act-requires-in-SingleStep-clause-works : goal.act-requires-in-SingleStep-clause-works
+act-requires-in-SingleStep-clause-works g c =
+    let s : Plain = c.look_ahead.new.self in
+    acts_there s boundaries.SingleStep (subst (λ (b : Boundary). act_at s.cpu s.chips b ≡ next_act s) c.in-SingleStep.is c.boundary.ensures) refl
+
+pub act-requires-in-Iteration-clause-works : goal.act-requires-in-Iteration-clause-works
+act-requires-in-Iteration-clause-works g c =
+    let s : Plain = c.look_ahead.new.self in
+    acts_there s boundaries.Iteration (subst (λ (b : Boundary). act_at s.cpu s.chips b ≡ next_act s) c.in-Iteration.is c.boundary.ensures) refl

@@ -14,6 +14,6 @@ returns-then-is_empty g c =
 
 pub returns : goal.returns
 returns g c =
-    goes_back_to c.args.self.now.stops StopAt c.in_ok-clock.clock c.in_ok-clock.number c.args.self.now c.stand_at.new.self _
-    (subst (λ (sought : List Condition). HeldLast sought (gone c.args.self.now) c.args.self.now.first.plain c.in_ok-clock.clock c.in_ok-clock.number) (ap (λ (s : SessionState). s.stops) c.self.view_is) c.in_ok-clock.ensures)
-    (subst (λ (clock : ℕ). StandsNow clock c.args.self.now c.stand_at.new.self) c.get.ensures.value c.in_ok-stand_at.ensures.ok) refl
+    goes_back_to c.args.self.now.stops StopAt c.in_ok-board.found.0 c.in_ok-board.found.1 c.args.self.now c.stand.new.self _
+    (subst (λ (sought : List Condition). HeldLast sought (gone c.args.self.now) c.args.self.now.first.plain c.in_ok-board.found.0 c.in_ok-board.found.1) (ap (λ (s : SessionState). s.stops) c.self.view_is) c.in_ok-board.ensures.2)
+    (subst (λ (clock : ℕ). StandsNow clock c.args.self.now c.stand.new.self) c.in_ok-board.ensures.1 c.stand.ensures) refl

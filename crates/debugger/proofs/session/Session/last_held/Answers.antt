@@ -1,30 +1,52 @@
-use Rattle.std.proofs.Common.{◌≡◌, ℕ, ◌+◌, ◌-◌, subst, arith}
+use Rattle.std.proofs.Common.{◌≡◌, ℕ, ◌+◌, ◌-◌, ◌≤◌, subst, arith}
+use Rattle.board_plain.specs.Board.{BoardState}
 use Rattle.board_plain.specs.Lasts.{HeldLast, IsLastOf, NoneHeld}
 use Rattle.board_plain.specs.Plain.{clock_of}
-use Rattle.debugger_meaning.specs.Stands.{gone}
+use Rattle.debugger_meaning.specs.Stands.{StandsAfter, gone}
 use Rattle.debugger_meaning.proofs.Behind.{Searched, found_behind, searched_more}
+use Rattle.debugger_meaning.proofs.Standing.{stands_later}
 use Rattle.debugger.proofs.session.Session.last_held.Goals as goal
 
-pub returns-in-Ok-Some : goal.returns-in-Ok-Some
-returns-in-Ok-Some g c =
-    let at = c.in_ok-board.ensures.stands.1 in
+pub returns-in-Some : goal.returns-in-Some
+returns-in-Some g c =
+    let p : BoardState = c.run_to.new.board in
+    let q : BoardState = c.run_to-in-Some.new.board in
     let before = c.in_ok-board.ensures.before in
-    let top : c.stretches.bound ≡ clock_of c.in_ok-board.board.plain + (c.stretches.bound - 1 - c.get-from.result + 1) =
-    omega (arith, before, c.stretches-test.true, c.clock-in-stretches.ensures, c.get-from.ensures.value) in
-    let last : HeldLast c.args.stops.now.items (c.stretches.bound - 1 - c.get-from.result + 1) c.in_ok-board.board.plain c.in-Ok-Some.found.0 c.in-Ok-Some.found.1 =
-    subst (IsLastOf c.args.stops.now.items (c.stretches.bound - 1 - c.get-from.result + 1) c.in_ok-board.board.plain) c.in-Ok-Some.field-0-is c.in-Ok-Some.ensures.last in
-    found_behind c.args.stops.now.items c.in_ok-board.ensures.stands.0 (c.stretches.bound - 1 - c.get-from.result + 1) c.stretches.bound (gone c.args.self.now) c.in-Ok-Some.found.0 c.in-Ok-Some.found.1
-    c.args.self.now.first.plain c.in_ok-board.board.plain at.plain at.clock top c.stretches.invariant last
+    let ran = c.in_ok-run_to.ensures.ok in
+    let gone_to = ran.clock in
+    let stands : StandsAfter c.args.self.now.first p = stands_later c.args.self.now.first _ c.in_ok-board.board p c.in_ok-board.ensures.stands ran in
+    let at : clock_of p.plain ≡ c.max-from.result =
+    omega (arith, gone_to, c.max-from.ensures, c.clock-in-stretches.ensures, c.get.ensures.value) in
+    let within : clock_of p.plain ≤ c.stretches.bound - 1 =
+    omega (arith, at, before, c.max-from.ensures, c.saturating_sub.ensures, c.clock-in-stretches.ensures, c.get.ensures.value) in
+    let n : ℕ = c.stretches.bound - 1 - clock_of p.plain + 1 in
+    let top : c.stretches.bound ≡ clock_of p.plain + n = omega (arith, within, c.stretches-test.true) in
+    let last : HeldLast c.args.stops.now.items n p.plain c.in-Some.found.0 c.in-Some.found.1 =
+    subst (IsLastOf c.args.stops.now.items n p.plain) c.in-Some.is c.in_ok-found.ensures.last in
+    let on = c.in_ok-run_to-in-Some.ensures.ok in
+    let then = on.clock in
+    let past = last.clock_is in (
+      stands_later c.args.self.now.first _ p q stands on,
+      omega (arith, then, past, c.get-in-Some.ensures.value),
+      found_behind c.args.stops.now.items stands.0 n c.stretches.bound (gone c.args.self.now) c.in-Some.found.0 c.in-Some.found.1
+          c.args.self.now.first.plain p.plain stands.1.plain stands.1.clock top c.stretches.invariant last,
+    )
 
 pub stretches-preserved : goal.stretches-preserved
 stretches-preserved g c =
-    let at = c.in_ok-board.ensures.stands.1 in
+    let p : BoardState = c.run_to.new.board in
     let before = c.in_ok-board.ensures.before in
-    let top : c.stretches.bound ≡ clock_of c.in_ok-board.board.plain + (c.stretches.bound - 1 - c.get-from.result + 1) =
-    omega (arith, before, c.stretches-test.true, c.clock-in-stretches.ensures, c.get-from.ensures.value) in
-    let nothing : NoneHeld c.args.stops.now.items (c.stretches.bound - 1 - c.get-from.result + 1) c.in_ok-board.board.plain =
-    subst (IsLastOf c.args.stops.now.items (c.stretches.bound - 1 - c.get-from.result + 1) c.in_ok-board.board.plain) c.in-Ok-None.field-0-is c.in-Ok-None.ensures.last in
-    let from : clock_of c.in_ok-board.board.plain ≡ c.get-from.result = omega (arith, c.clock-in-stretches.ensures, c.get-from.ensures.value) in
-    subst (λ (bound : ℕ). Searched c.args.stops.now.items bound (gone c.args.self.now) c.args.self.now.first.plain) from
-    (searched_more c.args.stops.now.items c.in_ok-board.ensures.stands.0 (c.stretches.bound - 1 - c.get-from.result + 1) c.stretches.bound (gone c.args.self.now) c.args.self.now.first.plain c.in_ok-board.board.plain
-    at.plain at.clock top c.stretches.invariant nothing)
+    let ran = c.in_ok-run_to.ensures.ok in
+    let gone_to = ran.clock in
+    let stands : StandsAfter c.args.self.now.first p = stands_later c.args.self.now.first _ c.in_ok-board.board p c.in_ok-board.ensures.stands ran in
+    let at : clock_of p.plain ≡ c.max-from.result =
+    omega (arith, gone_to, c.max-from.ensures, c.clock-in-stretches.ensures, c.get.ensures.value) in
+    let within : clock_of p.plain ≤ c.stretches.bound - 1 =
+    omega (arith, at, before, c.max-from.ensures, c.saturating_sub.ensures, c.clock-in-stretches.ensures, c.get.ensures.value) in
+    let n : ℕ = c.stretches.bound - 1 - clock_of p.plain + 1 in
+    let top : c.stretches.bound ≡ clock_of p.plain + n = omega (arith, within, c.stretches-test.true) in
+    let nothing : NoneHeld c.args.stops.now.items n p.plain =
+    subst (IsLastOf c.args.stops.now.items n p.plain) c.in-None.is c.in_ok-found.ensures.last in
+    subst (λ (bound : ℕ). Searched c.args.stops.now.items bound (gone c.args.self.now) c.args.self.now.first.plain) at
+    (searched_more c.args.stops.now.items stands.0 n c.stretches.bound (gone c.args.self.now) c.args.self.now.first.plain p.plain
+    stands.1.plain stands.1.clock top c.stretches.invariant nothing)

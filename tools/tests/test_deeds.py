@@ -1,0 +1,91 @@
+"""CONTRIBUTING's list for adding a deed, followed in a copy with one that isn't there: NOT of a word in memory."""
+from __future__ import annotations
+
+import os
+import re
+import shutil
+import subprocess
+import unittest
+
+from tests.support import TOP, ToolCase
+from toolbox.crates import Crates
+
+PROVED = ('decode_cache', 'execute_slots', 'execute')  # those that hold the places, and what stands between them
+VARIANT, CHOICE = (f'crates/decode_cache/src/{it}.rt' for it in ('slot', 'slot_for'))
+ROW = 'crates/decode_cache/specs/Slots.antt'
+ARM, STILL = (f'crates/execute/src/{it}.rt' for it in ('by_slot', 'still'))
+# In each place a line, after one that stands there.
+STEPS = (
+    (VARIANT, '    IncMW,\n', '    NotMW,\n'),
+    (
+        ROW,
+        'deed_row condition deeds.IncMW = row (operations.Unary unaries.Inc) WordInMemory Untold\n',
+        'deed_row condition deeds.NotMW = row (operations.Unary unaries.Not) WordInMemory Untold\n',
+    ),
+    (
+        CHOICE,
+        '        (Unary::Inc, SlotOperand::WordInMemory, SlotOperand::Untold) => Some(Deed::IncMW),\n',
+        '        (Unary::Not, SlotOperand::WordInMemory, SlotOperand::Untold) => Some(Deed::NotMW),\n',
+    ),
+    (
+        ARM,
+        '        Deed::IncMB => unary_in_memory(parts, *slot, cost, bus, Inc, ByteInMemory),\n',
+        '        Deed::NotMW => unary_in_memory(parts, *slot, cost, bus, Not, WordInMemory),\n',
+    ),
+    (STILL, '        | Deed::IncMW\n', '        | Deed::NotMW\n'),
+)
+
+
+def read(path: str) -> str:
+    with open(path, encoding='utf-8') as file:
+        return file.read()
+
+
+class Places(ToolCase):
+    """The list on the page."""
+
+    def test_contributing_names_these_places(self) -> None:
+        page = read(f'{TOP}/CONTRIBUTING.md')
+        chapter = page[page.index('# Add a deed') : page.index('# Add a family')]
+        named = re.findall(r'`(crates/[\w/.]+\.(?:rt|antt))`', chapter)
+        self.assertEqual(named, [path for path, _, _ in STEPS])
+
+    def test_all_paths_of_the_families_list_are_there(self) -> None:
+        page = read(f'{TOP}/CONTRIBUTING.md')
+        chapter = page[page.index('# Add a family') : page.index('# Add a chip')]
+        for path in re.findall(r'`(crates/[\w/.]+)`', chapter):
+            self.assertTrue(os.path.exists(f'{TOP}/{path}'), path)
+
+
+class MadeUpDeed(ToolCase):
+    """A copy in which a deed is added in these places and nowhere else, over the libraries that the gate left."""
+
+    def setUp(self) -> None:
+        super().setUp()
+        os.mkdir(f'{self.room}/crates')
+        shutil.copy(f'{TOP}/crates.txt', self.room)
+        for name in Crates().below('execute'):
+            if name in PROVED:
+                shutil.copytree(f'{TOP}/crates/{name}', f'{self.room}/crates/{name}', ignore=shutil.ignore_patterns('out', 'must-fail', 'refused'))
+            else:
+                os.symlink(f'{TOP}/crates/{name}', f'{self.room}/crates/{name}')
+        for path, before, new in STEPS:
+            text = read(f'{self.room}/{path}')
+            self.assertEqual(text.count(before), 1, before)
+            self.file(path, text.replace(before, before + new))
+
+    def test_both_crates_are_proved(self) -> None:
+        crates = Crates(self.room)
+        lacking = [name for name in crates.below('execute') - {*PROVED} if not os.path.exists(crates.rlib(name))]
+        if lacking or not shutil.which('rt'):
+            print('not run: the proof of a made-up deed; it wants Rattle, and the libraries that rt ci leaves')
+            return
+        for name in PROVED:
+            os.makedirs(os.path.dirname(crates.rlib(name)))
+            ran = subprocess.run(crates.command(name, 2), cwd=crates.folder(name), stdin=subprocess.DEVNULL, capture_output=True, text=True, check=False)
+            self.assertEqual(ran.returncode, 0, (ran.stdout + ran.stderr)[-2000:])
+            self.assertRegex(ran.stdout + ran.stderr, r'(?m)^logic=proved functions=\d+ ')
+
+
+if __name__ == '__main__':
+    unittest.main()
