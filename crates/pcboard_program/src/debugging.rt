@@ -1,13 +1,13 @@
-//! The debugger's commands, answered line by line as they come.
+//! What is typed, answered line by line as it comes.
 ghost use Rattle.std.specs.Prelude.{◌≡◌, ◌⊎◌, IfErr, IfSome, OnOk};
 ghost use Rattle.loader.specs.ByteInput.{CountsNone};
-ghost use Rattle.debugger_meaning.specs.Session.{AnswersLine};
 ghost use Rattle.debugger_meaning.specs.Stands.{session_about};
 ghost use Rattle.pcboard_texts.specs.Answer.{AppendsA};
 ghost use Rattle.pcboard_texts.specs.Refusal.{BeginsTranscript, want_of_board, want_of_session};
-ghost use Rattle.pcboard_texts.specs.Transcript.{Transcript, input_lines, typed_command};
+ghost use Rattle.pcboard_texts.specs.Transcript.{AnswersTyped, Transcript, input_lines};
 ghost use Rattle.pcboard_texts.specs.Unanswered.{IsUnjudged, UnlessFailed, WhereRefused};
 
+use crate::tool::Tool;
 use board::board::Board;
 use debugger::session::Session;
 use debugger_meaning::answer::Answer;
@@ -18,40 +18,42 @@ use pcboard_texts::unanswered::Unanswered;
 use std::alloc::Global;
 use std::io::Write;
 
-/// Answers the commands on `input` about a board until one is `quit` or the input ends.
-pub(crate) fn print_session<I: ByteInput, O: Write>(
+/// Answers the lines of `input` about a board until one is `quit` or the input ends.
+pub(crate) fn print_session<T: Tool, I: ByteInput, O: Write>(
     alloc: Global,
     board: Board,
     input: &mut I,
     out: &mut O,
 ) -> Result<(), Unanswered>
     ensures transcript { OnOk result (IfSome (I.remaining input.old)
-        (λ typed. AppendsA (Transcript (session_about board) (input_lines typed)) (O.contents out.old)
+        (λ typed. AppendsA (Transcript T.answers (session_about board) (input_lines typed)) (O.contents out.old)
         (O.contents out.new))) }
     ensures cut { IfErr result (WhereRefused (O.contents out.new ≡ O.contents out.old
-        ⊎ IfSome (I.remaining input.old) (λ typed. AppendsA (BeginsTranscript (session_about board) (input_lines typed))
+        ⊎ IfSome (I.remaining input.old)
+        (λ typed. AppendsA (BeginsTranscript T.answers (session_about board) (input_lines typed))
         (O.contents out.old) (O.contents out.new)))) }
     ensures end { IfErr result (IsUnjudged (λ fault. fault ≡ want_of_board ⊎ fault ≡ want_of_session)) }
     ensures unfailed { UnlessFailed (CountsNone (I.failures input.old) (I.failures input.new)) result }
 {
     let mut session = Session::new(alloc, board)?;
-    let answered = answer_lines(alloc, &mut session, input, out);
+    let answered = answer_lines::<T, I, O>(alloc, &mut session, input, out);
     // let go by one call, whatever came of it: each place that lets one go is proved anew
     drop(session);
     answered
 }
 
 /// Answers lines as they come until one is `quit` or the input ends. An input of more than `u64::MAX` lines fails.
-fn answer_lines<I: ByteInput, O: Write>(
+fn answer_lines<T: Tool, I: ByteInput, O: Write>(
     alloc: Global,
     session: &mut Session,
     input: &mut I,
     out: &mut O,
 ) -> Result<(), Unanswered>
     ensures transcript { OnOk result (IfSome (I.remaining input.old)
-        (λ typed. AppendsA (Transcript session.old (input_lines typed)) (O.contents out.old) (O.contents out.new))) }
+        (λ typed. AppendsA (Transcript T.answers session.old (input_lines typed)) (O.contents out.old)
+        (O.contents out.new))) }
     ensures cut { IfErr result (WhereRefused (IfSome (I.remaining input.old)
-        (λ typed. AppendsA (BeginsTranscript session.old (input_lines typed)) (O.contents out.old)
+        (λ typed. AppendsA (BeginsTranscript T.answers session.old (input_lines typed)) (O.contents out.old)
         (O.contents out.new)))) }
     ensures end { IfErr result (IsUnjudged (λ fault. fault ≡ want_of_board)) }
     ensures unfailed { UnlessFailed (CountsNone (I.failures input.old) (I.failures input.new)) result }
@@ -63,18 +65,22 @@ fn answer_lines<I: ByteInput, O: Write>(
         if ends_session(line.as_slice()) {
             return Ok(());
         }
-        let reply = reply_to(alloc, session, line.as_slice());
+        let reply = reply_to::<T>(alloc, session, line.as_slice());
         print_reply(&reply, out)?;
     }
     Err(Unanswered::Failed)
 }
 
 /// What the session answers to a line, or why it refuses it.
-fn reply_to(alloc: Global, session: &mut Session, line: &[u8]) -> Result<Answer, DebugFault>
-    ensures { AnswersLine (typed_command line.now) session.old result session.new }
+fn reply_to<T: Tool>(
+    alloc: Global,
+    session: &mut Session,
+    line: &[u8],
+) -> Result<Answer, DebugFault>
+    ensures { AnswersTyped T.answers line.now session.old result session.new }
 {
     match std::str::from_utf8(line) {
-        Ok(command) => session.command(alloc, command),
+        Ok(line) => T::answer(alloc, session, line),
         Err(_) => Err(DebugFault::BadCommand),
     }
 }

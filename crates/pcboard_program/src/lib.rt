@@ -1,5 +1,5 @@
 //! What the program `pcboard` does: it reads sources, HEX texts and run files, runs the board, and prints reports and
-//! HEX texts.
+//! HEX texts. Another program may be the same but for its words and for what it answers to a typed line.
 #![tactic(auto)]
 
 mod debugging;
@@ -7,3 +7,4 @@ pub mod program;
 pub mod ready;
 pub mod report;
 pub mod run;
+pub mod tool;

@@ -1,22 +1,23 @@
 //! The program, over any files, standard input and writers.
-ghost use Rattle.std.specs.Prelude.{◌≡◌, ◌≢◌, ◌≤◌, List, map, ◌⊎◌, IfErr, IsErrAnd, Ok, OnOk, string_bytes};
+ghost use Rattle.std.specs.Prelude.{◌≡◌, ◌≢◌, ◌≤◌, map, ◌⊎◌, IfErr, IsErrAnd, Ok, OnOk, string_bytes};
 ghost use Rattle.std.specs.Io.KnownBytes.{Appends};
 ghost use Rattle.loader.specs.ByteInput.{CountsNone};
 ghost use Rattle.pcboard_words.specs.CommandLine.{Answers as AnswersWords};
+ghost use Rattle.pcboard_words.specs.Files.{LacksFile, hex_of};
 ghost use Rattle.pcboard_words.specs.declared.task.Task.{Task};
-ghost use Rattle.pcboard_texts.specs.Answer.{Prints, PrintsTask};
-ghost use Rattle.pcboard_texts.specs.Refusal.{EndsUnjudged, IsTrueOfTask, IsTrueOfWords, IsWantOfTask, LacksFile, PrintsNoAnswer, PrintsReplies, RefusesWords, TellsA, hex_of, want_of_file};
+ghost use Rattle.pcboard_texts.specs.Answer.{Prints, PrintsFor, PrintsTask};
+ghost use Rattle.pcboard_texts.specs.Refusal.{EndsUnjudged, IsTrueOfWordsFor, IsTrueOfTask, IsTrueOfWords, IsWantOfTask, PrintsNoAnswer, PrintsNoAnswerFor, PrintsReplies, RefusesWordsFor, RefusesWords, TellsA, want_of_file};
 ghost use Rattle.pcboard_texts.specs.Unanswered.{EndsFor, IsUnjudged, UnlessFailed, WhereRefused};
 
 use crate::debugging::print_session;
 use crate::ready::{read_board, read_report, stored_report};
 use crate::report::Report;
+use crate::tool::{Pcboard, Tool};
 use loader::byte_input::ByteInput;
 use pcboard_texts::assembled::print_assembled;
 use pcboard_texts::opener::Opener;
 use pcboard_texts::telling::{print, refused, told, without_words};
 use pcboard_texts::unanswered::Unanswered;
-use pcboard_words::line::read_words;
 use pcboard_words::task::{LineFault, Task};
 use std::alloc::Global;
 use std::io::Write;
@@ -64,12 +65,40 @@ pub fn program<F: Opener, I: ByteInput, O: Write, E: Write>(
     // At any status but 3 the input hasn't failed.
     ensures unfailed { result ≢ 3 → CountsNone (I.failures input.old) (I.failures input.new) }
 {
-    let task = match read_words(alloc, words) {
+    program_of::<Pcboard, F, I, O, E>(alloc, words, files, input, out, err)
+}
+
+/// What `program` does, with a tool's words and its answers to typed lines. The clauses are those of `program`, by what the
+/// tool reads and answers.
+pub fn program_of<T: Tool, F: Opener, I: ByteInput, O: Write, E: Write>(
+    alloc: Global,
+    words: &[&str],
+    files: &F,
+    input: &mut I,
+    out: &mut O,
+    err: &mut E,
+) -> u8
+    ensures status { result ≤ 3 }
+    ensures printed { result ≡ 0 → PrintsFor T.reads T.answers (map (λ word. word.now) words.entry.now)
+        (F.file_bytes files.now) (I.remaining input.old) (O.contents out.old) (O.contents out.new) }
+    ensures untold { result ≡ 0 → E.contents err.new ≡ E.contents err.old }
+    ensures told { result ≡ 1 → TellsA (IsTrueOfWordsFor T.reads (map (λ word. word.now) words.entry.now)
+        (F.file_bytes files.now) (I.remaining input.old)) (E.contents err.old) (E.contents err.new) }
+    ensures withheld { result ≡ 1 → PrintsNoAnswerFor T.reads T.answers (map (λ word. word.now) words.entry.now)
+        (F.file_bytes files.now) (I.remaining input.old) (O.contents out.old) (O.contents out.new) }
+    ensures usage { result ≡ 2 → RefusesWordsFor T.reads (map (λ word. word.now) words.entry.now) (E.contents err.old)
+        (E.contents err.new) }
+    ensures unprinted { result ≡ 2 → O.contents out.new ≡ O.contents out.old }
+    ensures lacking { (task : Task) → T.reads (map (λ word. word.now) words.entry.now) (Ok task)
+        → LacksFile task (F.lacks files.now) → EndsUnjudged task result (E.contents err.old) (E.contents err.new) }
+    ensures unfailed { result ≢ 3 → CountsNone (I.failures input.old) (I.failures input.new) }
+{
+    let task = match T::read(alloc, words) {
         Ok(task) => task,
         Err(LineFault::Usage(text)) => return told(err, text.as_str(), 2),
         Err(LineFault::Memory) => return without_words(err),
     };
-    match print_task(alloc, task, files, input, out) {
+    match print_task::<T, F, I, O>(alloc, task, files, input, out) {
         Ok(()) => 0,
         Err(Unanswered::Refused(fault)) => refused(err, fault),
         Err(Unanswered::Failed) => 3,
@@ -77,17 +106,17 @@ pub fn program<F: Opener, I: ByteInput, O: Write, E: Write>(
 }
 
 /// Prints the answer to a task.
-fn print_task<F: Opener, I: ByteInput, O: Write>(
+fn print_task<T: Tool, F: Opener, I: ByteInput, O: Write>(
     alloc: Global,
     task: Task<'_>,
     files: &F,
     input: &mut I,
     out: &mut O,
 ) -> Result<(), Unanswered>
-    ensures printed { OnOk result (PrintsTask task.entry (F.file_bytes files.now) (I.remaining input.old)
+    ensures printed { OnOk result (PrintsTask T.answers task.entry (F.file_bytes files.now) (I.remaining input.old)
         (O.contents out.old) (O.contents out.new)) }
     ensures withheld { IfErr result (WhereRefused (O.contents out.new ≡ O.contents out.old
-        ⊎ PrintsReplies task.entry (F.file_bytes files.now) (I.remaining input.old) (O.contents out.old)
+        ⊎ PrintsReplies T.answers task.entry (F.file_bytes files.now) (I.remaining input.old) (O.contents out.old)
         (O.contents out.new))) }
     ensures end { IfErr result (EndsFor (IsWantOfTask task.entry)
         (IsTrueOfTask task.entry (F.file_bytes files.now) (I.remaining input.old))) }
@@ -107,7 +136,7 @@ fn print_task<F: Opener, I: ByteInput, O: Write>(
         }
         Task::Debug { file, run, hex } => {
             let board = read_board(alloc, files, file, run, hex)?;
-            print_session(alloc, board, input, out)
+            print_session::<T, I, O>(alloc, board, input, out)
         }
     }
 }

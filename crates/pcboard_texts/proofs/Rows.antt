@@ -11,7 +11,7 @@ use Rattle.debugger_meaning.specs.Stands.{SessionState}
 use Rattle.debugger_meaning.specs.Words.{count_of, words_of}
 use Rattle.pcboard_texts.specs.Faults.{fault_text}
 use Rattle.pcboard_texts.specs.Refusal.{want_of_board, want_of_file, want_of_run_file, want_of_session}
-use Rattle.pcboard_texts.specs.Transcript.{Transcript, ends_session, input_lines, refusal_text, typed_command}
+use Rattle.pcboard_texts.specs.Transcript.{AnswersCommand, Transcript, ends_session, input_lines, refusal_text}
 
 -- what a row unfolds
 unfoldable on_lines : ⊤
@@ -35,15 +35,15 @@ unfolding on_lines
 goes_on = refl
 
 -- commands, a carriage return behind one, and bytes that aren't UTF-8
-run : typed_command (codes " go  100") ≡ Some (Go 100)
+run : command_of (codes " go  100") ≡ Some (Go 100)
 unfolding on_lines
 run = refl
 
-returned : typed_command (codes "regs\r") ≡ None
+returned : command_of (codes "regs\r") ≡ None
 unfolding on_lines
 returned = refl
 
-bytes : typed_command (255 ∷ codes "regs") ≡ None
+bytes : is_utf8 (255 ∷ codes "regs") ≡ false
 unfolding on_lines
 bytes = refl
 
@@ -78,6 +78,6 @@ unfolding on_lines fault_text
 session_wanted = refl
 
 -- what a session prints on a blank line, `quit` and a line behind it, wherever it stands
-blank : (session : SessionState) → Transcript session (input_lines (codes "\nquit\nregs\n")) (codes "fault 51 BadCommand\n")
+blank : (session : SessionState) → Transcript AnswersCommand session (input_lines (codes "\nquit\nregs\n")) (codes "fault 51 BadCommand\n")
 unfolding on_lines
 blank session = record { reply = Err BadCommand; new = session; rest = []; answers = (refl, refl); follows = refl; is_text = refl }

@@ -8,8 +8,8 @@ use Rattle.std.specs.Io.KnownBytes.{Appends, Consumes, IsAtEnd}
 use Rattle.board_types.specs.TextLines.{onto_first}
 use Rattle.debugger_meaning.specs.declared.answer.Answer.{Answer}
 use Rattle.debugger_meaning.specs.declared.fault.DebugFault.{DebugFault}
-use Rattle.debugger_meaning.specs.Commands.{command_of, is_quit}
-use Rattle.debugger_meaning.specs.Session.{AnswersLine}
+use Rattle.debugger_meaning.specs.declared.fault.DebugFault.TheVariants.{BadCommand}
+use Rattle.debugger_meaning.specs.Commands.{is_quit}
 use Rattle.debugger_meaning.specs.Stands.{SessionState}
 use Rattle.loader.specs.ByteInput.{CountsNone}
 use Rattle.pcboard_texts.specs.declared.unanswered.Unanswered.{Unanswered}
@@ -18,7 +18,7 @@ use Rattle.pcboard_texts.specs.Answer.{AppendsA}
 use Rattle.pcboard_texts.specs.Refusal.{BeginsTranscript}
 use Rattle.pcboard_texts.specs.Taking.{TakesByte, TakesLine}
 use Rattle.pcboard_texts.specs.Unanswered.{WhereRefused}
-use Rattle.pcboard_texts.specs.Transcript.{Replies, Transcript, ends_session, input_lines, reply_text, typed_command}
+use Rattle.pcboard_texts.specs.Transcript.{Answering, AnswersTyped, Replies, Transcript, ends_session, input_lines, reply_text}
 
 -- what one read takes
 pub takes_none : (now next : Option (List ℕ)) → Consumes now next [] → IsAtEnd next → TakesByte now next None
@@ -111,15 +111,15 @@ line_none (Some bytes) now next [] so_far takes empty = ap input_lines (rest_non
 line_none (Some bytes) now next (b ∷ bs) so_far takes empty = let never : ⊥ = omega (arith, empty) in absurd never
 
 -- What a session has printed on the lines that it has answered: a text behind which a transcript of further lines stands, is one of all of them.
-pub record Printed (first now : SessionState) (typed left : List ℕ) (old new : Option (List ℕ)) : Type 0 where
+pub record Printed (By : Answering) (first now : SessionState) (typed left : List ℕ) (old new : Option (List ℕ)) : Type 0 where
   pub answered : List (List ℕ)
   pub are_lines : input_lines typed ≡ answered ++ input_lines left
   pub said : List ℕ
   pub grown : Appends old new said
-  pub goes_on : (lines : List (List ℕ)) (text : List ℕ) → Transcript now lines text → Transcript first (answered ++ lines) (said ++ text)
+  pub goes_on : (lines : List (List ℕ)) (text : List ℕ) → Transcript By now lines text → Transcript By first (answered ++ lines) (said ++ text)
 
-abbrev pub PrintedSoFar : SessionState → SessionState → Option (List ℕ) → Option (List ℕ) → Option (List ℕ) → Option (List ℕ) → Type 0
-PrintedSoFar first now typed left old new = IfSome typed (λ bytes. (rest : List ℕ) × (left ≡ Some rest) × Printed first now bytes rest old new)
+abbrev pub PrintedSoFar : Answering → SessionState → SessionState → Option (List ℕ) → Option (List ℕ) → Option (List ℕ) → Option (List ℕ) → Type 0
+PrintedSoFar By first now typed left old new = IfSome typed (λ bytes. (rest : List ℕ) × (left ≡ Some rest) × Printed By first now bytes rest old new)
 
 appends_none : (known : Option (List ℕ)) → Appends known known []
 appends_none None = tt
@@ -131,16 +131,16 @@ appends_both (Some xs) None new text more first second = absurd first
 appends_both (Some xs) (Some ys) None text more first second = absurd second
 appends_both (Some xs) (Some ys) (Some zs) text more first second = second ∙ (ap (λ (l : List ℕ). l ++ more) first ∙ append_assoc xs text more)
 
-pub printed_none : (session : SessionState) (typed old : Option (List ℕ)) → PrintedSoFar session session typed typed old old
-printed_none session None old = tt
-printed_none session (Some bytes) old = (bytes, refl, record { answered = []; are_lines = refl; said = []; grown = appends_none old; goes_on = λ lines text is. is })
+pub printed_none : (By : Answering) (session : SessionState) (typed old : Option (List ℕ)) → PrintedSoFar By session session typed typed old old
+printed_none By session None old = tt
+printed_none By session (Some bytes) old = (bytes, refl, record { answered = []; are_lines = refl; said = []; grown = appends_none old; goes_on = λ lines text is. is })
 
 -- the transcript of a line and of those behind it
-transcript_on : (ends : Bool) (line : List ℕ) (now next : SessionState) (lines : List (List ℕ)) (reply : Result Answer DebugFault) (text : List ℕ)
-    → ends ≡ false → AnswersLine (typed_command line) now reply next → Transcript next lines text
-    → MatchBool ends (reply_text reply ++ text ≡ []) (Replies line now (λ after rest. Transcript after lines rest) (reply_text reply ++ text))
-transcript_on true line now next lines reply text goes answers is = cc
-transcript_on false line now next lines reply text goes answers is = record {
+transcript_on : (By : Answering) (ends : Bool) (line : List ℕ) (now next : SessionState) (lines : List (List ℕ)) (reply : Result Answer DebugFault) (text : List ℕ)
+    → ends ≡ false → AnswersTyped By line now reply next → Transcript By next lines text
+    → MatchBool ends (reply_text reply ++ text ≡ []) (Replies By line now (λ after rest. Transcript By after lines rest) (reply_text reply ++ text))
+transcript_on By true line now next lines reply text goes answers is = cc
+transcript_on By false line now next lines reply text goes answers is = record {
   reply = reply;
   new = next;
   rest = text;
@@ -153,17 +153,17 @@ transcript_quit : (ends : Bool) (text : List ℕ) (P : Type 0) → ends ≡ true
 transcript_quit true text P quits empty = empty
 transcript_quit false text P quits empty = cc
 
-transcript_along : (session : SessionState) (lines others : List (List ℕ)) (text said : List ℕ) → lines ≡ others → text ≡ said
-    → Transcript session lines text → Transcript session others said
-transcript_along session lines others text said same_lines same_text is =
-    subst (λ (ls : List (List ℕ)). Transcript session ls said) same_lines (subst (Transcript session lines) same_text is)
+transcript_along : (By : Answering) (session : SessionState) (lines others : List (List ℕ)) (text said : List ℕ) → lines ≡ others → text ≡ said
+    → Transcript By session lines text → Transcript By session others said
+transcript_along By session lines others text said same_lines same_text is =
+    subst (λ (ls : List (List ℕ)). Transcript By session ls said) same_lines (subst (Transcript By session lines) same_text is)
 
-pub printed_more : (first now next : SessionState) (typed left after old mid new : Option (List ℕ)) (line : List ℕ) (reply : Result Answer DebugFault)
-    → PrintedSoFar first now typed left old mid → TakesLine left after (Some line) → ends_session line ≡ false → AnswersLine (typed_command line) now reply next
-    → Appends mid new (reply_text reply) → PrintedSoFar first next typed after old new
-printed_more first now next None left after old mid new line reply so_far takes goes answers prints = tt
-printed_more first now next (Some bytes) None after old mid new line reply so_far takes goes answers prints = let never : None ≡ Some so_far.0 = so_far.1 in cc
-printed_more first now next (Some bytes) (Some more) after old mid new line reply so_far takes goes answers prints =
+pub printed_more : (By : Answering) (first now next : SessionState) (typed left after old mid new : Option (List ℕ)) (line : List ℕ) (reply : Result Answer DebugFault)
+    → PrintedSoFar By first now typed left old mid → TakesLine left after (Some line) → ends_session line ≡ false → AnswersTyped By line now reply next
+    → Appends mid new (reply_text reply) → PrintedSoFar By first next typed after old new
+printed_more By first now next None left after old mid new line reply so_far takes goes answers prints = tt
+printed_more By first now next (Some bytes) None after old mid new line reply so_far takes goes answers prints = let never : None ≡ Some so_far.0 = so_far.1 in cc
+printed_more By first now next (Some bytes) (Some more) after old mid new line reply so_far takes goes answers prints =
     let same : so_far.0 ≡ more = cc in
     let lines : input_lines so_far.0 ≡ line ∷ input_lines takes.0 = ap input_lines same ∙ takes.1 in (
       takes.0,
@@ -173,48 +173,48 @@ printed_more first now next (Some bytes) (Some more) after old mid new line repl
         are_lines = so_far.2.are_lines ∙ (ap (λ (ls : List (List ℕ)). so_far.2.answered ++ ls) lines ∙ sym (append_assoc so_far.2.answered (line ∷ []) (input_lines takes.0)));
         said = so_far.2.said ++ reply_text reply;
         grown = appends_both old mid new so_far.2.said (reply_text reply) so_far.2.grown prints;
-        goes_on = λ more_lines text is. transcript_along first (so_far.2.answered ++ line ∷ more_lines) ((so_far.2.answered ++ line ∷ []) ++ more_lines)
+        goes_on = λ more_lines text is. transcript_along By first (so_far.2.answered ++ line ∷ more_lines) ((so_far.2.answered ++ line ∷ []) ++ more_lines)
             (so_far.2.said ++ (reply_text reply ++ text)) ((so_far.2.said ++ reply_text reply) ++ text)
             (sym (append_assoc so_far.2.answered (line ∷ []) more_lines)) (sym (append_assoc so_far.2.said (reply_text reply) text))
-            (so_far.2.goes_on (line ∷ more_lines) (reply_text reply ++ text) (transcript_on (ends_session line) line now next more_lines reply text goes answers is));
+            (so_far.2.goes_on (line ∷ more_lines) (reply_text reply ++ text) (transcript_on By (ends_session line) line now next more_lines reply text goes answers is));
       },
     )
 
 -- nothing more is printed
-printed_end : (first now : SessionState) (typed left old new : Option (List ℕ)) → PrintedSoFar first now typed left old new
-    → ((rest : List ℕ) → left ≡ Some rest → Transcript now (input_lines rest) []) → IfSome typed (λ bytes. AppendsA (Transcript first (input_lines bytes)) old new)
-printed_end first now None left old new so_far ends = tt
-printed_end first now (Some bytes) left old new so_far ends = (
+printed_end : (By : Answering) (first now : SessionState) (typed left old new : Option (List ℕ)) → PrintedSoFar By first now typed left old new
+    → ((rest : List ℕ) → left ≡ Some rest → Transcript By now (input_lines rest) []) → IfSome typed (λ bytes. AppendsA (Transcript By first (input_lines bytes)) old new)
+printed_end By first now None left old new so_far ends = tt
+printed_end By first now (Some bytes) left old new so_far ends = (
   so_far.2.said,
-  transcript_along first (so_far.2.answered ++ input_lines so_far.0) (input_lines bytes) (so_far.2.said ++ []) so_far.2.said (sym so_far.2.are_lines) (append-nil so_far.2.said)
+  transcript_along By first (so_far.2.answered ++ input_lines so_far.0) (input_lines bytes) (so_far.2.said ++ []) so_far.2.said (sym so_far.2.are_lines) (append-nil so_far.2.said)
       (so_far.2.goes_on (input_lines so_far.0) [] (ends so_far.0 so_far.1)),
   so_far.2.grown,
 )
 
-pub printed_all : (first now : SessionState) (typed left after old new : Option (List ℕ)) → PrintedSoFar first now typed left old new → TakesLine left after None
-    → IfSome typed (λ bytes. AppendsA (Transcript first (input_lines bytes)) old new)
-printed_all first now typed None after old new so_far takes = printed_end first now typed None old new so_far (λ rest is. cc)
-printed_all first now typed (Some more) after old new so_far takes = printed_end first now typed (Some more) old new so_far
-    (λ rest is. let same : more ≡ rest = cc in subst (λ (ls : List (List ℕ)). Transcript now ls []) (sym (ap input_lines (sym same) ∙ takes)) refl)
+pub printed_all : (By : Answering) (first now : SessionState) (typed left after old new : Option (List ℕ)) → PrintedSoFar By first now typed left old new → TakesLine left after None
+    → IfSome typed (λ bytes. AppendsA (Transcript By first (input_lines bytes)) old new)
+printed_all By first now typed None after old new so_far takes = printed_end By first now typed None old new so_far (λ rest is. cc)
+printed_all By first now typed (Some more) after old new so_far takes = printed_end By first now typed (Some more) old new so_far
+    (λ rest is. let same : more ≡ rest = cc in subst (λ (ls : List (List ℕ)). Transcript By now ls []) (sym (ap input_lines (sym same) ∙ takes)) refl)
 
-pub printed_quit : (first now : SessionState) (typed left after old new : Option (List ℕ)) (line : List ℕ) → PrintedSoFar first now typed left old new
-    → TakesLine left after (Some line) → ends_session line ≡ true → IfSome typed (λ bytes. AppendsA (Transcript first (input_lines bytes)) old new)
-printed_quit first now typed None after old new line so_far takes quits = printed_end first now typed None old new so_far (λ rest is. cc)
-printed_quit first now typed (Some more) after old new line so_far takes quits = printed_end first now typed (Some more) old new so_far
-    (λ rest is. let same : more ≡ rest = cc in subst (λ (ls : List (List ℕ)). Transcript now ls []) (sym (ap input_lines (sym same) ∙ takes.1))
+pub printed_quit : (By : Answering) (first now : SessionState) (typed left after old new : Option (List ℕ)) (line : List ℕ) → PrintedSoFar By first now typed left old new
+    → TakesLine left after (Some line) → ends_session line ≡ true → IfSome typed (λ bytes. AppendsA (Transcript By first (input_lines bytes)) old new)
+printed_quit By first now typed None after old new line so_far takes quits = printed_end By first now typed None old new so_far (λ rest is. cc)
+printed_quit By first now typed (Some more) after old new line so_far takes quits = printed_end By first now typed (Some more) old new so_far
+    (λ rest is. let same : more ≡ rest = cc in subst (λ (ls : List (List ℕ)). Transcript By now ls []) (sym (ap input_lines (sym same) ∙ takes.1))
     (transcript_quit (ends_session line) [] _ quits refl))
 
 -- where the session is refused it has printed its replies to the lines that it has answered
-pub printed_cut : (first now : SessionState) (typed left old new : Option (List ℕ)) → PrintedSoFar first now typed left old new
-    → IfSome typed (λ bytes. AppendsA (BeginsTranscript first (input_lines bytes)) old new)
-printed_cut first now None left old new so_far = tt
-printed_cut first now (Some bytes) left old new so_far = (
+pub printed_cut : (By : Answering) (first now : SessionState) (typed left old new : Option (List ℕ)) → PrintedSoFar By first now typed left old new
+    → IfSome typed (λ bytes. AppendsA (BeginsTranscript By first (input_lines bytes)) old new)
+printed_cut By first now None left old new so_far = tt
+printed_cut By first now (Some bytes) left old new so_far = (
   so_far.2.said,
   record {
     answered = so_far.2.answered;
     left = input_lines so_far.0;
     are_lines = so_far.2.are_lines;
-    prints = transcript_along first (so_far.2.answered ++ []) so_far.2.answered (so_far.2.said ++ []) so_far.2.said (append-nil so_far.2.answered) (append-nil so_far.2.said)
+    prints = transcript_along By first (so_far.2.answered ++ []) so_far.2.answered (so_far.2.said ++ []) so_far.2.said (append-nil so_far.2.answered) (append-nil so_far.2.said)
         (so_far.2.goes_on [] [] refl);
   },
   so_far.2.grown,
@@ -235,16 +235,17 @@ cut_where (Ok value) Is is = tt
 cut_where (Err Failed) Is is = tt
 cut_where (Err (Refused fault)) Is is = is
 
--- a line that is UTF-8 is the command that its text is, and one that isn't is none
-pub typed_text : (line : List ℕ) → IsUtf8 line → typed_command line ≡ command_of line
-typed_text line good = rw (is_utf8-from_IsUtf8 line good) refl
+-- a line that is UTF-8 is answered as its text, and one that isn't is no command
+pub typed_text : (By : Answering) (line : List ℕ) (old new : SessionState) (result : Result Answer DebugFault) → IsUtf8 line → By line old result new
+    → AnswersTyped By line old result new
+typed_text By line old new result good answers = rw (is_utf8-from_IsUtf8 line good) answers
 
 not_text : (line : List ℕ) (good : Bool) → is_utf8 line ≡ good → ¬ (IsUtf8 line) → good ≡ false
 not_text line true is bad = absurd (bad (IsUtf8-from_is_utf8 line is))
 not_text line false is bad = refl
 
-pub typed_bytes : (line : List ℕ) → ¬ (IsUtf8 line) → typed_command line ≡ None
-typed_bytes line bad = rw (not_text line (is_utf8 line) refl bad) refl
+pub typed_bytes : (By : Answering) (line : List ℕ) (old : SessionState) → ¬ (IsUtf8 line) → AnswersTyped By line old (Err BadCommand) old
+typed_bytes By line old bad = rw (not_text line (is_utf8 line) refl bad) (refl, refl)
 
 pub ends_text : (line : List ℕ) → IsUtf8 line → ends_session line ≡ is_quit line
 ends_text line good = rw (is_utf8-from_IsUtf8 line good) refl

@@ -8,7 +8,7 @@ use Rattle.pcboard_texts.specs.declared.unanswered.Unanswered.TheVariants.{Faile
 use Rattle.pcboard_texts.specs.Answer.{AppendsA, IsBoardOf, IsReport, IsSession, run_text_of, source_of}
 use Rattle.debugger_meaning.specs.Stands.{session_about}
 use Rattle.pcboard_texts.specs.Refusal.{BeginsSession, BeginsTranscript}
-use Rattle.pcboard_texts.specs.Transcript.{input_lines, Transcript}
+use Rattle.pcboard_texts.specs.Transcript.{Answering, Transcript, input_lines}
 use Rattle.pcboard_texts.specs.Unanswered.{WhereRefused}
 
 -- a printed report of two files is the answer to `run`
@@ -27,38 +27,38 @@ printed_stored None old new text report prints = tt
 printed_stored (Some all) old new text report prints = (text, report, prints)
 
 -- what a session about the board of two files prints is the answer to `debug`
-pub printed_session : (file said input old new : Option (List ℕ)) (hex : Bool) (board : BoardState)
+pub printed_session : (By : Answering) (file said input old new : Option (List ℕ)) (hex : Bool) (board : BoardState)
     → IfSome file (λ bytes. IfSome said (λ run. IsBoardOf hex bytes run board))
-    → IfSome input (λ typed. AppendsA (Transcript (session_about board) (input_lines typed)) old new)
-    → IfSome file (λ bytes. IfSome said (λ run. IfSome input (λ typed. AppendsA (IsSession hex bytes run typed) old new)))
-printed_session None said input old new hex board is_board adds = tt
-printed_session (Some bytes) None input old new hex board is_board adds = tt
-printed_session (Some bytes) (Some run) None old new hex board is_board adds = tt
-printed_session (Some bytes) (Some run) (Some typed) old new hex board is_board adds =
+    → IfSome input (λ typed. AppendsA (Transcript By (session_about board) (input_lines typed)) old new)
+    → IfSome file (λ bytes. IfSome said (λ run. IfSome input (λ typed. AppendsA (IsSession By hex bytes run typed) old new)))
+printed_session By None said input old new hex board is_board adds = tt
+printed_session By (Some bytes) None input old new hex board is_board adds = tt
+printed_session By (Some bytes) (Some run) None old new hex board is_board adds = tt
+printed_session By (Some bytes) (Some run) (Some typed) old new hex board is_board adds =
     (adds.0, record { board = board; is_board = is_board; prints = adds.1 }, adds.2)
 
 -- so far as such a session goes, it is the beginning of that answer
 
-begun : (hex : Bool) (bytes run typed text : List ℕ) (board : BoardState) → IsBoardOf hex bytes run board → BeginsTranscript (session_about board) (input_lines typed) text → BeginsSession hex bytes run typed text
-begun hex bytes run typed text board is_board begins =
+begun : (By : Answering) (hex : Bool) (bytes run typed text : List ℕ) (board : BoardState) → IsBoardOf hex bytes run board → BeginsTranscript By (session_about board) (input_lines typed) text → BeginsSession By hex bytes run typed text
+begun By hex bytes run typed text board is_board begins =
     record { board = board; is_board = is_board; begins = begins }
 
-replies : (file said input old new : Option (List ℕ)) (hex : Bool) (board : BoardState)
+replies : (By : Answering) (file said input old new : Option (List ℕ)) (hex : Bool) (board : BoardState)
     → IfSome file (λ bytes. IfSome said (λ run. IsBoardOf hex bytes run board))
-    → IfSome input (λ typed. AppendsA (BeginsTranscript (session_about board) (input_lines typed)) old new)
-    → IfSome file (λ bytes. IfSome said (λ run. IfSome input (λ typed. AppendsA (BeginsSession hex bytes run typed) old new)))
-replies None said input old new hex board is_board adds = tt
-replies (Some bytes) None input old new hex board is_board adds = tt
-replies (Some bytes) (Some run) None old new hex board is_board adds = tt
-replies (Some bytes) (Some run) (Some typed) old new hex board is_board adds =
-    (adds.0, begun hex bytes run typed adds.0 board is_board adds.1, adds.2)
+    → IfSome input (λ typed. AppendsA (BeginsTranscript By (session_about board) (input_lines typed)) old new)
+    → IfSome file (λ bytes. IfSome said (λ run. IfSome input (λ typed. AppendsA (BeginsSession By hex bytes run typed) old new)))
+replies By None said input old new hex board is_board adds = tt
+replies By (Some bytes) None input old new hex board is_board adds = tt
+replies By (Some bytes) (Some run) None old new hex board is_board adds = tt
+replies By (Some bytes) (Some run) (Some typed) old new hex board is_board adds =
+    (adds.0, begun By hex bytes run typed adds.0 board is_board adds.1, adds.2)
 
-pub replies_withheld : {T : Type 0} (result : Result T Unanswered) (file said input old new : Option (List ℕ)) (hex : Bool) (board : BoardState)
+pub replies_withheld : {T : Type 0} (By : Answering) (result : Result T Unanswered) (file said input old new : Option (List ℕ)) (hex : Bool) (board : BoardState)
     → IfSome file (λ bytes. IfSome said (λ run. IsBoardOf hex bytes run board))
-    → IfErr result (WhereRefused (new ≡ old ⊎ IfSome input (λ typed. AppendsA (BeginsTranscript (session_about board) (input_lines typed)) old new)))
-    → IfErr result (WhereRefused (new ≡ old ⊎ IfSome file (λ bytes. IfSome said (λ run. IfSome input (λ typed. AppendsA (BeginsSession hex bytes run typed) old new)))))
-replies_withheld (Ok done) file said input old new hex board is_board cut = cut
-replies_withheld (Err Failed) file said input old new hex board is_board cut = cut
-replies_withheld (Err (Refused fault)) file said input old new hex board is_board (inl same) = inl same
-replies_withheld (Err (Refused fault)) file said input old new hex board is_board (inr adds) =
-    inr (replies file said input old new hex board is_board adds)
+    → IfErr result (WhereRefused (new ≡ old ⊎ IfSome input (λ typed. AppendsA (BeginsTranscript By (session_about board) (input_lines typed)) old new)))
+    → IfErr result (WhereRefused (new ≡ old ⊎ IfSome file (λ bytes. IfSome said (λ run. IfSome input (λ typed. AppendsA (BeginsSession By hex bytes run typed) old new)))))
+replies_withheld By (Ok done) file said input old new hex board is_board cut = cut
+replies_withheld By (Err Failed) file said input old new hex board is_board cut = cut
+replies_withheld By (Err (Refused fault)) file said input old new hex board is_board (inl same) = inl same
+replies_withheld By (Err (Refused fault)) file said input old new hex board is_board (inr adds) =
+    inr (replies By file said input old new hex board is_board adds)

@@ -1,6 +1,6 @@
 -- What the program prints.
 -- To be believed: the headline rests on it.
-use Rattle.std.specs.Prelude.{ℕ, ◌≡◌, ◌+◌, ◌==◌, Bool, true, false, List, [], ◌∷◌, ◌++◌, take, drop, Option, None, Some, IfSome, Ok, Err, position}
+use Rattle.std.specs.Prelude.{ℕ, ◌≡◌, ◌+◌, ◌==◌, Bool, true, false, List, [], ◌∷◌, ◌++◌, take, drop, Option, None, Some, IfSome, Result, Ok, Err, position}
 use Rattle.std.specs.Io.KnownBytes.{Appends}
 use Rattle.board_types.specs.TextLines.{text_lines}
 use Rattle.assembler.specs.Rows.{Row, names_of}
@@ -11,6 +11,7 @@ use Rattle.board_plain.specs.Board.{BoardState}
 use Rattle.board_plain.specs.Plain.{power_on}
 use Rattle.debugger_meaning.specs.Stands.{session_about}
 use Rattle.pcboard_words.specs.CommandLine.{Answers as AnswersWords}
+use Rattle.pcboard_words.specs.declared.task.LineFault.{LineFault}
 use Rattle.pcboard_words.specs.declared.task.Task.{Task}
 use Rattle.pcboard_words.specs.declared.task.Task.TheVariants as tasks
 use Rattle.loader.specs.HexText.{hex_text}
@@ -20,7 +21,7 @@ use Rattle.loader.specs.RunFile.{Answers, run_of_text}
 use Rattle.pcboard_texts.specs.declared.fault.Fault.{Fault}
 use Rattle.pcboard_texts.specs.declared.fault.Fault.TheVariants.{Source, Hex, Run, Board, Session}
 use Rattle.pcboard_texts.specs.Report.{config_of, report_of}
-use Rattle.pcboard_texts.specs.Transcript.{Transcript, input_lines}
+use Rattle.pcboard_texts.specs.Transcript.{Answering, AnswersCommand, Transcript, input_lines}
 use Rattle.pcboard_texts.specs.Faults.{IsTrueOfBoard}
 
 -- the first line of a stored run, and what follows it
@@ -66,10 +67,10 @@ pub record IsBoardOf (hex : Bool) (bytes run : List ℕ) (board : BoardState) : 
   pub trail : board.trail ≡ []
 
 -- the bytes and the run file's text give a board, and this is what a session about it prints on the typed bytes
-pub record IsSession (hex : Bool) (bytes run typed text : List ℕ) : Type 0 where
+pub record IsSession (By : Answering) (hex : Bool) (bytes run typed text : List ℕ) : Type 0 where
   pub board : BoardState
   pub is_board : IsBoardOf hex bytes run board
-  pub prints : Transcript (session_about board) (input_lines typed) text
+  pub prints : Transcript By (session_about board) (input_lines typed) text
 
 -- the source gives an image, and this is its HEX text
 pub record IsHexOf (source text : List ℕ) : Type 0 where
@@ -98,21 +99,32 @@ abbrev pub AppendsA : (List ℕ → Type 0) → Option (List ℕ) → Option (Li
 AppendsA Is old new = (text : List ℕ) × Is text × Appends old new text
 
 -- what a task's answer adds to the bytes that `out` holds, where the files and the input that it reads are known
-abbrev pub PrintsTask : Task → (List ℕ → Option (List ℕ)) → Option (List ℕ) → Option (List ℕ) → Option (List ℕ) → Type 0
-PrintsTask tasks.Stored files input old new =
+abbrev pub PrintsTask : Answering → Task → (List ℕ → Option (List ℕ)) → Option (List ℕ) → Option (List ℕ)
+    → Option (List ℕ) → Type 0
+PrintsTask By tasks.Stored files input old new =
     IfSome input (λ text. AppendsA (IsReport false (source_of text) (run_text_of text)) old new)
-PrintsTask (tasks.Asm file list) files input old new =
+PrintsTask By (tasks.Asm file list) files input old new =
     IfSome (files file.now) (λ source. AppendsA (IsAssembled list source) old new)
-PrintsTask (tasks.Run file run hex) files input old new =
+PrintsTask By (tasks.Run file run hex) files input old new =
     IfSome (files file.now) (λ bytes. IfSome (files run.now) (λ said. AppendsA (IsReport hex bytes said) old new))
-PrintsTask (tasks.Debug file run hex) files input old new =
+PrintsTask By (tasks.Debug file run hex) files input old new =
     IfSome (files file.now) (λ bytes. IfSome (files run.now)
-    (λ said. IfSome input (λ typed. AppendsA (IsSession hex bytes said typed) old new)))
+    (λ said. IfSome input (λ typed. AppendsA (IsSession By hex bytes said typed) old new)))
 
--- the words name a task, and its answer is added
+-- how words are read: as a task, or as why they name none
+abbrev pub Reading : Type 1
+Reading = List (List ℕ) → Result Task LineFault → Type 0
+
+-- The words name a task, and its answer is added: for a program that reads words and answers lines in these ways.
+abbrev pub PrintsFor : Reading → Answering → List (List ℕ) → (List ℕ → Option (List ℕ)) → Option (List ℕ)
+    → Option (List ℕ) → Option (List ℕ) → Type 0
+PrintsFor Reads By words files input old new =
+    (task : Task) × Reads words (Ok task) × PrintsTask By task files input old new
+
+-- for `pcboard`
 abbrev pub Prints : List (List ℕ) → (List ℕ → Option (List ℕ)) → Option (List ℕ) → Option (List ℕ) → Option (List ℕ)
     → Type 0
-Prints words files input old new = (task : Task) × AnswersWords words (Ok task) × PrintsTask task files input old new
+Prints = PrintsFor AnswersWords AnswersCommand
 
 -- A refusal is true: the first fault of the source or HEX text; or the run file's, where an image was given; or the
 -- board's, of what image and run file say.

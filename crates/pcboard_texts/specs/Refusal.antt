@@ -10,6 +10,7 @@ use Rattle.board_plain.specs.Board.{BoardState}
 use Rattle.board_plain.specs.declared.fault.BoardFault.TheVariants as boards
 use Rattle.debugger_meaning.specs.declared.fault.DebugFault.TheVariants as sessions
 use Rattle.pcboard_words.specs.CommandLine.{Answers as AnswersWords}
+use Rattle.pcboard_words.specs.Files.{hex_of}
 use Rattle.pcboard_words.specs.declared.task.LineFault.{LineFault}
 use Rattle.pcboard_words.specs.declared.task.LineFault.TheVariants.{Usage, Memory}
 use Rattle.pcboard_words.specs.declared.task.Task.{Task}
@@ -18,8 +19,8 @@ use Rattle.pcboard_texts.specs.declared.fault.Fault.{Fault}
 use Rattle.pcboard_texts.specs.declared.fault.Fault.TheVariants.{Source, Hex, Run, Board, Session}
 use Rattle.pcboard_texts.specs.Faults.{fault_text}
 use Rattle.debugger_meaning.specs.Stands.{SessionState, session_about}
-use Rattle.pcboard_texts.specs.Answer.{AppendsA, IsBoardOf, IsTrueRefusal, run_text_of, source_of}
-use Rattle.pcboard_texts.specs.Transcript.{Transcript, input_lines}
+use Rattle.pcboard_texts.specs.Answer.{AppendsA, IsBoardOf, IsTrueRefusal, Reading, run_text_of, source_of}
+use Rattle.pcboard_texts.specs.Transcript.{Answering, AnswersCommand, Transcript, input_lines}
 
 -- the want of memory for a program's bytes: fault 27 of a HEX text, if `hex`, else 13 of a source
 abbrev pub want_of_file : Bool → Fault
@@ -70,29 +71,19 @@ IsTrueOfTask (tasks.Run file run hex) files input fault = IsTrueOfFiles hex (fil
 IsTrueOfTask (tasks.Debug file run hex) files input fault = IsTrueOfFiles hex (files file.now) (files run.now) fault
 
 -- The refusal is the want of memory for the words; or these name a task, and it is a want of memory of that, or true of
--- it.
-abbrev pub IsTrueOfWords : List (List ℕ) → (List ℕ → Option (List ℕ)) → Option (List ℕ) → Fault → Type 0
-IsTrueOfWords words files input fault =
+-- it: for a program that reads words in this way.
+abbrev pub IsTrueOfWordsFor : Reading → List (List ℕ) → (List ℕ → Option (List ℕ)) → Option (List ℕ) → Fault → Type 0
+IsTrueOfWordsFor Reads words files input fault =
     (fault ≡ want_of_board)
-    ⊎ ((task : Task) × AnswersWords words (Ok task) × (IsWantOfTask task fault ⊎ IsTrueOfTask task files input fault))
+    ⊎ ((task : Task) × Reads words (Ok task) × (IsWantOfTask task fault ⊎ IsTrueOfTask task files input fault))
+
+-- for `pcboard`
+abbrev pub IsTrueOfWords : List (List ℕ) → (List ℕ → Option (List ℕ)) → Option (List ℕ) → Fault → Type 0
+IsTrueOfWords = IsTrueOfWordsFor AnswersWords
 
 -- the known bytes grow by the line of such a refusal
 abbrev pub TellsA : (Fault → Type 0) → Option (List ℕ) → Option (List ℕ) → Type 0
 TellsA Is old new = (fault : Fault) × Is fault × Appends old new (fault_text fault)
-
--- a file that a task reads is one of those that can't be opened
-abbrev pub LacksFile : Task → (List ℕ → Type 0) → Type 0
-LacksFile tasks.Stored Lacks = ⊥
-LacksFile (tasks.Asm file list) Lacks = Lacks file.now
-LacksFile (tasks.Run file run hex) Lacks = Lacks file.now ⊎ Lacks run.now
-LacksFile (tasks.Debug file run hex) Lacks = Lacks file.now ⊎ Lacks run.now
-
--- whether a task's program is a HEX text
-abbrev pub hex_of : Task → Bool
-hex_of tasks.Stored = false
-hex_of (tasks.Asm file list) = false
-hex_of (tasks.Run file run hex) = hex
-hex_of (tasks.Debug file run hex) = hex
 
 -- The program ends before anything is judged: with status 3; or with 1, and tells the want of memory for the words or for
 -- the task's program.
@@ -102,44 +93,54 @@ EndsUnjudged task status old new =
     ⊎ ((status ≡ 1) × TellsA (λ fault. (fault ≡ want_of_board) ⊎ (fault ≡ want_of_file (hex_of task))) old new)
 
 -- what a session prints on the first ones of these lines, on none or on all
-pub record BeginsTranscript (session : SessionState) (lines : List (List ℕ)) (text : List ℕ) : Type 0 where
+pub record BeginsTranscript (By : Answering) (session : SessionState) (lines : List (List ℕ)) (text : List ℕ) : Type 0 where
   pub answered : List (List ℕ)
   pub left : List (List ℕ)
   pub are_lines : lines ≡ answered ++ left
-  pub prints : Transcript session answered text
+  pub prints : Transcript By session answered text
 
 -- the bytes and the run file's text give a board, and this is what a session about it prints on the first ones of the
 -- typed lines
-pub record BeginsSession (hex : Bool) (bytes run typed text : List ℕ) : Type 0 where
+pub record BeginsSession (By : Answering) (hex : Bool) (bytes run typed text : List ℕ) : Type 0 where
   pub board : BoardState
   pub is_board : IsBoardOf hex bytes run board
-  pub begins : BeginsTranscript (session_about board) (input_lines typed) text
+  pub begins : BeginsTranscript By (session_about board) (input_lines typed) text
 
 -- a session's task adds replies up to where it is refused, where the files and the input that it reads are known; no
 -- other task does
-abbrev pub PrintsReplies : Task → (List ℕ → Option (List ℕ)) → Option (List ℕ) → Option (List ℕ) → Option (List ℕ)
-    → Type 0
-PrintsReplies tasks.Stored files input old new = ⊥
-PrintsReplies (tasks.Asm file list) files input old new = ⊥
-PrintsReplies (tasks.Run file run hex) files input old new = ⊥
-PrintsReplies (tasks.Debug file run hex) files input old new =
+abbrev pub PrintsReplies : Answering → Task → (List ℕ → Option (List ℕ)) → Option (List ℕ) → Option (List ℕ)
+    → Option (List ℕ) → Type 0
+PrintsReplies By tasks.Stored files input old new = ⊥
+PrintsReplies By (tasks.Asm file list) files input old new = ⊥
+PrintsReplies By (tasks.Run file run hex) files input old new = ⊥
+PrintsReplies By (tasks.Debug file run hex) files input old new =
     IfSome (files file.now) (λ bytes. IfSome (files run.now)
-    (λ said. IfSome input (λ typed. AppendsA (BeginsSession hex bytes said typed) old new)))
+    (λ said. IfSome input (λ typed. AppendsA (BeginsSession By hex bytes said typed) old new)))
 
--- Nothing is printed beside a refusal, unless the words name a session, whose replies come as it goes.
+-- Nothing is printed beside a refusal, unless the words name a session, whose replies come as it goes: for a program that
+-- reads words and answers lines in these ways.
+abbrev pub PrintsNoAnswerFor : Reading → Answering → List (List ℕ) → (List ℕ → Option (List ℕ)) → Option (List ℕ)
+    → Option (List ℕ) → Option (List ℕ) → Type 0
+PrintsNoAnswerFor Reads By words files input old new =
+    (new ≡ old) ⊎ ((task : Task) × Reads words (Ok task) × PrintsReplies By task files input old new)
+
+-- for `pcboard`
 abbrev pub PrintsNoAnswer : List (List ℕ) → (List ℕ → Option (List ℕ)) → Option (List ℕ) → Option (List ℕ)
     → Option (List ℕ) → Type 0
-PrintsNoAnswer words files input old new =
-    (new ≡ old) ⊎ ((task : Task) × AnswersWords words (Ok task) × PrintsReplies task files input old new)
+PrintsNoAnswer = PrintsNoAnswerFor AnswersWords AnswersCommand
 
 -- the known bytes grow by the text of words that name no task
 abbrev pub TellsUsage : LineFault → Option (List ℕ) → Option (List ℕ) → Type 0
 TellsUsage (Usage text) old new = Appends old new (string_bytes text)
 TellsUsage Memory old new = ⊥
 
--- the words name no task, and the known bytes grow by the text that says so
+-- The words name no task, and the known bytes grow by the text that says so: for a program that reads words in this way.
+abbrev pub RefusesWordsFor : Reading → List (List ℕ) → Option (List ℕ) → Option (List ℕ) → Type 0
+RefusesWordsFor Reads words old new = (fault : LineFault) × Reads words (Err fault) × TellsUsage fault old new
+
+-- for `pcboard`
 abbrev pub RefusesWords : List (List ℕ) → Option (List ℕ) → Option (List ℕ) → Type 0
-RefusesWords words old new = (fault : LineFault) × AnswersWords words (Err fault) × TellsUsage fault old new
+RefusesWords = RefusesWordsFor AnswersWords
 
 -- the text of words that can't be read as text
 abbrev pub unreadable_text : List ℕ

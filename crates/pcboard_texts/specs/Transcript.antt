@@ -5,8 +5,8 @@ use Rattle.std.specs.Fmt.{decimal}
 use Rattle.std.specs.Str.{is_utf8}
 use Rattle.board_types.specs.TextLines.{onto_first}
 use Rattle.debugger_meaning.specs.declared.answer.Answer.{Answer}
-use Rattle.debugger_meaning.specs.declared.command.Command.{Command}
 use Rattle.debugger_meaning.specs.declared.fault.DebugFault.{DebugFault}
+use Rattle.debugger_meaning.specs.declared.fault.DebugFault.TheVariants.{BadCommand}
 use Rattle.debugger_meaning.specs.Answers.{answer_text, fault_clock, fault_name, fault_number}
 use Rattle.debugger_meaning.specs.Commands.{command_of, is_quit}
 use Rattle.debugger_meaning.specs.Session.{AnswersLine}
@@ -18,9 +18,18 @@ abbrev pub input_lines : List ℕ → List (List ℕ)
 input_lines [] = []
 input_lines (b ∷ bs) = if b == 10 then [] ∷ input_lines bs else onto_first b (input_lines bs)
 
--- the command that a line is; one that isn't UTF-8 is none
-abbrev pub typed_command : List ℕ → Option Command
-typed_command line = if is_utf8 line then command_of line else None
+-- how a session answers a line of text: the line, the session before it, the answer or refusal, the session after it
+abbrev pub Answering : Type 1
+Answering = List ℕ → SessionState → Result Answer DebugFault → SessionState → Type 0
+
+-- as the debugger does: by the command that the line is
+abbrev pub AnswersCommand : Answering
+AnswersCommand line old result new = AnswersLine (command_of line) old result new
+
+-- how a session answers a line that is typed: by its text; one that isn't UTF-8 is no command
+abbrev pub AnswersTyped : Answering → Answering
+AnswersTyped By line old result new =
+    MatchBool (is_utf8 line) (By line old result new) ((result ≡ Err BadCommand) × (new ≡ old))
 
 -- the line is the word `quit`
 abbrev pub ends_session : List ℕ → Bool
@@ -43,17 +52,18 @@ reply_text (Ok answer) = answer_text answer
 reply_text (Err fault) = refusal_text fault
 
 -- A session replies to a line. Behind the reply stands what follows from its state after the line.
-pub record Replies (line : List ℕ) (old : SessionState) (Follows : SessionState → List ℕ → Type 0)
+pub record Replies (By : Answering) (line : List ℕ) (old : SessionState) (Follows : SessionState → List ℕ → Type 0)
     (text : List ℕ) : Type 0 where
   pub reply : Result Answer DebugFault
   pub new : SessionState
   pub rest : List ℕ
-  pub answers : AnswersLine (typed_command line) old reply new
+  pub answers : AnswersTyped By line old reply new
   pub follows : Follows new rest
   pub is_text : text ≡ reply_text reply ++ rest
 
 -- what a session prints on these lines: the replies, up to that to the last line or to the one before the first `quit`
-abbrev pub Transcript : SessionState → List (List ℕ) → List ℕ → Type 0
-Transcript session [] text = text ≡ []
-Transcript session (line ∷ lines) text =
-    MatchBool (ends_session line) (text ≡ []) (Replies line session (λ next rest. Transcript next lines rest) text)
+abbrev pub Transcript : Answering → SessionState → List (List ℕ) → List ℕ → Type 0
+Transcript By session [] text = text ≡ []
+Transcript By session (line ∷ lines) text =
+    MatchBool (ends_session line) (text ≡ [])
+    (Replies By line session (λ next rest. Transcript By next lines rest) text)

@@ -8,6 +8,7 @@ pub mod fault;
 pub mod input;
 mod listing;
 pub mod opener;
+pub mod system;
 pub mod telling;
 pub mod texts;
 pub mod unanswered;

@@ -2,7 +2,8 @@
 -- To be believed by callers of this crate: the headline does not rest on it.
 use Rattle.std.specs.Prelude.{◌≡◌, ◌≢◌, List, [], codes, Bool, true, false, Result, Ok, Err}
 use Rattle.clap.specs.Words.{App, Row, Text, fault_of, matches_of, takes}
-use Rattle.pcboard_words.specs.declared.task.ProbeTask.{ProbeTask}
+use Rattle.pcboard_words.specs.declared.task.Task.{Task}
+use Rattle.pcboard_words.specs.declared.task.Task.TheVariants.{Stored, Asm, Run, Debug}
 use Rattle.pcboard_words.specs.declared.task.LineFault.{LineFault}
 use Rattle.pcboard_words.specs.declared.task.LineFault.TheVariants.{Usage, Memory}
 use Rattle.pcboard_words.specs.CommandLine.{HasText, board_command, is_given, is_there}
@@ -18,15 +19,17 @@ probe_app = without_own_name (board_command (codes "pcprobe"))
 abbrev pub HoldsFiles : List Row → Type 0
 HoldsFiles rows = (is_there (codes "FILE") rows ≡ true) × (is_there (codes "RUN") rows ≡ true)
 
--- the task has these files, and `--hex` or not
-abbrev pub HasFiles : List Row → ProbeTask → Type 0
-HasFiles rows task =
-    HasText (codes "FILE") rows task.file.now × HasText (codes "RUN") rows task.run.now
-    × (task.hex ≡ is_given (codes "hex") rows)
+-- the task is a session's, with these files, and with `--hex` or without
+abbrev pub IsSessionOf : List Row → Task → Type 0
+IsSessionOf rows Stored = ⊥
+IsSessionOf rows (Asm file list) = ⊥
+IsSessionOf rows (Run file run hex) = ⊥
+IsSessionOf rows (Debug file run hex) =
+    HasText (codes "FILE") rows file.now × HasText (codes "RUN") rows run.now × (hex ≡ is_given (codes "hex") rows)
 
 -- A task is given only where `clap` finds no fault in the words, and is the one that its matches hold;
 -- a refusal as usage only where it finds one.
-unfoldable pub AnswersProbe : List Text → Result ProbeTask LineFault → Type 0
-AnswersProbe words (Ok task) = (fault_of probe_app words ≡ []) × HasFiles (matches_of probe_app words) task
+unfoldable pub AnswersProbe : List Text → Result Task LineFault → Type 0
+AnswersProbe words (Ok task) = (fault_of probe_app words ≡ []) × IsSessionOf (matches_of probe_app words) task
 AnswersProbe words (Err (Usage text)) = (fault_of probe_app words ≢ []) × (takes probe_app words ≡ false)
 AnswersProbe words (Err Memory) = Unit {0}

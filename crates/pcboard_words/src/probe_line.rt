@@ -2,17 +2,17 @@
 ghost use Rattle.std.specs.Prelude.{◌≡◌, IfOk, map, false};
 ghost use Rattle.clap.specs.Words.{app_of, found_of, rows_of};
 ghost use Rattle.pcboard_words.specs.CommandLine.{has_globals};
-ghost use Rattle.pcboard_words.specs.ProbeLine.{AnswersProbe, HasFiles, HoldsFiles, probe_app};
+ghost use Rattle.pcboard_words.specs.ProbeLine.{AnswersProbe, HoldsFiles, IsSessionOf, probe_app};
 
 use crate::line::{board_command, is_given, line_fault, text_in};
-use crate::task::{LineFault, ProbeTask};
+use crate::task::{LineFault, Task};
 use clap::{ArgMatches, Command};
 use std::alloc::{AllocError, Global};
 
-/// Reads the words after the name of `pcprobe`: `FILE RUN [--hex]`. Refused as `Usage` where `clap` refuses the words,
+/// Reads the words after the name of `pcprobe`, `FILE RUN [--hex]`, as the task of a session. Refused as `Usage` where `clap` refuses the words,
 /// with its text, and as `Memory` for want of memory.
 #[tactic(auto, unfolding(crate::specs::ProbeLine::AnswersProbe))]
-pub fn read_probe_words<'a>(alloc: Global, words: &'a [&'a str]) -> Result<ProbeTask<'a>, LineFault>
+pub fn read_probe_words<'a>(alloc: Global, words: &'a [&'a str]) -> Result<Task<'a>, LineFault>
     ensures { AnswersProbe (map (λ word. word.now) words.entry.now) result }
 {
     let command = match probe_command(alloc) {
@@ -46,11 +46,11 @@ fn probe_command<'a>(alloc: Global) -> Result<Command<'a>, AllocError>
 }
 
 // The task that the matches hold.
-fn probe_task<'a>(matches: &ArgMatches<'a>) -> ProbeTask<'a>
+fn probe_task<'a>(matches: &ArgMatches<'a>) -> Task<'a>
     requires { HoldsFiles (rows_of (found_of matches.now)) }
-    ensures { HasFiles (rows_of (found_of matches.now)) result }
+    ensures { IsSessionOf (rows_of (found_of matches.now)) result }
 {
-    ProbeTask {
+    Task::Debug {
         file: text_in(matches, "FILE"),
         run: text_in(matches, "RUN"),
         hex: is_given(matches, "hex"),

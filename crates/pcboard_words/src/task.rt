@@ -26,15 +26,6 @@ pub enum Task<'a> {
     },
 }
 
-/// The task of `pcprobe`: it answers the commands and inquiries on standard input about the board of `file`, a HEX text if
-/// `hex`, else a source, that the run file `run` describes.
-#[derive(Clone, Copy, Debug, PartialEq, Eq)]
-pub struct ProbeTask<'a> {
-    pub file: &'a str,
-    pub run: &'a str,
-    pub hex: bool,
-}
-
 /// Why the words name no task.
 #[derive(Debug, Drop)]
 pub enum LineFault {

@@ -1,6 +1,6 @@
 use Rattle.std.proofs.Common.{ap, subst, sym, ◌≡◌, ◌∙◌, map, List, []}
 use Rattle.clap.specs.Words.{App, Row, Text, app_of, HasKind, fault_of, found_of, is_simple, is_simple_and_free, matches_of, rows_of, takes}
-use Rattle.pcboard_words.specs.ProbeLine.{AnswersProbe, HasFiles, probe_app}
+use Rattle.pcboard_words.specs.ProbeLine.{AnswersProbe, IsSessionOf, probe_app}
 use Rattle.pcboard_words.proofs.ProbeMatches.{files_there, probe_refused}
 use Rattle.pcboard_words.proofs.probe_line.read_probe_words.Goals as goal
 
@@ -23,7 +23,7 @@ returns-in-Ok-try_get_matches_from c =
     (c.in-Ok-try_get_matches_from.ensures.matches (ap is_simple command)).0 ∙ ap (λ (a : App). matches_of a words) command in
     let passed : fault_of probe_app words ≡ [] =
     ap (λ (a : App). fault_of a words) (sym command) ∙ c.in-Ok-try_get_matches_from.ensures.kinds (ap is_simple_and_free command) in
-    (passed, subst (λ (rows : List Row). HasFiles rows c.probe_task-task.result) held c.probe_task-task.ensures)
+    (passed, subst (λ (rows : List Row). IsSessionOf rows c.probe_task-task.result) held c.probe_task-task.ensures)
 
 pub returns-in-Err-try_get_matches_from : goal.returns-in-Err-try_get_matches_from
 returns-in-Err-try_get_matches_from c =

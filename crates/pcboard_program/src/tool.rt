@@ -1,0 +1,56 @@
+//! A program as a tool: what words it takes, and what it answers to a line that is typed.
+ghost use Rattle.std.specs.Prelude.{map, ℕ, List, Result, Ok};
+ghost use Rattle.pcboard_words.specs.CommandLine.{Answers as AnswersWords};
+ghost use Rattle.pcboard_words.specs.Files.{IsReadAs};
+ghost use Rattle.pcboard_words.specs.declared.task.LineFault.{LineFault as LineFaultType};
+ghost use Rattle.pcboard_words.specs.declared.task.Task.{Task as TaskType};
+ghost use Rattle.pcboard_words.proofs.Files.{one_task as one_task_of};
+ghost use Rattle.pcboard_texts.specs.Answer.{Reading};
+ghost use Rattle.pcboard_texts.specs.Transcript.{Answering, AnswersCommand};
+
+use debugger::session::Session;
+use debugger_meaning::answer::Answer;
+use debugger_meaning::fault::DebugFault;
+use pcboard_words::line::read_words;
+use pcboard_words::task::{LineFault, Task};
+use std::alloc::Global;
+
+/// What words a program takes, and what it answers to a line that is typed.
+pub trait Tool {
+    // How the words are read.
+    ghost reads: { Reading };
+
+    // How a session answers a line.
+    ghost answers: { Answering };
+
+    /// Reads the words after the program's name.
+    fn read<'a>(alloc: Global, words: &'a [&'a str]) -> Result<Task<'a>, LineFault>
+        ensures { reads (map (λ word. word.now) words.entry.now) result };
+
+    /// Answers a line, or says why it is refused.
+    fn answer(alloc: Global, session: &mut Session, line: &str) -> Result<Answer, DebugFault>
+        ensures { answers line.now session.old result session.new };
+
+    // Words name one task.
+    ghost one_task: { (words : List (List ℕ)) (task : TaskType) (read : Result TaskType LineFaultType)
+        → reads words (Ok task) → reads words read → IsReadAs task read };
+}
+
+/// The program `pcboard`, whose sessions answer the debugger's commands.
+pub struct Pcboard;
+
+impl Tool for Pcboard {
+    ghost reads = { AnswersWords };
+
+    ghost answers = { AnswersCommand };
+
+    ghost one_task = { one_task_of };
+
+    fn read<'a>(alloc: Global, words: &'a [&'a str]) -> Result<Task<'a>, LineFault> {
+        read_words(alloc, words)
+    }
+
+    fn answer(alloc: Global, session: &mut Session, line: &str) -> Result<Answer, DebugFault> {
+        session.command(alloc, line)
+    }
+}

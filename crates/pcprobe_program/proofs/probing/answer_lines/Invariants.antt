@@ -1,9 +1,0 @@
-use Rattle.loader.specs.ByteInput.{CountsNone}
-use Rattle.pcprobe_program.proofs.Printing.{PrintedSoFar}
-use Rattle.pcprobe_program.proofs.probing.answer_lines.Given as goal
-
-abbrev pub invariant-lines : goal.invariant-lines
-invariant-lines g l =
-    PrintedSoFar l.initial.session l.session (g.I.ByteInput.remaining l.initial.input) (g.I.ByteInput.remaining l.input)
-    (g.O.Write.contents l.initial.out) (g.O.Write.contents l.out)
-    × CountsNone (g.I.ByteInput.failures l.initial.input) (g.I.ByteInput.failures l.input)
