@@ -1,5 +1,5 @@
 ; Flags, one instruction at a time: to be stepped through with the debugger.
-SEGMENT MAIN AT 0F000h
+SEGMENT MAIN AT 0F600h
 start:  MOV AL,7Fh
         ADD AL,1                ; 80h: no carry, but past the greatest signed byte: OF, SF, AF
         ADD AL,80h              ; 00h with a carry: CF, ZF, PF, and OF again

@@ -1,6 +1,12 @@
 ; The keyboard through the interrupt controller: echoes stamped keys on the screen.
-SEGMENT MAIN AT 0F000h
-start:  MOV AL,13h              ; 8259A: edges, no slaves, ICW4 comes
+SEGMENT MAIN AT 0F600h
+start:  MOV AX,0
+        MOV SS,AX
+        MOV SP,AX               ; the stack grows down from the end of segment 0
+        MOV DS,AX
+        MOV WORD [24h],key      ; the vector of interrupt 9, at 4 times 9: offset
+        MOV [26h],CS            ; and segment
+        MOV AL,13h              ; 8259A: edges, no slaves, ICW4 comes
         OUT 20h,AL
         MOV AL,8                ; IR0 is interrupt 8, and so IR1 is interrupt 9
         OUT 21h,AL
@@ -8,15 +14,25 @@ start:  MOV AL,13h              ; 8259A: edges, no slaves, ICW4 comes
         OUT 21h,AL
         MOV AL,0FDh             ; all masked but IR1, the keyboard
         OUT 21h,AL
+        MOV DX,3B8h             ; the text card: bit 0 first, then its MC6845, then the video
+        MOV AL,1
+        OUT DX,AL
+        MOV DX,3B4h
+        MOV BX,15
+card:   MOV AL,BL               ; the register's number goes to 3B4h
+        MOV AH,CS:[BX+mc6845]   ; and its value to 3B5h
+        OUT DX,AX
+        DEC BX
+        JNS card
+        MOV DX,3B8h
+        MOV AL,9                ; video on
+        OUT DX,AL
         MOV AX,0B000h
         MOV ES,AX
         MOV DI,0
         MOV AX,CS
         MOV DS,AX
         MOV BX,codes
-        MOV DX,3B8h
-        MOV AL,8                ; video on
-        OUT DX,AL
         MOV AL,99h              ; the parallel port: B is an output
         OUT 63h,AL
         MOV AL,40h              ; line 6: the keyboard may send
@@ -50,11 +66,9 @@ codes:  DB '..1234567890-=..'
         DB 'DFGHJKL;....ZXCV'
         DB 'BNM,./.*. ......'
         DB 32 DUP('.')
-ENDS
 
-SEGMENT VECTORS AT 0
-        ORG 24h                 ; 4 times 9
-        DW key,SEG key
+; The MC6845's registers for 25 lines of 80 characters.
+mc6845: DB 61h,50h,52h,0Fh,19h,6,19h,19h,2,0Dh,0Bh,0Ch,0,0,0,0
 ENDS
 
 SEGMENT RESET AT 0FFFFh

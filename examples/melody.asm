@@ -1,5 +1,5 @@
 ; A melody: notes from a table, each a number of counts of the timer and a length; a rest has no count.
-SEGMENT MAIN AT 0F000h
+SEGMENT MAIN AT 0F600h
 start:  MOV AX,CS
         MOV DS,AX
         MOV AL,99h              ; the parallel port: B is an output

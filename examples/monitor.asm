@@ -1,13 +1,26 @@
-; A monitor in ROM: at the prompt a person types an offset of four hexadecimal digits, and it shows the eight bytes of
-; the ROM that stand there. It asks the keyboard's latch again and again, and needs no interrupt.
-SEGMENT MAIN AT 0F000h
-start:  MOV AX,0B000h
+; A monitor in ROM: at the prompt a person types an offset of four hexadecimal digits, and it shows the eight bytes
+; that stand there in segment F000h. It asks the keyboard's latch again and again, and needs no interrupt.
+SEGMENT MAIN AT 0F600h
+start:  MOV AX,0
+        MOV SS,AX
+        MOV SP,AX               ; the stack grows down from the end of segment 0
+        MOV AX,0B000h
         MOV ES,AX
-        MOV AX,CS
+        MOV AX,0F000h           ; the ROM begins at 6000 there, and at FFF0 the processor
         MOV DS,AX
         CLD
+        MOV DX,3B8h             ; the text card: bit 0 first, then its MC6845, then the video
+        MOV AL,1
+        OUT DX,AL
+        MOV DX,3B4h
+        MOV BX,15
+card:   MOV AL,BL               ; the register's number goes to 3B4h
+        MOV AH,CS:[BX+mc6845]   ; and its value to 3B5h
+        OUT DX,AX
+        DEC BX
+        JNS card
         MOV DX,3B8h
-        MOV AL,8                ; video on
+        MOV AL,9                ; video on
         OUT DX,AL
         MOV AL,99h              ; the parallel port: B is an output
         OUT 63h,AL
@@ -72,7 +85,7 @@ getkey: IN AL,60h               ; 0 where the latch is empty
         TEST AL,80h             ; a key that comes up
         JNZ getkey
         MOV BX,codes
-        XLAT
+        CS: XLAT
         RET
 
 ; Prints AL, 0 to 15, as a digit, and the character AL. Both keep AX.
@@ -96,6 +109,9 @@ codes:  DB '..1234567890-=..'
         DB 'DFGHJKL;....ZXCV'
         DB 'BNM,./.*. ......'
         DB 32 DUP('.')
+
+; The MC6845's registers for 25 lines of 80 characters.
+mc6845: DB 61h,50h,52h,0Fh,19h,6,19h,19h,2,0Dh,0Bh,0Ch,0,0,0,0
 ENDS
 
 SEGMENT RESET AT 0FFFFh

@@ -1,7 +1,15 @@
 ; Interrupts of two levels: a slow handler of the keyboard is interrupted by the timer, which has the higher priority,
 ; and writes what happens to the screen: k and K where the keyboard's handler begins and ends, t for the timer.
-SEGMENT MAIN AT 0F000h
-start:  MOV AL,13h              ; 8259A: edges, no slaves, ICW4 comes
+SEGMENT MAIN AT 0F600h
+start:  MOV AX,0
+        MOV SS,AX
+        MOV SP,AX               ; the stack grows down from the end of segment 0
+        MOV DS,AX
+        MOV WORD [20h],tick     ; the vectors of interrupts 8 and 9: offset and segment
+        MOV [22h],CS
+        MOV WORD [24h],key
+        MOV [26h],CS
+        MOV AL,13h              ; 8259A: edges, no slaves, ICW4 comes
         OUT 20h,AL
         MOV AL,8                ; IR0 is interrupt 8
         OUT 21h,AL
@@ -12,8 +20,18 @@ start:  MOV AL,13h              ; 8259A: edges, no slaves, ICW4 comes
         MOV AX,0B000h
         MOV ES,AX
         MOV DI,0
+        MOV DX,3B8h             ; the text card: bit 0 first, then its MC6845, then the video
+        MOV AL,1
+        OUT DX,AL
+        MOV DX,3B4h
+        MOV BX,15
+card:   MOV AL,BL               ; the register's number goes to 3B4h
+        MOV AH,CS:[BX+mc6845]   ; and its value to 3B5h
+        OUT DX,AX
+        DEC BX
+        JNS card
         MOV DX,3B8h
-        MOV AL,8                ; video on
+        MOV AL,9                ; video on
         OUT DX,AL
         MOV AL,34h              ; counter 0: mode 2
         OUT 43h,AL
@@ -54,11 +72,9 @@ last:   MOV AH,7
         OUT 20h,AL
         POP AX
         IRET
-ENDS
 
-SEGMENT VECTORS AT 0
-        ORG 20h
-        DW tick,SEG tick,key,SEG key
+; The MC6845's registers for 25 lines of 80 characters.
+mc6845: DB 61h,50h,52h,0Fh,19h,6,19h,19h,2,0Dh,0Bh,0Ch,0,0,0,0
 ENDS
 
 SEGMENT RESET AT 0FFFFh

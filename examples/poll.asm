@@ -6,8 +6,18 @@ start:  MOV AX,CS
         MOV SP,top
         MOV AX,0B000h
         MOV ES,AX
+        MOV DX,3B8h             ; the text card: bit 0 first, then its MC6845, then the video
+        MOV AL,1
+        OUT DX,AL
+        MOV DX,3B4h
+        MOV BX,15
+card:   MOV AL,BL               ; the register's number goes to 3B4h
+        MOV AH,CS:[BX+mc6845]   ; and its value to 3B5h
+        OUT DX,AX
+        DEC BX
+        JNS card
         MOV DX,3B8h
-        MOV AL,8                ; video on
+        MOV AL,9                ; video on
         OUT DX,AL
         MOV AL,99h              ; the parallel port: B is an output
         OUT 63h,AL
@@ -42,6 +52,10 @@ codes:  DB '..1234567890-=..'
         DB 'DFGHJKL;....ZXCV'
         DB 'BNM,./.*. ......'
         DB 64 DUP('.')
+
+; The MC6845's registers for 25 lines of 80 characters.
+mc6845: DB 61h,50h,52h,0Fh,19h,6,19h,19h,2,0Dh,0Bh,0Ch,0,0,0,0
+
         DW 64 DUP(0)            ; room for the stack
 top:
 ENDS

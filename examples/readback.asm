@@ -2,8 +2,13 @@
 ; latches status and count of the same moment. An 8253 ignores the words from C0h on.
 KEPT EQU 400h                   ; where the bytes that are read are kept
 
-SEGMENT MAIN AT 0F000h
-start:  MOV DI,KEPT
+SEGMENT MAIN AT 0F600h
+start:  MOV AX,0
+        MOV SS,AX
+        MOV SP,AX               ; the stack grows down from the end of segment 0
+        MOV DS,AX
+        MOV ES,AX
+        MOV DI,KEPT
         MOV AL,36h              ; counter 0: low byte, high byte, mode 3, binary
         OUT 43h,AL
         CALL status             ; no count yet: null count
@@ -32,14 +37,24 @@ again:  MOV AL,0E2h
         IN AL,40h               ; high byte
         STOSB
 
+        MOV DX,3B8h             ; the text card: bit 0 first, then its MC6845, then the video
+        MOV AL,1
+        OUT DX,AL
+        MOV DX,3B4h
+        MOV BX,15
+card:   MOV AL,BL               ; the register's number goes to 3B4h
+        MOV AH,CS:[BX+mc6845]   ; and its value to 3B5h
+        OUT DX,AX
+        DEC BX
+        JNS card
+        MOV DX,3B8h
+        MOV AL,9                ; video on
+        OUT DX,AL
         MOV AX,0B000h           ; text memory
         MOV ES,AX
         MOV SI,KEPT
         MOV DI,0
         MOV BX,digits
-        MOV DX,3B8h
-        MOV AL,8                ; video on
-        OUT DX,AL
         MOV CL,4
 next:   LODSB
         MOV DL,AL
@@ -67,6 +82,9 @@ digit:  CS: XLAT
         STOSW
         RET
 digits: DB '0123456789ABCDEF'
+
+; The MC6845's registers for 25 lines of 80 characters.
+mc6845: DB 61h,50h,52h,0Fh,19h,6,19h,19h,2,0Dh,0Bh,0Ch,0,0,0,0
 ENDS
 
 SEGMENT RESET AT 0FFFFh

@@ -1,5 +1,5 @@
 ; Strings: REP MOVS, REPNE SCAS and REPE CMPS.
-SEGMENT MAIN AT 0F000h
+SEGMENT MAIN AT 0F600h
 start:  MOV AX,CS
         MOV DS,AX               ; the texts stand behind the code
         MOV AX,0

@@ -1,5 +1,5 @@
 ; A tone: counter 2 of the timer as a square wave, let through to the speaker.
-SEGMENT MAIN AT 0F000h
+SEGMENT MAIN AT 0F600h
 start:  MOV AL,0B6h             ; counter 2: low byte, high byte, mode 3, binary
         OUT 43h,AL
         MOV AX,10               ; the timer counts each 4 clocks: half a period is 5 counts, 20 clocks

@@ -1,5 +1,5 @@
 ; What a .COM program finds at its start under DOS, as far as a board without DOS has it: to load it at 0100:0100.
-SEGMENT BEFORE AT 0F000h
+SEGMENT BEFORE AT 0F600h
 start:  MOV AX,100h             ; the program's segment, in CS, DS, ES and SS
         MOV DS,AX
         MOV ES,AX

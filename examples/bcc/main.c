@@ -4,6 +4,9 @@
 char title[] = "ticks    , keys    "; /* data with a value: start.s copies it from ROM to RAM */
 int ticks, keys;                       /* data without one: start.s makes it 0 */
 
+/* The MC6845's registers for 25 lines of 80 characters. */
+char mc6845[] = {0x61, 0x50, 0x52, 0x0F, 0x19, 6, 0x19, 0x19, 2, 0x0D, 0x0B, 0x0C, 0, 0, 0, 0};
+
 void tick(void) {
     ticks++;
 }
@@ -26,8 +29,14 @@ static void show(int place, int number) {
 
 int main(void) {
     char *sign;
-    int place = 0;
-    out(0x3B8, 8); /* video on */
+    int place;
+    out(0x3B8, 1); /* the text card: bit 0 first, then its MC6845, then the video */
+    for (place = 0; place < 16; place++) {
+        out(0x3B4, place);
+        out(0x3B5, mc6845[place]);
+    }
+    out(0x3B8, 9); /* video on */
+    place = 0;
     for (sign = title; *sign; sign++) {
         put(place++, *sign);
     }

@@ -1,4 +1,4 @@
-! Startup in ROM of a program in C, at F000:0000: data and stack lie in RAM, from 0050:0000 on. In the syntax of as86.
+! Startup in ROM of a program in C, at F600:0000: data and stack lie in RAM, from 0050:0000 on. In the syntax of as86.
 RAM = 0x50              ! paragraph of data and stack, behind the vectors
 STACK = 0x3000          ! SP at the start
 

@@ -5,6 +5,19 @@ start:  MOV AX,CS
         MOV DS,AX
         MOV SS,AX
         MOV SP,top
+        MOV DX,3B8h             ; the text card: bit 0 first, then its MC6845, then the video
+        MOV AL,1
+        OUT DX,AL
+        MOV DX,3B4h
+        MOV BX,15
+card:   MOV AL,BL               ; the register's number goes to 3B4h
+        MOV AH,CS:[BX+mc6845]   ; and its value to 3B5h
+        OUT DX,AX
+        DEC BX
+        JNS card
+        MOV DX,3B8h
+        MOV AL,9                ; video on
+        OUT DX,AL
         MOV AL,13h              ; 8259A: edges, no slaves, ICW4 comes
         OUT 20h,AL
         MOV AL,8                ; IR0 is interrupt 8, and so IR1 is interrupt 9
@@ -27,9 +40,6 @@ delay:  LOOP delay
         JB turn
         MOV BX,0B000h
         MOV ES,BX
-        MOV DX,3B8h
-        MOV AL,8                ; video on
-        OUT DX,AL
         MOV AL,BYTE [turns]
         ADD AL,40h              ; 41h is A
         MOV AH,7
@@ -48,6 +58,8 @@ key:    PUSH AX
         POP AX
         IRET
 
+; The MC6845's registers for 25 lines of 80 characters.
+mc6845: DB 61h,50h,52h,0Fh,19h,6,19h,19h,2,0Dh,0Bh,0Ch,0,0,0,0
 turns:  DW 0
         DW 32 DUP(0)
 top:

@@ -1,4 +1,4 @@
-; A program in ROM by NASM: code from F000:0000 on, data and stack in RAM. Counts the timer's ticks and the keys that go down.
+; A program in ROM by NASM: code from F600:0000 on, data and stack in RAM. Counts the timer's ticks and the keys that go down.
         bits 16
         org 0
 
@@ -41,8 +41,18 @@ start:  cli
         out 21h,al
         mov al,0FCh             ; all masked but the timer and the keyboard
         out 21h,al
+        mov dx,3B8h             ; the text card: bit 0 first, then its MC6845, then the video
+        mov al,1
+        out dx,al
+        mov dx,3B4h
+        mov bx,15
+.card:  mov al,bl               ; the register's number goes to 3B4h
+        mov ah,[cs:bx+mc6845]   ; and its value to 3B5h
+        out dx,ax
+        dec bx
+        jns .card
         mov dx,3B8h
-        mov al,8                ; video on
+        mov al,9                ; video on
         out dx,al
         mov ax,0B000h
         mov es,ax
@@ -103,3 +113,5 @@ done:   mov al,20h              ; the end of the interrupt
 
 title:  db 'ticks    , keys    '
 .end:
+; The MC6845's registers for 25 lines of 80 characters.
+mc6845: db 61h,50h,52h,0Fh,19h,6,19h,19h,2,0Dh,0Bh,0Ch,0,0,0,0

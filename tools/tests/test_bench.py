@@ -197,6 +197,25 @@ class Race(ToolCase):
             between = loops[name].count[1] - loops[name].count[0]
             self.assertAlmostEqual(instructions / clocks * 1000000, between, delta=50)
 
+    def test_instructions_between_two_ticks(self) -> None:
+        """Of c, whose entries are steps and no instructions."""
+        count, (instructions, clocks) = module('count').known()['c'].count, module('race').LOOPS['c']
+        budgets = module('count').known()['c'].budgets
+        self.assertAlmostEqual((instructions + 1) / clocks * (budgets[1] - budgets[0]), count[1] - count[0], delta=50)
+
+    def test_loops_moved_for_mame(self) -> None:
+        """Their ROM begins where MAME has one, and they do what they did: c counts its ticks in DX, the mode word's and those at 420, 720 and so on."""
+        moved = module('race').Mame.moved
+        for loop in ('a', 'b', 'c'):
+            with open(f'{BENCH}/loops/{loop}.asm', encoding='utf-8') as file:
+                text = moved(file.read())
+            source = self.file('it.asm', text)
+            hex_text = self.pcboard('asm', source).stdout
+            self.assertIn(':02000002F0000C\n:10600000', hex_text)
+            run = self.file('it.json', '{"version":1,"ram":64,"sw1":0,"sw2":0,"budget":100000,"keys":[]}')
+            report = self.pcboard('run', source, run).stdout
+            self.assertTrue(loop != 'c' or ' DX=014D ' in report, report)
+
     def test_a_race(self) -> None:
         race = module('race')
         turns: list[str] = []
@@ -215,6 +234,9 @@ class Race(ToolCase):
         race = module('race')
         with patch.object(shutil, 'which', return_value=None):
             self.assertFalse(any(it.is_there() for it in race.PEERS))
+        with patch.dict(os.environ), patch.object(shutil, 'which', return_value=None):
+            os.environ.pop('MAME', None)
+            self.assertFalse(race.Mame.is_there())
 
     def test_refusals(self) -> None:
         for words, told in (
@@ -229,6 +251,8 @@ class Race(ToolCase):
 
 class Runner:
     """Takes a second to start, and so many seconds more for 10^9 instructions, one more in its second turn; or fails."""
+
+    loops = ('a', 'b')
 
     def __init__(self, name: str, turns: list[str], seconds: float | None) -> None:
         self.name, self.turns, self.seconds, self.more = name, turns, seconds, 0.0

@@ -1,0 +1,216 @@
+"""dev/outside: its models of chips beside this board, what MAME 0.251 answered (stored), and the list of its flaws; MAME itself where
+it is installed."""
+from __future__ import annotations
+
+import json
+import os
+import unittest
+from unittest import mock
+
+from tests.support import STORED, ToolCase
+
+from toolbox.command import Sorry
+from toolbox.outside import both, comparison, controller, instruction_flaws, instructions, mame, port, screens, sequences, timer
+from toolbox.outside.counter import ALL, CAUSES, Counter
+from toolbox.outside.instruction_flaws import FLAWS, witness
+
+KINDS = (controller.KIND, port.KIND)
+
+
+class Models(unittest.TestCase):
+    """By the rules of docs/chips.md, and with MAME's flaws."""
+
+    def test_this_board_answers_by_the_rules(self) -> None:
+        for kind in KINDS:
+            made = sequences.sequences(kind, 8086, 250)
+            at = 0
+            for image, count in sequences.images(kind, made):
+                ram = both.run_here(image, sw1=0x6D, sw2=0x12).ram
+                for number, operations in enumerate(made[at : at + count]):
+                    place = sequences.RESULTS + sequences.SLOT * number
+                    self.assertEqual(
+                        ram[place : place + sequences.SLOT], kind.answers(operations, frozenset()).ljust(sequences.SLOT, b'\0'), '; '.join(operations)
+                    )
+                at += count
+            self.assertEqual(at, len(made))
+
+    def test_mame_answered_by_the_rules_and_its_flaws(self) -> None:
+        with open(f'{STORED}/mame.json', encoding='ascii') as file:
+            stored = json.load(file)
+        for kind in KINDS:
+            self.assertGreater(len(stored[kind.name]), 40)
+            for text, answer in stored[kind.name]:
+                operations, flaws = tuple(text.split('; ')), frozenset(it.name for it in kind.flaws)
+                self.assertEqual(kind.answers(operations, flaws).rstrip(b'\0').hex(), answer, text)
+
+    def test_each_flaw_shows_by_its_witness(self) -> None:
+        for kind in KINDS:
+            for flaw in kind.flaws:
+                self.assertTrue(comparison.changes(kind, (*kind.begin, *flaw.witness, *kind.end), flaw.name), flaw.name)
+
+    def test_by_hand(self) -> None:
+        """High, in service, masked: in service reads 1 here and 0 there; the vector is 40h."""
+        operations = (*controller.BEGIN, 'high', 'STI', 'mask FF', 'IRR ISR IMR')
+        self.assertEqual(controller.answers(operations, frozenset()), bytes.fromhex('40 EE 00 01 FF'))
+        self.assertEqual(controller.answers(operations, frozenset(['masked service'])), bytes.fromhex('40 EE 00 00 FF'))
+        operations = ('mode 99', 'out 61 04', 'read', 'out 61 80', 'read', 'timer B4', 'read')
+        self.assertEqual(port.answers(operations, frozenset()), bytes.fromhex('00 04 02 6D 80 01 6D 80 21'))
+
+    def test_seeds_repeat(self) -> None:
+        for kind in KINDS:
+            self.assertEqual(sequences.sequences(kind, 1, 20), sequences.sequences(kind, 1, 20))
+            self.assertNotEqual(sequences.sequences(kind, 1, 20), sequences.sequences(kind, 2, 20))
+        self.assertEqual(instructions.cases(1, 20), instructions.cases(1, 20))
+
+
+class Timer(unittest.TestCase):
+    """A counter, by the rules and as MAME has it."""
+
+    def test_the_rules_give_what_the_cases_say(self) -> None:
+        made = timer.cases(0, 10000)
+        self.assertGreater(len(made), 2000)
+        self.assertEqual(timer.rule_differences(made), [])
+
+    def test_mame_answered_by_its_causes(self) -> None:
+        with open(f'{STORED}/mame.json', encoding='ascii') as file:
+            stored = {text: states for text, states in json.load(file)['timer']}
+        made = [it for it in timer.cases(0, 10000) if it.text in stored]
+        self.assertEqual((len(made), len(stored) > 60), (len(stored), True))
+        came = [[(tuple(reads), bool(out), tuple(octets)) for _, reads, out, octets in stored[it.text]] for it in made]
+        self.assertEqual(timer.mame_differences(made, came), [])
+        for cause in CAUSES:
+            self.assertTrue(timer.shows(cause), cause.name)
+            self.assertIn(cause.witness, stored)
+
+    def test_a_tone_of_five_by_hand(self) -> None:
+        """High for three ticks and low for two by the rules; MAME has three once, and then two and two."""
+        for causes, wanted in ((frozenset[str](), 'HHHLLHHHLLHHH'), (ALL, 'HHHLLHHLLHHLL')):
+            counter = Counter(causes)
+            counter.control(0x16)
+            counter.write(5)
+            for _ in range(1 + len(causes & {'load tick'})):
+                counter.tick()
+            levels = ''
+            for _ in wanted:
+                levels += 'H' if counter.is_out else 'L'
+                counter.tick()
+            self.assertEqual(levels, wanted)
+
+    def test_scripts(self) -> None:
+        case = timer.case_of('counter: C34 W02 W00 T5 C00 R02 G0 | 1 0002 2 | 3 1 0001 1 | 90000 1 0001 none')
+        self.assertEqual(case.states, ((0, '1', '0002'), (3, '1', '0001')))
+        one = ['N', 'C 0 B4', 'W 0 2', 'W 0 0', 'C 5 80', 'R 5 2', 'G 5 0']
+        self.assertEqual(timer.script_of(case), [*one, 'O 5 0', 'C 5 80', 'R 5 0', 'R 5 0', *one, 'O 8 0', 'C 8 80', 'R 8 0', 'R 8 0'])
+        self.assertFalse(timer.is_fit(timer.case_of('counter: C34 W02 W00 T3001 | 1 0002 2')))
+        self.assertFalse(timer.is_fit(timer.case_of('counter: P | 0 0000 none')))
+
+
+class Instructions(unittest.TestCase):
+    """Cases, and which flaws hold for them."""
+
+    def test_the_board_runs_all_blocks(self) -> None:
+        """A multiplication by hand, and a jump that is made; the run comes to the HLT behind the last block."""
+        made = [witness('MUL', 'F6 E1', AX=200, CX=25), FLAWS[6].witness, *instructions.cases(3, 200)]
+        answer = both.run_here(instructions.image_of(made))
+        self.assertEqual(answer.place, ((instructions.FIRST + instructions.BLOCK * len(made)) >> 4, 1))
+        blocks = [answer.ram[instructions.FIRST + 512 * it : instructions.FIRST + 512 * (it + 1)] for it in range(2)]
+        self.assertEqual(instructions.registers_in(blocks[0])['AX'], 5000)
+        self.assertEqual((blocks[0][instructions.MARK], blocks[1][instructions.MARK]), (0, 1))
+
+    def test_each_flaw_holds_for_its_witness_and_not_nearby(self) -> None:
+        for flaw in FLAWS:
+            self.assertTrue(flaw.holds(flaw.witness), flaw.name)
+        by_name = {it.name: it for it in FLAWS}
+        for name, case in (
+            ('AF of ADC and SBB', witness('ADC', '14 0F')),
+            ('OF of ADC and SBB', witness('ADC', '14 7E', 'C')),
+            ('IDIV', witness('IDIV', 'F6 F9', AX=127, CX=1)),
+            ('IDIV', witness('IDIV', 'F6 F9', AX=0x10000 - 127, CX=1)),
+            ('CF and OF of IMUL', witness('IMUL', 'F6 E9', AX=1, CX=1)),
+            ('CF and OF of IMUL', witness('IMUL', 'F6 E9', AX=100, CX=100)),
+            ('ZF of AAM', witness('AAM', 'D4 0A', AX=21)),
+            ('AH of AAA and AAS', witness('AAA', '37', AX=0xF5)),
+            ('DAS', witness('DAS', '2F', 'C', AX=0x9A)),
+            ('lost override', witness('MOV', '8A 07', prefixes='F3 26')),
+        ):
+            self.assertFalse(by_name[name].holds(case), name)
+        self.assertTrue(by_name['IDIV'].holds(witness('IDIV', 'F6 F9', AX=0x10000 - 128, CX=1)))
+
+    def test_what_is_unexplained(self) -> None:
+        def difference(case: instructions.Case, *places: str) -> instructions.Difference:
+            return instructions.Difference(case, places, b'', b'')
+
+        self.assertEqual(instruction_flaws.unexplained(difference(witness('MUL', 'F6 E1'), 'FL:Z')), frozenset())
+        self.assertEqual(instruction_flaws.unexplained(difference(witness('MUL', 'F6 E1'), 'FL:Z', 'AX')), frozenset(['AX']))
+        self.assertEqual(instruction_flaws.unexplained(difference(witness('ADD', '00 C0'), 'FL:A')), frozenset(['FL:A']))
+
+    def test_where_blocks_differ(self) -> None:
+        here = bytearray(instructions.BLOCK)
+        there = bytearray(here)
+        there[instructions.KEPT + 22] = 0x41  # ZF and CF
+        there[instructions.KEPT] = there[0x1F6] = there[0x1F0] = there[instructions.WINDOW] = 1
+        self.assertEqual(instructions.places(bytes(here), bytes(there)), ('AX', 'FL:C', 'FL:Z', 'data', 'stack'))
+
+
+class Outside(ToolCase):
+    """The command, and what it knows of a MAME."""
+
+    def test_refusals(self) -> None:
+        with mock.patch.dict(os.environ, {'MAME': f'{self.room}/none'}):
+            self.assertIn("can't be started", self.tool('dev/outside', 'mame', status=2)[1])
+        for words, wanted in (
+            (['bochs'], 'bochs is none of them'),
+            (['mame', '--only', 'x'], 'x is no part'),
+            (['mame', '--seed', '-1'], '-1 is no seed'),
+            (['mame', '--seed', 'x'], 'x is no seed'),
+            (['mame', '--count', '0'], '0 is no number of cases'),
+        ):
+            self.assertIn(wanted, self.tool('dev/outside', *words, status=2)[1])
+        with mock.patch.dict(os.environ, {'PATH': self.room}), mock.patch('shutil.which', return_value=None):
+            os.environ.pop('MAME', None)
+            self.assertIsNone(mame.path())
+
+    def test_another_version_is_told(self) -> None:
+        """A MAME that leaves no answer, too."""
+        other = self.file('mame', '#!/bin/sh\n[ "$1" = -version ] && echo "0.299 (unknown)"\n')
+        os.chmod(other, 0o755)
+        with mock.patch.dict(os.environ, {'MAME': other}):
+            out, err = self.tool('dev/outside', 'mame', '--only', 'port', '--seed', '7', status=2)
+        self.assertEqual(out.splitlines()[:2], ['MAME 0.299, seed 7', 'the flaws that are listed are those of 0.251'])
+        self.assertIn('MAME left no answer', err)
+
+    def test_hex_and_roms(self) -> None:
+        image = {0xF6000: 1, 0xF6001: 2, 0xFFFF0: 0xEA, 0x500: 7}
+        self.assertEqual(mame.image_of(mame.hex_of(image)), image)
+        mame.write_roms(self.room, image)
+        with open(f'{self.room}/roms/ibm5150/5000019.u29', 'rb') as first, open(f'{self.room}/roms/ibm5150/1501476.u33', 'rb') as last:
+            self.assertEqual((first.read()[:3], last.read()[-16:-14]), (b'\1\2\xff', b'\xea\xff'))
+        with self.assertRaisesRegex(Sorry, 'has ROM from F6000h on'):
+            mame.write_roms(self.room, {0xF0000: 1})
+
+    def test_a_screen_is_read_by_its_points(self) -> None:
+        rows = [['.' * 720] * 350, ['#' * 720] * 350]
+        cell = '.#..#...'  # 48h, H
+        rows.append([cell + '.' * 712] * 14 + ['.' * 720] * 336)
+        for number, (points, wanted) in enumerate(zip(rows, (' ', '.', 'H'))):
+            screen = mame.read_screen(self.file(f'points{number}', '\n'.join(points)))
+            self.assertEqual((len(screen), screen[0][0]), (25, wanted))
+        self.assertEqual(mame.read_screen(self.file('small', '..\n..\n')), ())
+
+    def test_every_example_is_compared_or_named(self) -> None:
+        self.assertLess(set(screens.EXCEPTIONS), set(screens.names()))
+        self.assertIn('moments/turns', screens.names())
+
+    def test_with_mame(self) -> None:
+        program = mame.path()
+        if program is None or mame.version(program) != mame.VERSION:
+            print(f'not run: dev/outside mame; {mame.PACKAGE} ({mame.VERSION})', flush=True)
+            return
+        out, _ = self.tool('dev/outside', 'mame', '--only', 'instructions,controller,port,timer', '--count', '100', '--seed', '1')
+        self.assertEqual(out.count('0 of them by nothing'), 1, out)
+        self.assertEqual(out.count(', 0 differ from'), 3, out)
+        self.assertEqual(screens.compared(program, 'divide'), (True, 'divide: alike'))
+
+
+if __name__ == '__main__':
+    unittest.main()

@@ -1,0 +1,111 @@
+"""MAME's 5150 beside the board, part by part: what is compared, and what is told of it."""
+from __future__ import annotations
+
+from collections import Counter
+
+from toolbox.command import waiting
+from toolbox.outside import controller, instruction_flaws, instructions, port, screens, sequences, timer
+from toolbox.outside.counter import CAUSES
+from toolbox.outside.sequences import Kind
+
+SHOWN = 10  # differences that are told in full
+
+
+def told(text: str) -> None:
+    """Prints a line at once."""
+    print(text, flush=True)
+
+
+def of_screens(program: str, _seed: int, _count: int) -> bool:
+    """The examples' screens."""
+    are_alike = True
+    for name in screens.names():
+        is_alike, line = screens.compared(program, name)
+        told(f'  {line}')
+        are_alike = are_alike and is_alike
+    return are_alike
+
+
+def of_instructions(program: str, seed: int, count: int) -> bool:
+    """Random instructions, and the witnesses of what is listed."""
+    flaws = instruction_flaws.FLAWS
+    made = [it.witness for it in flaws] + instructions.cases(seed, count)
+    found = instructions.differences(program, made)
+    strange = [it for it in found if instruction_flaws.unexplained(it)]
+    for it in strange[:SHOWN]:
+        told(f'  {it.case.name}: {bytes(it.case.prefixes + list(it.case.code)).hex(" ").upper()} differs in {", ".join(it.places)}')
+        told(f'    found {values(it.case.registers)} FL={it.case.flags | 0xF002:04X} SP={it.case.stack:04X}')
+        told(f'    here  {values(instructions.registers_in(it.here))}')
+        told(f'    MAME  {values(instructions.registers_in(it.there))}')
+    shown = Counter(flaw.name for it in found for flaw in flaws if flaw.holds(it.case) and flaw.where & set(it.places))
+    gone = [it.name for it in flaws if not any(it.witness is that.case for that in found)]
+    told(f'  {len(made):,} cases, {len(found):,} differ, {len(strange):,} of them by nothing that is listed')
+    tell_flaws([(it.name, it.why, shown[it.name]) for it in flaws], gone)
+    return not strange and not gone
+
+
+def values(registers: dict[str, int]) -> str:
+    """Registers as text."""
+    return ' '.join(f'{name}={value:04X}' for name, value in registers.items())
+
+
+def of_sequences(kind: Kind, program: str, seed: int, count: int) -> bool:
+    """Random sequences on a chip, held against its model without the flaws here and with all of them there."""
+    made = sequences.sequences(kind, seed, count)
+    found = sequences.differences(kind, program, made)
+    for it in found[:SHOWN]:
+        told(f'  {it.side}: {"; ".join(it.operations[len(kind.begin):])}')
+        told(f'    wanted {it.wanted.hex(" ").upper()}, came {it.came.hex(" ").upper()}')
+    without = {it.name: sum(changes(kind, operations, it.name) for operations in made) for it in kind.flaws}
+    told(f'  {len(made):,} sequences, {len(found):,} differ from what the rules and the list say')
+    tell_flaws([(it.name, it.why, without[it.name]) for it in kind.flaws], [name for name, times in without.items() if not times])
+    return not found and all(without.values())
+
+
+def changes(kind: Kind, operations: tuple[str, ...], name: str) -> bool:
+    """Whether a flaw changes what MAME answers to a sequence."""
+    flaws = frozenset(it.name for it in kind.flaws)
+    return kind.answers(operations, flaws) != kind.answers(operations, flaws - {name})
+
+
+def tell_flaws(flaws: list[tuple[str, str, int]], gone: list[str]) -> None:
+    """The list, with how often each shows."""
+    for name, why, times in flaws:
+        told(f'    {name}: {why}; ' + ('SHOWS NO MORE' if name in gone else f'shown by {times:,}'))
+
+
+def of_controller(program: str, seed: int, count: int) -> bool:
+    return of_sequences(controller.KIND, program, seed, count)
+
+
+def of_port(program: str, seed: int, count: int) -> bool:
+    return of_sequences(port.KIND, program, seed, count)
+
+
+def of_timer(program: str, seed: int, count: int) -> bool:
+    """The timer's cases. MAME now and then makes an operation a tick late, so what differs is made once more, and told if it does again."""
+    made = timer.cases(seed, count)
+    once = timer.mame_differences(made, timer.played(program, made))
+    again = [it.case for it in once]
+    twice = timer.mame_differences(again, timer.played(program, again)) if again else []
+    found = timer.rule_differences(made) + twice
+    for it in found:
+        told(f'  {it.side}: {it.case.text}, {it.ahead} ticks later: wanted {it.wanted}, came {it.came}')
+    told(f'  {len(made):,} cases, {len(found):,} differ from what the rules and the list say, {len(once) - len(twice):,} did so once')
+    gone = [it.name for it in CAUSES if it.witness in {case.case.text for case in found}]
+    for cause in CAUSES:
+        told(f'    {cause.name}: {cause.why}; ' + ('SHOWS NO MORE' if cause.name in gone else f'shown by {cause.witness}'))
+    return not found
+
+
+PARTS = {'screens': of_screens, 'instructions': of_instructions, 'controller': of_controller, 'port': of_port, 'timer': of_timer}
+
+
+def compared(program: str, parts: list[str], seed: int, count: int) -> bool:
+    """Whether each part is alike but for what is listed."""
+    are_alike = True
+    for name in parts:
+        told(name)
+        with waiting(name):
+            are_alike = PARTS[name](program, seed, count) and are_alike
+    return are_alike
