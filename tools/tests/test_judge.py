@@ -99,7 +99,7 @@ class Runs(ToolCase):
     """Over the built program."""
 
     def test_memory(self) -> None:
-        page = self.file('page', "memory b0000 = 31 07 20\nmemory START = B8 00 B0\nmemory start+3 = 8E C0\nmemory 0 = 1\nAX = 0738\n")
+        page = self.file('page', "memory b0000 = 31 07 20\nmemory START = B8 00 00\nmemory start+3 = 8E D0\nmemory 0 = 1\nAX = 0738\n")
         out, _ = self.tool('judge', page, *example('fibonacci'), status=1)
         self.assertEqual(out.splitlines()[3:], ['no  memory 0 = 1: came 00', 'ok  AX = 0738', '4 met, 1 not'])
 
@@ -153,7 +153,7 @@ class Runs(ToolCase):
         source, run = self.program(' PUSH AX\n HLT')
         self.assertEqual(self.lines('ram = 16\nbudget = 90\nmemory fffe = ff ff\nclock = 90\n', source, run)[-1], '2 met, 0 not')
         self.assertEqual(self.lines('clock = 100000\n', '--run', run, source, status=1)[-1], '0 met, 1 not')
-        self.assertEqual(self.lines('clock = 100000\n', source)[-1], '1 met, 0 not')
+        self.assertEqual(self.lines('clock = 10,000,000\n', source)[-1], '1 met, 0 not')
         self.assertIn('refused: fault 36', self.lines('ram = 40\nclock = 90\n', source, status=1)[0])
 
     def test_a_class(self) -> None:

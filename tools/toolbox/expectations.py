@@ -14,7 +14,8 @@ from toolbox.listing import Listing, listing_of
 from toolbox.places import address_of, far_of, number_of
 from toolbox.program import LAST_CLOCK, Files, Session
 from toolbox.report import REGISTERS, ROWS, Report
-from toolbox.scancodes import stamped, strokes_of
+from toolbox.scancodes import BARE, Stroke, stamped, strokes_of
+from toolbox.services import Served, served_of
 
 # What a chip's line tells, by its words (docs/probe.md).
 CHIPS = (
@@ -42,6 +43,14 @@ class Subject:
     session: Session | None = None
     listing: Listing | None = None
     chips: Chips | None = None
+    left: Served | None = None
+
+    def served(self) -> Served:
+        """What the services left."""
+        self.left = self.left or served_of(self.ran(), self.report.clock)
+        if self.left is None:
+            raise NotThere('no services: --services puts them into ROM, and a .COM or .EXE program has them')
+        return self.left
 
     def held(self, line: str, word: str) -> str:
         """What a chip holds at the report's clock."""
@@ -188,6 +197,26 @@ def judge_not_shown(subject: Subject, _: str, wanted: str) -> str | None:
     return f'line {found}, {subject.report.screen[found - 1].rstrip()!r}' if found else None
 
 
+def judge_exit(subject: Subject, _: str, wanted: str) -> str | None:
+    """The exit code."""
+    if not wanted.isdecimal() or int(wanted) > 255:
+        raise Sorry(f'{wanted} is no exit code, 0 to 255')
+    left = subject.served()
+    is_so = left.how in (0x20, 0x4C) and left.phase == 2 and left.code == int(wanted)
+    return None if is_so else left.ending or f'no end up to clock {subject.report.clock}'
+
+
+def judge_output(subject: Subject, _: str, wanted: str) -> str | None:
+    """All that the program wrote by DOS, but for line ends behind it."""
+    left = subject.served()
+    try:
+        left.whole()
+    except Sorry as sorry:
+        return str(sorry)
+    came = left.text.rstrip('\n')
+    return None if came == plain(wanted).replace('\\n', '\n').replace('\\t', '\t').rstrip('\n') else repr(came)
+
+
 def judge_halt(subject: Subject, name: str, wanted: str) -> str | None:
     """The clock of the first halt: before one, or from one to another."""
     least, most = span(wanted) if name == 'clocks used' else (0, span(wanted)[0] - 1)
@@ -237,6 +266,8 @@ JUDGES: tuple[tuple[str, Callable[[Subject, str, str], 'str | None']], ...] = (
     (r'not shown', judge_not_shown),
     (r'halted before|clocks used', judge_halt),
     (r'runs|never runs', judge_runs),
+    (r'exit', judge_exit),
+    (r'output', judge_output),
     (r'state|lost|clock|sound', judge_word),
     (r'speaker at \d+', judge_speaker),
     (r'memory \S+', judge_memory),
@@ -246,6 +277,7 @@ JUDGES: tuple[tuple[str, Callable[[Subject, str, str], 'str | None']], ...] = (
 FIELDS = {'keys': 'keys', 'plain keys': 'keys', 'ram': 'ram', 'sw1': 'sw1', 'sw2': 'sw2', 'budget': 'budget'}
 # A place that may be a label, or is a number: what else is told of a place is the page's mistake.
 PLACE = r'[A-Za-z_.?@][\w.$#@~?]*(\+[0-9A-Fa-f]+)?|:\d+|[0-9A-Fa-f]{1,4}:[0-9A-Fa-f]{1,4}|[0-9A-Fa-f]{1,5}h?'
+NOTHING = Served(1, 0, 0, None, 0, b'', 0, (0, 0, 0, 0), 0)
 ANY = Report(LAST_CLOCK, dict.fromkeys(REGISTERS, 0), '', 0, [], [' ' * 80] * ROWS)
 
 
@@ -275,10 +307,11 @@ class Expectation:
 
 @dataclass
 class Planned:
-    """A run that a page asks for: its name, its run file's fields, and what is expected of it."""
+    """A run that a page asks for: its name, its run file's fields, what is typed, and what is expected of it."""
 
     title: str = ''
     fields: dict[str, Any] = field(default_factory=dict)
+    strokes: list[Stroke] | None = None
     expectations: list[Expectation] = field(default_factory=list)
 
 
@@ -298,7 +331,9 @@ def expectation_of(name: str, wanted: str, where: str, line: str) -> Expectation
             span(wanted)
         except Sorry as sorry:
             raise Sorry(f'{where}: {sorry}') from None
-    elif judge not in (judge_memory, judge_runs, judge_chip):
+    elif judge is judge_exit:
+        found.outcome(Subject(ANY, left=NOTHING))
+    elif judge not in (judge_memory, judge_runs, judge_chip, judge_output):
         found.outcome(Subject(ANY))
     return found
 
@@ -312,10 +347,10 @@ def checked(where: str, text: str) -> int:
 
 
 def field_of(name: str, text: str, where: str) -> Any:
-    """A run file's field as a page says it."""
+    """A run file's field as a page says it; of keys, the strokes."""
     try:
         if FIELDS[name] == 'keys':
-            return stamped(strokes_of(text, name == 'plain keys'), 2000, 500, 1500)
+            return strokes_of(text, name == 'plain keys')
         return int(text.replace(',', ''), 0)
     except (ValueError, Sorry) as error:
         raise Sorry(f'{where}: {error if isinstance(error, Sorry) else f"{text} is no number"}') from None
@@ -335,7 +370,10 @@ def page_of(path: str) -> list[Planned]:
         elif name.lower() in FIELDS and wanted:
             if runs[-1].expectations:
                 raise Sorry(f'{where}: {name} stands before what is expected; another run begins with run = ITS NAME')
-            runs[-1].fields[FIELDS[name.lower()]] = field_of(name.lower(), wanted, where)
+            value = field_of(name.lower(), wanted, where)
+            if FIELDS[name.lower()] == 'keys':
+                runs[-1].strokes, value = value, stamped(value, *BARE)
+            runs[-1].fields[FIELDS[name.lower()]] = value
         else:
             runs[-1].expectations.append(expectation_of(name, wanted, where, line))
     runs = runs if runs[0].fields or runs[0].expectations or len(runs) == 1 else runs[1:]

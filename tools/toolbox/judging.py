@@ -6,34 +6,54 @@ import os
 import tempfile
 from typing import Any, Iterator
 
-from toolbox.command import Sorry, read_text
+from toolbox import guests
+from toolbox.command import Sorry
 from toolbox.expectations import Outcome, Planned, Subject
 from toolbox.faults import fault_in
+from toolbox.guests import Guest, prepared, read_bytes
 from toolbox.program import LAST_CLOCK, Files, refusal, run
 from toolbox.report import report_of
 from toolbox.runfile import DEFAULTS, read_run_file, text_of
+from toolbox.scancodes import stamped
+from toolbox.services import TYPING
 
 
-def fields_of(planned: Planned, run_file: str | None) -> dict[str, Any]:
+def fields_of(planned: Planned, run_file: str | None, usual: dict[str, Any] = DEFAULTS) -> dict[str, Any]:
     """The run file's fields of a planned run: RUN's, or the usual ones, and before these the page's."""
-    fields = DEFAULTS | (read_run_file(run_file) if run_file else {}) | planned.fields
-    if not run_file and 'budget' not in planned.fields and fields['keys']:
-        fields['budget'] = min(max(fields['budget'], 2 * fields['keys'][-1][0]), LAST_CLOCK)
-    return fields
+    fields = usual | (read_run_file(run_file) if run_file else {}) | planned.fields
+    return fields | room_for_keys(fields, planned, run_file)
+
+
+def room_for_keys(fields: dict[str, Any], planned: Planned, run_file: str | None) -> dict[str, Any]:
+    """The budget that has room for the keys, where nothing says one."""
+    if run_file or 'budget' in planned.fields or not fields['keys']:
+        return {}
+    return {'budget': min(max(fields['budget'], 2 * fields['keys'][-1][0]), LAST_CLOCK)}
+
+
+def fields_with_services(planned: Planned, guest: Guest, run_file: str | None) -> dict[str, Any]:
+    """The same for a program with services, to which keys come later and more slowly."""
+    more = planned.fields | ({'keys': stamped(planned.strokes, *TYPING)} if planned.strokes else {})
+    fields = guests.fields_for(guest, run_file, more)
+    return more | room_for_keys(fields, planned, run_file)
 
 
 @contextlib.contextmanager
-def files_of(planned: Planned, file: str, run_file: str | None, is_hex: bool, symbols: str | None = None) -> Iterator[Files]:
-    """The files of a planned run: RUN itself, or a copy with the page's fields."""
+def files_of(planned: Planned, guest: Guest, run_file: str | None, is_hex: bool, symbols: str | None = None) -> Iterator[Files]:
+    """The files of a planned run: RUN itself, or a copy with the page's fields; or a program with services."""
+    if guest.is_one:
+        with prepared(guest, Files(guest.file, run_file or '', False, symbols), fields_with_services(planned, guest, run_file)) as files:
+            yield files
+        return
     if run_file and not planned.fields:
-        yield Files(file, run_file, is_hex, symbols)
+        yield Files(guest.file, run_file, is_hex, symbols)
         return
     fields = fields_of(planned, run_file)
     with tempfile.TemporaryDirectory() as room:
         path = os.path.join(room, 'run.json')
         with open(path, 'w', encoding='utf-8') as to:
             to.write(text_of(fields))
-        yield Files(file, path, is_hex, symbols)
+        yield Files(guest.file, path, is_hex, symbols)
 
 
 def subject_of(files: Files) -> Subject | str:
@@ -57,11 +77,11 @@ def outcomes_of(planned: Planned, subject: Subject | str) -> Iterator[Outcome]:
             subject.session.close()
 
 
-def judge_file(page: list[Planned], file: str, run_file: str | None, is_hex: bool, symbols: str | None = None) -> list[Outcome]:
+def judge_file(page: list[Planned], guest: Guest, run_file: str | None, is_hex: bool, symbols: str | None = None) -> list[Outcome]:
     """All that a page expects of a file."""
-    read_text(file)
+    read_bytes(guest.file)
     found: list[Outcome] = []
     for planned in page:
-        with files_of(planned, file, run_file, is_hex, symbols) as files:
+        with files_of(planned, guest, run_file, is_hex, symbols) as files:
             found += outcomes_of(planned, subject_of(files))
     return found

@@ -1,0 +1,71 @@
+; Squares and cubes up to 30, in columns.
+SEGMENT MAIN AT 100h
+        ORG 100h
+start:  MOV BX,1
+next:   MOV AX,BX
+        CALL number
+        CALL tab
+        MUL BX
+        CALL number
+        CALL tab
+        MUL BX
+        CALL number
+        CALL line
+        INC BX
+        CMP BX,30
+        JBE next
+        MOV AX,4C00h
+        INT 21h
+
+tab:    PUSH AX
+        MOV AL,9
+        CALL char
+        POP AX
+        RET
+
+; Writes AX in decimal.
+number: PUSH AX
+        PUSH BX
+        PUSH CX
+        PUSH DX
+        XOR CX,CX
+        MOV BX,10
+digits: XOR DX,DX
+        DIV BX
+        PUSH DX
+        INC CX
+        TEST AX,AX
+        JNZ digits
+write:  POP DX
+        ADD DL,'0'
+        MOV AH,2
+        INT 21h
+        LOOP write
+        POP DX
+        POP CX
+        POP BX
+        POP AX
+        RET
+
+; Writes AL.
+char:   PUSH AX
+        PUSH DX
+        MOV DL,AL
+        MOV AH,2
+        INT 21h
+        POP DX
+        POP AX
+        RET
+
+; Begins a new line.
+line:   PUSH AX
+        PUSH DX
+        MOV AH,2
+        MOV DL,13
+        INT 21h
+        MOV DL,10
+        INT 21h
+        POP DX
+        POP AX
+        RET
+ENDS

@@ -1,0 +1,72 @@
+; A line is typed, and its vowels are counted.
+SEGMENT MAIN AT 100h
+        ORG 100h
+start:  MOV DX,buffer
+        MOV AH,0Ah
+        INT 21h
+        CALL line
+        XOR BX,BX
+        MOV SI,buffer+2
+next:   LODSB
+        CMP AL,13
+        JE over
+        MOV DI,vowels
+        MOV CX,5
+        REPNE SCASB
+        JNE next
+        INC BX
+        JMP SHORT next
+over:   MOV AX,BX
+        CALL number
+        MOV DX,found
+        CALL text
+        MOV AX,4C00h
+        INT 21h
+
+; Writes AX in decimal.
+number: PUSH AX
+        PUSH BX
+        PUSH CX
+        PUSH DX
+        XOR CX,CX
+        MOV BX,10
+digits: XOR DX,DX
+        DIV BX
+        PUSH DX
+        INC CX
+        TEST AX,AX
+        JNZ digits
+write:  POP DX
+        ADD DL,'0'
+        MOV AH,2
+        INT 21h
+        LOOP write
+        POP DX
+        POP CX
+        POP BX
+        POP AX
+        RET
+
+; Writes the text at DX, which ends with a dollar sign.
+text:   PUSH AX
+        MOV AH,9
+        INT 21h
+        POP AX
+        RET
+
+; Begins a new line.
+line:   PUSH AX
+        PUSH DX
+        MOV AH,2
+        MOV DL,13
+        INT 21h
+        MOV DL,10
+        INT 21h
+        POP DX
+        POP AX
+        RET
+
+vowels: DB 'aeiou'
+found:  DB ' vowels$'
+buffer: DB 20,0,20 DUP(0)
+ENDS

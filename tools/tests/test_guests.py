@@ -1,0 +1,327 @@
+"""Programs for DOS and a BIOS by the tools: .COM, .EXE, first sectors, sources with services, NASM's and bcc's."""
+from __future__ import annotations
+
+import os
+import random
+import struct
+import subprocess
+import sys
+import unittest
+
+from tests.support import TOOLS, ToolCase, example, is_there
+
+from toolbox import loading, program
+from toolbox.command import Sorry
+from toolbox.symbols import image_of
+
+# MOV DX,0109h; MOV AH,9; INT 21h; INT 20h; 'Hello, tail: $'
+HELLO = bytes.fromhex('BA0B01B409CD21CD209090') + b'Hello$'
+# MOV AX,2 (relocated); MOV DS,AX; MOV DX,0; MOV AH,9; INT 21h; MOV AX,4C07h; INT 21h; in the paragraph behind: 'Exe$'
+MODULE = bytes.fromhex('B802008ED8BA0000B409CD21B8074CCD21').ljust(32, b'\x90') + b'Exe$'.ljust(16, b'\0')
+
+
+def exe(**more: int) -> bytes:
+    """A right .EXE program: its header, one relocation, its module; or one with other fields in its header."""
+    fields = {'last': 80, 'pages': 1, 'count': 1, 'header': 2, 'least': 0x10, 'most': 0xFFFF, 'ss': 3, 'sp': 0x100}
+    fields |= {'sum': 0, 'ip': 0, 'cs': 0, 'table': 0x1C, 'overlay': 0} | more
+    return b'MZ' + struct.pack('<13H', *fields.values()) + struct.pack('<HH', 1, 0) + MODULE
+
+
+class Guests(ToolCase):
+    """By the tools, as a user runs them."""
+
+    def binary(self, name: str, octets: bytes) -> str:
+        """Writes a file of bytes."""
+        path = f'{self.room}/{name}'
+        with open(path, 'wb') as file:
+            file.write(octets)
+        return path
+
+    def refused(self, octets: bytes, name: str, *words: str) -> str:
+        """The sentence with which tools/try refuses bytes."""
+        out, err = self.tool('try', self.binary(name, octets), *words, status=2)
+        self.assertEqual(out, '')
+        self.assertRegex(err, r'^try: [^\n]+\n\Z')
+        return err
+
+    def test_com(self) -> None:
+        out, err = self.tool('try', self.binary('it.com', HELLO))
+        self.assertRegex(out, r'^Hello\n\(ended by INT 20h, at clock [\d,]+\)\n\Z')
+        self.assertEqual(err, '')
+        self.assertEqual(self.tool('try', self.binary('IT.COM', HELLO))[0], out)
+        self.assertEqual(self.tool('try', '--com', self.binary('other', HELLO))[0], out)
+
+    def test_exe(self) -> None:
+        """Its relocation adds the paragraph 0110h to the 2 at 0000:0001, so DS is that of the text."""
+        for name in ('it.exe', 'it.com'):  # for DOS it is its first bytes that count
+            out, err = self.tool('try', self.binary(name, exe()))
+            self.assertRegex(out, r'^Exe\n\(ended with exit code 7, at clock [\d,]+\)\n\Z')
+            self.assertEqual(err, '')
+        image = loading.exe('it', exe(), '', 640).image
+        self.assertEqual([image[0x1100 + it] for it in range(3)], [0xB8, 0x12, 0x01])
+        self.assertEqual(struct.unpack('<6H', bytes(image[0xFFFE0 + it] for it in range(12))), (0x100, 0, 0x110, 0x100, 0x113, 0xE0))
+        self.assertEqual(loading.exe('it', exe(last=0)[:32] + MODULE.ljust(480, b'\0'), '', 640).image[0x1102], 1)
+
+    def test_sector(self) -> None:
+        # MOV AX,0E53h; INT 10h; MOV AX,0E00h + DL + '0'; INT 10h; INT 19h
+        code = bytes.fromhex('B8530ECD1088D00430B40ECD10CD19')
+        out, err = self.tool('try', self.binary('it.bin', code.ljust(510, b'\0') + b'\x55\xAA'))
+        self.assertRegex(out, r'^S0\n\(ended by INT 19h: there is no diskette to begin from, at clock [\d,]+\)\n\Z')
+        self.assertEqual(err, '')
+
+    def test_source(self) -> None:
+        lines = " MOV AH,9\n MOV DX,text\n INT 21h\n MOV AX,4C03h\n INT 21h\ntext: DB 'Hello$'\n"
+        plain = self.file('it.asm', f'SEGMENT MAIN AT 100h\n ORG 100h\nstart:{lines}ENDS\n')
+        out, err = self.tool('try', '--services', plain)
+        self.assertRegex(out, r'^Hello\n\(ended with exit code 3, at clock [\d,]+\)\n\Z')
+        self.assertEqual(err, '')
+        # The far jump of a source that also runs alone says where it begins, here behind its data.
+        far = self.file('far.asm', f"SEGMENT MAIN AT 50h\n DB 'data'\nstart: MOV AX,CS\n MOV DS,AX\n{lines}ENDS\nSEGMENT R AT 0FFFFh\n JMP FAR start\nENDS\n")
+        self.assertEqual(self.tool('try', '--services', far)[0].split('\n')[0], 'Hello')
+        for at, wrong in (('0F600h', 'where the services stand'), ('0FFFFh', 'nothing but JMP FAR')):
+            path = self.file('rom.asm', f'SEGMENT MAIN AT 100h\nstart: NOP\nENDS\nSEGMENT R AT {at}\n DB 1\nENDS\n')
+            self.assertIn(wrong, self.tool('try', '--services', path, status=2)[1])
+        high = self.file('high.asm', 'SEGMENT MAIN AT 8F00h\nstart: NOP\nENDS\n')
+        self.assertIn('no room', self.tool('try', '--services', high, status=2)[1])
+        self.assertIn('fault 3', self.tool('try', '--services', self.file('bad.asm', 'MOV AX,0x1\n'), status=2)[1])
+
+    def test_args(self) -> None:
+        """The tail at 80h, by INT 21h function 40h."""
+        # MOV CL,[80h]; MOV CH,0; MOV DX,81h; MOV BX,1; MOV AH,40h; INT 21h; INT 20h
+        echo = self.binary('echo.com', bytes.fromhex('8A0E8000B500BA8100BB0100B440CD21CD20'))
+        for args, wanted in (('a b', b' a b'), (' ' + 'y' * 125, b' ' + b'y' * 125)):
+            self.tool('try', echo, f'--args={args}', '--output', 'out')
+            with open(f'{self.room}/out', 'rb') as file:
+                self.assertEqual(file.read(), wanted)
+        for args, wanted in (('', b''), (' x', b' x'), ('/s', b' /s'), ('x' * 125, b' ' + b'x' * 125)):
+            self.assertEqual(loading.tail_of(args), bytes([len(wanted)]) + wanted + b'\r')
+        for args, told in (('x' * 127, '126 characters at most'), ('x' * 126, '126 characters at most'), ('ä', 'printable'), ('a\n', 'printable')):
+            with self.assertRaisesRegex(Sorry, told):
+                loading.tail_of(args)
+        self.assertIn('126 characters at most', self.tool('try', echo, '--args', 'x' * 127, status=2)[1])
+        self.assertIn('goes with', self.tool('try', example('hello')[0], '--args', 'x', status=2)[1])
+        self.assertIn('no command', self.tool('try', self.binary('s.bin', b'\0' * 510 + b'\x55\xAA'), '--args', 'x', status=2)[1])
+
+    def test_keys(self) -> None:
+        # again: MOV AH,1; INT 21h; CMP AL,13; JNE again; INT 20h
+        path = self.binary('keys.com', bytes.fromhex('B401CD213C0D75F8CD20'))
+        self.assertEqual(self.tool('try', path, '--keys', 'Hello, World!{enter}')[0].split('\n')[0], 'Hello, World!')
+        long = 'The quick brown fox jumps over the lazy dog. ' * 3
+        self.assertEqual(self.tool('try', path, '--keys', long + '{enter}', '--output', 'out')[0].split('\n')[0], long[:80].rstrip())
+
+    def test_output(self) -> None:
+        """All that has scrolled away; of too much nothing is written."""
+        # MOV CX,30; again: MOV DX,010Eh; MOV AH,9; INT 21h; LOOP again; INT 20h
+        text = b'line\r\n$'
+        return_lines = self.binary('lines.com', bytes.fromhex('B91E00BA0E01B409CD21E2F7CD20') + text)
+        self.tool('try', return_lines, '--output', 'out')
+        with open(f'{self.room}/out', 'rb') as file:
+            self.assertEqual(file.read(), text[:-1] * 30)
+        # MOV BX,1; MOV CX,FC01h; MOV DX,8000h; MOV AH,40h; INT 21h; INT 20h
+        much = self.binary('much.com', bytes.fromhex('BB0100B901FCBA0080B440CD21CD20'))
+        _, err = self.tool('try', much, '--output', 'much.out', '--budget', '400,000,000', status=2)
+        self.assertIn('64,513 bytes, and the services keep the first 64,512', err)
+        self.assertFalse(os.path.exists(f'{self.room}/much.out'))
+        self.assertIn("can't be written", self.tool('try', return_lines, '--output', 'no/out', status=2)[1])
+        self.assertIn('goes with', self.tool('try', example('hello')[0], '--output', 'out', status=2)[1])
+        self.assertIn('had not begun', self.tool('try', return_lines, '--output', 'out', '--budget', '5', status=2)[1])
+
+    def test_keep(self) -> None:
+        """What is kept gives the same screen by pcboard alone, and the tools know it again."""
+        path = self.binary('it.com', HELLO)
+        out, _ = self.tool('try', path, '--keep', 'kept')
+        ran = self.pcboard('run', '--hex', f'{self.room}/kept.hex', f'{self.room}/kept.json')
+        self.assertEqual(ran.stdout.split('screen\n')[1].split('\n')[0].rstrip(), 'Hello')
+        page = self.file('it.page', 'exit = 0\noutput = Hello\n')
+        self.assertIn('2 met, 0 not', self.tool('judge', page, 'kept.hex', 'kept.json', '--hex')[0])
+        self.assertIn('Hello', out)
+        self.assertIn("can't be written", self.tool('try', path, '--keep', 'no/kept', status=2)[1])
+
+    def test_what_is_not_served_is_told(self) -> None:
+        # MOV AH,3Dh; INT 21h; INT 20h
+        out, err = self.tool('try', self.binary('open.com', bytes.fromhex('B43DCD21CD20')), '--keep', 'kept')
+        told = "why: INT 21h function 3Dh, called at 0100:0102, isn't among the services (docs/services.md)\n"
+        self.assertEqual((out.split(' at clock')[0], err), ('(ended by INT 20h,', told))
+        self.assertEqual(self.tool('why', 'run', '--hex', 'kept.hex', 'kept.json')[1], told)
+        lost = self.tool('try', self.binary('wait.com', bytes.fromhex('EBFE')), '--keys', 'x' * 20)[1]
+        self.assertIn("5 keys were lost: the keyboard's buffer, which holds 15, was full", lost)
+
+    def test_judge(self) -> None:
+        page = self.file('it.page', 'exit = 7\noutput = Exe\nshows = Exe\nruns = start\n')
+        wrong = self.file('no.page', 'exit = 8\noutput = Ex\n')
+        path = self.binary('it.exe', exe())
+        self.assertIn('4 met, 0 not', self.tool('judge', page, path)[0])
+        out, _ = self.tool('judge', wrong, path, status=1)
+        self.assertEqual(out, "no  exit = 8: came ended with exit code 7\nno  output = Ex: came 'Exe'\n0 met, 2 not\n")
+        typed = self.file('keys.page', 'keys = ab\nshows = ab\nexit = 0\n')
+        echo = self.binary('echo.com', bytes.fromhex('B401CD21B401CD21CD20'))
+        self.assertIn('2 met', self.tool('judge', typed, echo)[0])
+        source = self.file('s.asm', 'SEGMENT MAIN AT 100h\n ORG 100h\nstart: MOV AX,4C07h\n INT 21h\nENDS\n')
+        self.assertIn('1 met', self.tool('judge', self.file('e.page', 'exit = 7\n'), source, '--services')[0])
+        self.assertIn('no services', self.tool('judge', self.file('e.page', 'exit = 7\n'), source, status=1)[0])
+        lines = self.binary('two.com', bytes.fromhex('BA0B01B409CD21CD209090') + b'one\r\n\ttwo\r\n$')
+        self.assertIn('1 met', self.tool('judge', self.file('l.page', 'output = one\\n\\ttwo\n'), lines)[0])
+        for line, told in (('exit = x', 'no exit code'), ('exit = 256', 'no exit code'), ('output =', 'no expectation')):
+            self.assertIn(told, self.tool('judge', self.file('bad.page', line + '\n'), path, status=2)[1])
+        running = self.binary('loop.com', b'\xEB\xFE')
+        self.assertIn('came no end up to clock', self.tool('judge', self.file('e.page', 'exit = 0\n'), running, status=1)[0])
+        divided = self.binary('div.com', bytes.fromhex('B300F6F3'))
+        self.assertIn('came ended by a division', self.tool('judge', self.file('e.page', 'exit = 255\n'), divided, status=1)[0])
+
+    def test_judge_a_class(self) -> None:
+        page = self.file('it.page', 'exit = 7\n')
+        files = [self.binary('a.exe', exe()), self.binary('b.com', HELLO), self.binary('c.exe', exe()[:20])]
+        out, _ = self.tool('judge', '--class', page, *files, status=1)
+        rows = [it.split('\t')[1:] for it in out.splitlines()[1:]]
+        self.assertEqual([it[0] for it in rows], ['1', '0', '0'])
+        self.assertIn('ends within its header', rows[2][2])
+
+    def test_dbg(self) -> None:
+        out, _ = self.tool('dbg', self.binary('it.exe', exe()), given='break start\ngo\nbreak bios_over\ngo\nscreen\n')
+        self.assertIn('0110:0000 start', out)
+        self.assertIn('FE00:0006 bios_over', out)
+        self.assertIn('Exe', out)
+        self.assertIn('RUN', self.tool('dbg', example('hello')[0], status=2)[1])
+        self.assertIn('is empty', self.tool('dbg', self.binary('e.com', b''), status=2)[1])
+
+    def test_gdb_serves(self) -> None:
+        path = self.binary('it.exe', exe())
+        with subprocess.Popen([sys.executable, '-S', f'{TOOLS}/gdb', '--serve', '0', path], stdout=subprocess.PIPE, text=True) as process:
+            assert process.stdout
+            self.assertIn('gdb -x', process.stdout.readline())
+            process.terminate()
+        self.assertIn('is empty', self.tool('gdb', '--serve', '0', self.binary('e.com', b''), status=2)[1])
+
+    def test_desk_keeps_the_image(self) -> None:
+        path = self.binary('it.exe', exe())
+        self.assertIn('--keep NAME', self.tool('desk', '--no-open', path, status=2)[1])
+        words = [sys.executable, '-S', f'{TOOLS}/desk', '--no-open', path, '--keep', f'{self.room}/kept']
+        with subprocess.Popen(words, stdout=subprocess.PIPE, text=True) as process:
+            assert process.stdout
+            self.assertIn('desk: http', process.stdout.readline())
+            process.terminate()
+        with open(f'{self.room}/kept.hex', encoding='ascii') as file:
+            self.assertEqual(image_of(file.read())[0x1100], MODULE[0])
+        self.assertIn('is there already', self.tool('desk', '--no-open', path, '--keep', 'kept', status=2)[1])
+        for other in (['--keep', 'x'], ['--services'], [example('hello')[0], '--keep', 'x']):
+            self.assertIn('go with a program with services', self.tool('desk', '--no-open', *other, status=2)[1])
+
+    def test_run_files(self) -> None:
+        path = self.binary('it.com', HELLO)
+        small = self.file('small.json', '{"version":1,"ram":128,"sw1":0,"sw2":0,"budget":1000000,"keys":[]}')
+        self.assertIn('the services want 144 to 640 KB of RAM', self.tool('try', path, '--run', small, status=2)[1])
+        enough = self.file('enough.json', '{"version":1,"ram":144,"sw1":0,"sw2":0,"budget":1000000,"keys":[]}')
+        self.assertEqual(self.tool('try', path, '--run', enough)[0].split('\n')[0], 'Hello')
+        self.assertIn('Hello', self.tool('dbg', path, enough, given='go\nscreen\n')[0])
+
+    def test_bad_bytes(self) -> None:
+        self.assertIn('65,281 bytes, and a .COM program has at most 65,280', self.refused(b'\x90' * 65281, 'big.com'))
+        self.tool('try', self.binary('full.com', b'\xCD\x20'.ljust(65280, b'\0')))
+        self.assertIn('--com', self.refused(b'\0' * 511, 'short.bin'))
+        self.assertIn('--com', self.refused(b'\0' * 512, 'plain.bin'))
+        self.assertIn('--com', self.refused(b'\0' * 513, 'long.bin'))
+        self.assertIn('--com', self.refused(HELLO, 'it.exe'))
+        self.assertIn('is empty', self.refused(b'', 'empty.com'))
+        self.assertIn('more than 1,048,576 bytes', self.refused(b'\0' * 1048577, 'huge.com'))
+        os.mkdir(f'{self.room}/folder.com')
+        self.assertIn('Is a directory', self.tool('try', 'folder.com', status=2)[1])
+        self.assertIn("can't be read", self.tool('try', 'nothing.exe', status=2)[1])
+        self.assertIn('no Intel HEX', self.tool('try', '--hex', self.binary('it.com', HELLO), status=2)[1])
+
+    def test_headers_that_lie(self) -> None:
+        for more, told in (
+            ({'pages': 0}, "can't be"),
+            ({'last': 512}, "can't be"),
+            ({'header': 5}, "can't be"),
+            ({'pages': 2}, 'ends early: its header says 592 bytes, and here are 80'),
+            ({'last': 81}, 'ends early'),
+            ({'table': 0x50}, 'end behind the file'),
+            ({'count': 100}, 'end behind the file'),
+            ({'least': 0xFFFF}, 'paragraphs of memory'),
+            ({'ip': 0x30}, 'it begins at 0000:0030'),
+            ({'cs': 0x100}, 'it begins at 0100:0000'),
+            ({'ss': 0x9000}, 'its stack ends'),
+        ):
+            with self.assertRaisesRegex(Sorry, told, msg=str(more)):
+                loading.exe('it.exe', exe(**more), '', 640)
+        self.assertIn('ends early', self.refused(exe(last=81), 'it.exe'))
+        outside = exe()[:28] + struct.pack('<HH', 0x2F, 0) + MODULE
+        self.assertIn('relocation 1 is of 0000:002F, outside', self.refused(outside, 'it.exe'))
+        # CS FFF0h and IP 100h is the module's beginning, as of a .COM program made an .EXE.
+        self.assertEqual(self.tool('try', self.binary('it.exe', exe(cs=0xFFF0, ip=0x100)))[0].split('\n')[0], 'Exe')
+
+
+class Loading(unittest.TestCase):
+    """Any bytes: a program, or a sentence."""
+
+    def loaded(self, octets: bytes) -> bool:
+        """Whether bytes are taken as an .EXE program. Whatever else comes but a sentence is a failure."""
+        try:
+            found = loading.exe('it.exe', octets, '', 640)
+        except Sorry as sorry:
+            self.assertTrue(str(sorry).startswith('it.exe'))
+            return False
+        self.assertLess(max(it for it in found.image if it < 0xF0000), 0x90000)
+        return True
+
+    def test_every_front_of_a_right_one(self) -> None:
+        whole = exe()
+        self.assertEqual([it for it in range(len(whole) + 1) if self.loaded(whole[:it])], [len(whole)])
+
+    def test_random_headers(self) -> None:
+        rng, taken = random.Random(8086), 0
+        for _ in range(1000):
+            octets = bytearray(exe())
+            for _ in range(rng.randint(1, 3)):
+                struct.pack_into('<H', octets, 2 * rng.randint(1, 15), rng.choice((rng.getrandbits(16), rng.getrandbits(4))))
+            taken += self.loaded(bytes(octets))
+        self.assertGreater(taken, 50)
+        self.assertLess(taken, 950)
+
+    def test_hex(self) -> None:
+        image = {0: 1, 1: 2, 0xFFFF: 3, 0x10000: 4, 0x1000F: 5, 0xFFFFF: 6}
+        text = loading.hex_of(image)
+        self.assertEqual(image_of(text), image)
+        self.assertTrue(all(sum(bytes.fromhex(it[1:])) % 256 == 0 for it in text.split()))
+
+
+class Compiled(ToolCase):
+    """NASM's and bcc's sources, where they are installed."""
+
+    def test_nasm(self) -> None:
+        path = self.file('it.asm', "org 100h\n mov ah,9\n mov dx,text\n int 21h\n mov ax,4c02h\n int 21h\ntext: db 'NASM$'\n")
+        if not is_there('nasm', 'tools/try --nasm', 'nasm'):
+            return
+        out, err = self.tool('try', '--nasm', path)
+        self.assertRegex(out, r'^NASM\n\(ended with exit code 2, at clock [\d,]+\)\n\Z')
+        self.assertEqual(err, '')
+        _, err = self.tool('try', '--nasm', self.file('bad.asm', 'mov ax\n'), status=2)
+        self.assertIn('bad.asm:1: error', err)
+        sector = self.file('boot.asm', "org 7c00h\n mov ax,0e42h\n int 10h\n int 18h\n times 510-($-$$) db 0\n dw 0aa55h\n")
+        self.assertIn('ended by INT 18h', self.tool('try', '--nasm', sector)[0])
+
+    def test_bcc(self) -> None:
+        path = self.file('it.c', 'main(argc, argv) int argc; char **argv; { printf("%s %d\\n", argv[1], argc); return 5; }\n')
+        if not is_there('bcc', 'tools/try --bcc', 'bcc elks-libc'):
+            return
+        out, _ = self.tool('try', '--bcc', path, '--args', 'one two')
+        self.assertRegex(out, r'^one 3\n\(ended with exit code 5, at clock [\d,]+\)\n\Z')
+        self.assertIn('bcc refuses', self.tool('try', '--bcc', self.file('bad.c', 'main( {\n'), status=2)[1])
+
+    def test_they_are_missing(self) -> None:
+        path = self.file('it.asm', 'nop\n')
+        for name in ('nasm', 'bcc'):
+            ran = subprocess.run(
+                [sys.executable, '-S', f'{TOOLS}/try', f'--{name}', path],
+                env=os.environ | {'PATH': self.room, 'PCBOARD': program.path()},
+                capture_output=True,
+                text=True,
+                check=False,
+            )
+            self.assertEqual(ran.returncode, 2)
+            self.assertIn(f"{name} isn't there; install it (Debian: apt-get install", ran.stderr)
+            self.assertNotIn('Traceback', ran.stderr)
+
+
+if __name__ == '__main__':
+    unittest.main()

@@ -1,0 +1,253 @@
+"""Out of a routine: it ends where single steps would, whatever calls, interrupts and values of BP are on the way, and soon."""
+from __future__ import annotations
+
+import os
+import random
+import time
+import unittest
+
+from tests.support import ToolCase, children, processor_seconds
+
+from toolbox.dap_board import Machine
+from toolbox.listing import listing_of
+from toolbox.places import event_of
+from toolbox.program import Files, Session
+from toolbox.report import registers_of
+from toolbox.returns import ends_with_call, places_on_stack
+from toolbox.runfile import DEFAULTS, text_of
+
+BUDGET, ROUTINES = 60_000, 5
+HEAD = """SEGMENT MAIN AT 0F000h
+start:  MOV AX,100h
+        MOV SS,AX
+        MOV SP,800h
+        MOV AL,13h
+        OUT 20h,AL
+        MOV AL,8
+        OUT 21h,AL
+        MOV AL,1
+        OUT 21h,AL
+        MOV AL,34h
+        OUT 43h,AL
+        MOV AL,{ticks}
+        OUT 40h,AL
+        MOV AL,0
+        OUT 40h,AL
+        STI
+again:  MOV DX,{fuel}
+        CALL r0
+        JMP SHORT again
+tick:   PUSH AX
+        MOV AX,3
+wai:    DEC AX
+        JNZ wai
+        MOV AL,20h
+        OUT 20h,AL
+        POP AX
+        IRET
+soft:   PUSH CX
+        MOV CX,{soft}
+swait:  LOOP swait
+        POP CX
+        IRET
+"""
+TAIL = """ENDS
+SEGMENT OTHER AT 0F800h
+away:   PUSH BP
+        MOV BP,{bp}
+        MOV CX,{away}
+awa:    LOOP awa
+        POP BP
+        RETF
+ENDS
+SEGMENT VECTORS AT 0
+        ORG 20h
+        DW tick,SEG tick
+        ORG 180h
+        DW soft,SEG soft
+ENDS
+SEGMENT RESET AT 0FFFFh
+        JMP FAR start
+ENDS
+"""
+DELAY = """SEGMENT MAIN AT 0F000h
+start:  MOV SP,400h
+        CALL delay
+        HLT
+delay:  MOV CX,0
+w1:     LOOP w1
+        RET
+ENDS
+SEGMENT RESET AT 0FFFFh
+        JMP FAR start
+ENDS
+"""
+
+
+def routine(number: int, dice: random.Random) -> str:
+    """A routine that pushes, loops, and calls others and itself as long as DX lasts."""
+    lines = [f'r{number}:']
+    pushed = [dice.choice(('AX', 'BX', 'SI', 'BP', 'CX')) for _ in range(dice.randrange(4))]
+    lines += [f'        PUSH {it}' for it in pushed]
+    for part in range(dice.randrange(2, 5)):
+        kind = dice.randrange(6)
+        if kind == 0:
+            lines += [f'        MOV CX,{dice.choice((1, 7, 300, 900))}', f'l{number}a{part}: LOOP l{number}a{part}']
+        elif kind == 1:
+            lines.append(f'        MOV BP,{dice.choice(("SP", dice.randrange(0x700, 0x810), dice.randrange(0x10000)))}')
+        elif kind == 2:
+            lines.append('        INT 60h')
+        elif kind == 3:
+            lines.append('        CALL FAR away')
+        else:
+            lines += [
+                '        TEST DX,DX',
+                f'        JZ e{number}a{part}',
+                '        DEC DX',
+                f'        CALL r{dice.randrange(ROUTINES)}',
+                f'e{number}a{part}: INC DI',
+            ]
+    lines += [f'        POP {it}' for it in reversed(pushed)]
+    return '\n'.join([*lines, '        RET', ''])
+
+
+def program(seed: int) -> str:
+    """A program of routines that call each other, under a timer's interrupts."""
+    dice = random.Random(seed)
+    numbers = {
+        'ticks': dice.choice((80, 200)),
+        'fuel': dice.randrange(3, 30),
+        'soft': dice.choice((1, 400)),
+        'bp': dice.randrange(0x10000),
+        'away': dice.choice((2, 500)),
+    }
+    return HEAD.format(**numbers) + ''.join(routine(it, dice) for it in range(ROUTINES)) + TAIL.format(**numbers)
+
+
+def by_steps(session: Session, end: int) -> tuple[int, str]:
+    """Where single steps come out of the routine, and how that is called; `end` is the budget."""
+    before = registers_of(session.many('regs'))
+    while session.clock < end:
+        here = session.clock
+        session.one('step')
+        began = [it for it in map(event_of, session.many('trail')) if it.clock >= here]
+        if began and began[-1].entry is None and began[-1].text.split()[0] in ('RET', 'RETF', 'IRET'):
+            now = registers_of(session.many('regs'))
+            if now['SS'] != before['SS'] or now['SP'] > before['SP']:
+                return session.clock, 'returned'
+    return end, 'far'
+
+
+class Out(ToolCase):
+    """Against steps, and against the clock."""
+
+    def machine(self, source: str, budget: int) -> Machine:
+        """A board of a source."""
+        files = Files(self.file('it.asm', source), self.file('it.json', text_of(DEFAULTS | {'budget': budget})))
+        made = Machine(files, listing_of(files), budget, lambda: None)
+        self.addCleanup(made.close)
+        return made
+
+    def test_it_ends_where_steps_do(self) -> None:
+        """Twelve programs, eight clocks each, from the midst of whatever runs there."""
+        how = dict[str, int]()
+        for seed in range(12):
+            machine, dice = self.machine(program(seed), BUDGET), random.Random(-seed)
+            with Session(machine.files) as session:
+                for _ in range(8):
+                    clock = dice.randrange(400, BUDGET - 20_000)
+                    for it in (session, machine):
+                        it.go_to(clock)
+                    wanted = by_steps(session, BUDGET)
+                    machine.out(set())
+                    self.assertEqual((min(machine.clock, BUDGET), machine.why), wanted, (seed, clock))  # a step may end behind the budget
+                    how[machine.why] = how.get(machine.why, 0) + 1
+        self.assertGreater(how['returned'], 80, how)
+
+    def test_a_stop_on_the_way(self) -> None:
+        """It is met first, also where the routine would return to it later."""
+        machine = self.machine(DELAY, 2_000_000)
+        machine.go_to(200)
+        for label in ('w1', 'delay'):
+            place = machine.listing.labels[label]
+            self.assertEqual((machine.out({place}), machine.why), ((place, 'stop') if label == 'w1' else (None, 'returned')), label)
+
+    def test_a_long_loop(self) -> None:
+        """From within a LOOP of 65,536 rounds it takes at most half a second of the processors, over such a call too; so does finish."""
+
+        def spent() -> float:
+            return time.process_time() + sum(os.times()[2:4]) + sum(map(processor_seconds, children(os.getpid())))
+
+        machine = self.machine(DELAY, 2_000_000)
+        with Session(machine.files) as session:
+            session.stop('break F000:0006')
+            session.go(2_000_000)
+            end = session.clock
+        for move in (machine.out, machine.next):
+            machine.go_to(0)
+            machine.run({machine.listing.labels['w1'] if move == machine.out else (0xF000, 3)}, 1000)
+            before = spent()
+            move(set())
+            self.assertLess(spent() - before, 0.5)
+            self.assertEqual(machine.clock, end)
+        before = spent()
+        out, _ = self.tool('dbg', machine.files.file, machine.files.run_file, given='to 200\nfinish\n')
+        self.assertIn(f'clock {end}', out)
+        self.assertLess(spent() - before, 1.5)  # with the start of Python, the assembly and the listing
+
+    def test_what_ends_it_before(self) -> None:
+        """A jam, a halt for good and the budget: there, and it is said, by tools/dbg too."""
+        for deed, why, told in (
+            ('DB 0FFh,0FFh', 'jammed', 'the processor has jammed'),
+            ('CLI\n        HLT', 'halted for good', 'halted with interrupts off'),
+            ('JMP SHORT w1', 'far', 'up to the end of the run'),
+        ):
+            for rounds in (3, 9000):
+                machine = self.machine(DELAY.replace('CX,0', f'CX,{rounds}').replace('        RET', f'        {deed}'), 400_000)
+                machine.go_to(60)
+                machine.out(set())
+                self.assertEqual(machine.why, why, deed)
+                label = machine.listing.label_before(*machine.place())
+                if why == 'far':
+                    self.assertEqual(machine.clock, 400_000)
+                else:
+                    self.assertEqual((label[:4], machine.clock < 200_000), ('w1+2' if why == 'jammed' else 'w1+4', True), deed)
+                out, _ = self.tool('dbg', machine.files.file, machine.files.run_file, given='to 60\nfinish\n')
+                self.assertIn(f"it didn't return{':' if why != 'far' else ''} {told}", out)
+                self.assertIn(f'clock {machine.clock}', out)
+
+
+class Places(unittest.TestCase):
+    """What a stack names."""
+
+    def test_calls(self) -> None:
+        """Near and far, with each displacement; nothing else."""
+        for octets, is_near, is_far in (
+            ('90 E8 00 10', True, False),
+            ('9A 00 10 00 F0', False, True),
+            ('90 90 FF D0', True, False),
+            ('90 FF 56 04', True, False),
+            ('FF 16 00 10', True, False),
+            ('90 90 FF 1F', False, True),
+            ('FF 1E 00 10', False, True),
+            ('90 90 FF DB', False, False),
+            ('90 90 90 90', False, False),
+        ):
+            code = bytes.fromhex(octets)
+            self.assertEqual((ends_with_call(code), ends_with_call(code, is_far=True)), (is_near, is_far), octets)
+
+    def test_places(self) -> None:
+        """A return address behind others, a far one, and the frame of an interrupt; in their order."""
+        memory = bytearray(1 << 20)
+        memory[0xF0100 - 3 : 0xF0100] = b'\xE8\x00\x00'
+        memory[0xF8200 - 5 : 0xF8200] = b'\x9A\x00\x00\x00\xF8'
+        words = [0x1111, 0x2222, 0x3333, 0x4444, 0x0100, 0x0200, 0xF800, 0x0300, 0xF000, 0xF246, 0, 0]
+        for at, word in enumerate(words):
+            memory[0x1700 + 2 * at : 0x1702 + 2 * at] = word.to_bytes(2, 'little')
+        found = places_on_stack({'CS': 0xF000, 'SS': 0x100, 'SP': 0x700}, lambda at, count: bytes(memory[at : at + count]))
+        self.assertEqual(found[:3], [(0xF000, it) for it in words[:3]])
+        self.assertEqual(found[3:], [(0xF000, 0x100), (0xF800, 0x200), (0xF000, 0x300)])
+
+
+if __name__ == '__main__':
+    unittest.main()

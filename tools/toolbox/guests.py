@@ -1,0 +1,174 @@
+"""What stands in textbooks, made ready for the board: a .COM or .EXE program, a diskette's first sector, a source with services, or
+one for NASM or bcc, as Intel HEX and a run file that any tool runs. Each front that takes such a file takes it by `prepared`."""
+from __future__ import annotations
+
+import argparse
+import contextlib
+import os
+import shutil
+import subprocess
+import sys
+import tempfile
+from dataclasses import dataclass
+from typing import Any, Iterator
+
+from toolbox import loading
+from toolbox.command import Sorry
+from toolbox.loading import Loaded, check_ram
+from toolbox.program import Files
+from toolbox.runfile import DEFAULTS, read_run_file, text_of
+from toolbox.services import MOST_RAM
+
+BINARIES = ('.com', '.exe', '.bin')
+COMPILERS = {'nasm': ('nasm', 'nasm'), 'bcc': ('bcc', 'bcc')}  # the command, and Debian's package
+LONGEST = 1 << 20
+
+
+@dataclass(frozen=True)
+class Guest:
+    """A file as it was given, and how it is taken: the command's tail, `--services` or `--com`, and the compiler."""
+
+    file: str
+    args: str | None = None
+    is_served: bool = False
+    is_com: bool = False
+    compiler: str | None = None
+
+    @property
+    def is_one(self) -> bool:
+        """Whether it needs the services."""
+        return bool(self.is_served or self.is_com or self.compiler) or ending(self.file) in BINARIES
+
+
+def ending(path: str) -> str:
+    """A file's ending in small letters."""
+    return os.path.splitext(path)[1].lower()
+
+
+def add_words(reader: argparse.ArgumentParser) -> None:
+    """The words by which a tool's FILE may be such a program."""
+    reader.add_argument('--services', action='store_true', help='FILE is a source that uses INT 10h, 16h, 21h and the like (docs/services.md)')
+    reader.add_argument('--com', action='store_true', help='FILE is a .COM program, whatever its name')
+    reader.add_argument('--args', metavar='TEXT', help="the command's tail of a program with services")
+
+
+def guest_of(given: argparse.Namespace, file: str | None = None) -> Guest:
+    """What those words say."""
+    compiler = next((it for it in COMPILERS if getattr(given, it, False)), None)
+    found = Guest(file or given.file, given.args, given.services, given.com, compiler)
+    if given.args is not None and not found.is_one:
+        raise Sorry('--args goes with a .COM or .EXE program, or with --services')
+    if found.is_one and getattr(given, 'hex', False):
+        raise Sorry(f'--hex goes without --services and --com, and {found.file} is no Intel HEX')
+    return found
+
+
+def asked(reader: argparse.ArgumentParser, given: argparse.Namespace) -> tuple[Guest, Files]:
+    """What a command line with FILE and RUN asks for. RUN may be missing where the services fill it in."""
+    guest = guest_of(given)
+    if given.run_file is None and not guest.is_one:
+        reader.error('the following arguments are required: RUN')
+    return guest, Files(given.file, given.run_file or '', given.hex, given.symbols)
+
+
+def read_bytes(path: str) -> bytes:
+    """A file's bytes."""
+    try:
+        with open(path, 'rb') as file:
+            octets = file.read(LONGEST + 1)
+    except OSError as error:
+        raise Sorry(f"{path} can't be read: {error.strerror}") from None
+    if len(octets) > LONGEST:
+        raise Sorry(f'{path} has more than {LONGEST:,} bytes, which no memory of a PC holds')
+    return octets
+
+
+def loaded(guest: Guest, ram: int, room: str) -> Loaded:
+    """The program with the services in memory."""
+    args = guest.args or ''
+    if guest.compiler:
+        return of_bytes(guest, read_bytes(compiled(guest, room)), ram, '')
+    if guest.is_com or ending(guest.file) in BINARIES:
+        return of_bytes(guest, read_bytes(guest.file), ram, '.com' if guest.is_com else ending(guest.file))
+    read_bytes(guest.file)
+    return loading.source(guest.file, args, ram)
+
+
+def of_bytes(guest: Guest, octets: bytes, ram: int, kind: str) -> Loaded:
+    """A program of bytes. One that begins with MZ is an .EXE program, whatever its name, as for DOS."""
+    args, name = guest.args or '', guest.file
+    if octets[:2] in (b'MZ', b'ZM') and kind != '.bin':
+        return loading.exe(name, octets, args, ram)
+    if kind == '.exe':
+        raise Sorry(f"{name} doesn't begin with MZ, as an .EXE program does; --com takes it as a .COM program")
+    if kind == '.bin' or not kind and len(octets) == 512 and octets[-2:] == b'\x55\xAA':
+        if guest.args is not None:
+            raise Sorry('--args goes with a .COM or .EXE program: a first sector has no command')
+        return loading.sector(name, octets)
+    return loading.com(name, octets, args)
+
+
+def compiled(guest: Guest, room: str) -> str:
+    """What NASM or bcc makes of a source. Their messages are shown."""
+    assert guest.compiler
+    command, package = COMPILERS[guest.compiler]
+    stem, folder = os.path.splitext(os.path.basename(guest.file))[0], os.path.dirname(guest.file) or '.'
+    made = os.path.join(room, f'{stem}.com')
+    words = {'nasm': ['-f', 'bin', f'-I{folder}/', '-o', made, guest.file], 'bcc': ['-Md', f'-I{folder}', '-o', made, guest.file]}[guest.compiler]
+    try:
+        ran = subprocess.run([command, *words], stdin=subprocess.DEVNULL, capture_output=True, text=True, errors='replace', check=False)
+    except OSError:
+        raise Sorry(f"{command} isn't there; install it (Debian: apt-get install {package})") from None
+    told = (ran.stdout + ran.stderr).strip()
+    if ran.returncode or not os.path.isfile(made):
+        raise Sorry(f'{command} refuses {guest.file}:\n{told or f"status {ran.returncode}"}')
+    if told:
+        print(told, file=sys.stderr)
+    return made
+
+
+def fields_for(guest: Guest, run_file: str | None, more: dict[str, Any] | None = None) -> dict[str, Any]:
+    """The run file's fields: RUN's, or the usual ones with all the RAM that there can be, and before these `more`."""
+    fields = DEFAULTS | {'ram': MOST_RAM} | (read_run_file(run_file) if run_file else {}) | (more or {})
+    check_ram(fields['ram'], run_file or guest.file)
+    return fields
+
+
+def written(guest: Guest, fields: dict[str, Any], room: str) -> Files:
+    """The program as Intel HEX, its run file and its symbols, in a folder."""
+    it = loaded(guest, fields['ram'], room)
+    stem = os.path.join(room, os.path.splitext(os.path.basename(guest.file))[0] or 'it')
+    for path, text in ((f'{stem}.hex', it.hex), (f'{stem}.json', text_of(fields)), (f'{stem}.symbols', '\n'.join(it.rows) + '\n')):
+        with open(path, 'w', encoding='utf-8', errors='surrogateescape') as file:
+            file.write(text)
+    return Files(f'{stem}.hex', f'{stem}.json', True, f'{stem}.symbols')
+
+
+def kept(guest: Guest, run_file: str | None, symbols: str | None, name: str | None) -> tuple[str, str, str]:
+    """The image, the run file and the symbols as files that stay, for a tool that writes to them. None is written over."""
+    if not name:
+        raise Sorry(f'{guest.file} becomes an image and a run file, to which the page may write: --keep NAME says where they stay')
+    paths = f'{name}.hex', f'{name}.json', f'{name}.symbols'
+    there = next((it for it in paths if os.path.lexists(it)), None)
+    if there:
+        raise Sorry(f'{there} is there already; FILE {paths[0]} and RUN {paths[1]} go on with it')
+    with prepared(guest, Files(guest.file, run_file or '')) as made:
+        assert made.symbols
+        for path, to in zip((made.file, made.run_file, made.symbols), paths):
+            try:
+                shutil.copyfile(path, to)
+            except OSError as error:
+                raise Sorry(f"{to} can't be written: {error.strerror}") from None
+    return paths[0], paths[1], symbols or paths[2]
+
+
+@contextlib.contextmanager
+def prepared(guest: Guest, files: Files, more: dict[str, Any] | None = None) -> Iterator[Files]:
+    """The files that a tool runs: `files` themselves, or what is made of them where they need the services. Then RUN may be missing
+    (empty), and `more` has fields that stand before RUN's."""
+    if not guest.is_one:
+        yield files
+        return
+    with tempfile.TemporaryDirectory(prefix='zebludor-') as room:
+        made = written(guest, fields_for(guest, files.run_file or None, more), room)
+        yield Files(made.file, made.run_file, True, files.symbols or made.symbols)

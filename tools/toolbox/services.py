@@ -1,0 +1,142 @@
+"""The services of services/, calls of BIOS and DOS as a program in the board's ROM: their bytes and labels, and what they left in
+their RAM, which is the upper 64 KB: what the program wrote by DOS, and from offset FC00h on how it ended."""
+from __future__ import annotations
+
+import functools
+import re
+import struct
+from dataclasses import dataclass
+
+from toolbox.command import Sorry
+from toolbox.listing import Line, label_in, line_of
+from toolbox.program import TOP, Files, Session, answer_of
+from toolbox.runfile import read_run_file
+from toolbox.symbols import image_of
+
+LEAST_RAM, MOST_RAM, SPAN = 144, 640, 0x10000
+KEPT = 0xFC00  # so many bytes of what was written; behind them stands the rest
+OVER = 0xFE00, 6  # where every end of a program goes by, and how long its notes then take
+CLOCKS_OF_AN_END = 1000
+MARK, SIGNED, SIGNATURE = 0x5A53, 0xFE009, b'services of Zebludor'
+# The first key of typed text, how long a key is held, and from a key up to the next one down: the services begin first.
+TYPING = 200_000, 20_000, 80_000
+ENDS = {
+    0x00: 'ended by a division without a quotient',
+    0x18: 'ended by INT 18h: there is nothing else to begin',
+    0x19: 'ended by INT 19h: there is no diskette to begin from',
+    0x20: 'ended by INT 20h',
+    0x23: 'ended by Ctrl-C',
+    0x27: 'ended by INT 27h, and nothing goes on beside it',
+    0x4C: 'ended with exit code {code}',
+}
+
+
+@functools.cache
+def hex_of(name: str) -> str:
+    """`bios` or `dos` as Intel HEX."""
+    return answer_of(['asm', '--', f'{TOP}/services/{name}.asm'])
+
+
+@functools.cache
+def bytes_of(name: str) -> dict[int, int]:
+    """Its bytes, by their addresses."""
+    return image_of(hex_of(name))
+
+
+@functools.cache
+def rows_of(name: str) -> list[str]:
+    """The listing of `bios` or `dos`, whose labels have this name before them: a program may have the same ones."""
+    rows = answer_of(['asm', '--list', '--', f'{TOP}/services/{name}.asm']).split('\n')[:-1]
+    return [re.sub(r'^(.{28})(\w+:)', rf'\g<1>{name}_\2', row) for row in rows]
+
+
+@functools.cache
+def labels_of(name: str) -> list[str]:
+    """Its labels, in lines SEGMENT:OFFSET NAME."""
+    found, waiting = list[str](), list[str]()
+    for line in (line_of(0, row) for row in rows_of(name)):
+        waiting += [it for it in [label_in(line.text)] if it]
+        found += labels_at(line, waiting)
+        waiting = [] if line.address else waiting
+    return found
+
+
+def labels_at(line: Line, waiting: list[str]) -> list[str]:
+    """The labels that stand at a line's bytes."""
+    return [f'{line.address[0]:04X}:{line.address[1]:04X} {it}' for it in waiting] if line.address else []
+
+
+@dataclass(frozen=True)
+class Served:
+    """What the services left at a clock: whether the program runs (phase 1) or has ended (2), how, with which exit code and when;
+    how many bytes it wrote, and those that were kept; how many calls weren't served, and the first one's number, AX and CS:IP
+    behind it; how many keys found the buffer full."""
+
+    phase: int
+    how: int
+    code: int
+    clock: int | None
+    written: int
+    output: bytes
+    notes: int
+    note: tuple[int, int, int, int]
+    lost: int
+
+    @property
+    def ending(self) -> str:
+        """How the program ended, or nothing."""
+        return ENDS.get(self.how, f'ended by INT {self.how:02X}h').format(code=self.code) if self.phase == 2 else ''
+
+    @property
+    def text(self) -> str:
+        """What it wrote, with line feeds alone for line ends."""
+        return self.output.decode('cp437').replace('\r\n', '\n')
+
+    def whole(self) -> bytes:
+        """All that it wrote, or a sentence where it was too much to keep."""
+        if self.written > KEPT:
+            raise Sorry(f'the program wrote {self.written:,} bytes, and the services keep the first {KEPT:,}')
+        return self.output
+
+    def told(self) -> list[str]:
+        """What a person has to know besides, as sentences."""
+        found = list[str]()
+        if self.notes:
+            number, ax, offset, segment = self.note
+            more = f'; calls like it were made {self.notes} times' if self.notes > 1 else ''
+            place = f'{segment:04X}:{(offset - 2) % 0x10000:04X}'
+            found.append(f"INT {number:02X}h function {ax >> 8:02X}h, called at {place}, isn't among the services (docs/services.md){more}")
+        if self.lost:
+            found.append(f"{self.lost} keys were lost: the keyboard's buffer, which holds 15, was full")
+        return found
+
+
+def ram_of(files: Files) -> int:
+    """A run file's RAM in KB, or 0 where it has none."""
+    ram = read_run_file(files.run_file).get('ram')
+    return ram if isinstance(ram, int) else 0
+
+
+def served_of(files: Files, clock: int) -> Served | None:
+    """What the services left at a clock, or None where they aren't in the program, or haven't begun."""
+    ram = ram_of(files)
+    if not LEAST_RAM <= ram <= MOST_RAM:
+        return None
+    with Session(files) as session:
+        if session.dump(SIGNED, len(SIGNATURE)) != SIGNATURE:
+            return None
+        session.stop(f'break {OVER[0]:X}:{OVER[1]:X}')
+        ended = session.clock if session.go(clock).startswith('stop') else None
+        if ended is not None:
+            session.go(min(CLOCKS_OF_AN_END, clock - ended))
+        return read(session, 1024 * ram - SPAN, ended)
+
+
+def read(session: Session, base: int, ended: int | None) -> Served | None:
+    """What stands in the services' RAM, which begins at `base`."""
+    state = session.dump(base + KEPT, 0x16)
+    mark, phase, how, code, written, notes, number, *place, lost = struct.unpack('<HHBBIHHHHHH', state)
+    if mark != MARK:
+        return None
+    output = session.dump(base, min(written, KEPT)) if written else b''
+    return Served(phase, how, code, ended if phase == 2 else None, written, output, notes, (number, place[0], place[1], place[2]), lost)
