@@ -5,6 +5,7 @@ from __future__ import annotations
 import difflib
 import re
 
+from toolbox.habits import habit_of
 from toolbox.listing import code_of, label_in
 
 STATEMENTS = frozenset(
@@ -49,7 +50,7 @@ LOOKS: tuple[tuple[str, str], ...] = (
     (r'(^|[\s,\[+])\.\w', 'there are no local labels or directives with a point: write loop_1: for .loop:'),
     (r'^\s*\w+\s+(PROC|ENDP|LABEL)\b', 'there is no PROC: a procedure begins with a plain label, as print:'),
     (r'^\s*\w+\s+(SEGMENT|ENDS)\b', 'a segment is SEGMENT name AT paragraph, and ends with ENDS alone'),
-    (r'^\s*SEGMENT\s+\w+\s*$', "a segment says where it stands: SEGMENT name AT 0F000h"),
+    (r'^\s*SEGMENT\s+\w+\s*$', "a segment says where it stands: SEGMENT name AT 50h"),
     (r'^\s*TIMES\b', 'repeated data is DB 4 DUP(0) for times 4 db 0'),
     (r'\bDUP\s*\(\s*\?|\bD[BWD]\s+\?', 'there is no ?: give a value, as DB 0'),
     (r'^\s*RES[BWD]\b', 'there is no RESB: room is DB 16 DUP(0), or ORG further on'),
@@ -166,7 +167,7 @@ def of_characters(line: str) -> str | None:
         return 'the file begins with a byte order mark, three bytes that an editor put there: save it as UTF-8 without it'
     for column, sign in enumerate(line, 1):
         if not (' ' <= sign <= '~' or sign in '\t\r'):
-            return f'column {column} has {sign!r}; only printable ASCII, tabulators and line ends may stand in a source,' ' in comments too'
+            return f'column {column} has {sign!r}; only printable ASCII, tabulators and line ends stand outside comments'
     return None
 
 
@@ -211,6 +212,9 @@ def hint_of(line: str, number: int, source: list[str] | None = None) -> str | No
     if len(line) > LONGEST_LINE:
         return None
     code = bare(line)
+    habit = habit_of(line, code) if number in (3, 4, 5, 7, 11) else None
+    if habit and not (number in (4, 7) and of_a_bare_hexadecimal(code)):
+        return habit
     special = of_a_word_as_label(code) if number == 3 else of_a_missing_colon(code) if number in (3, 4, 11) else None
     if number == 3:
         special = special or of_a_word_as_operand(code) or of_a_name_before_brackets(code) or of_a_long_text(line)
@@ -221,7 +225,7 @@ def hint_of(line: str, number: int, source: list[str] | None = None) -> str | No
     if number in (6, 9, 10, 12):
         return None
     if number == 11:
-        return 'code, data and labels stand in a segment: SEGMENT MAIN AT 0F000h before them, and ENDS behind'
+        return 'code, data and labels stand in a segment: SEGMENT MAIN AT 50h before them, and ENDS behind'
     looks = LOOKS if number != 8 else tuple(it for it in LOOKS if 'target' in it[1] or 'port' in it[1])
     found = next((hint for look, hint in looks if re.search(look, code)), None)
     return found or (of_a_statement(code) if number == 4 else RANGES if number == 8 else None)
