@@ -20,9 +20,13 @@ KEYS: dict[str, tuple[str, str, int, str]] = {
     'Tab': ('Tab', 'Tab', 9, ''),
     'ArrowLeft': ('ArrowLeft', 'ArrowLeft', 37, ''),
     'ArrowRight': ('ArrowRight', 'ArrowRight', 39, ''),
+    'ArrowUp': ('ArrowUp', 'ArrowUp', 38, ''),
+    'ArrowDown': ('ArrowDown', 'ArrowDown', 40, ''),
     'Home': ('Home', 'Home', 36, ''),
     'End': ('End', 'End', 35, ''),
     'Space': (' ', 'Space', 32, ' '),
+    'Escape': ('Escape', 'Escape', 27, ''),
+    '/': ('/', 'Slash', 191, '/'),
     **{f'F{n}': (f'F{n}', f'F{n}', 111 + n, '') for n in range(1, 13)},
     **{it: (it, f'Key{it.upper()}', ord(it.upper()), it) for it in 'abcdefghijklmnopqrstuvwxyz'},
 }
@@ -113,8 +117,8 @@ class Browser:
             self.told.append(answer)
 
     def run(self, script: str) -> Any:
-        """The value of an expression in the page."""
-        found = self.call('Runtime.evaluate', expression=script, awaitPromise=True, returnByValue=True)
+        """The value of an expression in the page, which may use the names that its modules export, once they are `named`."""
+        found = self.call('Runtime.evaluate', expression=f'with(globalThis.named??{{}}){{{script}}}', awaitPromise=True, returnByValue=True)
         assert 'exceptionDetails' not in found, (script, found)
         return found['result'].get('value')
 

@@ -11,6 +11,7 @@ import signal
 import socket
 import subprocess
 import sys
+import tempfile
 import threading
 import time
 import unittest
@@ -20,13 +21,17 @@ from tests.support import EXAMPLES, TOOLS, TOP, ToolCase, children, example, pro
 
 from toolbox.chips import chip_lines, lines_in, probe
 from toolbox.command import Sorry
-from toolbox.desk_http import LONGEST_BODY, MOST_CONNECTIONS, Server, policy_of
-from toolbox.desk_pages import as_html, examples, page_of
-from toolbox.desk_words import MOST_BOARDS, Desk, Given
+from toolbox.desk_drafts import Drafts
+from toolbox.desk_files import Given, Kept
+from toolbox.desk_http import LONGEST_BODY, MOST_CONNECTIONS, MOST_STRANGERS, SECONDS_OF_A_STRANGER, Server, policy_of
+from toolbox.desk_pages import as_html, examples, grammar, page_of
+from toolbox.desk_sound import Speaker
+from toolbox.desk_words import MOST_BOARDS, Desk
 from toolbox.desk_work import Helpers
 from toolbox.events import events
 from toolbox.program import Files, Session
 from toolbox.report import registers_of, report_of
+from toolbox.runfile import text_of
 
 Fields = dict[str, Any]
 RUN = {'version': 1, 'ram': 64, 'sw1': 0, 'sw2': 0, 'budget': 1000, 'keys': []}
@@ -34,9 +39,63 @@ SHORT = 'SEGMENT RESET AT 0FFFFh\n        HLT\nENDS\n'
 FOREVER = 'SEGMENT MAIN AT 0F000h\nstart:  CALL deep\nstay:   JMP SHORT stay\ndeep:   INC AX\n        JMP SHORT deep\nENDS\nSEGMENT RESET AT 0FFFFh\n        JMP FAR start\nENDS\n'
 
 
+# It writes to text memory with the video off, and goes round in a loop that nothing ends.
+DARK = (
+    'SEGMENT MAIN AT 0F000h\nstart:  MOV AX,0B000h\n        MOV ES,AX\n        MOV WORD ES:[0],0741h\nstay:   INC BX\n        DEC BX\n        JMP SHORT stay\nENDS\n'
+    'SEGMENT RESET AT 0FFFFh\n        JMP FAR start\nENDS\n'
+)
+
+
+# Its timer moves the speaker each eight clocks.
+BUZZ = (
+    'SEGMENT MAIN AT 0F000h\nstart:  MOV AL,99h\n        OUT 63h,AL\n        MOV AL,96h\n        OUT 43h,AL\n        MOV AL,4\n        OUT 42h,AL\n        MOV AL,3\n'
+    '        OUT 61h,AL\nbuzz:   INC BX\n        JMP SHORT buzz\nENDS\nSEGMENT RESET AT 0FFFFh\n        JMP FAR start\nENDS\n'
+)
+DATA = '''SEGMENT MAIN AT 0F000h
+start:  MOV AX,50h
+        MOV DS,AX
+more:   INC BYTE [count]
+        DEC WORD [pair+2]
+        JMP SHORT more
+text:   DB 'Hello',0
+ENDS
+SEGMENT DATA AT 50h
+count:  DB 0FEh
+pair:   DW 1,2,0FFFFh
+both:
+other:  DD 12345678h
+msg:    DB 'Hi',0
+        DB 5 DUP(0)             ; of the same label
+code:   NOP
+big:    DB 2000 DUP(41h)
+ENDS
+SEGMENT RESET AT 0FFFFh
+        JMP FAR start
+ENDS
+'''
+
+
 def text_of_screen(rows: list[list[list[Any]]]) -> list[str]:
     """The page's screen as a report has it."""
     return [''.join(text for text, _ in row) for row in rows]
+
+
+def modules() -> dict[str, str]:
+    """The page's modules, by their names."""
+    folder = f'{TOOLS}/toolbox/desk'
+    found = dict[str, str]()
+    for name in os.listdir(folder):
+        with open(f'{folder}/{name}', encoding='utf-8') as file:
+            found[name] = file.read()
+    return found
+
+
+def exports_of(text: str) -> list[str]:
+    """The names that a module exports."""
+    found = re.findall(r'^export (?:async )?function (\w+)', text, re.M)
+    for line in re.findall(r'^export (?:const|let) (.*)$', text, re.M):
+        found += re.findall(r'(?:^|, )([$\w]+)(?= = )', line)
+    return found
 
 
 def contrast(one: str, other: str) -> float:
@@ -50,6 +109,15 @@ def contrast(one: str, other: str) -> float:
 
     low, high = sorted((luminance(one), luminance(other)))
     return (high + 0.05) / (low + 0.05)
+
+
+def state_of(process: int) -> str:
+    """A process's state, as one letter; of one that is gone Z."""
+    try:
+        with open(f'/proc/{process}/stat', encoding='utf-8') as file:
+            return file.read().rpartition(')')[2].split()[0]
+    except OSError:
+        return 'Z'
 
 
 class Client:
@@ -114,8 +182,11 @@ class Served(ToolCase):
 
     def setUp(self) -> None:
         super().setUp()
-        self.desk = Desk(self.room, Given())
-        self.server = Server('<style>x</style><script>y</script>', self.desk.answer)
+        drafts = tempfile.TemporaryDirectory()
+        self.addCleanup(drafts.cleanup)
+        self.drafts = f'{drafts.name}/state/desk'
+        self.desk = Desk(self.room, Given(), Drafts(self.drafts))
+        self.server = Server('<style>x</style>', {'main.js': 'y'}, self.desk.answer)
         self.thread = threading.Thread(target=self.server.serve_forever, args=(0.02,), daemon=True)
         self.thread.start()
         self.addCleanup(self.end)
@@ -138,10 +209,14 @@ class Hostile(Served):
 
     def test_the_page_itself(self) -> None:
         status, text, answer = self.client.request('GET', f'/{self.client.token}/')
-        self.assertEqual((status, text), (200, '<style>x</style><script>y</script>'))
-        policy = answer.getheader('Content-Security-Policy') or ''
-        self.assertEqual(policy, policy_of(text))
-        self.assertTrue(policy.startswith("default-src 'none'; script-src 'sha256-") and 'unsafe' not in policy)
+        self.assertEqual((status, text), (200, '<style>x</style>'))
+        policy, module = answer.getheader('Content-Security-Policy') or '', f'{self.server.address}main.js'
+        self.assertEqual(policy, policy_of(text, [module]))
+        # Scripts come from the modules' own addresses, and from nowhere else: neither from within the page, nor from a text beside them.
+        self.assertTrue(policy.startswith(f"default-src 'none'; script-src {module}; style-src 'sha256-"), policy)
+        self.assertFalse('unsafe' in policy or '*' in policy)
+        status, text, module_answer = self.client.request('GET', f'/{self.client.token}/main.js')
+        self.assertEqual((status, text, module_answer.getheader('Content-Type')), (200, 'y', 'text/javascript; charset=utf-8'))
         self.assertEqual((answer.getheader('Cache-Control'), answer.getheader('Referrer-Policy')), ('no-store', 'same-origin'))
         self.assertIn('examples', self.client.ask('hello'))
 
@@ -161,13 +236,44 @@ class Hostile(Served):
 
     def test_no_token_or_another(self) -> None:
         token = self.client.token
-        for path in ('/', '/do', '//', f'/{token[:-1]}/', f'/{token}x/', f'/{token.swapcase()}/', '/favicon.ico', f'/x/{token}/', f'/?{token}', '*', 'x'):
+        for path in (
+            '/',
+            '/do',
+            '//',
+            f'/{token[:-1]}/',
+            f'/{token}x/',
+            f'/{token.swapcase()}/',
+            '/favicon.ico',
+            f'/x/{token}/',
+            f'//{token}/',
+            f'//{token}/do',
+            f'/?{token}',
+            '*',
+            'x',
+        ):
             self.assertEqual(self.status('GET', path), 403, path)
             self.assertEqual(self.status('POST', path, b'{"do":"hello"}'), 403, path)
 
     def test_a_path_outside(self) -> None:
         token = self.client.token
-        for rest in ('../../etc/passwd', '..', './', '%2e%2e/', '..%2f..%2fetc/passwd', 'do/', 'do/../', '/etc/passwd', 'desk.html', '\\..\\', 'do?x'):
+        for rest in (
+            '../../etc/passwd',
+            '..',
+            './',
+            '%2e%2e/',
+            '..%2f..%2fetc/passwd',
+            'do/',
+            'do/../',
+            '/etc/passwd',
+            'desk.html',
+            '\\..\\',
+            'do?x',
+            'main.js/',
+            'main.js?x',
+            './main.js',
+            '/main.js',
+            'board.js',
+        ):
             for method in ('GET', 'POST'):
                 self.assertEqual(self.status(method, f'/{token}/{rest}', b'{}' if method == 'POST' else None), 404, rest)
         self.assertEqual(self.status('GET', f'/{token}'), 404)
@@ -244,6 +350,40 @@ class Hostile(Served):
             line.close()
         self.assertIn('examples', self.client.ask('hello'))
 
+    def test_those_who_show_no_token(self) -> None:
+        """They keep nobody out, however many they are, silent or with a byte now and then, and are cut off."""
+        self.server.seconds_of_a_stranger = 0.4
+        head = b'GET /'
+        lines = [socket.create_connection(('127.0.0.1', self.client.port)) for _ in range(3 * MOST_STRANGERS)]
+        for at, line in enumerate(lines):
+            if at % 2:
+                line.sendall(head)
+            self.assertIn('examples', self.client.ask('hello'))
+        begun = time.monotonic()
+        left = set(lines)
+        while left and time.monotonic() < begun + 20:
+            self.server.cut_off()
+            for line in set(left):
+                line.settimeout(0.005)
+                try:
+                    line.sendall(b'x')
+                    if line.recv(100) == b'':
+                        left.discard(line)
+                except TimeoutError:
+                    pass
+                except OSError:
+                    left.discard(line)
+        self.assertEqual(left, set())
+        for line in lines:
+            line.close()
+        # Who has shown it may be silent for longer.
+        with socket.create_connection(('127.0.0.1', self.client.port), timeout=20) as line:
+            for pause in (1, 0):
+                line.sendall(f'GET /{self.client.token}/ HTTP/1.1\r\nHost: {self.client.host}\r\n\r\n'.encode())
+                self.assertTrue(line.recv(5000).startswith(b'HTTP/1.1 200'))
+                time.sleep(pause)
+                self.server.cut_off()
+
     def test_a_hundred_at_once(self) -> None:
         """Those for whom there is no room are told so."""
         lines = [socket.create_connection(('127.0.0.1', self.client.port), timeout=20) for _ in range(100)]
@@ -268,6 +408,9 @@ class Hostile(Served):
                 time.sleep(0.02)
         with futures.ThreadPoolExecutor(20) as pool:
             self.assertEqual({len(it['examples']) for it in pool.map(lambda _: self.client.ask('hello'), range(100))}, {len(examples())})
+
+    def test_how_long_a_stranger_may_stay(self) -> None:
+        self.assertEqual((self.server.seconds_of_a_stranger, SECONDS_OF_A_STRANGER), (2, 2))
 
     def test_it_listens_here_alone(self) -> None:
         self.assertEqual(self.server.server_address[0], '127.0.0.1')
@@ -299,6 +442,7 @@ class Hostile(Served):
             {'do': 'memory', 'place': 'nowhere'},
             {'do': 'stops', 'places': ['F000:0\nquit']},
             {'do': 'type', 'text': '{no such key}'},
+            {'do': 'type', 'text': 'x' * 1001},
             {'do': 'type', 'text': '{wait 9999999999999}a'},
             {'do': 'last'},
         ):
@@ -397,14 +541,13 @@ class Boards(Served):
             answer = self.client.ask('open', source=file.read(), run=json.load(run_file), hex=True)
         shown = self.client.ask('run', board=answer['board'], to=answer['budget'], past=True, ms=200)
         self.assertEqual((answer['lines'], text_of_screen(shown['screen'])), ({}, report_of(self.pcboard('run', *example('monitor')).stdout).screen))
-        saved = self.client.ask('save', board=answer['board'])
-        self.assertEqual(saved['hex'], True)
 
     def test_labels_of_hex(self) -> None:
         """Those of the words' file stand beside its bytes, where the source has them, and beside no other program's."""
         source, run_file = example('monitor')
         text, listing = source.replace('.asm', '.hex'), self.file('monitor.lst', self.pcboard('asm', '--list', source).stdout)
         self.desk.given = Given(text, run_file, True, listing)
+        self.desk.files = Kept(self.desk.given)
         with open(source, encoding='utf-8') as of_source, open(run_file, encoding='utf-8') as fields:
             them = [
                 {'source': it, 'run': run, 'hex': is_hex}
@@ -462,9 +605,10 @@ class Boards(Served):
         self.assertEqual((stepped['clock'], stepped['trail'][-1][3]), (6061, 'interrupt 09'))
 
     def repeated(self, board: str, shown: Fields) -> None:
-        """Whether a run of what is saved gives what is shown."""
-        saved = self.client.ask('save', board=board)
-        report = report_of(self.pcboard('run', self.file('it.asm', saved['source']), self.file('it.json', saved['run'])).stdout)
+        """Whether a run with the keys that are shown gives what is shown."""
+        keys = [[stamp, code] for stamp, _, _, code in self.client.ask('look', board=board)['keys']]
+        run_file = self.file('it.json', text_of(RUN | {'budget': shown['clock'], 'keys': keys}))
+        report = report_of(self.pcboard('run', example('keys')[0], run_file).stdout)
         self.assertEqual(
             (report.clock, report.registers, report.screen),
             (shown['clock'], shown['registers'], text_of_screen(self.client.ask('look', board=board)['screen'])),
@@ -500,11 +644,49 @@ class Boards(Served):
         self.client.ask('go to', board=boards[0], clock=100)
         self.assertEqual([self.client.ask('look', board=it)['clock'] for it in boards], [100] + [0] * 7)
         given = self.client.ask('example', name='hello')
-        self.assertIn('8 boards are in use', self.client.ask('open', source=given['source'], run=given['run'])['sorry'])
-        self.assertIn('board', self.client.ask('open', source=given['source'], run=given['run'], instead=boards[0]))
+        fields = {'source': given['source'], 'run': given['run']}
+        self.assertIn('8 boards run', self.client.ask('open', **fields)['sorry'])
+        self.assertIn('board', self.client.ask('open', **fields, instead=boards[0]))
         self.assertIn('gone', self.client.ask('look', board=boards[0]))
         self.client.ask('close', board=boards[1])
-        self.assertIn('board', self.client.ask('open', source=given['source'], run=given['run']))
+        self.assertIn('board', self.client.ask('open', **fields))
+
+    def test_the_ninth_page(self) -> None:
+        """It ends the board that was asked for nothing longest, and none that runs."""
+        boards = [self.client.ask('open', source=FOREVER, run=RUN)['board'] for _ in range(MOST_BOARDS)]
+        self.desk.least_idle = 0.1
+        path = f'/{self.client.token}/do'
+        self.client.request('POST', path, json.dumps({'do': 'go to', 'clock': 1 << 40, 'board': boards[0]}).encode())
+        self.client.ask('step', board=boards[1])
+        time.sleep(0.2)
+        self.client.ask('look', board=boards[3])
+        ninth = self.client.ask('open', source=SHORT, run=RUN)['board']
+        self.assertEqual(self.client.ask('look', board=ninth)['clock'], 0)
+        told = [self.client.ask('stops', board=it, places=[]).get('gone') for it in boards]
+        self.assertEqual([bool(it) for it in told], [False, False, True] + [False] * 5)
+        self.assertIn('left alone while others were wanted', told[2])
+        self.client.ask('pause', board=boards[0])
+
+    def test_two_hundred_pages(self) -> None:
+        """Those that close, those that are left, and those that are left while they run: what stays ends with the desk's tidying."""
+        self.desk.least_idle = 0
+        path = f'/{self.client.token}/do'
+        for turn in range(200):
+            board = self.client.ask('open', source=FOREVER, run=RUN)['board']
+            if turn % 3 == 0:
+                self.client.ask('close', board=board)
+            elif turn % 3 == 1:
+                body = json.dumps({'do': 'run', 'ms': 200, 'board': board}).encode()
+                head = f'POST {path} HTTP/1.1\r\nHost: {self.client.host}\r\nOrigin: http://{self.client.host}\r\nContent-Type: application/json\r\n'
+                with socket.create_connection(('127.0.0.1', self.client.port)) as line:
+                    line.sendall(f'{head}Content-Length: {len(body)}\r\n\r\n'.encode() + body)
+            self.assertLessEqual(len(os.listdir(self.room)), MOST_BOARDS + 1)
+        self.desk.idle_seconds = 0
+        until = time.monotonic() + 20
+        while (children(os.getpid()) or os.listdir(self.room)) and time.monotonic() < until:
+            self.desk.end_idle()
+            time.sleep(0.05)
+        self.assertEqual((children(os.getpid()), os.listdir(self.room)), ([], []))
 
     def test_idle_boards_end(self) -> None:
         board, other = self.client.open('hello')['board'], self.client.open('hello')['board']
@@ -541,6 +723,79 @@ class Boards(Served):
         self.assertEqual(count(), before)
         self.assertLess(memory() - used, 8000, 'kilobytes')
 
+    def test_data(self) -> None:
+        """Each label of data with its kind, its length and its bytes as memory has them at the clock; no label of code."""
+        board = self.client.ask('open', source=DATA, run=RUN)['board']
+        self.client.ask('go to', board=board, clock=1000)
+        found = self.client.ask('data', board=board)
+        session = Session(Files(self.file('it.asm', DATA), self.file('it.json', text_of(RUN))))
+        with session:
+            session.go_to(1000)
+            self.assertEqual(
+                [(it['name'], it['line'], it['kind'], it['place'], it['length']) for it in found['data']],
+                [
+                    ('text', 7, 'DB', 'F000:000F', 6),
+                    ('count', 10, 'DB', '0050:0000', 1),
+                    ('pair', 11, 'DW', '0050:0001', 6),
+                    ('both', 13, 'DD', '0050:0007', 4),
+                    ('other', 13, 'DD', '0050:0007', 4),
+                    ('msg', 14, 'DB', '0050:000B', 8),
+                    ('big', 17, 'DB', '0050:0014', 2000),
+                ],
+            )
+            for one in found['data']:
+                segment, offset = (int(it, 16) for it in one['place'].split(':'))
+                self.assertEqual(one['bytes'], session.dump(16 * segment + offset, min(one['length'], 1024)).hex(), one['name'])
+        self.assertNotEqual(found['data'][1]['bytes'], 'fe')
+        self.assertEqual(found['clock'], 1000)
+        given = self.client.ask('example', name='monitor')
+        text = self.pcboard('asm', *example('monitor')[:1]).stdout
+        board = self.client.ask('open', source=text, run=given['run'], hex=True)['board']
+        self.assertEqual(self.client.ask('data', board=board)['data'], [])
+
+    def test_why_it_goes_nowhere(self) -> None:
+        """As tools/why tells it of a run up to the clock that is shown; the board stays there."""
+        board = self.client.ask('open', source=DARK, run=RUN)['board']
+        before = self.client.ask('run', board=board, to=1000, past=True, ms=200)
+        found = self.client.ask('why', board=board)
+        told = self.tool('why', 'run', self.file('it.asm', DARK), self.file('it.json', text_of(RUN)))[1]
+        self.assertEqual([f'why: {it}' for it in found['told']], told.splitlines())
+        for sentence in ('text memory has characters and the screen is blank', 'the same 3 in turn', 'line 5 (stay:   INC BX)', 'nothing leads out'):
+            self.assertIn(sentence, '\n'.join(found['told']))
+        after = self.client.ask('look', board=board)
+        self.assertEqual((after['clock'], after['registers'], after['trail']), (found['clock'], before['registers'], before['trail']))
+        # Nothing is said of a program that ends as it should, and nothing wrong of the clock at which a run has just begun.
+        for name, clock in (('hello', 100_000), ('hello', 0)):
+            board = self.client.open(name)['board']
+            self.client.ask('run', board=board, to=clock, past=True, ms=200)
+            self.assertEqual(self.client.ask('why', board=board)['told'], [], name)
+
+    def test_the_line_of_a_halt(self) -> None:
+        """It is that of the HLT, and not of the routine behind it, which never runs."""
+        given = self.client.ask('example', name='first')
+        board = self.client.open('first')['board']
+        shown = self.client.ask('run', board=board, to=100_000, past=True, ms=200)
+        line = next(at for at, it in enumerate(given['source'].split('\n'), 1) if it.strip().startswith('HLT'))
+        self.assertEqual((shown['state'], shown['line']), ('halted for good', line))
+        board = self.client.open('keys', keys=[])['board']
+        given = self.client.ask('example', name='keys')
+        shown = self.client.ask('run', board=board, to=5000, past=True, ms=200)
+        lines = [at for at, it in enumerate(given['source'].split('\n'), 1) if 'HLT' in it.partition(';')[0]]
+        self.assertEqual((shown['state'], [shown['line']]), ('halted', lines))
+
+    def test_how_fast_it_tells_why(self) -> None:
+        """Within 0.3 seconds of processor time, also where the run is long."""
+        for source, clocks in ((DARK, 10**6), (DARK, 20_000_000), (DARK, 10**8), (FOREVER, 10**8)):
+            board = self.client.ask('open', source=source, run=RUN)['board']
+            self.client.ask('go to', board=board, clock=clocks)
+            started = {it: processor_seconds(it) for it in children(os.getpid())}
+            before = time.process_time() + sum(os.times()[2:4])
+            self.client.ask('why', board=board)
+            spent = time.process_time() + sum(os.times()[2:4]) - before
+            spent += sum(processor_seconds(it) - started.get(it, 0) for it in children(os.getpid()))
+            self.assertLess(spent, 0.3, clocks)
+            self.client.ask('close', board=board)
+
     def test_how_fast_it_is(self) -> None:
         """On a run of ten million clocks a step is shown within 50 ms, and one back within 150: of processor time, which others on
         the machine take least from."""
@@ -558,6 +813,33 @@ class Boards(Served):
             self.assertLess((spent() - before) / 8, most, word)
 
 
+class Heard(unittest.TestCase):
+    """The speaker's stretches and samples, against its changes by hand."""
+
+    def test_stretches(self) -> None:
+        changes = [(10, 1), (20, 0), (25, 1), (26, 0), (27, 1), (28, 0), (90, 1)]
+        speaker = Speaker(changes, 100)
+        self.assertEqual(speaker.stretches(0, 100, 100), [[10, 20], [25, 26], [27, 28], [90, 100]])
+        self.assertEqual(speaker.stretches(0, 100, 10), [[10, 30], [90, 100]])
+        self.assertEqual(speaker.stretches(12, 18, 6), [[12, 18]])
+        self.assertEqual(speaker.stretches(30, 80, 1000), [])
+        self.assertEqual(Speaker([], 100).stretches(0, 100, 10), [])
+        many = Speaker([(it, it % 2) for it in range(500_000)], 500_000)
+        self.assertLessEqual(len(many.stretches(0, 500_000, 4096)), 4096)
+        self.assertEqual(many.stretches(0, 500_000, 4096), [[1, 500_000]])
+
+    def test_samples(self) -> None:
+        """A sample is 99.43 clocks of a real board: half high is half as loud; ten times slower it has as many more."""
+        clocks = 14318180 / 3 / 48_000
+        speaker = Speaker([(0, 1), (round(1.5 * clocks), 0)], 1000)
+        self.assertEqual([speaker.is_still(*it) for it in ((0, 100), (0, 200), (200, 900))], [True, False, True])
+        found = speaker.samples(0, 1000)
+        self.assertEqual((len(found), found[0], found[2:]), (int(1000 / clocks), 255, bytes(8)))
+        self.assertLess(abs(found[1] - 127.5), 2)
+        self.assertEqual(len(speaker.samples(0, 1000, 10)), int(10_000 / clocks))
+        self.assertEqual(set(Speaker([(it, it % 2) for it in range(5000)], 5000).samples(0, 5000)) - {126, 127, 128, 129}, set())
+
+
 class Beside(unittest.TestCase):
     """Programs that are run beside a board."""
 
@@ -572,7 +854,7 @@ class Beside(unittest.TestCase):
             lines_in('', 5)
 
 
-class Started(ToolCase):
+class Begun(ToolCase):
     """The tool as it is started."""
 
     def begin(self, *words: str) -> tuple[subprocess.Popen[str], Client]:
@@ -583,7 +865,7 @@ class Started(ToolCase):
             stderr=subprocess.PIPE,
             text=True,
             cwd=self.room,
-            env=os.environ | {'TMPDIR': self.room},
+            env=os.environ | {'TMPDIR': self.room, 'XDG_STATE_HOME': f'{self.room}/state'},
         )
         self.addCleanup(process.kill)
         assert process.stdout
@@ -601,6 +883,10 @@ class Started(ToolCase):
                 os.kill(one, 0)
         self.assertEqual([it for it in os.listdir(self.room) if it.startswith('desk')], [])
 
+
+class Started(Begun):
+    """What it serves, and how it ends."""
+
     def test_control_c_ends_it_all(self) -> None:
         for number in (signal.SIGINT, signal.SIGTERM):
             process, client = self.begin()
@@ -609,6 +895,36 @@ class Started(ToolCase):
             path = f'/{client.token}/do'
             client.request('POST', path, json.dumps({'do': 'go to', 'clock': 1 << 40, 'board': board}).encode())
             self.ended(process, number)
+
+    def test_a_desk_that_is_killed(self) -> None:
+        """Its boards and reports end with it, in the midst of long runs; its folder goes when the next desk begins."""
+        process, client = self.begin()
+        board = client.ask('open', source=FOREVER, run=RUN)['board']
+        path = f'/{client.token}/do'
+        client.request('POST', path, json.dumps({'do': 'go to', 'clock': 1 << 40, 'board': board}).encode())
+        other = client.ask('open', source=FOREVER, run=RUN)['board']
+        asking = threading.Thread(target=lambda: self.assertRaises(OSError, client.ask, 'heard', board=other, begin=0, end=1 << 40))
+        asking.start()
+        until = time.monotonic() + 20
+        while len(started := children(process.pid)) < 3 and time.monotonic() < until:
+            time.sleep(0.01)
+        self.assertEqual(len(started), 3)
+        process.kill()
+        process.communicate(timeout=20)
+        asking.join(20)
+        while any(state_of(it) != 'Z' for it in started) and time.monotonic() < until:
+            time.sleep(0.01)
+        self.assertEqual([it for it in started if state_of(it) != 'Z'], [])
+        left = [it for it in os.listdir(self.room) if it.startswith('desk')]
+        self.assertEqual(len(left), 1)
+        process, client = self.begin()
+        client.open('hello')
+        self.assertNotIn(left[0], os.listdir(self.room))
+        live, _ = self.begin()  # which leaves the live one's alone
+        self.assertEqual(len([it for it in os.listdir(self.room) if it.startswith('desk')]), 2)
+        live.send_signal(signal.SIGINT)
+        live.communicate(timeout=20)
+        self.ended(process, signal.SIGINT)
 
     def test_it_listens_in_one_place(self) -> None:
         """Of all sockets of its processes one waits for connections, at 127.0.0.1; at the machine's other addresses nothing is."""
@@ -634,13 +950,16 @@ class Started(ToolCase):
         source = self.file('mine.asm', FOREVER)
         process, client = self.begin(source, f'{self.room}/mine.json')
         given = client.ask('hello')['given']
-        self.assertEqual((given['source'], given['name'], given['run']['budget']), (FOREVER, 'mine.asm', 100000))
-        board = client.ask('open', source=FOREVER.replace('INC', 'DEC'), run=given['run'])['board']
-        client.ask('go to', board=board, clock=500)
-        self.assertEqual(client.ask('keep', board=board), {'kept': [source, f'{self.room}/mine.json']})
+        self.assertEqual((given['source'], given['name'], given['run']['budget']), (FOREVER, 'mine.asm', 10_000_000))
+        client.open('hello')
+        answer = client.ask('keep', source=FOREVER.replace('INC', 'DEC'), run=given['run'] | {'budget': 500}, sums=given['sums'])
+        self.assertEqual(answer['kept'], [source, f'{self.room}/mine.json'])
         report = report_of(self.pcboard('run', source, f'{self.room}/mine.json').stdout)
-        self.assertEqual((report.clock, report.registers), (500, client.ask('look', board=board)['registers']))
-        self.assertEqual({it for it in os.listdir(self.room) if not it.startswith('desk')}, {'mine.asm', 'mine.json'})
+        self.assertEqual(
+            (report.clock, report.registers['AX']),
+            (500, (0x10000 - report_of(self.pcboard('run', self.file('it.asm', FOREVER), f'{self.room}/mine.json').stdout).registers['AX']) % 0x10000),
+        )
+        self.assertEqual({it for it in os.listdir(self.room) if not it.startswith('desk')}, {'mine.asm', 'mine.json', 'it.asm'})
         self.ended(process, signal.SIGINT)
 
     def test_words(self) -> None:
@@ -666,8 +985,26 @@ class Pages(unittest.TestCase):
             page = file.read()
         self.assertNotRegex(page, r'https?:|//\w+\.|@import|url\(')
         self.assertEqual(
-            (page.count('<script>'), page.count('<style>'), page.count('<script'), page.count(' style="'), page.count(' onclick=')), (1, 1, 1, 0, 0)
+            (page.count('<script>'), page.count('<style>'), page.count('<script'), page.count(' style="'), page.count(' onclick=')), (0, 1, 1, 0, 0)
         )
+        for name, text in modules().items():
+            self.assertNotRegex(text, r'https?:|//\w+\.|@import|url\(|eval\(|new Function', name)
+
+    def test_modules_name_what_they_use(self) -> None:
+        """Each name that a module uses of another is imported from there, each import is used, and one name means one thing."""
+        texts = {name: re.sub(r'/\*.*?\*/', '', text, flags=re.S) for name, text in modules().items()}
+        exported = {name: set(exports_of(text)) for name, text in texts.items()}
+        for name, text in texts.items():
+            imported, body = set[str](), re.sub(r'^import .*?;$', '', text, flags=re.M)
+            for names, of in re.findall(r"^import \{(.*?)\} from './(\w+\.js)';$", text, re.M):
+                self.assertLessEqual(set(names.split(', ')), exported[of], (name, of))
+                imported |= set(names.split(', '))
+            for one in imported - {'$'}:
+                self.assertRegex(body, rf'(?<![\w.]){one}\b|\.\.\.{one}\b', (name, one))
+            called = {it for it in re.findall(r"(?<![\w.'])(\w+)\(", body)}
+            known = imported | set(re.findall(r'(?:function|const|let) (\w+)', body))
+            foreign = set().union(*(them for of, them in exported.items() if of != name))
+            self.assertEqual(called & foreign - known, set(), name)
 
     def test_it_can_be_read_in_light_and_dark(self) -> None:
         """Each text has a contrast of 4.5 to what is behind it, each mark one of 3, as the accessibility guidelines want it."""
@@ -677,13 +1014,29 @@ class Pages(unittest.TestCase):
             for fore, back, least in (
                 *((it, 'panel', 4.5) for it in ('text', 'dim', 'bad', 'accent')),
                 *((it, 'back', 4.5) for it in ('text', 'dim', 'bad', 'accent')),
-                *(('text', it, 4.5) for it in ('now', 'changed')),
+                *(('text', it, 4.5) for it in ('now', 'changed', 'halted')),
                 ('bad', 'bad-back', 4.5),
+                *(
+                    (it, back, 4.5)
+                    for it in ('comment', 'string', 'label', 'mnemonic', 'directive', 'register', 'figure')
+                    for back in ('panel', 'now', 'halted', 'bad-back')
+                ),
                 ('panel', 'bad', 4.5),
                 ('accent-text', 'accent', 4.5),
                 *((it, 'back', 3) for it in ('stop', 'interrupt', 'sound')),
+                *(('field', it, 3) for it in ('panel', 'back')),
             ):
                 self.assertGreaterEqual(contrast(colours[fore], colours[back]), least, (fore, back, colours))
+
+    def test_the_grammar_is_the_editors(self) -> None:
+        """The page colours by the file that VS Code has, and knows each of its kinds by a colour of its own."""
+        with open(f'{TOP}/editors/vscode/zebludor.tmLanguage.json', encoding='utf-8') as file:
+            rows = json.load(file)['patterns']
+        self.assertEqual(grammar(), rows)
+        with open(f'{TOOLS}/toolbox/desk.html', encoding='utf-8') as file:
+            page = file.read()
+        for row in rows:
+            self.assertRegex(page, rf"\.{'-'.join(row['name'].split('.')[:2])}\b", row['name'])
 
     def test_all_pages_can_be_shown(self) -> None:
         for name in sorted(os.listdir(f'{TOP}/docs')):

@@ -15,11 +15,18 @@ from typing import Any
 
 from tests.browser import CONTROL, SHIFT, Browser, path
 from tests.support import EXAMPLES, TOOLS, ToolCase, children, example, processor_seconds
+from tests.test_desk import BUZZ, DARK, DATA
 
 from toolbox.chips import END_OF_INTERRUPT, chip_lines, probe
+from toolbox.dap_board import FLAG_BITS
 from toolbox.program import Files, Session
 from toolbox.report import Report, registers_of, report_of
 
+# What the page's modules export, under their names, as a test's expressions use them.
+NAMES = (
+    "Promise.all([...performance.getEntriesByType('resource')].map(it=>it.name).filter(it=>it.endsWith('.js')).map(it=>import(it))).then(them=>{"
+    'globalThis.named=new Proxy({},{has:(_,name)=>them.some(it=>name in it),get:(_,name)=>them.find(it=>name in it)?.[name]});return true})'
+)
 READY = "typeof view!=='undefined'&&view!==null&&board!==null&&!working&&!running"
 # The longest of fifty times between two calls that are wanted every 20 ms.
 LONGEST_TURN = (
@@ -32,18 +39,32 @@ SHOWN = "[...document.querySelectorAll('#screen>div')].map(it=>it.textContent)"
 class Page:
     """A desk, and a browser that shows it."""
 
-    def __init__(self, room: str, *words: str) -> None:
+    def __init__(self, room: str, *words: str, browser: Browser | None = None) -> None:
+        self.room, self.words, self.own = room, words, browser is None
+        self.begin()
+        self.browser = browser or Browser(room)
+
+    def begin(self) -> None:
+        """Starts the desk, also again."""
         self.desk = subprocess.Popen(
-            [sys.executable, '-S', f'{TOOLS}/desk', '--no-open', *words], stdout=subprocess.PIPE, text=True, cwd=room, env=os.environ | {'TMPDIR': room}
+            [sys.executable, '-S', f'{TOOLS}/desk', '--no-open', *self.words],
+            stdout=subprocess.PIPE,
+            text=True,
+            cwd=self.room,
+            env=os.environ | {'TMPDIR': self.room, 'XDG_STATE_HOME': f'{self.room}/state'},
         )
         assert self.desk.stdout
         self.address = self.desk.stdout.readline().split()[1]
-        self.browser = Browser(room)
 
     def close(self) -> None:
         """Ends both."""
-        self.browser.close()
-        self.desk.send_signal(signal.SIGINT)
+        if self.own:
+            self.browser.close()
+        self.end(signal.SIGINT)
+
+    def end(self, number: int) -> None:
+        """Ends the desk by a signal."""
+        self.desk.send_signal(number)
         self.desk.communicate(timeout=20)
 
     def open(self, *window: Any) -> None:
@@ -51,6 +72,7 @@ class Page:
         self.browser.run('window.old=true;onbeforeunload=null')
         self.browser.open(self.address, *window)
         self.browser.until("window.old!==true&&document.readyState==='complete'")
+        self.browser.run(NAMES)
         self.settled('view.clock>0')
 
     def settled(self, more: str = 'true') -> None:
@@ -60,8 +82,12 @@ class Page:
 
     def example(self, name: str) -> None:
         """Chooses an example, as a hand does."""
-        self.browser.run(f"loaded=$('source').value;$('example').value='{name}';$('example').dispatchEvent(new Event('change'));queue")
-        self.settled(f"$('name').textContent==='{name}.asm'&&view.clock===runFile.budget")
+        there = f"$('name').textContent==='{name}.asm'&&!is_changed()&&view.clock===runFile.budget"
+        self.browser.run(f"$('example').value='{name}';$('example').dispatchEvent(new Event('change'));0")
+        self.browser.until(f"$('asked').open||{READY}&&{there}")
+        if self.browser.run("$('asked').open"):
+            self.browser.run("document.querySelector('#asked [value=yes]').click()")
+        self.settled(there)
 
     def screen(self) -> list[str]:
         """The screen's lines."""
@@ -132,25 +158,28 @@ class OnePage(ToolCase):
         source = browser.run("$('source').value")
         page.write(source.replace('DIV BX', 'DVI BX'))
         browser.press('Enter', CONTROL)
-        browser.until("!$('hint').hidden")
+        browser.until("!$('refusals').hidden")
         self.assertEqual(
-            browser.run("[$('hint').textContent, refused[0].line, document.querySelector('#gutter .bad').textContent]"),
-            ['28: UnknownName: is DIV meant?', 28, '28'],
+            browser.run("[$('refusals').textContent, refused[0].line, document.querySelector('#gutter .bad').textContent]"),
+            ['line 41: UnknownName: is DIV meant?', 41, '41'],
         )
+        # The line is underlined from its first sign to its last, and the sentence stands in one place.
+        self.assertEqual(browser.run("document.querySelector('#ink .refused').textContent.replace(/;.*/,'').trim()"), 'DVI BX')
+        self.assertEqual(browser.run("document.body.innerText.split('is DIV meant').length"), 2)
         page.write(source)
         browser.press('F8')
-        page.settled("view.clock===runFile.budget&&$('hint').hidden&&refused.length===0")
+        page.settled("view.clock===runFile.budget&&$('refusals').hidden&&refused.length===0")
         # To the start, step, a stop by the margin, run to it, back to it.
         page.click('#start', 'view.clock===0')
         self.assertEqual(browser.run('view.line'), browser.run("$('source').value.split('\\n').findIndex(it=>it.includes('JMP FAR'))") + 1)
         page.click('#step', 'view.clock===15')
         self.assertTrue(browser.run("document.querySelector('#gutter .now').textContent===String(view.line)"))
         self.assertIn('CS', browser.run("[...document.querySelectorAll('#registers .changed')].map(it=>it.parentNode.textContent).join()"))
-        browser.run('to_line(28)')
-        page.click('#gutter [data-line="28"]', 'stops.length===1')
-        page.click('#run', "view.why==='stop'||view.line===28")
+        browser.run('to_line(41)')
+        page.click('#gutter [data-line="41"]', 'stops.length===1')
+        page.click('#run', "view.why==='stop'||view.line===41")
         first = page.clock
-        self.assertEqual(browser.run('view.line'), 28)
+        self.assertEqual(browser.run('view.line'), 41)
         page.click('#run', f'view.clock>{first}')
         page.click('#last', f'view.clock==={first}')
         page.click('#back', f'view.clock<{first}')
@@ -181,13 +210,13 @@ class OnePage(ToolCase):
             return
         browser = page.browser
         page.example('fibonacci')
-        browser.run('to_line(28)')
-        browser.run('window.draws=0;{const was=draw_paper;draw_paper=(...it)=>{window.draws++;return was(...it)}}')
-        place = browser.middle('#gutter [data-line="28"]')
+        browser.run('to_line(41)')
+        browser.run("window.draws=0;new MutationObserver(()=>{window.draws++}).observe($('gutter'),{subtree:true,attributes:true,childList:true})")
+        place = browser.middle('#gutter [data-line="41"]')
         browser.mouse('mousePressed', *place)
         browser.run('draw_paper()')
         browser.mouse('mouseReleased', *place)
-        page.settled('stops.length===1&&stops[0].line===28')
+        page.settled('stops.length===1&&stops[0].line===41')
         # The margin has no scroll of its own, so that numbers and lines stay side by side; a wheel over it moves both.
         browser.run("$('source').scrollTop=0;draw_paper();$('gutter').lastChild.scrollIntoView({block:'nearest'})")
         self.assertEqual(browser.run("$('gutter').scrollTop"), 0)
@@ -251,6 +280,7 @@ class OnePage(ToolCase):
         browser.run("acts(()=>go_to(view.clock+20000))")
         page.settled(f"{SHOWN}[0].startsWith('BO ')")
         page.click('#save', "$('saving').open")
+        browser.click('#up-to')
         for name in ('save-source', 'save-run'):
             browser.click(f'#{name}')
         until = time.monotonic() + 20
@@ -268,7 +298,9 @@ class OnePage(ToolCase):
         browser = page.browser
         browser.run('document.body.focus()')
         reached = set[str]()
-        for _ in range(60):
+        for _ in range(70):
+            if browser.run("document.activeElement===$('source')"):
+                browser.press('Escape')  # then Tab leaves the editor
             browser.press('Tab')
             reached.add(browser.run("document.activeElement.id||document.activeElement.parentNode.id||''"))
         wanted = browser.run(
@@ -332,7 +364,9 @@ class OnePage(ToolCase):
         with open(example('tone')[0], encoding='utf-8') as file:
             page.write(file.read().replace('MOV AX,10 ', 'MOV AX,2711').replace('LOOP pause', 'JMP SHORT pause'))
         page.click('#assemble', "assembled.includes('2711')")
-        browser.run('window.played=[];{const was=play;play=(...it)=>{window.played.push([it[1],it[2]]);return was(...it)}}')
+        browser.run(
+            'window.played=[];{const was=speaker.chunk;speaker.chunk=function(clock){const from=this.at,is=was.call(this,clock);if(is)window.played.push([from,this.at]);return is}}'
+        )
         browser.click('#run')
         browser.until('window.played.length>5')
         page.click('#run')
@@ -428,7 +462,7 @@ class OnePage(ToolCase):
         self.assertEqual(page.screen()[0].rstrip(), 'HELLO')
         # Of the speaker the stretches are filled in which it is high.
         page.example('melody')
-        browser.until("marks&&marks['all changes']===42")
+        browser.until("marks&&marks['all changes']===42&&drawnSpeaker&&drawnSpeaker.high===view.furthest")
         changes = browser.run('marks.changes')
         wide = [(one, other) for one, other in zip(changes, changes[1:]) if other[0] - one[0] > 40]
         self.assertGreater(len(wide), 30)
@@ -455,7 +489,7 @@ class OnePage(ToolCase):
             words = session.dump(16 * registers['SS'] + registers['SP'], 4)
         shown = browser.run("[...document.querySelectorAll('#trail button')].map(it=>it.textContent)")
         self.assertEqual([it.split()[0] for it in shown], [it.split()[0] for it in trail])
-        self.assertRegex(shown[-1], r'F000:003D print\+3 +CALL 00046h +\| 35: CALL char$')
+        self.assertRegex(shown[-1], r'F600:005B print\+3 +CALL 00064h +\| 48: CALL char$')
         stack = browser.run("$('stack').textContent").split('\n')
         self.assertEqual(stack[0], f"{registers['SP']:04X}: {words[1]:02X}{words[0]:02X} print+6")
         # What STOSW has written is marked, and only that.
@@ -547,21 +581,378 @@ class OnePage(ToolCase):
         self.assertEqual(browser.run('view.clock'), 3_000_000_000)
         self.fine(page)
 
+    def test_the_editor(self) -> None:
+        """Colours by the other editors' grammar, Tab, comments, find, go to a line; and keys as in VS Code."""
+        page = self.opened()
+        if page is None:
+            return
+        browser = page.browser
+        lines = ["begin:  MOV AX,0B8h     ; a comment", "        DB 'text',10", '        REP MOVSB']
+        page.write('\n'.join(lines))
+        found = browser.run("[...$('ink').children].slice(0,3).map(row=>[row.textContent,...[...row.children].map(it=>[it.className,it.textContent.trim()])])")
+        self.assertEqual([it[0] for it in found], lines)
+        self.assertEqual(
+            found[0][1:],
+            [['entity-name', 'begin'], ['keyword-mnemonic', 'MOV'], ['variable-language', 'AX'], ['constant-numeric', '0B8h'], ['comment-line', '; a comment']],
+        )
+        self.assertEqual(found[1][1:], [['keyword-directive', 'DB'], ['string-quoted', "'text'"], ['constant-numeric', '10']])
+        self.assertEqual(found[2][1:], [['keyword-prefix', 'REP'], ['keyword-mnemonic', 'MOVSB']])
+
+        def edited(keys: list[tuple[str, int]], text: str, start: int, end: int) -> list[Any]:
+            page.write(text)
+            browser.run(f"$('source').setSelectionRange({start},{end})")
+            for name, modifiers in keys:
+                browser.press(name, modifiers)
+            return browser.run("[$('source').value,$('source').selectionStart,$('source').selectionEnd]")
+
+        self.assertEqual(edited([('Tab', 0)], 'a:b', 2, 2), ['a:      b', 8, 8])
+        self.assertEqual(edited([('Tab', 0)], 'NOP\n\nHLT\n', 0, 8), ['        NOP\n\n        HLT\n', 0, 24])
+        self.assertEqual(edited([('Tab', SHIFT)], '        NOP\n   HLT\n', 2, 14), ['NOP\nHLT\n', 0, 7])
+        self.assertEqual(edited([('/', CONTROL)], 'NOP\n\n  HLT\n', 0, 10), ['; NOP\n\n;   HLT\n', 0, 14])
+        self.assertEqual(edited([('/', CONTROL)] * 2, 'NOP\n\n  HLT\n', 0, 10), ['NOP\n\n  HLT\n', 0, 10])
+        self.assertEqual(edited([('/', CONTROL)], 'ab\ncd', 4, 4), ['ab\n; cd', 6, 6])
+        self.assertEqual(edited([('Tab', 0), ('z', CONTROL)], 'x', 1, 1)[0], 'x')  # it can be undone
+        page.write(''.join(f'        INC AX ; {at}\n' for at in range(1, 201)))
+        browser.press('f', CONTROL)
+        browser.until("document.activeElement===$('find-text')")
+        browser.call('Input.insertText', text='ax ; 15')
+        browser.until("$('find-told').textContent==='11 found'")
+        for key, told in (('Enter', '1 of 11'), ('Enter', '2 of 11')):
+            browser.press(key)
+            browser.until(f"$('find-told').textContent==='{told}'")
+        self.assertEqual(browser.run("$('source').value.slice($('source').selectionStart,$('source').selectionEnd)"), 'AX ; 15')
+        self.assertEqual(browser.run("$('source').value.slice(0,$('source').selectionStart).split('\\n').length"), 150)
+        self.assertTrue(browser.run("[...$('gutter').children].some(it=>it.textContent==='150')"))
+        browser.press('Enter', SHIFT)
+        browser.until("$('find-told').textContent==='1 of 11'")
+        browser.press('Escape')
+        browser.until("$('find').hidden&&document.activeElement===$('source')")
+        browser.press('g', CONTROL)
+        browser.call('Input.insertText', text='120')
+        browser.press('Enter')
+        browser.until("$('find').hidden&&$('source').value.slice(0,$('source').selectionStart).split('\\n').length===120")
+        page.example('hello')
+        page.click('#start', 'view.clock===0')
+        browser.run("$('source').focus()")
+        for key, modifiers, more in (
+            ('F11', 0, 'view.clock===15'),
+            ('F2', SHIFT, 'view.clock===0'),
+            ('F5', 0, "view.clock>15&&view.state==='halted for good'"),
+        ):
+            browser.press(key, modifiers)
+            page.settled(more)
+        page.example('fibonacci')
+        line = browser.run("$('source').value.split('\\n').findIndex(it=>it.startsWith('char:'))+1")
+        browser.run(f'toggle_stop({line})')
+        page.click('#start', 'view.clock===0')
+        page.click('#run', f"view.why==='stop'&&view.line==={line}")
+        browser.run("$('source').focus()")
+        browser.press('F11', SHIFT)
+        page.settled("view.label==='print+6'")
+        before = page.clock
+        browser.press('F10')
+        page.settled(f'view.clock>{before}')
+        self.fine(page)
+
+    def test_how_fast_it_types(self) -> None:
+        """In a source of 5,000 lines a key takes the page's script less than 16 ms of processor time, beside what a bare field takes."""
+        page = self.opened()
+        if page is None:
+            return
+        browser = page.browser
+        text = ''.join(f'here{at}:  MOV AX,{at}  ; a line\n' for at in range(5000))
+        browser.run(f"$('source').focus();$('source').value={json.dumps(text)};$('source').dispatchEvent(new Event('input'))")
+        browser.run("$('source').setSelectionRange(60000,60000);$('source').scrollTop=30000")
+        browser.call('Performance.setTimeDomain', timeDomain='threadTicks')
+        browser.call('Performance.enable')
+
+        def spent() -> float:
+            return {it['name']: it['value'] for it in browser.call('Performance.getMetrics')['metrics']}['ScriptDuration']
+
+        for _ in range(5):
+            browser.press('a')
+        before = spent()
+        for _ in range(40):
+            browser.press('b')
+        self.assertLess((spent() - before) / 40, 0.016)
+        self.assertEqual(browser.run("$('source').value.split('b'.repeat(40)).length"), 2)
+        self.assertTrue(browser.run("[...$('ink').children].some(it=>it.textContent.includes('b'.repeat(40)))"))
+        self.fine(page)
+
+    def test_for_everyone(self) -> None:
+        """The trail is one stop of Tab, what a step comes to is told, flags are digits, and forced colours leave what the colours say."""
+        page = self.opened()
+        if page is None:
+            return
+        browser = page.browser
+        page.example('fibonacci')
+        tabbed = "[...document.querySelectorAll('#trail,#trail button')].filter(it=>it.tabIndex===0).length"
+        self.assertEqual(browser.run(tabbed), 1)
+        browser.run("$('tab-trail').focus()")
+        browser.press('Tab')
+        clocks = browser.run("[...$('trail').children].map(it=>Number(it.textContent.trim().split(' ')[0]))")
+        for key, at in (('ArrowUp', -2), ('ArrowUp', -3), ('ArrowDown', -2), ('Home', 0), ('ArrowUp', 0), ('End', -1), ('ArrowUp', -2)):
+            browser.press(key)
+            self.assertEqual(browser.run("Number(document.activeElement.textContent.trim().split(' ')[0])"), clocks[at], key)
+        self.assertEqual(browser.run(tabbed), 1)
+        browser.press('Enter')
+        page.settled(f'view.clock==={clocks[-2]}')
+        self.assertTrue(browser.run("$('trail').contains(document.activeElement)"))
+        count = 0
+        browser.run("$('assemble').focus()")
+        while not browser.run("document.activeElement===$('run')") and count < 60:
+            browser.press('Escape')
+            browser.press('Tab')
+            count += 1
+        self.assertLess(count, 32)
+        page.click('#start', 'view.clock===0')
+        page.click('#step', 'view.clock===15')
+        line = browser.run('view.line')
+        code = browser.run("$('source').value.split('\\n')[view.line-1].replace(/;.*/,'').trim()")
+        self.assertEqual(browser.run("$('aloud').textContent"), f'clock 15, line {line}: {code}')
+        self.assertEqual(browser.run("[$('aloud').getAttribute('aria-live'),getComputedStyle($('aloud')).display]"), ['polite', 'block'])
+        flags = dict(it.split() for it in browser.run("[...$('flags').children].map(it=>it.textContent)"))
+        value = browser.run('view.registers.FL')
+        self.assertEqual(flags, {name: str(value >> bit & 1) for name, bit in FLAG_BITS.items()})
+        browser.run('toggle_stop(41)')
+        page.settled('stops.length===1')
+        self.assertEqual(browser.run("$('aloud').textContent"), 'stop at line 41')
+        page.write(browser.run("$('source').value").replace('DIV BX', 'DVI BX'))
+        browser.press('Enter', CONTROL)
+        browser.until("$('source').getAttribute('aria-invalid')==='true'")
+        self.assertEqual(
+            browser.run("document.getElementById($('source').getAttribute('aria-describedby')).textContent"), 'line 41: UnknownName: is DIV meant?'
+        )
+        page.example('first')
+        browser.run('to_line(view.line)')
+        browser.call('Emulation.setEmulatedMedia', features=[{'name': 'forced-colors', 'value': 'active'}])
+        try:
+            looks = browser.run(
+                "(()=>{const look=it=>{const s=getComputedStyle(it);return [s.outlineStyle,s.borderTopStyle,s.textDecorationLine].join(' ')};"
+                "const flag=at=>[...$('flags').children].find(it=>it.textContent.endsWith(at));"
+                "return [look(flag('1'))!==look(flag('0')),look(document.querySelector('#sheet .mark.halted')),getComputedStyle($('ink')).display,"
+                "getComputedStyle($('source')).color!=='rgba(0, 0, 0, 0)']})()"
+            )
+            self.assertEqual(looks, [True, 'none dashed none', 'none', True])
+        finally:
+            browser.window(1280, 720)
+        self.fine(page)
+
+    def test_keys_of_other_keyboards(self) -> None:
+        """By sign a German keyboard types what it says; a paste is typed; what no key types, or is too long, is said, and nothing is cut."""
+        page = self.opened()
+        if page is None:
+            return
+        browser = page.browser
+        page.example('keys')
+        page.click('#tab-keys')
+        page.click('#keys-drop', 'view.keys.length===0')
+
+        def press(key: str, code: str, modifiers: int = 0) -> None:
+            for kind in ('keyDown', 'keyUp'):
+                text = {'text': key} if kind == 'keyDown' and len(key) == 1 else {}
+                browser.call('Input.dispatchKeyEvent', type=kind, key=key, code=code, modifiers=modifiers, **text)
+
+        def codes(count: int) -> list[int]:
+            page.settled(f'view.keys.length==={count}&&codes.length===0')
+            return browser.run('view.raw.map(it=>it[1])')
+
+        browser.run("$('screen').focus()")
+        press('y', 'KeyZ')
+        self.assertEqual(codes(2), [44, 172])  # by its place
+        browser.run("$('by-sign').value='sign'")
+        press('y', 'KeyZ')
+        press('Shift', 'ShiftLeft', SHIFT)
+        press('/', 'Digit7', SHIFT)
+        press('ArrowLeft', 'ArrowLeft')
+        self.assertEqual(codes(8)[2:], [21, 149, 53, 181, 75, 203])
+        press('?', 'Minus', SHIFT)
+        self.assertEqual(codes(12)[8:], [42, 53, 181, 170])
+        press('\u00fc', 'BracketLeft')
+        browser.until("$('said').textContent==='no key of the board types \u00fc'")
+        paste = "(text=>{const it=new DataTransfer();it.setData('text',text);$('screen').dispatchEvent(new ClipboardEvent('paste',{clipboardData:it,bubbles:true,cancelable:true}))})"
+        browser.run(f"{paste}('a{{\\r\\n')")
+        self.assertEqual(codes(20)[12:], [30, 158, 42, 26, 154, 170, 28, 156])
+        browser.run(f"{paste}('x'.repeat(1001))")
+        browser.until("$('said').textContent.startsWith('1,001 characters are too many')")
+        self.assertEqual(browser.run("[view.keys.length,$('text').value.length]"), [20, 1001])
+        browser.run("$('by-sign').value='place'")
+        self.fine(page)
+
+    def test_the_data(self) -> None:
+        """A label's value in each form, what has changed marked, words of arrays folded; registers in any base by a click."""
+        page = self.opened()
+        if page is None:
+            return
+        browser = page.browser
+        page.write(DATA)
+        page.click('#assemble', "assembled.includes('more:')")
+        page.click('#start', 'view.clock===0')
+        page.click('#tab-data')
+        browser.until("document.querySelectorAll('.datum').length===7")
+        shown = "[...document.querySelectorAll('.datum')].map(it=>[it.tagName,(it.querySelector('summary')||it).firstChild.textContent])"
+        self.assertEqual(
+            browser.run(shown),
+            [['DETAILS', 'text'], ['DIV', 'count'], ['DETAILS', 'pair'], ['DIV', 'both'], ['DIV', 'other'], ['DETAILS', 'msg'], ['DETAILS', 'big']],
+        )
+        cells = "[...document.querySelectorAll('.datum')[{}].querySelectorAll('tr')].map(it=>[...it.children].map(one=>one.textContent))"
+        self.assertEqual(browser.run(cells.format(1)), [['FEh', '254', '-2', '.']])
+        self.assertEqual(browser.run(cells.format(3)), [['12345678h', '305419896', '305419896', 'xV4.']])
+        self.assertEqual(browser.run(cells.format(2)), [['0', '0001h', '1', '1', '..'], ['1', '0002h', '2', '2', '..'], ['2', 'FFFFh', '65535', '-1', '..']])
+        self.assertIn('Hello', browser.run("document.querySelector('.datum summary').textContent"))
+        self.assertFalse(browser.run("document.querySelectorAll('.datum')[2].open"))
+        self.assertIn('976 bytes more', browser.run("document.querySelectorAll('.datum')[6].textContent"))
+        browser.run("document.querySelectorAll('.datum')[2].open=true")
+        for _ in range(4):
+            page.click('#step')
+        browser.until("document.querySelectorAll('.datum')[1].querySelector('.changed')!==null")
+        self.assertEqual(browser.run(cells.format(1)), [['FFh', '255', '-1', '.']])
+        page.click('#step')
+        browser.until("document.querySelectorAll('.datum')[2].querySelectorAll('tr.changed').length===1")
+        self.assertEqual(
+            browser.run("[...document.querySelectorAll('.datum')[2].querySelector('tr.changed').children].map(it=>it.textContent)"),
+            ['1', '0001h', '1', '1', '..'],
+        )
+        self.assertTrue(browser.run("document.querySelectorAll('.datum')[2].open"))
+        browser.run("document.querySelectorAll('.datum button')[2].click()")
+        self.assertEqual(browser.run("$('source').value.slice(0,$('source').selectionStart).split('\\n').length"), 11)
+        value = browser.run('view.registers.CS')
+        for base, text in (
+            ('decimal', str(value)),
+            ('signed', str(value - 65536)),
+            ('binary', f'{value:016b}'),
+            ('text', '..'),
+            ('hexadecimal', f'{value:04X}'),
+        ):
+            browser.click('#base')
+            self.assertEqual(
+                browser.run("[$('base').textContent,[...$('registers').children].find(it=>it.textContent.startsWith('CS')).lastChild.textContent]"),
+                [base, text],
+            )
+        self.fine(page)
+
+    def test_windows(self) -> None:
+        """The screen grows with the window, and is there whole; in a narrow one a touch leads to it, and one to the source."""
+        page = self.opened()
+        if page is None:
+            return
+        browser = page.browser
+        page.example('first')
+        try:
+            sizes = list[float]()
+            for window in ((1280, 720), (1920, 1080), (2560, 1440)):
+                browser.window(*window)
+                time.sleep(0.3)
+                sizes.append(browser.run("parseFloat(getComputedStyle($('screen')).fontSize)"))
+                inside = "(()=>{const t=$('tube').getBoundingClientRect();return [...$('screen').children].every(it=>{const r=it.getBoundingClientRect();return r.top>=t.top&&r.bottom<=t.bottom+.5&&r.right<=t.right})})()"
+                self.assertEqual(browser.run(f"[{inside},$('screen').children.length]"), [True, 25], window)
+            self.assertGreater(sizes[1], 1.3 * sizes[0])
+            self.assertGreater(sizes[2], 1.3 * sizes[1])
+            browser.window(1280, 720)
+            browser.click('#keys-open')
+            time.sleep(0.3)
+            self.assertTrue(browser.run(inside))
+            browser.click('#keys-open')
+            browser.click('#full')
+            browser.until("document.fullscreenElement===$('tube')&&document.activeElement===$('screen')")
+            browser.until(f"parseFloat(getComputedStyle($('screen')).fontSize)>{1.3 * sizes[0]}")
+            browser.run('document.exitFullscreen()')
+            browser.until('!document.fullscreenElement')
+            for window in ((800, 600), (390, 800)):
+                browser.window(*window)
+                time.sleep(0.3)
+                for button, part in (('view-source', 'source'), ('view-screen', 'screen'), ('view-source', 'source')):
+                    browser.click(f'#{button}')
+                    seen = f"(()=>{{const r=$('{part}').getBoundingClientRect(),f=document.querySelector('footer').getBoundingClientRect().top;return Math.min(r.bottom,f)-Math.max(r.top,0)}})()"
+                    browser.until(f'{seen}>=Math.min(160,$("{part}").getBoundingClientRect().height-2)')
+        finally:
+            browser.window(1280, 720)
+        self.fine(page)
+
+    def test_a_speaker_of_very_many_changes(self) -> None:
+        """All of them are drawn, joined, and the last ones heard as the first."""
+        page = self.opened()
+        if page is None:
+            return
+        browser = page.browser
+        page.write(BUZZ)
+        browser.run("$('f-budget').value='4000000'")
+        page.click('#assemble', "assembled.includes('buzz')&&view.clock===4000000")
+        browser.until("marks&&marks['all changes']>400000&&drawnSpeaker&&drawnSpeaker.high===4000000")
+        self.assertLess(browser.run('drawnSpeaker.stretches.length'), 4097)
+        self.assertGreater(browser.run('drawnSpeaker.stretches[drawnSpeaker.stretches.length-1][1]'), 3_999_000)
+        self.assertEqual(browser.run("$('sound-list').textContent.split('\\n').length"), 501)
+        browser.run("acts(()=>go_to(3900000))")
+        page.settled('view.clock===3900000')
+        page.click('#tab-sound')
+        browser.run(
+            "window.sounds=[];{const was=AudioBuffer.prototype.copyToChannel;AudioBuffer.prototype.copyToChannel=function(data,...it){sounds.push([data.length,Math.max(...data)]);return was.call(this,data,...it)}}"
+        )
+        browser.until("marks&&marks.clock===3900000")
+        page.click('#play', "$('said').textContent.startsWith('played from clock 3,900,000 on, 0.0')")
+        self.assertGreater(browser.run('sounds[0][1]'), 0.05)
+        self.assertEqual(browser.run('sounds[0][0]'), int(100_000 / (14318180 / 3 / 48000)))
+        self.fine(page)
+
+    def test_it_explains(self) -> None:
+        """Why a run goes nowhere stands under the screen once it has been drawn, leads to its lines, and goes when the clock moves; a
+        halted board's line is its HLT."""
+        page = self.opened()
+        if page is None:
+            return
+        browser = page.browser
+        page.write(DARK)
+        page.click('#assemble', "assembled.includes('stay')&&!$('why').hidden")
+        self.assertEqual(browser.run("$('why').firstChild.textContent").partition(';')[0], 'text memory has characters and the screen is blank')
+        self.assertEqual(browser.run("[...document.querySelectorAll('#why button')].map(it=>it.textContent)"), ['line 5', 'line 6', 'line 7'])
+        browser.click('#why button')
+        self.assertEqual(browser.run("[document.activeElement.id,$('source').value.slice(0,$('source').selectionStart).split('\\n').length]"), ['source', 5])
+        page.click('#step', "$('why').hidden")
+        browser.run("$('pace').value='fast';run_or_pause();0")
+        browser.until('running!==null&&view.clock>1e6')
+        self.assertTrue(browser.run("$('why').hidden"))
+        browser.run('run_or_pause()')
+        page.settled("!$('why').hidden&&Number($('why').dataset.clock)===view.clock")
+        browser.run("$('pace').value='real'")
+        page.example('first')
+        self.assertEqual(browser.run("$('source').value.split('\\n')[view.line-1].trim().slice(0,3)"), 'HLT')
+        self.assertEqual(
+            browser.run(
+                "[document.querySelector('#gutter .halted').textContent===String(view.line),document.querySelector('#sheet .mark.halted').dataset.told]"
+            ),
+            [True, 'halted for good'],
+        )
+        self.assertTrue(browser.run("$('why').hidden"))
+        page.example('keys')
+        self.assertEqual(browser.run("document.querySelector('#sheet .mark.halted').dataset.told"), 'halted until an interrupt')
+        self.fine(page)
+
     def test_a_board_that_was_left_alone(self) -> None:
         """It is begun anew, at the clock where it was."""
         page = self.opened()
         if page is None:
             return
+        browser = page.browser
         page.example('fibonacci')
-        page.browser.run('acts(()=>go_to(4321))')
+        browser.run('toggle_stop(41)')
+        page.settled('stops.length===1')
+        browser.run('acts(()=>go_to(4000))')
+        page.settled('view.clock===4000')
+        browser.run("act(()=>send_keys({text:'a'}))")
+        page.settled('view.keys.length===2')
+        browser.run('acts(()=>go_to(4321))')
         page.settled('view.clock===4321')
-        before = page.screen()
-        page.browser.run("ask('close',{board})")
-        page.browser.run("$('back').click()")
+        before, keys, source = page.screen(), browser.run('view.raw'), browser.run("$('source').value")
+        browser.run("$('source').focus();$('source').setSelectionRange(0,0)")
+        browser.call('Input.insertText', text='; not assembled\n')
+        browser.run("ask('close',{board})")
+        browser.run("$('back').click()")
         page.settled("$('said').textContent.startsWith('The board had ended')&&view.clock===4321")
-        self.assertEqual(page.screen(), before)
+        self.assertEqual((page.screen(), browser.run('view.raw'), browser.run('stops.map(it=>it.line)')), (before, keys, [41]))
+        self.assertEqual(browser.run("[$('source').value,assembled,$('stale').hidden]"), [f'; not assembled\n{source}', source, False])
         self.fine(page)
         # Who leaves the page ends its board.
+        page.browser.run('onbeforeunload=null')
         page.browser.open('about:blank')
         until = time.monotonic() + 20
         while children(page.desk.pid) and time.monotonic() < until:
@@ -617,7 +1008,7 @@ def pictures(folder: str) -> None:
             take('attributes')
             page.write(attributes.replace('MOV', 'MVO', 2))
             browser.press('Enter', CONTROL)
-            browser.until("!$('hint').hidden")
+            browser.until("!$('refusals').hidden")
             take('refused', 'edit')
             page.write('SEGMENT RESET AT 0FFFFh\nbusy:   INC AX\n        JMP SHORT busy\nENDS\n')
             page.click('#assemble', "assembled.includes('busy')")

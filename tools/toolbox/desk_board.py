@@ -2,6 +2,7 @@
 runs. It decides nothing: what it shows is a session's answer, or a report of the same files."""
 from __future__ import annotations
 
+import base64
 import os
 import threading
 import time
@@ -10,26 +11,34 @@ from typing import Any, Callable
 
 from toolbox.chips import facts, lines_in, question
 from toolbox.command import Sorry
-from toolbox.dap_board import MOST_BREAKPOINTS, Far, Machine, Paused, is_repeated
+from toolbox.dap_board import ENDS, MOST_BREAKPOINTS, Far, Machine, Paused, is_repeated
+from toolbox.desk_data import Datum, data_of, values_of
+from toolbox.desk_sound import MOST_SAMPLES, Speaker
 from toolbox.desk_work import Fields, Helpers, Job
 from toolbox.events import commands
 from toolbox.listing import labels_alone, listing_of, physical
+from toolbox.nowhere import told_of_end
 from toolbox.places import address_of, event_of, line_at
-from toolbox.program import LAST_CLOCK, Files, path
+from toolbox.program import LAST_CLOCK, Files, answer_of, path
 from toolbox.report import REGISTERS, Report, registers_of, report_of
 from toolbox.runfile import text_of, with_budget
 from toolbox.scancodes import names
+from toolbox.symbols import image_of
 from toolbox.text_memory import TEXT_MEMORY, WORDS, Cell, cells_at, plain_cells, starts
 
 # A typed key reaches the keyboard so many clocks on, and lies so many behind the one before: a handler takes some hundred.
 AHEAD, GAP = 1000, 1000
 # A step goes at most so far on, to the interrupt that ends a halt or over a call: ten of the board's seconds.
 FARTHEST = 50_000_000
+# So many clocks are run anew to tell why a run goes nowhere: a tenth of a second's work.
+REACH = 20_000_000
 STACK_BYTES, IF, CLOCKS_OF_HLT, LOOKS_WITHOUT_ATTRIBUTES = 32, 0x200, 2, 4
 # No instruction takes so many clocks without a repeat, so a processor that began none for so long has jammed.
 LONGEST_STEP = 1000
 # Up to so many clocks all trails are read for the interrupts; in a longer run only handlers' first instructions are looked for.
-SHORT_RUN, MARKS_SECONDS, MOST_MARKS, MOST_CHANGES = 60_000, 2, 1000, 100_000
+SHORT_RUN, MARKS_SECONDS, MOST_MARKS = 60_000, 2, 1000
+# The tab of the sound lists so many changes; the time line has so many parts.
+MOST_LISTED, PARTS = 500, 4096
 
 
 @dataclass(frozen=True)
@@ -79,6 +88,8 @@ class Board:
         self._beside: Machine | None = None
         self.stops, self.furthest, self._was_at, self._turn = list[Far](), 0, 0, 0
         self._looks = 0
+        self._data: list[Datum] | None = None
+        self._speaker = Speaker([], 0)
         self.files = self._written(self.keys if is_key_list(given) else None)
         listing = listing_of(self.files)
         self.listing = labels_alone(listing) if is_hex else listing
@@ -126,10 +137,15 @@ class Board:
         if self._is_ended or time.monotonic() > self._until:
             raise Paused
 
+    @property
+    def is_at_work(self) -> bool:
+        """Whether a job is under way."""
+        return self._job is not None and not self._job.over.is_set()
+
     def begin(self, work: Callable[[], Fields], seconds: float = float('inf')) -> None:
         """Begins a job, which may run for so long."""
         with self._lock:
-            if self._job and not self._job.over.is_set():
+            if self.is_at_work:
                 raise Sorry('the board is at work; pause it first')
             self._is_ended, self._until = False, time.monotonic() + seconds
             self._job = Job(work)
@@ -197,12 +213,12 @@ class Board:
     def _moved(self, move: Callable[[], Any], seen: int) -> Fields:
         """What is seen behind a move; one that would never end, ends."""
         here, why = self.clock, 'there'
-        self.machine.budget = min(here + FARTHEST, LAST_CLOCK)
+        self.machine.budget, self.machine.why = min(here + FARTHEST, LAST_CLOCK), ''
         try:
             if isinstance(move(), tuple):
                 why = 'stop'
-            elif self.clock == self.machine.budget:
-                why = 'far'
+            elif self.machine.why in ENDS or self.clock == self.machine.budget:
+                why = self.machine.why if self.machine.why in ENDS else 'far'
         except Paused:
             why = 'paused'
         return self.view(why, seen)
@@ -245,14 +261,15 @@ class Board:
         self._turn += self.clock < self._was_at
         self._was_at, self.furthest = self.clock, max(self.furthest, self.clock)
         registers, trail = self.machine.registers(), self.machine.trail()
-        place = registers['CS'], registers['IP']
-        line = self.listing.at.get(physical(*place))
+        place, state = (registers['CS'], registers['IP']), self._state(registers, trail)
+        # A halted processor is still at its HLT: what stands behind it may never run.
+        line = line_at(self.listing, trail[-1]) if state.startswith('halted') else self.listing.at.get(physical(*place))
         found: Fields = {
             'why': why,
             'clock': self.clock,
             'furthest': self.furthest,
             'registers': registers,
-            'state': self._state(registers, trail),
+            'state': state,
             'place': '%04X:%04X' % place,
             'line': line.number if line else None,
             'label': self.listing.label_before(*place),
@@ -339,6 +356,24 @@ class Board:
         lines = lines_in(text, clock)
         return {'lines': lines, 'facts': facts(lines)}
 
+    def data(self) -> Fields:
+        """The source's labels of data, with what memory holds there."""
+        if self._data is None:
+            image = {} if self.is_hex else image_of(answer_of(['asm', '--', self.files.file]))
+            self._data = data_of(self.listing, image)
+        return {'clock': self.clock, 'data': values_of(self._data, self.machine.dump)}
+
+    def why(self) -> Fields:
+        """Why the run goes nowhere, if it does, as tools/why tells it of a run up to this clock."""
+        clock, registers = self.clock, self.machine.registers()
+        state = self._state(registers, self.machine.trail()).partition(' ')[0]
+        report = Report(clock, registers, state, 0, [], self.machine.many('screen'))
+        try:
+            told = told_of_end(report, self.files, self.machine, self.listing, REACH)
+        finally:
+            self.machine.go_to(clock)
+        return {'clock': clock, 'told': told}
+
     # Stops and keys
 
     def set_stops(self, places: list[Far]) -> Fields:
@@ -396,11 +431,6 @@ class Board:
 
     # Of the whole run
 
-    def saved(self) -> Fields:
-        """Source and run file of what is shown: `pcboard run` on them reports the board at this clock."""
-        keys = [[it.stamp, it.code] for it in self.keys]
-        return {'source': self.source, 'hex': self.is_hex, 'run': text_of(self._fields | {'budget': self.clock, 'keys': keys})}
-
     def report(self, clock: int) -> Report | None:
         """The report at a clock, or None where it takes too long."""
         with with_budget(self.files, clock) as files:
@@ -416,12 +446,12 @@ class Board:
             now, run = self.report(clock), (self.files.run_file, until)
             if self._of_the_run[0] != run:
                 whole = now if now is None or until == clock else self.report(until)
-                changes = whole.changes if whole else []
+                self._speaker = Speaker(whole.changes if whole else [], until)
                 interrupts, first = self._interrupts(until) if whole else ([], until)
                 self._of_the_run = run, {
                     'told': whole is not None,
-                    'changes': changes[:MOST_CHANGES],
-                    'all changes': len(changes),
+                    'changes': self._speaker.changes[:MOST_LISTED],
+                    'all changes': len(self._speaker.changes),
                     'interrupts': interrupts,
                     'interrupts up to': first,
                 }
@@ -429,12 +459,23 @@ class Board:
             self._marking.release()
         return {'clock': clock, 'until': until, 'state': now.state if now else None, 'lost': now.lost if now else None} | self._of_the_run[1]
 
-    def changes(self, until: int) -> Fields:
-        """The speaker's changes up to a clock, which may lie ahead: with the keys that there are, what comes is determined."""
-        report = self.report(min(until, LAST_CLOCK))
-        if report is None:
-            return {'until': 0, 'changes': []}
-        return {'until': until, 'changes': report.changes[-MOST_CHANGES:], 'all changes': len(report.changes)}
+    def speaker(self, low: int, high: int) -> Fields:
+        """The stretches in which the speaker was high, of a run whose marks were told, joined to what a line can show."""
+        return {'low': low, 'high': high, 'stretches': self._speaker.stretches(low, high, PARTS)}
+
+    def heard(self, begin: int, end: int, slow: int) -> Fields:
+        """The speaker's samples from one clock to another, as text; none where it doesn't move. The other clock may lie ahead: with
+        the keys that there are, what comes is determined."""
+        speaker = self._speaker
+        if speaker.until < end or self._of_the_run[0][0] != self.files.run_file:
+            report = self.report(min(end, LAST_CLOCK))
+            if report is None:
+                return {'begin': begin, 'end': begin, 'samples': ''}
+            speaker = Speaker(report.changes, end)
+        if speaker.is_still(begin, end):
+            return {'begin': begin, 'end': end, 'samples': ''}
+        samples = speaker.samples(begin, end, slow)
+        return {'begin': begin, 'end': end, 'samples': base64.b64encode(samples).decode(), 'is cut': len(samples) == MOST_SAMPLES}
 
     def _interrupts(self, until: int) -> tuple[list[tuple[int, int]], int]:
         """The interrupts of the run, and up to which clock they were looked for."""

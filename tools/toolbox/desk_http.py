@@ -1,5 +1,5 @@
-"""The server of tools/desk: one page and one place to ask, on 127.0.0.1 alone, for who has the token. What isn't the page's own
-request is refused: another host or origin, no token, any other path, too much at once."""
+"""The server of tools/desk: one page with its modules and one place to ask, on 127.0.0.1 alone, for who has the token. What isn't
+the page's own request is refused: another host or origin, no token, any other path, too much at once."""
 from __future__ import annotations
 
 import base64
@@ -19,6 +19,8 @@ HOST = '127.0.0.1'
 # A source of 1,048,576 bytes, written as JSON, fits twice.
 LONGEST_BODY, MOST_CONNECTIONS = 4 << 20, 32
 SECONDS_OF_A_REQUEST, SECONDS_OF_SILENCE = 10, 60
+# Who hasn't shown the token: so long, and so many at once, of which the oldest makes room.
+SECONDS_OF_A_STRANGER, MOST_STRANGERS = 2, 32
 HEADERS = (
     ('X-Content-Type-Options', 'nosniff'),
     ('Cache-Control', 'no-store'),
@@ -37,30 +39,31 @@ class Refused(Exception):
         self.status, self.sentence = status, sentence
 
 
-def policy_of(page: str) -> str:
-    """The page's content security policy: its own script and style by their sums, and requests to where it comes from."""
-
-    def sums(tag: str) -> str:
-        found = re.findall(f'<{tag}>(.*?)</{tag}>', page, re.S)
-        return ' '.join(f"'sha256-{base64.b64encode(hashlib.sha256(it.encode()).digest()).decode()}'" for it in found)
-
+def policy_of(page: str, scripts: list[str]) -> str:
+    """The page's content security policy: its own style by its sum, its modules by their addresses, and requests to where it
+    comes from."""
+    styles = ' '.join(f"'sha256-{base64.b64encode(hashlib.sha256(it.encode()).digest()).decode()}'" for it in re.findall('<style>(.*?)</style>', page, re.S))
     return (
-        f"default-src 'none'; script-src {sums('script')}; style-src {sums('style')}; connect-src 'self'; img-src data:; "
+        f"default-src 'none'; script-src {' '.join(scripts)}; style-src {styles}; connect-src 'self'; img-src data:; "
         "base-uri 'none'; form-action 'none'; frame-ancestors 'none'"
     )
 
 
 class Server(http.server.ThreadingHTTPServer):
-    """Serves a page, and hands what it asks to `answer`."""
+    """Serves a page with its modules, by their names, and hands what it asks to `answer`."""
 
     daemon_threads, block_on_close, request_queue_size = True, False, 128
 
-    def __init__(self, page: str, answer: Callable[[Fields], Fields], port: int = 0) -> None:
-        self.page, self.answer, self.policy = page.encode(), answer, policy_of(page)
+    def __init__(self, page: str, modules: dict[str, str], answer: Callable[[Fields], Fields], port: int = 0) -> None:
+        self.answer = answer
         self.token = secrets.token_urlsafe(24)
         self.seconds_of_a_request, self.seconds_of_silence = float(SECONDS_OF_A_REQUEST), float(SECONDS_OF_SILENCE)
-        self._free, self._lock, self._reading = threading.BoundedSemaphore(MOST_CONNECTIONS), threading.Lock(), dict[Any, float]()
+        self.seconds_of_a_stranger = float(SECONDS_OF_A_STRANGER)
+        self._lock, self._reading = threading.Lock(), dict[Any, float]()
+        self._strangers, self._known = dict[Any, float](), set[Any]()
         super().__init__((HOST, port), Handler)
+        self.policy = policy_of(page, [self.address + name for name in modules])
+        self.parts = {'': ('text/html', page.encode())} | {name: ('text/javascript', text.encode()) for name, text in modules.items()}
 
     @property
     def own_host(self) -> str:
@@ -73,31 +76,31 @@ class Server(http.server.ThreadingHTTPServer):
         return f'http://{self.own_host}/{self.token}/'
 
     def process_request(self, request: Any, client_address: Any) -> None:
-        """Begins a connection's thread, where there is room."""
-        if not self._free.acquire(blocking=False):  # pylint: disable=consider-using-with
-            self._turn_away(request)
-            return
-        try:
-            super().process_request(request, client_address)
-        except BaseException:
-            self._free.release()
-            raise
+        """Begins a connection's thread. Until it shows the token it is a stranger, and makes room for others."""
+        with self._lock:
+            self._strangers[request] = time.monotonic()
+            oldest = next(iter(self._strangers)) if len(self._strangers) > MOST_STRANGERS else None
+            self._strangers.pop(oldest, None)
+        if oldest:
+            shut(oldest)
+        super().process_request(request, client_address)
 
     def process_request_thread(self, request: Any, client_address: Any) -> None:
         """A connection, in its thread."""
         try:
             super().process_request_thread(request, client_address)
         finally:
-            self._free.release()
+            with self._lock:
+                self._strangers.pop(request, None)
+                self._known.discard(request)
 
-    def _turn_away(self, request: Any) -> None:
-        """Tells one connection too many that it is one."""
-        try:
-            request.settimeout(0.1)
-            request.sendall(b'HTTP/1.1 503 Service Unavailable\r\nConnection: close\r\nContent-Length: 0\r\n\r\n')
-        except OSError:
-            pass
-        self.shutdown_request(request)
+    def shows_token(self, connection: Any) -> None:
+        """A connection has shown the token. There may be so many of them."""
+        with self._lock:
+            self._strangers.pop(connection, None)
+            if connection not in self._known and len(self._known) >= MOST_CONNECTIONS:
+                raise Refused(503, 'desk is busy with other requests; try again')
+            self._known.add(connection)
 
     def handle_error(self, request: Any, client_address: Any) -> None:
         """A connection that breaks is none of the user's business."""
@@ -111,15 +114,21 @@ class Server(http.server.ThreadingHTTPServer):
                 self._reading.pop(connection, None)
 
     def cut_off(self) -> None:
-        """Ends the connections whose request comes too slowly."""
-        before = time.monotonic() - self.seconds_of_a_request
+        """Ends the connections that haven't shown the token in time, and those whose request comes too slowly."""
+        now = time.monotonic()
         with self._lock:
-            late = [it for it, since in self._reading.items() if since < before]
+            late = [it for it, since in self._reading.items() if since < now - self.seconds_of_a_request]
+            late += [it for it, since in self._strangers.items() if since < now - self.seconds_of_a_stranger]
         for connection in late:
-            try:
-                connection.shutdown(socket.SHUT_RDWR)
-            except OSError:
-                pass
+            shut(connection)
+
+
+def shut(connection: Any) -> None:
+    """Ends a connection under its thread."""
+    try:
+        connection.shutdown(socket.SHUT_RDWR)
+    except OSError:
+        pass
 
 
 class Handler(http.server.BaseHTTPRequestHandler):
@@ -150,19 +159,20 @@ class Handler(http.server.BaseHTTPRequestHandler):
         super().finish()
 
     def do_GET(self) -> None:  # pylint: disable=invalid-name
-        """The page."""
+        """The page, or one of its modules."""
         try:
-            self._check(is_asking=False)
+            name = self._checked(is_asking=False)
         except Refused as refused:
             self._refuse(refused)
             return
         self.server.reads(self.connection, False)
-        self._reply(200, 'text/html; charset=utf-8', self.server.page, (('Content-Security-Policy', self.server.policy),))
+        kind, text = self.server.parts[name]
+        self._reply(200, f'{kind}; charset=utf-8', text, (('Content-Security-Policy', self.server.policy),))
 
     def do_POST(self) -> None:  # pylint: disable=invalid-name
         """A question."""
         try:
-            self._check(is_asking=True)
+            self._checked(is_asking=True)
             question = self._question()
             self.server.reads(self.connection, False)
             answer = self.server.answer(question)
@@ -171,19 +181,22 @@ class Handler(http.server.BaseHTTPRequestHandler):
             return
         self._reply(200, 'application/json', json.dumps(answer, separators=(',', ':')).encode())
 
-    def _check(self, is_asking: bool) -> None:
-        """Refuses what isn't the page's own request."""
+    def _checked(self, is_asking: bool) -> str:
+        """What is asked for, behind the token. What isn't the page's own request is refused."""
         server, own = self.server, f'http://{self.server.own_host}'
         if self.headers.get_all('Host') != [server.own_host]:
             raise Refused(403, 'another host')
         origins = self.headers.get_all('Origin') or []
         if origins != [own] and (is_asking or origins):
             raise Refused(403, 'another origin')
-        _, token, *rest = (self.path + '/').split('/', 2)
+        _, token, *_ = f'{self.requestline.split()[1]}/'.split('/', 2)  # of which the standard library takes slashes
         if not hmac.compare_digest(token.encode(), server.token.encode()):
             raise Refused(403, 'no token: open the address that desk has printed')
-        if self.path != f'/{server.token}/{"do" if is_asking else ""}':
+        server.shows_token(self.connection)
+        name = self.path.removeprefix(f'/{server.token}/')
+        if name not in (('do',) if is_asking else server.parts):
             raise Refused(404, 'nothing is there')
+        return name
 
     def _question(self) -> Fields:
         """The body, a JSON object."""

@@ -2,6 +2,7 @@
 from __future__ import annotations
 
 import html
+import json
 import os
 import re
 from dataclasses import dataclass
@@ -47,6 +48,15 @@ def files_of(name: str) -> tuple[str, str]:
     if name not in {it.name for it in examples()}:
         raise Sorry(f'there is no example {name}')
     return read_text(f'{TOP}/examples/{name}.asm'), read_text(f'{TOP}/examples/{name}.json')
+
+
+def grammar() -> list[dict[str, str]]:
+    """The rows of the editors' grammar, a name and a pattern each, in the order in which they are tried; none where it isn't there."""
+    try:
+        with open(f'{TOP}/editors/vscode/zebludor.tmLanguage.json', encoding='utf-8') as file:
+            return list(json.load(file)['patterns'])
+    except OSError:
+        return []
 
 
 def page_of(name: str) -> str:

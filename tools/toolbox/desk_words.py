@@ -7,15 +7,17 @@ import secrets
 import shutil
 import threading
 import time
-from dataclasses import asdict, dataclass
+from dataclasses import asdict
 from typing import Any, Callable
 
 from toolbox.chips import probe
-from toolbox.command import Sorry, read_text, write_text
+from toolbox.command import Sorry, read_text
 from toolbox.dap_board import Gone
 from toolbox.desk_board import Board
+from toolbox.desk_drafts import Drafts
+from toolbox.desk_files import Given, Kept, difference
 from toolbox.desk_http import Refused
-from toolbox.desk_pages import examples, files_of, page_of
+from toolbox.desk_pages import examples, files_of, grammar, page_of
 from toolbox.desk_work import Fields
 from toolbox.faults import fault_in
 from toolbox.messages import messages
@@ -26,20 +28,12 @@ from toolbox.scancodes import stamped, strokes_of
 from toolbox.symbols import image_of
 
 MOST_BOARDS, IDLE_SECONDS = 8, 900
+# A board that was asked for nothing for so long doesn't run: the page asks for the pieces of a run more often.
+LEAST_IDLE = 2.0
 LONGEST_SOURCE, MOST_MESSAGES, MESSAGES_SECONDS = 1 << 20, 20, 2.0
 # So long an answer is waited for; what takes longer is told of, and asked for again.
 PATIENCE = 0.25
-HOLD, PAUSE = 500, 1500
-
-
-@dataclass(frozen=True)
-class Given:
-    """The files that the command's words name."""
-
-    file: str | None = None
-    run_file: str | None = None
-    is_hex: bool = False
-    symbols: str | None = None
+HOLD, PAUSE, MOST_TYPED = 500, 1500, 1000
 
 
 def want(fields: Fields, name: str, kind: type, default: Any = None) -> Any:
@@ -60,8 +54,10 @@ def numbers(given: list[Any], least: int, most: int) -> list[int]:
 class Desk:
     """The boards, and what is asked of them."""
 
-    def __init__(self, room: str, given: Given) -> None:
-        self.room, self.given, self.idle_seconds = room, given, float(IDLE_SECONDS)
+    def __init__(self, room: str, given: Given, drafts: Drafts) -> None:
+        self.room, self.given, self.drafts = room, given, drafts
+        self.idle_seconds, self.least_idle = float(IDLE_SECONDS), LEAST_IDLE
+        self.files = Kept(given)
         self._lock, self._boards = threading.Lock(), dict[str, Board | None]()
 
     def close(self) -> None:
@@ -80,6 +76,19 @@ class Desk:
                 del self._boards[name]
         for name, board in gone.items():
             self._end(name, board)
+
+    def _make_room(self) -> None:
+        """Ends the board that is idle longest, if there are as many as may be; never one that runs. Its page begins it anew."""
+        before = time.monotonic() - self.least_idle
+        with self._lock:
+            if len(self._boards) < MOST_BOARDS:
+                return
+            idle = {name: it for name, it in self._boards.items() if it and it.used < before and not it.is_at_work}
+            if not idle:
+                raise Sorry(f'{MOST_BOARDS} boards run: pause one, or close its page')
+            name = min(idle, key=lambda it: idle[it].used)
+            del self._boards[name]
+        self._end(name, idle[name])
 
     def _end(self, name: str, board: Board | None) -> None:
         if board:
@@ -111,7 +120,7 @@ class Desk:
         with self._lock:
             board = self._boards.get(want(fields, 'board', str))
         if board is None:
-            raise Gone('it was left alone for too long, or ended')
+            raise Gone('it was left alone while others were wanted, or for too long')
         board.used = time.monotonic()
         return board
 
@@ -126,20 +135,17 @@ class Desk:
     # Without a board
 
     def _hello(self, _: Fields) -> Fields:
-        """What the page begins with."""
-        found: Fields = {'examples': [asdict(it) for it in examples()], 'defaults': DEFAULTS, 'chips': probe() is not None, 'given': None}
-        if self.given.file:
-            run_file = self.given.run_file
-            fields = read_run_file(run_file) if run_file and os.path.exists(run_file) else dict(DEFAULTS)
-            found['given'] = {
-                'name': os.path.basename(self.given.file),
-                'source': read_text(self.given.file),
-                'run': fields,
-                'hex': self.given.is_hex,
-                'file': self.given.file,
-                'run file': run_file,
-            }
-        return found
+        """What the page begins with. It is offered the drafts of FILE, and those of no file that were written since this desk began;
+        without FILE all of no file."""
+        found = {'examples': [asdict(it) for it in examples()], 'defaults': DEFAULTS, 'chips': probe() is not None, 'grammar': grammar(), 'given': None}
+        free = self.drafts.of_file(None)
+        if not self.given.file:
+            return found | {'drafts': free}
+        given = self.files.read()
+        settled = self.drafts.settled(self.given.file, given['source'], DEFAULTS | given['run'])
+        drafts = [it for it in self.drafts.of_file(self.given.file) if not settled or it['id'] != settled['id']]
+        drafts += [it for it in free if it['time'] >= self.drafts.begun]
+        return found | {'given': given | {'settled': settled}, 'drafts': drafts}
 
     def _example(self, fields: Fields) -> Fields:
         """An example's files."""
@@ -157,10 +163,9 @@ class Desk:
         if len(source) > 2 * LONGEST_SOURCE:
             raise Sorry('the source has more than 1,048,576 bytes')
         self._drop({'board': fields.get('instead')})
+        self._make_room()
         name = secrets.token_urlsafe(16)
         with self._lock:
-            if len(self._boards) >= MOST_BOARDS:
-                raise Sorry(f'{MOST_BOARDS} boards are in use: close a page that you no longer need')
             self._boards[name] = None
         room = os.path.join(self.room, name)
         board = None
@@ -198,14 +203,31 @@ class Desk:
         return {}
 
     def _keep(self, fields: Fields) -> Fields:
-        """Writes what is shown to the files that the command's words name."""
-        saved = self._board(fields).saved()
-        if not self.given.file:
-            raise Sorry('desk was started without FILE: save the files from the page')
-        write_text(self.given.file, saved['source'])
-        if self.given.run_file:
-            write_text(self.given.run_file, saved['run'])
-        return {'kept': [it for it in (self.given.file, self.given.run_file) if it]}
+        """Writes a page's text and fields to the files that the command's words name. What was written is no draft any more."""
+        source, run, sums = want(fields, 'source', str), want(fields, 'run', dict), want(fields, 'sums', list)
+        if len(sums) != 2 or not all(it is None or isinstance(it, str) for it in sums):
+            raise Refused(400, 'the sums of two files are wanted')
+        return self.files.write(source, run, sums, want(fields, 'over', bool, False))
+
+    def _of(self, fields: Fields) -> str | None:
+        """The file that a draft is of: FILE, or none."""
+        return self.given.file if want(fields, 'given', bool) else None
+
+    def _keep_draft(self, fields: Fields) -> Fields:
+        """Keeps what a page holds until it is saved."""
+        kinds = {'name': str, 'source': str, 'hex': bool, 'run': dict, 'stops': list}
+        self.drafts.keep(self._of(fields), want(fields, 'id', str), {name: want(fields, name, kind) for name, kind in kinds.items()})
+        return {}
+
+    def _drop_draft(self, fields: Fields) -> Fields:
+        """Forgets a draft."""
+        self.drafts.drop(self._of(fields), want(fields, 'id', str))
+        return {}
+
+    def _draft(self, fields: Fields) -> Fields:
+        """A draft, and how it differs from what the page holds."""
+        draft, source = self.drafts.one(self._of(fields), want(fields, 'id', str)), want(fields, 'source', str)
+        return draft | {'difference': difference(source, draft['source'], ('this page', 'the draft'))}
 
     # Of a board
 
@@ -257,6 +279,14 @@ class Desk:
         """What the chips hold."""
         return self._do(board, board.chips)
 
+    def _data(self, board: Board, _: Fields) -> Fields:
+        """The source's own data."""
+        return self._do(board, board.data)
+
+    def _why(self, board: Board, _: Fields) -> Fields:
+        """Why the run goes nowhere."""
+        return self._do(board, board.why)
+
     def _stops(self, board: Board, fields: Fields) -> Fields:
         """Sets the stops: places as tools/dbg takes them."""
         places = want(fields, 'places', list)
@@ -270,7 +300,10 @@ class Desk:
         if (later := board.later_keys()) and not want(fields, 'drop', bool, False):
             return {'later': later}
         if 'text' in fields:
-            keys = stamped(strokes_of(want(fields, 'text', str)[:1000], want(fields, 'plain', bool, False)), 0, HOLD, PAUSE)
+            text = want(fields, 'text', str)
+            if len(text) > MOST_TYPED:
+                raise Sorry(f'{len(text):,} characters are too many to type at once: {MOST_TYPED:,} are the most, and none was typed')
+            keys = stamped(strokes_of(text, want(fields, 'plain', bool, False)), 0, HOLD, PAUSE)
             clocks, codes = [clock for clock, _ in keys], [code for _, code in keys]
             pauses = [b - a for a, b in zip([0, *clocks], clocks)]
         else:
@@ -286,11 +319,27 @@ class Desk:
         kept = [it for at, it in enumerate(board.keys) if at not in gone]
         return self._do(board, lambda: board.with_keys(kept, seen))
 
-    def _changes(self, board: Board, fields: Fields) -> Fields:
-        """The speaker's changes up to a clock."""
-        return board.changes(max(want(fields, 'until', int), 0))
+    def _speaker(self, board: Board, fields: Fields) -> Fields:
+        """Where the speaker was high, between two clocks."""
+        low, high = numbers([want(fields, 'low', int), want(fields, 'high', int)], 0, LAST_CLOCK)
+        return board.speaker(low, max(high, low + 1))
 
-    GENERAL = {'hello': _hello, 'example': _example, 'page': _page, 'open': _open, 'close': _close, 'keep': _keep}
+    def _heard(self, board: Board, fields: Fields) -> Fields:
+        """The speaker's samples between two clocks."""
+        begin, end = numbers([want(fields, 'begin', int), want(fields, 'end', int)], 0, 2 * LAST_CLOCK)
+        return board.heard(begin, max(begin, end), numbers([want(fields, 'slow', int, 1)], 1, 1000)[0])
+
+    GENERAL = {
+        'hello': _hello,
+        'example': _example,
+        'page': _page,
+        'open': _open,
+        'close': _close,
+        'keep': _keep,
+        'keep draft': _keep_draft,
+        'drop draft': _drop_draft,
+        'draft': _draft,
+    }
     OF_A_BOARD = {
         'run': _run,
         'step': _move,
@@ -304,12 +353,14 @@ class Desk:
         'look': _look,
         'memory': _memory,
         'chips': _chips,
+        'data': _data,
+        'why': _why,
         'stops': _stops,
         'type': _type,
         'drop keys': _drop_keys,
-        'changes': _changes,
+        'speaker': _speaker,
+        'heard': _heard,
         'marks': lambda _, board, __: board.marks(),
-        'save': lambda _, board, __: board.saved(),
     }
 
 
@@ -327,7 +378,7 @@ def refusals(files: Files, told: str) -> list[Fields]:
     return [{'line': fault.line if fault else None, 'text': text, 'of': fault.kind.of if fault else ''}]
 
 
-def tidy(desk: Desk, cut_off: Callable[[], None], ended: threading.Event, pause: float = 1.0) -> None:
+def tidy(desk: Desk, cut_off: Callable[[], None], ended: threading.Event, pause: float = 0.5) -> None:
     """Until the end: ends idle boards and slow requests."""
     while not ended.wait(pause):
         desk.end_idle()

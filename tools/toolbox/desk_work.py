@@ -9,6 +9,7 @@ from typing import Any, Callable, Iterable, Iterator
 
 from toolbox.command import Sorry
 from toolbox.program import Files, Session, path, refusal
+from toolbox.starting import started
 
 Fields = dict[str, Any]
 REPORT_SECONDS, LONGEST_REPORT = 5, 8 << 20
@@ -73,7 +74,7 @@ class Helpers:
             lines.write(given)
             lines.seek(0)
             try:
-                process = subprocess.Popen(words, stdin=lines, stdout=subprocess.PIPE, stderr=err, start_new_session=True)
+                process = started(words, stdin=lines, stdout=subprocess.PIPE, stderr=err, start_new_session=True)
             except OSError as error:
                 raise Sorry(f"{words[0]} can't be started: {error.strerror}") from None
             self.add(process)
@@ -96,7 +97,7 @@ class Helpers:
         with tempfile.TemporaryFile() as given:
             given.writelines(f'{it}\n'.encode() for it in commands)
             given.seek(0)
-            process = subprocess.Popen([path(), *files.words('debug')], stdin=given, stdout=subprocess.PIPE, stderr=subprocess.DEVNULL, start_new_session=True)
+            process = started([path(), *files.words('debug')], stdin=given, stdout=subprocess.PIPE, stderr=subprocess.DEVNULL, start_new_session=True)
             self.add(process)
             try:
                 assert process.stdout

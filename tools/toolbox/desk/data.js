@@ -1,0 +1,84 @@
+/* The source's own data: each label of DB, DW and DD with its values, and numbers in any base. */
+import {$, ask, hex, number} from './asking.js';
+import {board, followed} from './board.js';
+import {to_line} from './editor.js';
+import {redraw_registers} from './processor.js';
+export let lastValues = {}, base = 0;
+const unfolded = new Set(), WIDTHS = {DB: 1, DW: 2, DD: 4};
+export function forget_data() { lastValues = {}; }
+const BASES = [
+  ['hexadecimal', (value, bits) => hex(value, bits / 4)],
+  ['decimal', value => String(value)],
+  ['signed', (value, bits) => String(signed(value, bits))],
+  ['binary', (value, bits) => value.toString(2).padStart(bits, '0')],
+  ['text', (value, bits) => signs_of(value, bits)],
+];
+export function signed(value, bits) { return value >= 2 ** (bits - 1) ? value - 2 ** bits : value; }
+/* The signs of a number's bytes, the low one first, as memory has them. */
+function signs_of(value, bits) {
+  let told = '';
+  for (let at = 0; at < bits; at += 8) { const octet = Math.floor(value / 2 ** at) % 256; told += octet >= 32 && octet < 127 ? String.fromCharCode(octet) : '.'; }
+  return told;
+}
+/* A register in the base that is chosen. */
+export function in_base(value) { return BASES[base][1](value, 16); }
+$('base').onclick = () => {
+  base = (base + 1) % BASES.length;
+  $('base').textContent = BASES[base][0];
+  redraw_registers();
+};
+function numbers_in(octets, wide) {
+  const found = [];
+  for (let at = 0; at + wide <= octets.length; at += wide) found.push(octets.slice(at, at + wide).reduceRight((sum, it) => sum * 256 + it, 0));
+  return found;
+}
+function row_of(cells, isChanged, index = null) {
+  const row = document.createElement('tr');
+  for (const text of [index === null ? null : String(index), ...cells]) {
+    if (text === null) continue;
+    const cell = document.createElement('td');
+    cell.textContent = text;
+    row.append(cell);
+  }
+  if (isChanged) row.className = 'changed';
+  return row;
+}
+function cells_of(value, wide) { return [`${hex(value, 2 * wide)}h`, String(value), String(signed(value, 8 * wide)), signs_of(value, 8 * wide)]; }
+function table_of(rows) {
+  const table = document.createElement('table');
+  table.append(...rows);
+  return table;
+}
+function drawn_label({name, line, kind, place, length, bytes}) {
+  const octets = (bytes.match(/../g) || []).map(it => parseInt(it, 16)), wide = WIDTHS[kind], values = numbers_in(octets, wide), last = lastValues[`${name} ${place}`] || values;
+  lastValues[`${name} ${place}`] = values;
+  const head = document.createElement('button'), isArray = values.length > 1;
+  head.textContent = name;
+  head.title = `line ${line}, ${place}`;
+  head.onclick = event => { event.preventDefault(); to_line(line); };
+  const changed = values.map((it, at) => last[at] !== it);
+  if (!isArray) {
+    const one = document.createElement('div');
+    one.className = 'datum';
+    one.append(head, ` ${kind} `, table_of(values.map(it => row_of(cells_of(it, wide), changed[0]))));
+    return one;
+  }
+  const all = document.createElement('details'), told = document.createElement('summary'), brief = document.createElement('span');
+  brief.textContent = `${values.slice(0, 8).map(it => hex(it, 2 * wide)).join(' ')}${values.length > 8 ? ' ..' : ''}${wide === 1 ? `  ${values.slice(0, 40).map(it => signs_of(it, 8)).join('')}` : ''}`;
+  if (changed.includes(true)) brief.className = 'changed';
+  told.append(head, ` ${kind}, ${length / wide}: `, brief);
+  all.className = 'datum';
+  all.open = unfolded.has(name);
+  all.ontoggle = () => { if (all.open) unfolded.add(name); else unfolded.delete(name); };
+  all.append(told, table_of(values.map((it, at) => row_of(cells_of(it, wide), changed[at], at))));
+  if (length > octets.length) all.append(`${number(length - octets.length)} bytes more: see Memory, from ${place}`);
+  return all;
+}
+export async function draw_data() {
+  if (!board) return;
+  const answer = await ask('data', {board}).then(followed);
+  if (answer.sorry) { $('data-list').textContent = answer.sorry; return; }
+  if (!answer.data) return;
+  $('data-list').replaceChildren(...answer.data.map(drawn_label));
+  if (!answer.data.length) $('data-list').textContent = 'No label of the source stands at DB, DW or DD.';
+}

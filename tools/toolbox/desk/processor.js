@@ -1,0 +1,128 @@
+/* What the processor and memory hold: registers, stack, trail, bytes, chips. */
+import {$, ask, hex} from './asking.js';
+import {act, acts, board, followed, go_to, running, view, working} from './board.js';
+import {forget_data, in_base} from './data.js';
+import {assembled, to_line} from './editor.js';
+import {fit} from './screen.js';
+const FLAGS = [['OF', 11], ['DF', 10], ['IF', 9], ['TF', 8], ['SF', 7], ['ZF', 6], ['AF', 4], ['PF', 2], ['CF', 0]];
+let memoryBefore = null, chipsBefore = null;
+export function forget_before() { memoryBefore = null; chipsBefore = null; forget_data(); }
+/* The same registers, in another base. */
+let registersShown = [null, null];
+export function redraw_registers() { if (registersShown[1]) draw_registers(...registersShown); }
+export function draw_registers(before, now) {
+  registersShown = [before, now];
+  const made = document.createDocumentFragment();
+  for (const [name, value] of Object.entries(now)) {
+    const one = document.createElement('span');
+    one.innerHTML = `<b>${name}</b> <span></span>`;
+    one.lastChild.textContent = in_base(value);
+    if (before && before[name] !== value) one.lastChild.className = 'changed';
+    made.append(one);
+  }
+  $('registers').replaceChildren(made);
+  $('flags').replaceChildren(...FLAGS.map(([name, bit]) => {
+    const one = document.createElement('span'), isSet = now.FL >> bit & 1;
+    one.textContent = `${name} ${isSet}`;
+    one.className = (isSet ? 'set ' : '') + (before && (before.FL >> bit & 1) !== isSet ? 'changed' : '');
+    return one;
+  }));
+}
+/* The trail is one stop of Tab; arrow keys go along it. */
+export function draw_trail() {
+  const wasIn = $('trail').contains(document.activeElement);
+  const list = view.trail.map(([clock, place, label, text, line]) => {
+    const one = document.createElement('button');
+    const source = line ? `| ${line}: ${($('edit').classList.contains('stale') ? assembled : $('source').value).split('\n')[line - 1].replace(/;.*/, '').trim()}` : '';
+    one.textContent = `${String(clock).padStart(9)} ${place} ${label.padEnd(12)} ${text.padEnd(26)} ${source}`.trimEnd();
+    one.title = `to clock ${clock}`;
+    one.tabIndex = -1;
+    one.onclick = () => acts(() => go_to(clock));
+    return one;
+  });
+  $('trail').replaceChildren(...list);
+  $('trail').scrollTop = $('trail').scrollHeight;
+  if (list.length) list[list.length - 1].tabIndex = 0;
+  if (wasIn && list.length) list[list.length - 1].focus();
+}
+$('trail').addEventListener('keydown', event => {
+  const all = [...$('trail').children], at = all.indexOf(document.activeElement);
+  const to = {ArrowDown: at + 1, ArrowUp: at - 1, Home: 0, End: all.length - 1}[event.key];
+  if (to === undefined || !all.length) return;
+  event.preventDefault();
+  const next = all[Math.min(Math.max(to, 0), all.length - 1)];
+  for (const it of all) it.tabIndex = it === next ? 0 : -1;
+  next.focus();
+});
+export function draw_stack() {
+  $('stack').textContent = view.stack.slice(0, 8).map(([at, word, label]) => `${at}: ${word} ${label}`.trimEnd()).join('\n');
+}
+export async function draw_memory() {
+  if (!board) return;
+  const answer = await ask('memory', {board, place: $('place').value, count: 256}).then(followed);
+  if (answer.sorry) { $('bytes').textContent = answer.sorry; return; }
+  if (!answer.bytes) return;
+  const octets = answer.bytes.match(/../g).map(it => parseInt(it, 16)), before = memoryBefore && memoryBefore.address === answer.address ? memoryBefore.octets : null;
+  const made = document.createDocumentFragment();
+  for (let at = 0; at < octets.length; at += 16) {
+    made.append(`${hex(answer.address + at, 5)}: `);
+    const row = octets.slice(at, at + 16);
+    row.forEach((octet, place) => {
+      if (before && before[at + place] !== octet) { const one = document.createElement('span'); one.className = 'changed'; one.textContent = hex(octet, 2); made.append(one, ' '); }
+      else made.append(`${hex(octet, 2)} `);
+    });
+    made.append('  '.padEnd(2 + 3 * (16 - row.length)), row.map(it => it >= 32 && it < 127 ? String.fromCharCode(it) : '.').join(''), '\n');
+  }
+  $('bytes').replaceChildren(made);
+  memoryBefore = {address: answer.address, octets};
+}
+
+export async function draw_chips() {
+  if (!board) return;
+  const answer = await ask('chips', {board}).then(followed);
+  if (answer.sorry) { $('chip-lines').textContent = answer.sorry; $('chip-facts').replaceChildren(); chipsBefore = null; }
+  if (!answer.lines) return;
+  const now = answer.lines.map(it => it.split(' ')), before = chipsBefore || now;
+  $('chip-lines').replaceChildren(...now.map((words, at) => {
+    const row = document.createElement('div'), name = document.createElement('b');
+    name.textContent = words[0];
+    row.append(name);
+    words.slice(1).forEach((word, place) => {
+      const one = document.createElement('span');
+      one.textContent = word;
+      if (before[at][place + 1] !== word) one.className = 'changed';
+      row.append(' ', one);
+    });
+    return row;
+  }));
+  $('chip-facts').replaceChildren(...answer.facts.map(it => { const one = document.createElement('p'); one.textContent = it; return one; }));
+  chipsBefore = now;
+}
+
+$('place').addEventListener('change', () => act(draw_memory));
+
+/* Why the run goes nowhere, under the screen, as long as the clock is the one that it is told of. A line's number leads to it. */
+export function forget_why() {
+  if (!view || $('why').dataset.clock === String(view.clock)) return;
+  if (!$('why').hidden) { $('why').hidden = true; fit(); }
+}
+export async function draw_why() {
+  if (!board || running || working) return;
+  const answer = await ask('why', {board}).then(followed);
+  if (!answer.told || answer.clock !== view.clock) return;
+  $('why').replaceChildren(...answer.told.map(it => {
+    const row = document.createElement('p');
+    it.split(/\b(line \d+)\b/).forEach(part => {
+      const line = /^line (\d+)$/.exec(part);
+      if (!line) { row.append(part); return; }
+      const one = document.createElement('button');
+      one.textContent = part;
+      one.onclick = () => to_line(Number(line[1]));
+      row.append(one);
+    });
+    return row;
+  }));
+  $('why').dataset.clock = answer.clock;
+  $('why').hidden = !answer.told.length;
+  fit();
+}

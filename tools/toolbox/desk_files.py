@@ -1,0 +1,185 @@
+"""The files that the words of tools/desk name, as a page has read them: they are written whole, as they were spelled, and never
+over what another hand has written meanwhile."""
+from __future__ import annotations
+
+import difflib
+import hashlib
+import json
+import os
+import re
+import threading
+from dataclasses import dataclass
+from typing import Any
+
+from toolbox.command import Sorry
+from toolbox.runfile import DEFAULTS, text_of
+from toolbox.writing import write_whole
+
+Fields = dict[str, Any]
+LONGEST_DIFFERENCE = 2000  # lines
+
+
+@dataclass(frozen=True)
+class Given:
+    """The files that the command's words name."""
+
+    file: str | None = None
+    run_file: str | None = None
+    is_hex: bool = False
+    symbols: str | None = None
+
+
+def octets_of(path: str) -> bytes | None:
+    """A file's bytes, or None where there is none."""
+    try:
+        with open(path, 'rb') as file:
+            return file.read()
+    except FileNotFoundError:
+        return None
+    except OSError as error:
+        raise Sorry(f"{path} can't be read: {error.strerror}") from None
+
+
+def sum_of(octets: bytes | None) -> str | None:
+    """What tells one content of a file from another; of no file None."""
+    return hashlib.sha256(octets).hexdigest() if octets is not None else None
+
+
+def text_in(path: str, octets: bytes) -> str:
+    """A source's text. What a page would change in silence is refused: bytes that aren't UTF-8, and a carriage return alone."""
+    try:
+        text = octets.decode('utf-8')
+    except UnicodeDecodeError as error:
+        line = octets.count(b'\n', 0, error.start) + 1
+        raise Sorry(f"{path}, line {line}: byte {octets[error.start]:02X}h isn't UTF-8, as pcboard wants it; iconv converts a file") from None
+    if alone := re.search('\r(?!\n)', text):
+        line = text.count('\n', 0, alone.start()) + 1
+        raise Sorry(f'{path}, line {line}: a carriage return stands alone there, which pcboard refuses')
+    return text
+
+
+def with_ends(text: str, old: str) -> str:
+    """A page's text, whose lines end with a line feed, with the ends of lines of the old one: of its own where a line was there, else
+    as most of them end."""
+    pairs, all_ends = old.count('\r\n'), old.count('\n')
+    if pairs == 0 or pairs == all_ends:
+        return text.replace('\n', '\r\n') if pairs else text
+    usual = '\r\n' if 2 * pairs >= all_ends else '\n'
+    before, now = old.splitlines(keepends=True), text.split('\n')
+    ends = [usual] * len(now)
+    plain = [it.rstrip('\r\n') for it in before]
+    for first, at, count in difflib.SequenceMatcher(None, plain, now, autojunk=False).get_matching_blocks():
+        for line in range(count):
+            ends[at + line] = before[first + line][len(plain[first + line]) :] or usual
+    return ''.join(line + end for line, end in zip(now, ends[:-1])) + now[-1]
+
+
+def difference(before: str, after: str, names: tuple[str, str]) -> list[str]:
+    """What differs between two texts, as `diff -u` tells it; ends of lines don't count."""
+    pair = [it.replace('\r\n', '\n').split('\n') for it in (before, after)]
+    found = list(difflib.unified_diff(*pair, *names, lineterm=''))
+    return found if len(found) <= LONGEST_DIFFERENCE else [*found[:LONGEST_DIFFERENCE], f'.. and {len(found) - LONGEST_DIFFERENCE} lines more']
+
+
+def fields_in(path: str, octets: bytes | None) -> Fields:
+    """A run file's fields; of no file the usual ones."""
+    if octets is None:
+        return dict(DEFAULTS)
+    try:
+        fields = json.loads(octets)
+    except ValueError as error:
+        raise Sorry(f'{path} is no JSON: {error} (tools/why tells more)') from None
+    if not isinstance(fields, dict):
+        raise Sorry(f'{path} is no run file: it is no JSON object')
+    return fields
+
+
+def wrong_field(fields: Fields) -> str | None:
+    """Why a run file with these fields isn't written: a number's place holds none."""
+    for name in ('budget', 'ram', 'sw1', 'sw2'):
+        if not isinstance(fields.get(name, 0), int):
+            return f'{name} is {fields[name]!r}, and no number'
+    return None
+
+
+class Kept:
+    """The command's files, and how they are written."""
+
+    def __init__(self, given: Given) -> None:
+        self.given, self._lock = given, threading.Lock()
+
+    def read(self) -> Fields:
+        """What a page begins with: texts, fields, and the sums by which it names what it has read. Of files that can't be read,
+        or aren't text, it says so, and begins empty: nothing of theirs is overwritten unasked."""
+        given, source, fields, note = self.given, '', dict(DEFAULTS), None
+        sums: list[str | None] = [None, None]
+        assert given.file
+        try:
+            octets = octets_of(given.file)
+            if octets is None:
+                raise Sorry(f"{given.file} can't be read: it isn't there")
+            source, sums[0] = text_in(given.file, octets), sum_of(octets)
+            if given.run_file:
+                run = octets_of(given.run_file)
+                fields, sums[1] = fields_in(given.run_file, run), sum_of(run)
+        except Sorry as sorry:
+            note = str(sorry)
+        return {
+            'name': os.path.basename(given.file),
+            'source': source,
+            'run': fields,
+            'hex': given.is_hex,
+            'file': given.file,
+            'run file': given.run_file,
+            'sums': sums,
+            'note': note,
+        }
+
+    def write(self, source: str, fields: Fields, sums: list[Any], is_over: bool) -> Fields:
+        """Writes a page's text to FILE, and its fields to RUN, if neither has changed since they had these sums, or it is to be
+        overwritten. It answers what has changed; else what was written, with the sums of now, and what wasn't and why."""
+        if not self.given.file:
+            raise Sorry('desk was started without FILE: save the files from the page')
+        with self._lock:
+            paths = [it for it in (self.given.file, self.given.run_file) if it]
+            there = [octets_of(it) for it in paths]
+            changed = [path for path, octets, was in zip(paths, there, sums) if sum_of(octets) != was]
+            if changed and not is_over:
+                return {'changed': changed} | self._changed(source, there[0])
+            texts = [self._spelled(source, there[0]), *([text_of(fields)] if len(paths) > 1 else [])]
+            found: Fields = {'kept': [], 'sums': [sum_of(there[0]), sum_of(there[1]) if len(there) > 1 else None]}
+            for at, (path, text, octets) in enumerate(zip(paths, texts, there)):
+                wrong = wrong_field(fields) if at else None
+                if wrong:
+                    return found | {'sorry': f'{path} isn\'t written: {wrong}'}
+                try:
+                    found['sums'][at] = self._put(path, text, octets, fields if at else None)
+                except OSError as error:
+                    return found | {'sorry': f"{path} can't be written: {error.strerror}"}
+                found['kept'].append(path)
+            return found
+
+    def _spelled(self, source: str, old: bytes | None) -> str:
+        """A page's text with the file's own ends of lines."""
+        return with_ends(source, old.decode('utf-8', 'replace')) if old else source
+
+    def _put(self, path: str, text: str, old: bytes | None, fields: Fields | None) -> str | None:
+        """Writes one file, unless it says that already, and gives its sum."""
+        octets = text.encode('utf-8', 'surrogatepass')
+        if octets != old and not (fields is not None and old is not None and is_same(old, fields)):
+            write_whole(path, octets)
+            return sum_of(octets)
+        return sum_of(old)
+
+    def _changed(self, source: str, there: bytes | None) -> Fields:
+        """What another hand has left, and how the page's text differs from it."""
+        text = there.decode('utf-8', 'replace') if there is not None else ''
+        return {'difference': difference(text, source, ('the file', 'this page')), 'gone': there is None}
+
+
+def is_same(octets: bytes, fields: Fields) -> bool:
+    """Whether a run file says the same, however it is laid out."""
+    try:
+        return bool(json.loads(octets) == fields)
+    except ValueError:
+        return False
