@@ -22,7 +22,7 @@ import re
 import subprocess
 import tempfile
 from dataclasses import dataclass
-from typing import IO, TYPE_CHECKING, Any, Iterator, NamedTuple, NoReturn
+from typing import IO, TYPE_CHECKING, Any, Iterator, NamedTuple, NoReturn, Sequence
 
 if TYPE_CHECKING:
     import ctypes  # else imported where the chips are loaded: what only runs programs begins sooner without it
@@ -36,7 +36,7 @@ ROWS, COLUMNS = 25, 80
 REGISTER_LINES = (('AX', 'BX', 'CX', 'DX', 'SP', 'BP', 'SI', 'DI'), ('CS', 'DS', 'ES', 'SS', 'IP', 'FL'))
 REGISTERS = REGISTER_LINES[0] + REGISTER_LINES[1]
 FLAGS = {'CF': 0, 'PF': 2, 'AF': 4, 'ZF': 6, 'SF': 7, 'TF': 8, 'IF': 9, 'DF': 10, 'OF': 11}
-DEFAULTS: dict[str, Any] = {'version': 1, 'ram': 64, 'sw1': 0, 'sw2': 0, 'budget': 100000, 'keys': []}
+DEFAULTS: dict[str, Any] = {'version': 1, 'ram': 64, 'sw1': 0, 'sw2': 0, 'budget': 10_000_000, 'keys': []}
 # What version 2 of run files has besides: which chip the timer is, and which table the clocks. Of version 1 they are the first.
 CHOICES: dict[str, tuple[str, ...]] = {'timer': ('8253', '8254'), 'clocks': ('C1', 'C2')}
 FIRST_CHOICES = {name: them[0] for name, them in CHOICES.items()}
@@ -65,6 +65,40 @@ def fault_in(text: str) -> Fault | None:
 # Reports.
 
 
+MANY = 100_000
+
+
+class Changes(Sequence[tuple[int, int]]):
+    """The speaker's changes of a report's text that has very many, read when they are asked for."""
+
+    def __init__(self, text: str, first: int, end: int) -> None:
+        self._text, self._first, self._end = text, first, end
+        self._count = text.count('\n', first, end)
+
+    def __len__(self) -> int:
+        return self._count
+
+    def __iter__(self) -> Iterator[tuple[int, int]]:
+        for found in re.compile(r'(\d+) ([01])\n').finditer(self._text, self._first, self._end):
+            yield int(found[1]), int(found[2])
+
+    @functools.cached_property
+    def _all(self) -> list[tuple[int, int]]:
+        return list(iter(self))
+
+    def __getitem__(self, place: Any) -> Any:
+        return self._all[place]
+
+    def __reversed__(self) -> Iterator[tuple[int, int]]:
+        return reversed(self._all)
+
+    def __eq__(self, other: object) -> bool:
+        return isinstance(other, Sequence) and len(self) == len(other) and all(a == b for a, b in zip(self, other))
+
+    def __repr__(self) -> str:
+        return repr(self._all)
+
+
 @dataclass(frozen=True)
 class Report:
     """A report: what a run came to."""
@@ -73,7 +107,7 @@ class Report:
     registers: dict[str, int]
     state: str
     lost: int
-    changes: list[tuple[int, int]]
+    changes: Sequence[tuple[int, int]]
     screen: list[str]
 
     def flag(self, name: str) -> int:
@@ -114,20 +148,20 @@ def _value(line: str, name: str) -> str:
 
 def read_report(text: str) -> Report:
     """A report's text, as docs/formats.md tells it, as a report. A refusal's is raised."""
-    lines = text.split('\n')
+    lines = text.split('\n', 6)
     fault = fault_in(lines[0])
     if fault:
         raise fault
     try:
         clock, registers = int(_value(lines[0], 'clock')), registers_of(lines[1:3])
         state, lost = _value(lines[3], 'state'), int(_value(lines[4], 'lost'))
-        count = int(_value(lines[5], 'sound'))
-        changes: list[tuple[int, int]] = []
-        for at in range(6, 6 + count):
-            when, level = lines[at].split()
-            changes.append((int(when), int(level)))
-        screen = lines[7 + count : 7 + count + ROWS]
-        if lines[6 + count] != 'screen' or [len(it) for it in screen] != [COLUMNS] * ROWS:
+        count, first = int(_value(lines[5], 'sound')), len(text) - len(lines[6])
+        end = text.find('screen\n', first)
+        changes: Sequence[tuple[int, int]] = Changes(text, first, end)
+        if count <= MANY:
+            changes = [(int(when), int(level)) for when, level in map(str.split, text[first:end].splitlines())]
+        name, *screen = text[end:].split('\n')[: ROWS + 1]
+        if len(changes) != count or name != 'screen' or [len(it) for it in screen] != [COLUMNS] * ROWS:
             raise ValueError
     except (ValueError, IndexError):
         raise Unfit('the text is no report of pcboard run (docs/formats.md, "Report")') from None
@@ -284,12 +318,16 @@ class Dialogue:
     it, so that what talks with it can end a long run and go on."""
 
     def __init__(self, words: list[str]) -> None:
-        self._process = subprocess.Popen(
+        self._process = self.started(
             [program(), *words], stdin=subprocess.PIPE, stdout=subprocess.PIPE, stderr=subprocess.PIPE, bufsize=0, start_new_session=True
         )
         assert self._process.stdout
         self._out = os.fdopen(os.dup(self._process.stdout.fileno()), 'rb')
         self.clock, self.is_idle = 0, True
+
+    def started(self, words: list[str], **how: Any) -> subprocess.Popen[bytes]:
+        """The session's process, begun; `how` is as for subprocess.Popen."""
+        return subprocess.Popen(words, **how)
 
     def close(self) -> None:
         """Ends the session's process, also in the midst of a run: it has nothing to keep."""

@@ -32,7 +32,7 @@ class Repository(ToolCase):
         super().setUp()
         for folder in ('dev', 'tools/toolbox'):
             os.makedirs(f'{self.room}/top/{folder}')
-        shared = (f'tools/toolbox/{it}.py' for it in ('__init__', 'building', 'command', 'crates', 'proved', 'sources'))
+        shared = (f'tools/toolbox/{it}.py' for it in ('__init__', 'building', 'command', 'crates', 'proved', 'sources', 'writing'))
         for name in ('pcboard', 'VERSION', 'README.md', 'dev/build', *shared):
             shutil.copy(f'{TOP}/{name}', f'{self.room}/top/{name}')
         for name in ('low', 'pcboard', 'other'):

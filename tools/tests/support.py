@@ -2,6 +2,7 @@
 from __future__ import annotations
 
 import os
+import re
 import shutil
 import signal
 import subprocess
@@ -71,9 +72,12 @@ def children(of: int) -> list[int]:
 
 
 def processor_seconds(of: int) -> float:
-    """The processor time that a process has used, without its children's."""
-    with open(f'/proc/{of}/stat', encoding='utf-8') as file:
-        return sum(map(int, file.read().rpartition(')')[2].split()[11:13])) / os.sysconf('SC_CLK_TCK')
+    """The processor time that a process has used, without its children's; of one that has ended meanwhile none."""
+    try:
+        with open(f'/proc/{of}/stat', encoding='utf-8') as file:
+            return sum(map(int, file.read().rpartition(')')[2].split()[11:13])) / os.sysconf('SC_CLK_TCK')
+    except OSError:
+        return 0.0
 
 
 class ToolCase(unittest.TestCase):
@@ -110,7 +114,7 @@ class ToolCase(unittest.TestCase):
         if status is not None:
             self.assertEqual(ran.returncode, status, ran.stderr or ran.stdout)
         self.assertNotIn('Traceback', ran.stderr)
-        return ran.stdout, ran.stderr
+        return ran.stdout, re.sub(r'^\w+: .*, \d+ s\n', '', ran.stderr, flags=re.M)  # without how far it was on a busy machine
 
     def pcboard(self, *words: str, given: str = '') -> subprocess.CompletedProcess[str]:
         """A run of the program itself. That it isn't there is a failure."""

@@ -44,7 +44,7 @@ class Archive(ToolCase):
         if not is_there('objcopy', 'examples/archive', 'binutils'):
             return
         com = self.run_it('com', shows('C') + RET)
-        self.assertEqual((com['line 1'], com['state'], com['CS'], com['DS'], com['SS'], com['SI']), ('C', 'state halted', 'F000', '0100', '0100', '0100'))
+        self.assertEqual((com['line 1'], com['state'], com['CS'], com['DS'], com['SS'], com['SI']), ('C', 'state halted', 'F600', '0100', '0100', '0100'))
         sector = self.run_it('sector', (shows('S') + HLT).ljust(510, b'\0') + b'\x55\xAA')
         self.assertEqual((sector['line 1'], sector['CS'], sector['BX'], sector['CX'], sector['SP']), ('S', '0000', '7C00', '0001', '0100'))
         for size in (8, 16, 32, 64):

@@ -11,8 +11,8 @@ from tests.support import ToolCase, example
 
 EXAMPLES = ('readback', 'tone', 'nested')  # a counter that is read back, the speaker, keys and the timer's interrupts
 CHOICES = [{'timer': timer, 'clocks': clocks} for timer, clocks in itertools.product(('8253', '8254'), ('C1', 'C2'))]
-STOP = {'readback': 'break F000:0067', 'tone': 'sound', 'nested': 'halted'}
-LAST, SHOWN = 600, 'regs\nscreen\ntrail\ndump 400 16\ndump B0000 160\n'
+STOP = {'readback': 'break F600:0089', 'tone': 'sound', 'nested': 'halted'}
+LAST, SHOWN = 1500, 'regs\nscreen\ntrail\ndump 400 16\ndump B0000 160\n'
 
 
 class Back(ToolCase):
@@ -46,7 +46,7 @@ class Back(ToolCase):
         for words, stop in self.each_case():
             held, free = self.held_at(words, stop), self.free_at(words)
             self.assertTrue(held)
-            for now in range(1, LAST, 83):
+            for now in range(1, LAST, 208):
                 told = self.session(words, f'{stop}\n' + 'go 1\n' * now + 'back stop\n')[-1]
                 at = max((it for it in held if it < now), default=None)
                 self.assertEqual(told, f'stop 1 clock {at}' if at else 'fault 54 BeforeStart')

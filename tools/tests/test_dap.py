@@ -208,23 +208,23 @@ class Sessions(ToolCase):
 
     def test_forth_and_back(self) -> None:
         client, (source, run) = self.client(), example('ticks')
-        told = client.launch(source, 25, 24, run=run, stopOnEntry=True)
-        self.assertEqual([(it['verified'], it['line']) for it in told], [(True, 25), (True, 25)])
-        self.assertIn('line 24 places nothing', told[1]['message'])
+        told = client.launch(source, 41, 40, run=run, stopOnEntry=True)
+        self.assertEqual([(it['verified'], it['line']) for it in told], [(True, 41), (True, 41)])
+        self.assertIn('line 40 places nothing', told[1]['message'])
         self.assertEqual(client.event('stopped')['reason'], 'entry')
-        self.assertEqual((client.clock(), client.line()), (0, 37))
+        self.assertEqual((client.clock(), client.line()), (0, 51))
         clocks = []
         for command in ('continue', 'continue', 'reverseContinue', 'stepBack', 'stepIn', 'next', 'continue', 'continue', 'continue'):
             clocks.append((client.move(command)['reason'], client.clock()))
             self.agrees(client, 'ticks')
-        self.assertEqual(clocks[:5], [('breakpoint', 204), ('breakpoint', 593), ('breakpoint', 204), ('step', 143), ('step', 204)])
-        self.assertEqual(clocks[6], ('breakpoint', 593))
+        self.assertEqual(clocks[:5], [('breakpoint', 1009), ('breakpoint', 1397), ('breakpoint', 1009), ('step', 948), ('step', 1009)])
+        self.assertEqual(clocks[6], ('breakpoint', 1397))
         self.assertEqual(client.leave(), 0)
         self.assertEqual(os.listdir(f'{self.room}/tmp'), [])
 
     def test_random_walks(self) -> None:
         """Forty moves forth and back each; at some of them the board is held against a session that goes there directly."""
-        for name, line in (('ticks', 28), ('fibonacci', 35), ('clock', 30), ('strings', 20)):
+        for name, line in (('ticks', 44), ('fibonacci', 48), ('clock', 41), ('strings', 20)):
             moves, client = random.Random(name), self.client()
             client.launch(example(name)[0], line, run=example(name)[1], stopOnEntry=True)
             client.event('stopped')
@@ -290,16 +290,16 @@ class Sessions(ToolCase):
 
     def test_looking(self) -> None:
         client, (source, run) = self.client(), example('ticks')
-        client.launch(source, 25, run=run)
+        client.launch(source, 41, run=run)
         client.event('stopped')
         for text, wanted in (
             ('AX', '0B000h'),
-            ('tick', '0002Eh (46)'),
+            ('tick', '00058h (88)'),
             ('BYTE ES:[0]', "030h (48) '0'"),
             ('AX+2*3', '0B006h'),
             ('WORD CS:[tick]', '0FE26h'),
             ('IF', '000h (0)'),
-            ('-1+tick', '0002Dh'),
+            ('-1+tick', '00057h'),
             ("'A'", '041h'),
         ):
             self.assertIn(wanted, client.ask('evaluate', expression=text, context='watch')['result'], text)
@@ -307,19 +307,19 @@ class Sessions(ToolCase):
             client.refused('evaluate', expression=text, context='hover')
         self.assertIn('AX=B000', client.ask('evaluate', expression='regs', context='repl')['result'])
         self.assertEqual(client.variables(2)['IF'], '0')
-        rows = client.ask('disassemble', memoryReference='0xF002E', instructionOffset=-2, instructionCount=5)['instructions']
+        rows = client.ask('disassemble', memoryReference='0xF6058', instructionOffset=-2, instructionCount=5)['instructions']
         self.assertEqual(
             [(it['address'], it['instruction']) for it in rows],
-            [('0xF002B', 'HLT'), ('0xF002C', 'JMP SHORT idle'), ('0xF002E', 'INC BYTE ES:[0]'), ('0xF0033', 'MOV AL,20h'), ('0xF0035', 'OUT 20h,AL')],
+            [('0xF6055', 'HLT'), ('0xF6056', 'JMP SHORT idle'), ('0xF6058', 'INC BYTE ES:[0]'), ('0xF605D', 'MOV AL,20h'), ('0xF605F', 'OUT 20h,AL')],
         )
         last = client.ask('readMemory', memoryReference='0xFFFFF', count=4)
         self.assertEqual((len(base64.b64decode(last['data'])), last['unreadableBytes']), (1, 3))
-        told = client.ask('setInstructionBreakpoints', breakpoints=[{'instructionReference': '0xF0035'}, {'instructionReference': '0x00400'}])
+        told = client.ask('setInstructionBreakpoints', breakpoints=[{'instructionReference': '0xF605F'}, {'instructionReference': '0x50000'}])
         self.assertEqual([it['verified'] for it in told['breakpoints']], [True, False])
         self.assertEqual(client.move('continue')['reason'], 'instruction breakpoint')
-        client.ask('setFunctionBreakpoints', breakpoints=[{'name': 'tick'}, {'name': 'F000:37'}, {'name': 'nope'}])
+        client.ask('setFunctionBreakpoints', breakpoints=[{'name': 'tick'}, {'name': 'F600:61'}, {'name': 'nope'}])
         client.move('continue')
-        self.assertEqual(client.line(), 28)
+        self.assertEqual(client.line(), 44)
         self.assertIn("can't be written", client.refused('setVariable', variablesReference=1, name='AX', value='1'))
         self.assertEqual(client.leave(), 0)
 
@@ -378,9 +378,9 @@ class Sessions(ToolCase):
         told = client.launch(source, *range(8, 31), run=run, stopOnEntry=True)
         self.assertEqual(len({it['line'] for it in told if it['verified']}), 15)
         client.event('stopped')
-        client.lines(source, 23)
+        client.lines(source, 39)
         client.move('continue')
-        self.assertEqual(client.line(), 23)
+        self.assertEqual(client.line(), 39)
         with Session(Files(source, run)) as session:
             session.many('regs')
             session.go_to(client.clock() - 1)
@@ -389,7 +389,7 @@ class Sessions(ToolCase):
 
     def test_keys_hex_and_symbols(self) -> None:
         source, run = example('monitor')
-        symbols = self.file('monitor.sym', 'F0000 T start\nF000:0003 third\n')
+        symbols = self.file('monitor.sym', 'F600:0000 start\nF600:0003 third\n')
         client = self.client()
         client.launch(source.replace('.asm', '.hex'), run=run, symbols=symbols, stopOnEntry=True)
         client.event('stopped')

@@ -56,15 +56,20 @@ class Sessions(ToolCase):
         told = self.dbg('ticks', 'break tick', 'byte b0000 31', 'go', 'clear 2', 'go', 'stops', 'go')
         self.assertEqual(
             told[:3],
-            ['stop 1: break F000:002E tick', 'stop 2: byte B0000 31', 'stop 1 (break F000:002E tick), clock 204: F000:002E tick | 25: tick:   INC BYTE ES:[0]'],
+            [
+                'stop 1: break F600:0058 tick',
+                'stop 2: byte B0000 31',
+                'stop 1 (break F600:0058 tick), clock 1009: F600:0058 tick | 41: tick:   INC BYTE ES:[0]',
+            ],
         )
         self.assertEqual(
-            [it.split(': ')[0] for it in told[3:]], ['stop 1', 'stop 1 (break F000:002E tick), clock 593', 'stop 1', 'stop 1 (break F000:002E tick), clock 993']
+            [it.split(': ')[0] for it in told[3:]],
+            ['stop 1', 'stop 1 (break F600:0058 tick), clock 1397', 'stop 1', 'stop 1 (break F600:0058 tick), clock 1797'],
         )
 
     def test_goes_back(self) -> None:
-        told = self.dbg('ticks', 'to 993', 'back', 'to 29', 'step', 'back 2')
-        self.assertEqual([it.split(': ')[0] for it in told], ['clock 993', 'clock 932', 'clock 29', 'clock 33', 'clock 19'])
+        told = self.dbg('ticks', 'to 1797', 'back', 'to 56', 'step', 'back 2')
+        self.assertEqual([it.split(': ')[0] for it in told], ['clock 1797', 'clock 1736', 'clock 56', 'clock 60', 'clock 41'])
 
     def test_goes_back_beyond_the_trail(self) -> None:
         told = self.dbg('fibonacci', 'step 100', 'back 90', 'back 11', 'where', 'sound', 'back 11', 'where', 'back 10', 'back')
@@ -74,18 +79,18 @@ class Sessions(ToolCase):
         self.assertEqual([it.split(': ')[0] for it in told[7:]], ['clock 0', 'no instruction began before this clock'])
 
     def test_goes_back_to_the_last_stop(self) -> None:
-        told = self.dbg('ticks', 'last', 'break tick', 'last', 'go', 'go', 'go', 'last', 'last', 'last', 'to 600', 'last', 'go')
-        stop, none = 'stop 1 (break F000:002E tick), clock {}', 'no stop held at any earlier clock'
+        told = self.dbg('ticks', 'last', 'break tick', 'last', 'go', 'go', 'go', 'last', 'last', 'last', 'to 1400', 'last', 'go')
+        stop, none = 'stop 1 (break F600:0058 tick), clock {}', 'no stop held at any earlier clock'
         wanted = ['there is no stop; break, byte, sound and halted add one', 'stop 1', none]
-        wanted += [*(stop.format(it) for it in (204, 593, 993, 593, 204)), none, 'clock 600', stop.format(593), stop.format(993)]
+        wanted += [*(stop.format(it) for it in (1009, 1397, 1797, 1397, 1009)), none, 'clock 1400', stop.format(1397), stop.format(1797)]
         self.assertEqual([it.split(': ')[0] for it in told], wanted)
 
     def test_the_last_stop_has_its_number_here(self) -> None:
-        """At 593 two hold, of which the least is told."""
-        told = self.dbg('ticks', 'halted', 'byte b0000 31', 'break tick', 'clear 1', 'to 594', 'last', 'clear 2', 'to 594', 'last')
+        """At 1397 two hold, of which the least is told."""
+        told = self.dbg('ticks', 'halted', 'byte b0000 31', 'break tick', 'clear 1', 'to 1398', 'last', 'clear 2', 'to 1398', 'last')
         self.assertEqual(
             [it.split(': ')[0] for it in told[5:]],
-            ['clock 594', 'stop 2 (byte B0000 31), clock 593', 'stop 3', 'clock 594', 'stop 3 (break F000:002E tick), clock 593'],
+            ['clock 1398', 'stop 2 (byte B0000 31), clock 1397', 'stop 3', 'clock 1398', 'stop 3 (break F600:0058 tick), clock 1397'],
         )
 
     def test_a_session_goes_back_by_itself(self) -> None:
@@ -95,9 +100,9 @@ class Sessions(ToolCase):
         os.chmod(counted, 0o755)
         with mock.patch.dict(os.environ, {'PCBOARD': counted}):
             for commands, wanted in (
-                (('to 993', 'back', 'to 3', 'back 9'), 1),
+                (('to 1797', 'back', 'to 3', 'back 9'), 1),
                 (('break tick', 'go', 'go', 'last', 'back', 'to 3'), 1),
-                (('halted', 'to 993'), 2),
+                (('halted', 'to 1797'), 2),
                 (('halted', 'go', 'clear 1', 'clear all'), 2),
             ):
                 self.file('count', '')
@@ -132,18 +137,18 @@ class Sessions(ToolCase):
         self.assertIn('2 keys lost, the first by clock 116, the last by clock 117', out)
 
     def test_source_and_memory(self) -> None:
-        told = self.dbg('ticks', 'list :25 1', 'dump tick 2', 'labels', 'trail', 'step', 'trail 1', 'regs')
-        self.assertEqual(told[0], '    25 F000:002E tick:   INC BYTE ES:[0]')
-        self.assertEqual(told[1].split(), ['F002E:', '26', 'FE', '&.'])
-        self.assertEqual(told[4:6], ['F000:002E tick', 'nothing yet'])
-        self.assertIn('| 37: JMP FAR start', told[7])
+        told = self.dbg('ticks', 'list :41 1', 'dump tick 2', 'labels', 'trail', 'step', 'trail 1', 'regs')
+        self.assertEqual(told[0], '    41 F600:0058 tick:   INC BYTE ES:[0]')
+        self.assertEqual(told[1].split(), ['F6058:', '26', 'FE', '&.'])
+        self.assertEqual(told[5:8], ['F600:0058 tick', 'F600:0062 mc6845', 'nothing yet'])
+        self.assertIn('| 51: JMP FAR start', told[9])
         self.assertEqual(told[-1], 'set: no flag')
 
     def test_hex_has_no_lines(self) -> None:
         source, run = example('monitor')
-        out, _ = self.tool('dbg', source.replace('.asm', '.hex'), run, '--hex', given='step\nlist\nbreak F000:0000\n')
+        out, _ = self.tool('dbg', source.replace('.asm', '.hex'), run, '--hex', given='step\nlist\nbreak F600:0000\n')
         self.assertIn('Intel HEX has no source lines', out)
-        self.assertIn('stop 1: break F000:0000', out)
+        self.assertIn('stop 1: break F600:0000', out)
 
     def test_refusals(self) -> None:
         told = self.dbg('hello', 'frob', 'break nope', 'go x', 'clear 3', 'byte b0000 100', 'to 2000000000000', 'help go')

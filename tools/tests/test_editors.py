@@ -98,19 +98,19 @@ class Editors(ToolCase):
             print('not run: Emacs with dap-mode')
             return
         source, run = example('ticks')
-        told = batch(self.room, '-l', MODE_CLIENT, f'{TOP}/editors/emacs.el', source, run, '25')
+        told = batch(self.room, '-l', MODE_CLIENT, f'{TOP}/editors/emacs.el', source, run, '41')
         reasons = [it.split()[0] for it in told[:8]]
         self.assertEqual(reasons, ['entry', 'breakpoint', 'step', 'step', 'step', 'step', 'breakpoint', 'breakpoint'])
         with Session(Files(source, run)) as session:
             clocks = ['0'] + self.clocks(session)
         self.assertEqual([it.split()[2] for it in told[:8]], clocks)
-        self.assertEqual([it.split()[1] for it in told[:8]], ['37', '25', '26', '27', '26', '25', '25', '25'])
-        self.assertEqual(told[8:], ['0002Eh (46)', 'MAcAAA==', 'gone'])
+        self.assertEqual([it.split()[1] for it in told[:8]], ['51', '41', '42', '43', '42', '41', '41', '41'])
+        self.assertEqual(told[8:], ['00058h (88)', 'MAcAAA==', 'gone'])
 
     def clocks(self, session: Session) -> list[str]:
         """The same moves in the debugger."""
-        session.many('break F000:2E')
-        commands = ('go 1000', 'step', 'step', 'back step', 'back step', 'go 1000', 'back stop')
+        session.many('break F600:58')
+        commands = ('go 2000', 'step', 'step', 'back step', 'back step', 'go 2000', 'back stop')
         return [session.one(it).split()[-1] for it in commands]
 
     def test_quickfix_and_compile(self) -> None:

@@ -210,20 +210,20 @@ class Served(ToolCase):
     def test_forth_and_back(self) -> None:
         client = self.client(*example('ticks'))
         self.assertIn('ReverseContinue+', client.ask('qSupported:swbreak+'))
-        self.assertEqual(client.ask('Z0,f002e,1'), 'OK')
+        self.assertEqual(client.ask('Z0,f6058,1'), 'OK')
         for request, wanted, shown in (
-            ('c', 'T05swbreak:;thread:1;', 'clock 204\n'),
-            ('c', 'T05swbreak:;thread:1;', 'clock 593\n'),
+            ('c', 'T05swbreak:;thread:1;', 'clock 1009\n'),
+            ('c', 'T05swbreak:;thread:1;', 'clock 1397\n'),
             ('bs', 'T05thread:1;', ''),
-            ('bc', 'T05swbreak:;thread:1;', 'clock 204\n'),
+            ('bc', 'T05swbreak:;thread:1;', 'clock 1009\n'),
             ('bc', 'T05replaylog:begin;thread:1;', 'clock 0: the beginning\n'),
             ('bs', 'T05replaylog:begin;thread:1;', ''),
             ('s', 'T05thread:1;', ''),
         ):
             client.shown = ''
             self.assertEqual((client.ask(request), client.shown), (wanted, shown), request)
-        self.assertEqual(client.registers()[8], 0xF0000)
-        self.assertEqual(client.ask('z0,f002e,1'), 'OK')
+        self.assertEqual(client.registers()[8], 0xF6000)
+        self.assertEqual(client.ask('z0,f6058,1'), 'OK')
         self.assertEqual(client.ask('c'), 'T18thread:1;')
         self.assertIn("clock 100000: the end of the run file's budget; the processor is halted", client.shown)
         self.assertEqual(client.ask('m' + 'fffff,10'), 'ff')
@@ -232,15 +232,15 @@ class Served(ToolCase):
 
     def test_stops_of_monitor_come_first(self) -> None:
         client = self.client(*example('ticks'))
-        client.ask('Z0,f002e,1')
+        client.ask('Z0,f6058,1')
         self.assertEqual(client.ask('c'), 'T05thread:1;')  # a client that knows no swbreak isn't told of one
         self.assertEqual(client.monitor('byte B0000 31'), 'stop 1\n')
         client.shown = ''
         client.ask('c')
-        self.assertEqual(client.shown, 'clock 205: stop 1 (byte B0000 31)\n')
-        client.ask('z0,f002e,1')
-        self.assertEqual(client.monitor('back 10'), 'clock 195\n')
-        self.assertEqual(client.monitor('go 1000'), 'stop 1 clock 205\n')
+        self.assertEqual(client.shown, 'clock 1010: stop 1 (byte B0000 31)\n')
+        client.ask('z0,f6058,1')
+        self.assertEqual(client.monitor('back 10'), 'clock 1000\n')
+        self.assertEqual(client.monitor('go 1000'), 'stop 1 clock 1010\n')
         self.assertEqual(client.monitor('go x'), 'fault 51 BadCommand\n')
         self.assertIn("gdb's own quit", client.monitor('quit'))
 
@@ -439,7 +439,7 @@ class Gdb(ToolCase):
             'list',
             'reverse-continue',
             'reverse-continue',
-            'x/2xb 0xf002e',
+            'x/2xb 0xf6058',
             'monitor regs',
             'set {char}0x500 = 1',
             'set $eax = 1',
@@ -448,11 +448,11 @@ class Gdb(ToolCase):
         for wanted in (
             (
                 'Breakpoint 1, tick () at',
-                '=> 0xf002e <tick>:	inc    BYTE PTR es:0x0',
-                '= 0xf0033',
-                '25\ttick:   INC BYTE ES:[0]',
+                '=> 0xf6058 <tick>:	inc    BYTE PTR es:0x0',
+                '= 0xf605d',
+                '41\ttick:   INC BYTE ES:[0]',
                 'No more reverse-execution history.',
-                '0xf002e <tick>:	0x26	0xfe',
+                '0xf6058 <tick>:	0x26	0xfe',
                 'CS=FFFF DS=0000 ES=0000 SS=0000 IP=0000',
                 'Writing to memory is not allowed',
                 'Writing to registers is not allowed',
@@ -518,7 +518,7 @@ class Gdb(ToolCase):
         """What gdb comes to is what the debugger's own commands come to."""
         files = example('ticks')
         moves = (
-            ('break *0xf002e', 'break F000:2E'),
+            ('break *0xf6058', 'break F600:58'),
             ('continue', 'go 100000'),
             ('stepi', 'step'),
             ('stepi', 'step'),
@@ -565,9 +565,10 @@ class Gdb(ToolCase):
         """Walks by gdb end where a session has the same registers and memory."""
         chance = random.Random(8086)
         for walk in range(20 if GDB else 0):
-            files = example(('ticks', 'fibonacci', 'nested', 'keys')[walk % 4])
+            name, label = (('ticks', 'tick'), ('fibonacci', 'digit'), ('nested', 'tick'), ('keys', 'key'))[walk % 4]
+            files = example(name)
             steps = [chance.choice(('stepi', 'stepi', 'stepi', 'reverse-stepi', 'reverse-stepi', 'continue', 'reverse-continue')) for _ in range(40)]
-            told = self.gdb(files, 'break *0xf0020', *steps, 'monitor go 0', 'p/x $pc', 'p/x $esp', 'x/16xb 0x400', 'monitor regs')
+            told = self.gdb(files, f'break {label}', *steps, 'monitor go 0', 'p/x $pc', 'p/x $esp', 'x/16xb 0x400', 'monitor regs')
             clock = int(re.findall(r'^clock (\d+)$', told, re.M)[-1])
             with Session(Files(*files)) as direct:
                 direct.go_to(clock)
@@ -579,8 +580,9 @@ class Gdb(ToolCase):
                 self.assertIn(wanted, told, steps)
 
     def test_hex(self) -> None:
-        source, run = example('monitor')
-        told = self.gdb((source.replace('.asm', '.hex'), run), 'break *0xf0000', 'continue', 'p/x $pc', words=('--hex',))
+        source, run = self.program('        NOP\n        HLT')
+        text = self.file('it.hex', self.pcboard('asm', source).stdout)
+        told = self.gdb((text, run), 'break *0xf0000', 'continue', 'p/x $pc', words=('--hex',))
         for wanted in ('where CS:IP is F000:0000; by another CS it is passed', '= 0xf0000') if GDB else ():
             self.assertIn(wanted, told)
 

@@ -49,7 +49,7 @@ class Tools(ToolCase):
         self.assertEqual(json.loads(again) | {'ram': 64}, json.loads(out))
 
     def test_run_files_of_version_2(self) -> None:
-        rest = '"ram":64,"sw1":0,"sw2":0,"budget":100000,"keys":[]'
+        rest = '"ram":64,"sw1":0,"sw2":0,"budget":10000000,"keys":[]'
         for words, wanted in (
             (['--timer', '8254'], '"timer":"8254","clocks":"C1"'),
             (['--clocks', 'c2'], '"timer":"8253","clocks":"C2"'),
@@ -68,7 +68,7 @@ class Tools(ToolCase):
 
     def test_reads_keys(self) -> None:
         out, _ = self.tool('keys', '--read', example('keys')[1])
-        self.assertEqual(out.splitlines()[1].split(), ['700', 'h', 'up'])
+        self.assertEqual(out.splitlines()[1].split(), ['1700', 'h', 'up'])
 
     def test_refusals(self) -> None:
         for words, wanted in (

@@ -23,22 +23,22 @@ class Languages(ToolCase):
         folder = shutil.copytree(f'{EXAMPLES}/{name}', f'{self.room}/{name}')
         done = subprocess.run(['make', '-s', 'run'], cwd=folder, env=os.environ | {'PCBOARD': program.path()}, capture_output=True, text=True, check=False)
         self.assertEqual(done.returncode, 0, done.stderr)
-        self.assertEqual(done.stdout.splitlines()[7].rstrip(), 'ticks  12, keys   2' if name == 'nasm' else 'ticks  10, keys   2')
+        self.assertEqual(done.stdout.splitlines()[7].rstrip(), 'ticks  12, keys   2' if name == 'nasm' else 'ticks   9, keys   2')
         return folder
 
     def test_a_program_by_nasm(self) -> None:
         folder = self.made('nasm', {'nasm': 'nasm', 'objcopy': 'binutils', 'make': 'make'})
         if folder is None:
             return
-        words = ('--hex', '--symbols', f'{folder}/rom.lst', f'{folder}/rom.hex', f'{folder}/run.json')
+        words = ('--hex', '--symbols', f'{folder}/rom.lst@F600', f'{folder}/rom.hex', f'{folder}/run.json')
         told = self.tool('dbg', *words, given='break key\ngo\nu show.digit 2\nlist key 1\n')[0].splitlines()
-        self.assertRegex(told[1], r'^stop 1 \(break F000:[0-9A-F]{4} key\), clock 20\d+: F000:[0-9A-F]{4} key \| \d+: key:    push ax$')
+        self.assertRegex(told[1], r'^stop 1 \(break F600:[0-9A-F]{4} key\), clock 20\d+: F600:[0-9A-F]{4} key \| \d+: key:    push ax$')
         self.assertRegex(told[2], r'show\.digit +31D2 +XOR DX,DX$')
         self.assertIn('key:    push ax', told[-1])
         out, _ = self.tool('trace', '--coverage', *words)
         self.assertRegex(out.splitlines()[0], r'^\d+ of \d+ lines of code ran')
         page = self.file('page', 'runs = key\nruns = start.next\nshows = keys   2\n')
-        self.assertEqual(self.tool('judge', '--hex', '--symbols', f'{folder}/rom.lst', page, *words[3:])[0].splitlines()[-1], '3 met, 0 not')
+        self.assertEqual(self.tool('judge', '--hex', '--symbols', f'{folder}/rom.lst@F600', page, *words[3:])[0].splitlines()[-1], '3 met, 0 not')
 
     def test_a_program_by_bcc(self) -> None:
         self.made('bcc', {'bcc': 'bcc', 'as86': 'bin86', 'objcopy': 'binutils', 'make': 'make'})

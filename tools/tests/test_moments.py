@@ -133,22 +133,22 @@ class Board(ToolCase):
 
     def test_the_worked_example(self) -> None:
         words = (f'{TURNS}.json', '--key', '1E', '--at')
-        out, _ = self.tool('moments', f'{TURNS}.page', f'{TURNS}.asm', *words, '1200..1240', status=1)
+        out, _ = self.tool('moments', f'{TURNS}.page', f'{TURNS}.asm', *words, '1980..2020', status=1)
         told = out.splitlines()
-        self.assertEqual((told[0], told[3]), ('40 of 40 moments tried, 12 failed', 'failing 1216 to 1227'))
+        self.assertEqual((told[0], told[3]), ('40 of 40 moments tried, 12 failed', 'failing 1996 to 2007'))
         self.tool('judge', f'{TURNS}.page', f'{TURNS}.asm', f'{TURNS}.json')
         self.tool('judge', f'{TURNS}.page', f'{TURNS}.asm', f'{self.room}/turns.failing.json', status=1)
-        out, _ = self.tool('moments', f'{TURNS}.page', f'{EXAMPLES}/moments/mended.asm', *words, '1200..1240')
+        out, _ = self.tool('moments', f'{TURNS}.page', f'{EXAMPLES}/moments/mended.asm', *words, '1980..2020')
         self.assertEqual(out, '40 of 40 moments tried, 0 failed\n')
 
     def test_labels_of_hex(self) -> None:
         """The label whose word is spoilt in the same moments is told by a listing."""
         text = self.file('turns.hex', self.pcboard('asm', f'{TURNS}.asm').stdout)
         listing = self.file('turns.lst', self.pcboard('asm', '--list', f'{TURNS}.asm').stdout)
-        words = (self.file('page', 'runs = idle\nmemory turns = 14 00\n'), text, f'{TURNS}.json', '--hex', '--key', '1E', '--at', '1214..1218')
+        words = (self.file('page', 'runs = idle\nmemory turns = 14 00\n'), text, f'{TURNS}.json', '--hex', '--key', '1E', '--at', '1994..1998')
         out, _ = self.tool('moments', *words, '--symbols', listing, status=1)
         self.assertEqual(out.splitlines()[0], '4 of 4 moments tried, 2 failed')
-        self.assertIn('failing 1216 to 1217\n', out)
+        self.assertIn('failing 1996 to 1997\n', out)
         self.assertIn('no idle in', self.tool('moments', *words, status=1)[0])
         self.file('turns.lst', '0500:0000 turns\n')
         self.assertIn('no byte at any of its labels', self.tool('moments', *words, '--symbols', listing, status=2)[1])

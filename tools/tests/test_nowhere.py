@@ -121,9 +121,8 @@ class Nowhere(ToolCase):
         self.assertIn('(RET 2)', ' '.join(told))
 
     def test_ends_that_are_none(self) -> None:
-        """A loop that leaves after a while, and one that writes as it goes, aren't said never to end."""
+        """A loop that writes as it goes isn't said never to end."""
         for lines in (
-            ' MOV CX,900\nover: NOP\n NOP\n LOOP over\n HLT',
             'over: MOV BYTE [500h],1\n JMP over',
             'over: OUT 61h,AL\n JMP over',
             'over: PUSH AX\n POP AX\n JMP over',
@@ -132,6 +131,20 @@ class Nowhere(ToolCase):
             told = ' '.join(self.told(Files(*self.program(lines, 3000))))
             self.assertIn('the last 32 instructions were the same', told)
             self.assertNotIn('off: nothing leads out', told)
+
+    def test_a_delay_is_not_blamed(self) -> None:
+        """A loop that will be left, by its count, a key, the timer or a handler, is none that goes nowhere."""
+        for lines in (
+            ' MOV CX,900\nover: NOP\n NOP\n LOOP over\n HLT',
+            ' MOV CX,0\nover: LOOP over\n HLT',
+            ' MOV BX,50000\nover: DEC BX\n JNZ over\n HLT',
+            ' MOV BX,50\nouter: MOV CX,5000\nover: LOOP over\n DEC BX\n JNZ outer\n HLT',
+            ' MOV AL,99h\n OUT 63h,AL\n MOV AL,40h\n OUT 61h,AL\nover: IN AL,60h\n TEST AL,AL\n JZ over\n HLT',
+        ):
+            self.assertEqual(self.told(Files(*self.program(lines, 2000))), [], lines)
+        # Without port B an output, no key comes.
+        told = ' '.join(self.told(Files(*self.program('over: IN AL,60h\n TEST AL,AL\n JZ over\n HLT', 3000))))
+        self.assertIn('nothing leads out but what port 60h reads', told)
 
     def test_the_clocks_of_a_run_count(self) -> None:
         """A run that ends before it goes astray isn't told to."""

@@ -30,16 +30,16 @@ MISTAKES = (
     ('first', 'JMP FAR start', 'DW 0FFFFh', 'FFFF:0000 has FF FF'),
     ('hello', ' HLT', '', 'has FF FF'),
     ('first', 'done:   RET', 'done:   JMP top', 'were 00 00'),
-    ('first', 'OUT DX,AL', 'NOP', 'text memory has characters'),
+    ('first', 'MOV AL,9', 'MOV AL,1', 'text memory has characters'),
     ('first', '0B000h', '0B800h', 'no colour adapter is here'),
     ('first', '        HLT', '        INT 21h', 'its vector, at 00084h, is 0000:0000'),
     ('first', 'MOV AH,7', 'MOV AH,0', 'with the attribute 00h'),
-    ('first', 'MOV DS,AX', 'NOP', '(halted after 10,000 clocks, the screen is blank)'),
-    ('first', 'AT 50h', 'AT 0F000h', 'which is ROM'),
-    ('first', 'SP,top', 'SP,count', 'Hello from RA.'),
+    ('first', 'MOV DS,AX', 'NOP', '(halted for good at clock '),
+    ('first', 'AT 50h', 'AT 0F600h', 'which is ROM'),
+    ('first', 'SP,top', 'SP,count', 'Hello from RA5'),
     ('clock', ' STI', ' NOP', 'with interrupts off'),
     ('clock', 'DW tick,SEG tick', 'DW 0', 'interrupt 08 came; its vector'),
-    ('clock', 'MOV AL,20h', 'MOV AL,0', '1\n(halted'),
+    ('clock', 'MOV AL,20h', 'MOV AL,0', '1\n(waits for an interrupt'),
     ('poll', 'MOV AL,0C0h', 'MOV AL,40h', 'HHH'),
 )
 
@@ -166,7 +166,9 @@ class Pages(ToolCase):
             with open(f'{EXAMPLES}/{name}.asm', encoding='utf-8') as file:
                 source = file.read()
             self.assertEqual(len(re.findall(was, source)), 1, was)
-            out, err = self.tool('try', self.file('it.asm', re.sub(was, becomes, source)), '--run', f'{EXAMPLES}/{name}.json')
+            # Of a program that begins again and again only what its last 32 instructions did is told.
+            run = self.file('short.json', RUN.replace('100000', '3000')) if seen == 'which is ROM' else f'{EXAMPLES}/{name}.json'
+            out, err = self.tool('try', self.file('it.asm', re.sub(was, becomes, source)), '--run', run)
             self.assertIn(seen, out + err, f'{name}: {was}')
             self.assertTrue(seen in page or seen.startswith(('(', '1\n', 'HHH')), seen)
 

@@ -78,7 +78,7 @@ class Refused(ToolCase):
         super().setUp()
         for folder in ('bin', 'top/dev', 'top/tools/toolbox'):
             os.makedirs(f'{self.room}/{folder}')
-        shared = (f'tools/toolbox/{it}.py' for it in ('__init__', 'building', 'command', 'crates', 'edits', 'proved', 'sources'))
+        shared = (f'tools/toolbox/{it}.py' for it in ('__init__', 'building', 'command', 'crates', 'edits', 'proved', 'sources', 'writing'))
         for file in ('dev/refused', *shared):
             shutil.copy(f'{TOP}/{file}', f'{self.room}/top/{file}')
         for name in ('low', 'high', 'broken'):

@@ -12,6 +12,7 @@ from dataclasses import replace
 from tests.repository import KIT, LOGIC, Repository
 from tests.support import TOP, ToolCase
 from toolbox import program, proved
+from toolbox.command import write_text
 from toolbox.crates import Crates
 from toolbox.sources import sum_of, sum_of_sources
 
@@ -203,7 +204,8 @@ class Stored(Repository):
         self.assertEqual(told()[3], 'program crates/pcboard/out/pcboard, perhaps made of other sources')
 
     def test_the_tools_take_the_same(self) -> None:
-        shutil.copy(f'{TOP}/tools/toolbox/program.py', f'{self.top}/tools/toolbox')
+        for name in ('program', 'comments'):
+            shutil.copy(f'{TOP}/tools/toolbox/{name}.py', f'{self.top}/tools/toolbox')
         os.mkdir(f'{self.top}/python')
         shutil.copy(f'{TOP}/python/zebludor.py', f'{self.top}/python')
         ask = ['/usr/bin/env', 'python3', '-B', '-c', f'import sys; sys.path.insert(0, "{self.top}/tools"); from toolbox import program; print(program.path())']
@@ -429,7 +431,7 @@ class Gate(ToolCase):
         shutil.copy(program.path(), f'{top}/stored/pcboard')
         names = Crates(top).below('pcboard')
         told = proved.Proved(sum_of(f'{top}/stored/pcboard'), sum_of_sources(names, top), 'rattle-kit-0', '0', dict.fromkeys(names, VERDICT))
-        proved.write(f'{top}/stored/PROVED', told.text())
+        write_text(f'{top}/stored/PROVED', told.text())
         return top
 
     def launch(self, top: str, line: str) -> subprocess.CompletedProcess[str]:

@@ -24,7 +24,7 @@ class Sweeps(ToolCase):
 
         for name, target in (('examples', EXAMPLES), ('tools', TOOLS), ('pcboard', program.path())):
             os.symlink(target, f'{self.room}/{name}')
-        self.shell('python3 examples/sweep/make_runs.py examples/nested.json sweep 1000 2001 100')
+        self.shell('python3 examples/sweep/make_runs.py examples/nested.json sweep 1800 2801 100')
         self.file('sweep/late.json', '{"version":1}')
 
     def shell(self, line: str, status: int = 0, **environment: str) -> str:
@@ -68,7 +68,7 @@ class Sweeps(ToolCase):
             *(f'{self.room}/sweep/{it}' for it in os.listdir(f'{self.room}/sweep') if it.endswith(('.txt', '.fault'))),
             status=1,
         )[0].splitlines()
-        self.assertEqual((len(told), told[1], told[-1]), (13, 'key-1000\thalted\ttktttKkttKttt', 'late\tfault 32 BadField\t'))
+        self.assertEqual((len(told), told[1], told[-1]), (13, 'key-1800\thalted\ttkttKtkttKttt', 'late\tfault 32 BadField\t'))
 
     def test_refused_runs_are_told_and_kept_apart(self) -> None:
         told = self.shell('examples/sweep/each examples/nested.asm sweep/*.json', status=1)
@@ -76,8 +76,8 @@ class Sweeps(ToolCase):
         self.assertEqual(self.kinds(), [11, 1, 0])
         self.check_table()
         self.assertEqual(self.shell('examples/sweep/each examples/nested.asm sweep/*.json', PCBOARD='/none'), '')
-        self.shell('examples/sweep/each nothing.asm sweep/key-1000.json')
-        self.shell('rm sweep/key-1000.txt; examples/sweep/each nothing.asm sweep/key-1000.json', status=2)
+        self.shell('examples/sweep/each nothing.asm sweep/key-1800.json')
+        self.shell('rm sweep/key-1800.txt; examples/sweep/each nothing.asm sweep/key-1800.json', status=2)
         self.assertEqual(self.kinds(), [10, 1, 0])
 
     def interrupted(self, line: str) -> None:

@@ -142,7 +142,7 @@ class Runs(ToolCase):
         out, _ = self.tool('trace', '--profile', *example('ticks'))
         rows = [it.split() for it in out.splitlines()[1:]]
         self.assertEqual(sum(int(it[0]) for it in rows), 100000)
-        self.assertEqual(rows[1][:1] + rows[1][2:], ['15250', '250', '|', 'interrupt', '08'])
+        self.assertEqual(rows[1][:1] + rows[1][2:], ['15128', '248', '|', 'interrupt', '08'])
 
     def test_coverage(self) -> None:
         files = self.program('        JMP SHORT over\n        NOP\nover:   HLT\n        DB 5', 100)
@@ -151,21 +151,21 @@ class Runs(ToolCase):
 
     def test_listing(self) -> None:
         out, _ = self.tool('trace', '--listing', *example('fibonacci'))
-        self.assertIn('      67      9648    28 F000:0032         DIV BX', out)
+        self.assertIn('      67      9648    41 F600:0050         DIV BX', out)
         files = self.program('        JMP SHORT over\n        NOP\nover:   HLT', 100)
         self.assertIn('   never', self.tool('trace', '--listing', *files)[0])
 
     def test_part_of_a_run(self) -> None:
-        out, _ = self.tool('trace', '--from', '143', '--to', '240', *example('ticks'))
-        self.assertEqual([it.split()[0] for it in out.splitlines()], ['143', '204', '227', '231', '240'])
+        out, _ = self.tool('trace', '--from', '948', '--to', '1045', *example('ticks'))
+        self.assertEqual([it.split()[0] for it in out.splitlines()], ['948', '1009', '1032', '1036', '1045'])
 
     def test_vcd(self) -> None:
         path = f'{self.room}/it.vcd'
-        self.tool('trace', '--vcd', path, '--to', '300', *example('ticks'))
+        self.tool('trace', '--vcd', path, '--to', '1100', *example('ticks'))
         with open(path, encoding='utf-8') as file:
             text = file.read()
-        self.assertIn(f'#{142 * 210}\n1#\n', text)
-        self.assertIn(f'#{143 * 210}\nb101100 "\n0#\n1$\nb1000 %\n', text)
+        self.assertIn(f'#{947 * 210}\n1#\n', text)
+        self.assertIn(f'#{948 * 210}\nb1010110 "\n0#\n1$\nb1000 %\n', text)
         sound, _ = self.tool('trace', '--vcd', '-', *example('tone'))
         self.assertIn(f'#{74 * 210}\n1&\n', sound)
 
@@ -211,7 +211,7 @@ class Runs(ToolCase):
         self.assertIn('no source lines', self.tool('trace', '--hex', '--listing', text, run, status=2)[1])
         self.assertEqual(
             self.tool('trace', '--hex', '--coverage', text, run)[0].splitlines(),
-            ['169 of 265 bytes of the program ran, in 83 instructions', 'F0000 to F00A3 ran', 'F00A4 to F0103 never', 'FFFF0 to FFFF4 ran'],
+            ['201 of 313 bytes of the program ran, in 96 instructions', 'F6000 to F60C3 ran', 'F60C4 to F6133 never', 'FFFF0 to FFFF4 ran'],
         )
         self.assertIn('no clock from', self.tool('trace', '--from', '10', '--to', '5', source, run, status=2)[1])
         self.assertIn('fault 21', self.tool('trace', '--hex', source, run, status=2)[1])

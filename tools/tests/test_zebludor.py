@@ -100,24 +100,24 @@ class Runs(ToolCase):
         environment = os.environ | {'PYTHONPATH': f'{self.room}:{TOP}/python', 'PCBOARD': program.path(), 'PYTHONDONTWRITEBYTECODE': '1'}
         done = subprocess.run([sys.executable, 'it.py'], env=environment, capture_output=True, text=True, cwd=self.room, check=False)
         told = done.stdout.splitlines()
-        self.assertEqual((done.stderr, told[:3], len(told)), ('', ['H halted 61504', '1 2138', 'MOV AH,007h'], 14))
-        self.assertEqual((told[3], told[13]), ('1000 tktttKttttt', '2000 ttktttKtttt'))
+        self.assertEqual((done.stderr, told[:3], len(told)), ('', ['H halted 63040', '1 2138', 'MOV AH,007h'], 14))
+        self.assertEqual((told[3], told[13]), ('1800 tkttKtttttt', '2800 ttkttKttttt'))
 
     def test_a_session_forth_and_back(self) -> None:
         """That of docs/debugger.md."""
         with Session(read(example('ticks')[0])) as session:
             self.assertEqual(session.stop_at_byte(0xB0000, 0x31), 1)
-            self.assertEqual((session.go(1000), session.clock), (1, 205))
+            self.assertEqual((session.go(2000), session.clock), (1, 1010))
             last = session.trail()[-1]
-            self.assertEqual((last.clock, last.text, last.octets.hex()), (204, 'ES: INC BYTE [00000h]', '26fe060000'))
+            self.assertEqual((last.clock, last.text, last.octets.hex()), (1009, 'ES: INC BYTE [00000h]', '26fe060000'))
             self.assertEqual(session.trail()[-2].entry, 8)
             session.back_step()
-            self.assertEqual((session.clock, session.registers()['IP']), (204, 0x2E))
-            self.assertEqual((session.stop_at(0xF000, 0x2B), session.back_to_stop(), session.clock), (2, 2, 141))
+            self.assertEqual((session.clock, session.registers()['IP']), (1009, 0x58))
+            self.assertEqual((session.stop_at(0xF600, 0x55), session.back_to_stop(), session.clock), (2, 2, 946))
             session.back(41)
             session.step()
-            self.assertEqual(session.clock, 101)
-            self.assertEqual(session.dump(0xF002E, 5).hex(), '26fe060000')
+            self.assertEqual(session.clock, 906)
+            self.assertEqual(session.dump(0xF6058, 5).hex(), '26fe060000')
             self.assertEqual((len(session.screen()), session.stop_at_sound(), session.stop_at_halt()), (25, 3, 4))
             for refused, number in ((lambda: session.back(1 << 30), 54), (lambda: session.go(1 << 41), 42), (lambda: session.back(0), 51)):
                 with self.assertRaises(Fault) as caught:

@@ -22,13 +22,13 @@ class Class:
     page: str
     said: list[str]
     run_file: str | None
-    is_hex: bool
+    words: list[str]
     seconds: int
     at_work: set[subprocess.Popen[str]] = field(default_factory=set)
 
     def row(self, file: str) -> list[str]:
         """A file's row: how many are met, each outcome, and why there is none."""
-        words = [PYTHON, '-S', JUDGE, '--json', *(['--hex'] if self.is_hex else []), '--', self.page, file, *([self.run_file] if self.run_file else [])]
+        words = [PYTHON, '-S', JUDGE, '--json', *self.words, '--', self.page, file, *([self.run_file] if self.run_file else [])]
         process = subprocess.Popen(words, stdin=subprocess.DEVNULL, stdout=subprocess.PIPE, stderr=subprocess.PIPE, text=True, errors='replace')
         self.at_work.add(process)
         try:
@@ -50,10 +50,16 @@ def cell(text: str) -> str:
     return ' '.join(text.split())
 
 
-def table(page: str, said: list[str], files: list[str], run_file: str | None, is_hex: bool, seconds: int) -> int:
+def words_of(given: argparse.Namespace) -> list[str]:
+    """The words that each file's judge is given too."""
+    words = [f'--{it}' for it in ('hex', 'services', 'com') if getattr(given, it)]
+    return words + ([f'--args={given.args}'] if given.args is not None else [])
+
+
+def table(page: str, said: list[str], files: list[str], run_file: str | None, words: list[str], seconds: int) -> int:
     """Prints a row for each file as it is ready, in the order of the files, and returns the exit status."""
     program_path()
-    them = Class(page, said, run_file, is_hex, seconds)
+    them = Class(page, said, run_file, words, seconds)
     print('\t'.join(map(cell, ['file', 'met', *said, 'why not'])), flush=True)
     is_met, pool = True, ThreadPoolExecutor(os.cpu_count() or 1)
     with waiting(f'judge: {len(files)} files') as say:

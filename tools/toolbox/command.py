@@ -8,6 +8,8 @@ import threading
 import time
 from typing import Callable, Iterator
 
+from toolbox.writing import write_whole
+
 HINT_STATUS = 2
 PYTHON = sys.executable or 'python3'  # Python knows no path of its own where it was started without PATH
 SYMBOLS = (
@@ -117,12 +119,19 @@ def read_text(path: str) -> str:
 
 
 def write_text(path: str, text: str) -> None:
-    """Writes a file, `-` for standard output."""
+    """Writes a file whole, `-` for standard output."""
+    if path != '-':
+        write_bytes(path, text.encode())
+        return
     try:
-        if path == '-':
-            sys.stdout.write(text)
-            return
-        with open(path, 'w', encoding='utf-8') as file:
-            file.write(text)
+        sys.stdout.write(text)
+    except OSError as error:
+        raise Sorry(f"{path} can't be written: {error.strerror}") from None
+
+
+def write_bytes(path: str, octets: bytes) -> None:
+    """Writes a file whole: where that fails, the old one is left as it was."""
+    try:
+        write_whole(path, octets)
     except OSError as error:
         raise Sorry(f"{path} can't be written: {error.strerror}") from None

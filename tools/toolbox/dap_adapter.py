@@ -9,7 +9,7 @@ import subprocess
 from typing import Any, Callable
 
 from toolbox.command import PYTHON, Sorry
-from toolbox.dap_board import FLAG_BITS, MOST_BREAKPOINTS, Far, Gone, Left, Machine, Paused
+from toolbox.dap_board import ENDS, FLAG_BITS, MOST_BREAKPOINTS, Far, Gone, Left, Machine, Paused
 from toolbox.dap_values import Disassembly, Expression, is_code
 from toolbox.dap_wire import Broken, Read
 from toolbox.listing import labels_alone, listing_of, physical
@@ -345,6 +345,13 @@ class Adapter:
             return 'pause', f'the run ends at clock {self.board().clock}, {self.board().state()}'
         return reason, f'clock {self.board().clock}: {text}'
 
+    def told_of_a_way(self, met: Far | None, text: str) -> tuple[str, str]:
+        """Why a way over or out of a routine ended."""
+        board = self.board()
+        if board.why in ENDS:
+            return 'pause', f'clock {board.clock}: {ENDS[board.why]}'
+        return self.told(met, 'step', text)
+
     def run_on(self) -> tuple[str, str]:
         board = self.board()
         while board.clock < board.budget:
@@ -367,7 +374,7 @@ class Adapter:
 
     def on_next(self, _: Fields) -> tuple[Fields, Callable[[], tuple[str, str]]]:
         board = self.board()
-        return {}, lambda: self.told(board.next(self.wanted()), 'step', 'step')
+        return {}, lambda: self.told_of_a_way(board.next(self.wanted()), 'step')
 
     def on_stepIn(self, _: Fields) -> tuple[Fields, Callable[[], tuple[str, str]]]:
         board = self.board()
@@ -380,7 +387,7 @@ class Adapter:
 
     def on_stepOut(self, _: Fields) -> tuple[Fields, Callable[[], tuple[str, str]]]:
         board = self.unless_ended()
-        return {}, lambda: self.told(board.out(self.wanted()), 'step', 'step out')
+        return {}, lambda: self.told_of_a_way(board.out(self.wanted()), 'step out')
 
     def on_stepBack(self, _: Fields) -> tuple[Fields, Callable[[], tuple[str, str]]]:
         board = self.board()

@@ -8,13 +8,16 @@ from typing import Callable
 from toolbox.command import Sorry
 from toolbox.listing import Listing, physical
 from toolbox.places import Event, event_of, is_repeated, operation_of
-from toolbox.program import CLOCKS_OF_A_TRAIL, Files, Session
+from toolbox.program import CLOCKS_OF_A_TRAIL, LAST_CLOCK, Files, Session
 from toolbox.report import registers_of
+from toolbox.returns import Far, ends_with_call, places_on_stack
 from toolbox.way_back import last_stop
 
-Far = tuple[int, int]
 MOST_STOPS, MOST_BREAKPOINTS = 16, 15  # one is left for the place behind a call
-MOST_PASSED, SHORT_WALK = 64, 500
+MOST_PASSED, SHORT_WALK = 64, 200
+# What ends a way out of a routine before it returns.
+ENDS = {'jammed': 'the processor has jammed, and nothing returned', 'halted for good': 'halted with interrupts off, and nothing returned'}
+RETURNS, IF = ('RET', 'RETF', 'IRET'), 0x200
 FIRST_PIECE, LONG_PIECE, SHORT_PIECE = 100_000, 0.2, 0.05
 FLAG_BITS = {'OF': 11, 'DF': 10, 'IF': 9, 'TF': 8, 'SF': 7, 'ZF': 6, 'AF': 4, 'PF': 2, 'CF': 0}
 
@@ -31,19 +34,6 @@ class Left(Paused):
     """The client has left."""
 
 
-def ends_with_call(octets: bytes) -> bool:
-    """Whether four bytes end with a near CALL: E8 and a word, or FF with 2 in reg and the displacement that mod asks for."""
-    if octets[-3:-2] == b'\xE8':
-        return True
-    for length in (2, 3, 4):
-        opcode, form = octets[-length], octets[1 - length]
-        mode, digit, memory = form >> 6, form >> 3 & 7, form & 7
-        wanted = 4 if mode == 2 or mode == 0 and memory == 6 else 3 if mode == 1 else 2
-        if opcode == 0xFF and digit == 2 and length == wanted:
-            return True
-    return False
-
-
 def refused(answer: str) -> str:
     """An answer that isn't a refusal, but for one that is expected."""
     if answer.startswith('fault') and answer != 'fault 54 BeforeStart':
@@ -57,6 +47,7 @@ class Machine:
     def __init__(self, files: Files, listing: Listing, budget: int, poll: Callable[[], None]) -> None:
         self.files, self.listing, self.budget, self.poll = files, listing, budget, poll
         self.known: dict[int, Event] = {}
+        self.why = ''  # why the last way over or out of a routine ended: 'returned', 'stop', 'far', or as `_ended` tells
         self._piece, self._stops = FIRST_PIECE, list[Far]()
         self._session = Session(files)
         try:
@@ -286,10 +277,12 @@ class Machine:
     def next(self, wanted: set[Far]) -> Far | None:
         """Makes one instruction with all that it calls, an interrupt that comes first, and all its repeats. Returns the one
         of these places that was met before its end."""
+        start = self.clock
         while True:
-            before = self.registers()
+            self.why, before = 'returned', self.registers()
             begun = self.step()
             if begun is None:
+                self.why = 'far' if self.clock >= self.budget else self.why
                 return None
             if begun.entry is not None:
                 target = (begun.segment, begun.offset)
@@ -298,7 +291,11 @@ class Machine:
             else:
                 return None
             met = self._run_over(target, before, wanted)
-            if met or begun.entry is None or self.clock >= self.budget:
+            if met:
+                self.why = 'stop'
+            elif self.clock >= self.budget:
+                self.why = self._ended(start)
+            if met or begun.entry is None or self.why != 'returned':
                 return met
 
     def _run_over(self, target: Far, before: dict[str, int], wanted: set[Far]) -> Far | None:
@@ -323,19 +320,72 @@ class Machine:
         return None
 
     def out(self, wanted: set[Far]) -> Far | None:
-        """Runs to where the routine has returned: behind a RET or IRET that leaves the stack above where it is now."""
-        before = self.registers()
-        while self.clock < self.budget:
+        """Runs to where the routine has returned: behind a RET or IRET that leaves the stack above where it is now; or to one of
+        these places, to a jam, a halt for good, or the budget. First by steps; then to the places to which the trail or the stack
+        lets it return; by steps again where neither names one."""
+        here, before = self.clock, self.registers()
+        places = [place for place, _ in self.callers()[:1]]
+        met = self._step_out(wanted, before, SHORT_WALK)
+        if self.why == 'on':
+            found = dict.fromkeys([*places, *places_on_stack(before, self.dump)])
+            room = set(list(found)[: max(0, MOST_STOPS - len(wanted))])
+            met = self._run_out(wanted, room, before) if room else self._step_out(wanted, before, LAST_CLOCK)
+        if self.why == 'far':
+            self.why = self._ended(here)
+        return met
+
+    def _step_out(self, wanted: set[Far], before: dict[str, int], most: int) -> Far | None:
+        """Out of the routine by at most so many steps; `why` tells whether it goes on."""
+        for _ in range(most):
+            if self.clock >= self.budget:
+                break
             self.poll()
+            here = self.clock
             begun = self.step()
-            now = self.registers()
-            returned = begun is not None and begun.entry is None and operation_of(begun.text) in ('RET', 'RETF', 'IRET')
-            if returned and (now['SS'] != before['SS'] or now['SP'] > before['SP']):
+            if self._has_returned(begun, before):
+                self.why = 'returned'
                 return None
-            here = (now['CS'], now['IP'])
-            if here in wanted:
-                return here
+            if (place := self.place()) in wanted:
+                self.why = 'stop'
+                return place
+            if begun is None and self.clock == here + 1 and self.state() == 'jammed':
+                self.why = 'far'
+                return None
+        self.why = 'on' if self.clock < self.budget else 'far'
         return None
+
+    def _run_out(self, wanted: set[Far], places: set[Far], before: dict[str, int]) -> Far | None:
+        """Out of the routine by runs to places to which it may return."""
+        while self.clock < self.budget:
+            met = self.run(wanted | places, self.budget)
+            if met and self._has_returned(self.trail()[-1], before):
+                self.why = 'returned'
+                return None
+            if met in wanted:
+                self.why = 'stop'
+                return met
+        self.why = 'far'
+        return None
+
+    def _has_returned(self, last: Event | None, before: dict[str, int]) -> bool:
+        """Whether what has just been made is a return that leaves the stack above where it was."""
+        if last is None or last.entry is not None or operation_of(last.text) not in RETURNS:
+            return False
+        now = self.registers()
+        return now['SS'] != before['SS'] or now['SP'] > before['SP']
+
+    def _ended(self, here: int) -> str:
+        """What ended a way that led from a clock to no return: `jammed` and `halted for good` at the clock at which that began,
+        else `far`."""
+        trail = self.trail()
+        if self._is_idle():
+            kind = 'far' if self.registers()['FL'] & IF else 'halted for good'
+        else:
+            kind = 'jammed' if self.state() == 'jammed' else 'far'
+        if kind != 'far' and trail and trail[-1].clock >= here:
+            self.go_to(trail[-1].clock)
+            self.one('step')
+        return kind
 
     def callers(self) -> list[tuple[Far, str]]:
         """The places to which the present routine and those above it return: by the trail, as far as it goes, else by the
@@ -343,7 +393,7 @@ class Machine:
         found, depth = list[tuple[Far, str]](), 0
         for event in reversed(self.trail()):
             operation = operation_of(event.text) if event.entry is None else 'entry'
-            if operation in ('RET', 'RETF', 'IRET'):
+            if operation in RETURNS:
                 depth += 1
             elif operation in ('CALL', 'INT', 'INT3', 'entry'):
                 if depth == 0:

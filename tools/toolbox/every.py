@@ -9,6 +9,7 @@ import tempfile
 from typing import Iterator
 
 from toolbox.command import Sorry, waiting
+from toolbox.comments import handed
 from toolbox.faults import Fault, fault_in
 from toolbox.hints import STATEMENTS, WORDS
 from toolbox.listing import code_of, label_in
@@ -47,7 +48,7 @@ class Copy:
     """A copy of a source, some lines of which are blank."""
 
     def __init__(self, path: str, room: str) -> None:
-        with open(path, encoding='utf-8', errors='surrogateescape', newline='') as file:
+        with open(handed(path), encoding='utf-8', errors='surrogateescape', newline='') as file:
             self.lines = file.read().split('\n')
         self.room, self.lost = room, set[str]()
 

@@ -7,6 +7,7 @@ import tempfile
 from dataclasses import dataclass, field, replace
 
 from toolbox.command import Sorry, read_text
+from toolbox.comments import handed, own_lines
 from toolbox.program import Files, answer_of, run
 
 ADDRESS_COLUMNS = 28
@@ -116,15 +117,15 @@ def listing_of(files: Files) -> Listing:
         return replace(symbols_of(files.symbols, image) if files.symbols else Listing(), parts=parts_of(image))
     if files.symbols:
         raise Sorry(f'{files.file} is a source, which has its own labels; --symbols goes with --hex')
-    rows = answer_of(['asm', '--list', '--', files.file]).split('\n')[:-1]
-    lines = [line_of(number, row) for number, row in enumerate(rows, 1)]
+    rows, own = answer_of(['asm', '--list', '--', handed(files.file)]).split('\n')[:-1], own_lines(files.file)
+    lines = [replace(line_of(number, row), text=own[number - 1]) for number, row in enumerate(rows, 1)]
     found = Listing(lines)
     for line in lines:
         if line.address:
             found.at.setdefault(physical(*line.address), line)
     names = [name for name in map(label_in, (it.text for it in lines)) if name]
     if names:
-        with open(files.file, encoding='utf-8', errors='surrogateescape', newline='') as file:
+        with open(handed(files.file), encoding='utf-8', errors='surrogateescape', newline='') as file:
             found.labels.update(probed(file.read(), names))
     return found
 

@@ -18,15 +18,20 @@ from bisect import bisect_right
 from dataclasses import dataclass, field, replace
 from typing import Any, Iterator, Sequence
 
+from toolbox.comments import handed
 from toolbox.command import PYTHON, Sorry, read_text, write_text
 from toolbox.expectations import Planned, page_of
 from toolbox.judging import fields_of, outcomes_of, subject_of
 from toolbox.listing import Listing
 from toolbox.program import Files, path as program_path
-from toolbox.runfile import text_of
+from toolbox.runfile import DEFAULTS, text_of
 from toolbox.symbols import path_of
 
 AT_ONCE = 8  # moments that a process is handed
+
+
+# Each of the many runs is short, where nothing says how long it is.
+SHORT = DEFAULTS | {'budget': 100_000}
 
 
 @dataclass(frozen=True)
@@ -43,14 +48,14 @@ class Plan:
     def __init__(self, page: str, files: Files, keys: list[Key], sample: int, seed: int) -> None:
         self.page, self.files = page, files
         self.keys, self.sample, self.seed = keys, sample, seed
-        self.runs, self.text = page_of(page), read_text(files.file)
+        self.runs, self.text = page_of(page), read_text(files.file if files.is_hex else handed(files.file))
         self.symbols = [files.symbols, read_text(path_of(files.symbols))] if files.symbols else []
         self.listing: Listing | None = None  # where labels stand, once it was asked
         total = math.prod(len(it.clocks) for it in keys)
         if not 0 <= sample <= total:
             raise Sorry(f'--sample {sample}: there are {total} moments')
         self.moments: Sequence[int] = sorted(random.Random(seed).sample(range(total), sample)) if sample else range(total)
-        self._run = {id(it): fields_of(it, files.run_file or None) for it in self.runs}
+        self._run = {id(it): fields_of(it, files.run_file or None, SHORT) for it in self.runs}
 
     def clocks(self, moment: int) -> tuple[int, ...]:
         """The clocks of the moment of this number."""

@@ -7,7 +7,9 @@ a character's attribute shows nothing        the screen is blank, no such word w
 what led to 0000:0000                        the run came to CS:IP 0000:0000 where 00 00 was; the first time counts. INT, INT3, INTO,
                                              DIV, IDIV and entries are by a vector
 the last N instructions were 00 00           four or more at the trail's end, none by an ADD of the source
-the last 32 were the same few in turn        running, the trail is full and has no entry, up to eight instructions in turn in all of it
+the last 32 were the same few in turn        running, the trail is full and has no entry, up to eight instructions in turn in all of it,
+                                             and within a second no conditional jump of them leads out, also if a key is typed, and no
+                                             request's handler is entered
 nothing leads out but what a port reads      one of these reads a port, into AL; all others are CMP, TEST, near jumps by flags or without
                                              condition, NOP, and MOV, AND, OR of a number to a register but DX. With IF 1 `or an interrupt`
 nothing answers at that port                 it is none of PORTS
@@ -21,6 +23,8 @@ a write is lost                              an instruction of the trail without
                                              ROM, or nothing answers there; not through B800h
 a push goes to ROM, or nowhere               so for the word below SS:SP, and the trail has a PUSH, PUSHF, CALL, INT or entry with this SS
 the source placed other bytes                of an instruction in RAM at most 32 bytes below SS:SP, or at it
+a call isn't among the services              the services (docs/services.md) are in ROM, and have noted it
+keys were lost                               so too
 
 With pcprobe, of the chips at the run's end:
 
@@ -35,24 +39,31 @@ from __future__ import annotations
 
 import re
 from dataclasses import dataclass, field
+from typing import Protocol
 
 from toolbox.chips import chip_lines, facts, probe
+from toolbox.later import later
+from toolbox.leaving import is_left
 from toolbox.listing import Line, Listing, code_of, listing_of, physical
 from toolbox.places import Event, event_of, line_at
 from toolbox.program import LAST_CLOCK, Files, Session
-from toolbox.report import Report
+from toolbox.report import COLUMNS, ROWS, Report
 from toolbox.runfile import read_run_file
+from toolbox.services import SIGNATURE, SIGNED, served_of
+from toolbox.text_memory import TEXT_MEMORY, shown
 
 TRAIL, LONGEST_LOOP, ZEROS, NEAR = 32, 8, 4, 32
 IF, TF = 0x200, 0x100
 ROM, TEXT, TEXT_END = 0xF0000, 0xB0000, 0xB0FFF
 PORTS = {0x20, 0x21, 0x40, 0x41, 0x42, 0x43, 0x60, 0x61, 0x62, 0x63, 0x3B4, 0x3B5, 0x3B8, 0x3BA}
 PREFIX = re.compile(r'^(?:(?:LOCK|REPN?[EZ]?|[ECSD]S:) )*')
-SERVICES = {
-    0x21: 'no DOS is here: text goes to text memory at B000:0000, keys come from port 60h, HLT ends a program',
-    0x20: 'no DOS is here: HLT ends a program',
-    0x10: 'no BIOS is here: text goes to text memory at B000:0000, a character and its attribute in each word',
-    0x16: 'no BIOS is here: keys come from port 60h, by polling or by interrupt',
+WITH_SERVICES = 'or let tools/try --services put such calls into ROM (docs/services.md)'
+NO_BIOS = f'no BIOS is here; {WITH_SERVICES}'
+SERVICES = dict.fromkeys((0x11, 0x12, 0x13, 0x14, 0x15, 0x17, 0x18, 0x19, 0x1A), NO_BIOS) | {
+    0x21: f'no DOS is here: text goes to text memory at B000:0000, keys come from port 60h, HLT ends a program; {WITH_SERVICES}',
+    0x20: f'no DOS is here: HLT ends a program; {WITH_SERVICES}',
+    0x10: f'no BIOS is here: text goes to text memory at B000:0000, a character and its attribute in each word; {WITH_SERVICES}',
+    0x16: f'no BIOS is here: keys come from port 60h, by polling or by interrupt; {WITH_SERVICES}',
 }
 # What writes its first operand, and what does nothing but to registers and flags, if its first operand is a register.
 WRITERS = set('MOV ADD ADC SUB SBB AND OR XOR INC DEC NEG NOT SHL SAL SHR SAR ROL ROR RCL RCR XCHG POP'.split())
@@ -61,16 +72,39 @@ READERS = {'CMP', 'TEST', 'SCASB', 'SCASW', 'CMPSB', 'CMPSW', 'NOP', 'JMP', 'LOO
 PUSHES = {'PUSH', 'PUSHF', 'CALL', 'INT', 'INT3'}
 
 
+class Talker(Protocol):
+    """What answers the debugger's commands at a clock: a session, or the board of another tool."""
+
+    @property
+    def clock(self) -> int:
+        """Where it stands."""
+
+    def one(self, command: str) -> str:
+        """The line that answers a command."""
+
+    def many(self, command: str) -> list[str]:
+        """The lines that answer a command."""
+
+    def dump(self, address: int, count: int) -> bytes:
+        """Bytes from a physical address on."""
+
+
 @dataclass
 class Run:
     """A run at its end: report, trail, the source's lines, RAM's end."""
 
     report: Report
     files: Files
-    session: Session
+    session: Talker
     listing: Listing = field(default_factory=Listing)
     trail: list[Event] = field(default_factory=list)
     ram_end: int = 0
+    reach: int = LAST_CLOCK
+
+    @property
+    def is_repeated(self) -> bool:
+        """Whether the run is short enough to be repeated."""
+        return self.report.clock <= self.reach
 
     def place(self, event: Event) -> str:
         """Where an event was, with its source line, or what it did."""
@@ -99,25 +133,80 @@ def mnemonic(event: Event) -> tuple[str, str]:
     return name, operands
 
 
-def told_of(report: Report, files: Files, session: Session) -> list[str]:
-    """What can be told of a run whose session stands at the report's clock, as lines."""
-    it = Run(report, files, session, listing_of(files))
+def told_of_end(report: Report, files: Files, session: Talker, listing: Listing | None = None, reach: int = LAST_CLOCK) -> list[str]:
+    """What isn't as most programs want it, of a run whose session stands at the report's clock, as lines: a jam, text that isn't
+    shown, and what else can be told. A run of more than `reach` clocks isn't repeated for it. The session may have moved then."""
+    told = of_a_jam(report, session, files.is_hex) if report.state == 'jammed' else of_a_blank(report, session)
+    return told + told_of(report, files, session, listing, reach)
+
+
+def told_of(report: Report, files: Files, session: Talker, listing: Listing | None = None, reach: int = LAST_CLOCK) -> list[str]:
+    """What can be told of where a run went."""
+    it = Run(report, files, session, listing_of(files) if listing is None else listing, reach=reach)
     it.trail = [event_of(line) for line in session.many('trail')]
     ram = read_run_file(files.run_file).get('ram')
     it.ram_end = 1024 * ram if isinstance(ram, int) else 0
     astray = of_address_zero(it)
     told = astray or of_zeros(it)
-    told += of_a_halt(it) + of_colour_memory(it) + of_writes(it) + of_the_stack(it) + of_code_in_the_stack(it)
+    told += of_the_services(it) + of_a_halt(it) + of_colour_memory(it) + of_writes(it) + of_the_stack(it) + of_code_in_the_stack(it)
     return told + ([] if astray else of_a_loop(it)) + of_the_chips(it)
+
+
+def of_a_jam(report: Report, session: Talker, is_hex: bool) -> list[str]:
+    """Where the processor jammed, at which bytes, and what ran before."""
+    segment, offset = report.registers['CS'], report.registers['IP']
+    octets = session.dump(physical(segment, offset), 6)
+    place = f'{segment:04X}:{offset:04X}'
+    told = [f'the processor has jammed: {place} has {octets.hex(" ").upper()}, which is no instruction of the 8086']
+    told += [f'hint: {it}' for it in [later(octets)] if it]
+    trail = session.many('trail')
+    if not trail:
+        return told + [
+            'hint: the processor begins at FFFF:0000, and no far jump stands there'
+            + ("; is a ROM's file loaded at its own address?" if is_hex else ': SEGMENT RESET AT 0FFFFh, JMP FAR start, ENDS')
+        ]
+    told.append(f'the last instruction before: {trail[-1]}')
+    if octets[:2] == b'\xFF\xFF':
+        told.append('hint: FFh is read where no image and no RAM is: the program ran past its end, or jumped astray; HLT ends it')
+    return told
+
+
+def of_a_blank(report: Report, session: Talker) -> list[str]:
+    """Text memory that would be seen, if it were shown."""
+    memory = session.dump(TEXT_MEMORY, 2 * ROWS * COLUMNS)
+    if ''.join(report.screen).strip():
+        return []
+    if any(shown(memory, word) != ' ' for word in range(ROWS * COLUMNS)):
+        return ['text memory has characters and the screen is blank; hint: the video is on once 8 is written to port 3B8h']
+    dark = [word for word in range(ROWS * COLUMNS) if 0x20 < memory[2 * word] <= 0x7E]
+    return (
+        [
+            f'text memory has {chr(memory[2 * dark[0]])!r} at {TEXT_MEMORY + 2 * dark[0]:05X}h with the attribute {memory[2 * dark[0] + 1]:02X}h,'
+            ' which shows nothing',
+            'hint: each character wants its attribute behind it: MOV WORD ES:[0],0748h is H, 07h normal',
+        ]
+        if dark
+        else []
+    )
+
+
+def of_the_services(it: Run) -> list[str]:
+    """What the services have noted, if they are in ROM."""
+    if not it.is_repeated or it.session.dump(SIGNED, len(SIGNATURE)) != SIGNATURE:
+        return []
+    found = served_of(it.files, it.report.clock)
+    return found.told() if found else []
 
 
 def of_the_chips(it: Run) -> list[str]:
     """What keeps an interrupt or a key away, where the probe is built."""
-    return facts(chip_lines(it.files, it.report.clock)) if probe() else []
+    return facts(chip_lines(it.files, it.report.clock)) if it.is_repeated and probe() else []
 
 
 def of_address_zero(it: Run) -> list[str]:
     """Whether the run came to 0000:0000, where 00 00 stands, and by what."""
+    if not it.is_repeated:
+        return []
     with Session(it.files) as session:
         session.stop('break 0:0')
         if not session.go(it.report.clock).startswith('stop') or session.dump(0, 2) != b'\0\0':
@@ -169,23 +258,25 @@ def of_zeros(it: Run) -> list[str]:
 
 def before_the_zeros(it: Run) -> Event | None:
     """An instruction behind which 00 00 came, by halving the run, where the halves tell."""
+    if not it.is_repeated:
+        return None
     low, high = 0, it.report.clock
-    while high - low > 60:
-        middle = (low + high) // 2
-        trail = trail_at(it.files, middle)
-        if trail and trail[-1].octets == b'\0\0':
-            high = middle
-        else:
-            low = middle
-    pairs = zip(trail := trail_at(it.files, high), trail[1:])
+    with Session(it.files) as session:
+        while high - low > 60:
+            middle = (low + high) // 2
+            trail = trail_at(session, middle)
+            if trail and trail[-1].octets == b'\0\0':
+                high = middle
+            else:
+                low = middle
+        pairs = zip(trail := trail_at(session, high), trail[1:])
     return next((one for one, two in pairs if one.octets != b'\0\0' and two.octets == b'\0\0'), None)
 
 
-def trail_at(files: Files, clock: int) -> list[Event]:
+def trail_at(session: Session, clock: int) -> list[Event]:
     """The trail at a clock."""
-    with Session(files) as session:
-        session.go_to(clock)
-        return [event_of(line) for line in session.many('trail')]
+    session.go_to(clock)
+    return [event_of(line) for line in session.many('trail')]
 
 
 def statement_of(line: Line | None) -> str:
@@ -213,6 +304,8 @@ def of_a_loop(it: Run) -> list[str]:
     if not period:
         return []
     turn = sorted(it.trail[-period:], key=lambda event: (event.segment, event.offset))
+    if is_left(it.files, it.report, turn):
+        return []
     is_one = period == 1
     told = ['the last 32 instructions were the same one:' if is_one else f'the last 32 instructions were the same {period} in turn:']
     told += [f'  {it.place(event)}' for event in turn]

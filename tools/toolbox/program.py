@@ -3,13 +3,16 @@ from __future__ import annotations
 
 import select
 import shutil
+import subprocess
+import threading
 from dataclasses import dataclass, replace
-from typing import NoReturn
+from typing import Any, NoReturn
 
 import zebludor
 from zebludor import LAST_CLOCK, TOP, Ran, Unfit
 
 from toolbox.command import Sorry
+from toolbox.comments import handed
 
 __all__ = ['CLOCKS_OF_A_TRAIL', 'LAST_CLOCK', 'TOP', 'Files', 'Ran', 'Session', 'answer_of', 'copied', 'path', 'refusal', 'run']
 # An instruction takes two clocks or more, so no more than 31 begin in so many clocks, and the trail of 32 has them all.
@@ -41,12 +44,13 @@ class Files:
 
     def words(self, task: str) -> list[str]:
         """The command line of a task on these files. `--` lets a name begin with a hyphen."""
-        return [task, *(['--hex'] if self.is_hex else []), '--', self.file, self.run_file]
+        return [task, *(['--hex'] if self.is_hex else []), '--', self.file if self.is_hex else handed(self.file), self.run_file]
 
 
 def copied(files: Files, room: str) -> Files:
     """Copies of the files in a folder: a session that is begun anew is of the same program, whatever is edited meanwhile."""
     try:
+        handed(files.file)  # which tells by its own name whether it is one with other comments
         return replace(files, file=shutil.copyfile(files.file, f'{room}/file'), run_file=shutil.copyfile(files.run_file, f'{room}/run'))
     except OSError as error:
         raise Sorry(f"{error.filename or files.file} can't be read: {error.strerror or error}") from None
@@ -72,6 +76,14 @@ class Session(zebludor.Dialogue):
     def __init__(self, files: Files) -> None:
         path()
         super().__init__(files.words('debug'))
+
+    def started(self, words: list[str], **how: Any) -> subprocess.Popen[bytes]:
+        """Its process. One that a thread starts, as the desk's do, ends with this one, however that ends."""
+        if threading.active_count() == 1:
+            return super().started(words, **how)
+        from toolbox.starting import started  # which a copy of the launcher's own modules doesn't have
+
+        return started(words, **how)
 
     def __enter__(self) -> Session:
         return self

@@ -10,7 +10,7 @@ import subprocess
 from dataclasses import dataclass
 from typing import Iterable
 
-from toolbox.command import Sorry
+from toolbox.command import Sorry, write_text
 from toolbox.crates import CACHE, TOP, Crates
 from toolbox.sources import files, stamps, sum_of, sum_of_sources
 
@@ -55,13 +55,6 @@ def read(folder: str) -> Proved | None:
     return Proved(*(value for _, _, value in heads), verdicts={name: verdict for name, _, verdict in verdicts})
 
 
-def write(path: str, text: str) -> None:
-    """Writes a file in one go, so that nobody reads half of it."""
-    with open(f'{path}.new', 'w', encoding='utf-8') as file:
-        file.write(text)
-    os.replace(f'{path}.new', path)
-
-
 def version() -> tuple[str, str]:
     """The kit that is here, and its logic."""
     told = subprocess.run(['rt', 'version'], stdin=subprocess.DEVNULL, stdout=subprocess.PIPE, text=True, check=False).stdout.split()
@@ -93,7 +86,7 @@ def verdicts_in(lines: Iterable[str]) -> dict[str, str]:
 def remember(made_of: str, verdict: str) -> None:
     """Keeps the verdict of a crate, by its stamp."""
     os.makedirs(REMEMBERED, exist_ok=True)
-    write(f'{REMEMBERED}/{made_of}', verdict + '\n')
+    write_text(f'{REMEMBERED}/{made_of}', verdict + '\n')
 
 
 def recall(made_of: str) -> str | None:
@@ -134,7 +127,7 @@ def told_of(program: str, crates: Crates, names: set[str]) -> Proved:
 
 def note(program: str, crates: Crates, names: set[str]) -> None:
     """Writes PROVED beside a program that was made just now."""
-    write(f'{os.path.dirname(program)}/PROVED', told_of(program, crates, names).text())
+    write_text(f'{os.path.dirname(program)}/PROVED', told_of(program, crates, names).text())
 
 
 def compared(built: Proved) -> str | None:
@@ -209,5 +202,5 @@ def store() -> Proved:
     shutil.copyfile(f'{OUT}/{TARGET}', f'{program}.new')
     os.chmod(f'{program}.new', 0o755)
     os.replace(f'{program}.new', program)
-    write(f'{STORED}/PROVED', told.text())
+    write_text(f'{STORED}/PROVED', told.text())
     return told

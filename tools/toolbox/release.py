@@ -19,7 +19,7 @@ from toolbox.sources import sum_of, sum_of_sources
 
 PLATFORM = 'x86_64-linux'
 FILES = ('CHANGELOG.md', 'CONTRIBUTING.md', 'LICENSE-APACHE', 'LICENSE-MIT', 'README.md', 'VERSION', TARGET, f'stored/{TARGET}', 'stored/PROVED')
-FOLDERS = ('c', 'docs', 'editors', 'examples', 'python', 'tools')
+FOLDERS = ('c', 'docs', 'editors', 'examples', 'python', 'services', 'tools')
 LEFT_OUT = ('tools/test', 'tools/tests', 'editors/grammar')  # which want the sources
 LIBRARIES = {'zebludor_chips': 'timer, interrupt controller and parallel port of an IBM PC 5150', 'zebludor_run': 'whole runs of an IBM PC 5150'}
 SHARED = 'lib/libzebludor_chips.so'

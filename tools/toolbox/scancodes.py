@@ -7,6 +7,8 @@ from dataclasses import dataclass
 from toolbox.command import Sorry
 
 UP = 0x80
+# The first key of typed text, how long a key is held, and from a key up to the next one down, for a program that begins at once.
+BARE = 2000, 500, 1500
 # From code 02h, 10h, 1Eh and 2Bh on: the signs of the four rows, plain and with shift.
 ROWS = (
     (0x02, '1234567890-=', '!@#$%^&*()_+'),
