@@ -27,6 +27,5 @@ mod SameRegisters
 mod StillChips
 mod Repeated
 mod Standing
-mod Delays
 mod Countdowns
 mod Waits

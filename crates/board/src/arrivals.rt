@@ -67,7 +67,7 @@ fn let_arrive(chips: &mut CachedChips, keys: &[StampedKey], arrived: &mut Arrive
     arrive(chips, keys, arrived, clock);
 }
 
-/// The same where there may be some.
+/// The keys that are stamped with this clock arrive, if there are any.
 #[inline(never)]
 fn arrive(chips: &mut CachedChips, keys: &[StampedKey], arrived: &mut Arrived, clock: u64)
     requires in_order { IsInOrder keys.now }

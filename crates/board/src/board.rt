@@ -10,7 +10,7 @@ ghost use Rattle.board.specs.Alone.{PassesOver, WiresStay, WiresStayThen};
 ghost use Rattle.board.specs.HeldBack.{IsHeldBack};
 ghost use Rattle.board.specs.KeptAgain.{IsExact};
 ghost use Rattle.board.specs.Reach.{AllWithin, may_pass};
-ghost use Rattle.board_plain.specs.Plain.{after_clock, after_clocks, byte_of, change_next, changes_in, clock_of, lost_codes, next_act, power_on, registers_of, screen_of, speaker_level, state_of};
+ghost use Rattle.board_plain.specs.Plain.{act_at, after_clock, after_clocks, byte_of, change_next, changes_in, clock_of, lost_codes, next_act, power_on, registers_of, screen_of, speaker_level, state_of};
 ghost use Rattle.board_plain.specs.Stops.{FitsRoom, HasAddress, IsStopOf, NoStop, holding, run_length};
 ghost use Rattle.board_plain.specs.Lasts.{IsLastOf};
 ghost use Rattle.board.specs.Found.{found_at, found_before};
@@ -107,7 +107,7 @@ impl Board {
         })
     }
 
-    /// The same board at the same clock, with its lists, in memory of its own. Refused as `Memory` where there is none.
+    /// A copy at the same clock, with its lists, in memory of its own. Refused as `Memory` if there is none.
     pub fn copy(&self) -> Result<Board, BoardFault>
         ensures plain { IfOk result (λ board. board.plain ≡ self.now.plain) }
         ensures changes { IfOk result (λ board. board.changes ≡ self.now.changes) }
@@ -128,7 +128,7 @@ impl Board {
         })
     }
 
-    /// The same board, whose list of changes, as `changes` has it, goes on in the memory of another allocator.
+    /// This board, whose list of changes, as `changes` has it, goes on in the memory of another allocator.
     pub fn with_changes<A: Allocator>(self, changes: Vec<SpeakerChange, A>) -> Board<A>
         requires { changes.items ≡ self.changes }
         ensures plain { result.plain ≡ self.plain }
@@ -320,7 +320,7 @@ impl<A: Allocator> Board<A> {
         self.clock_turn(end)
     }
 
-    /// Such a turn, which may be whole.
+    /// A turn between two looks for a stop, which may be whole.
     #[inline(always)]
     fn whole_turn(&mut self, end: u64, reach: &Reach) -> Result<(), BoardFault>
         requires before_end { clock_of self.old.plain < end }
@@ -335,7 +335,7 @@ impl<A: Allocator> Board<A> {
         self.turn(end, end)
     }
 
-    /// Such a turn, in which an act has its first clock.
+    /// A turn between two looks for a stop, in which an act has its first clock.
     #[inline(always)]
     fn clock_turn(&mut self, end: u64) -> Result<(), BoardFault>
         requires before_end { clock_of self.old.plain < end }
@@ -363,17 +363,21 @@ impl<A: Allocator> Board<A> {
         ensures err { OnErr result (IsHeldBack self.old self.new) }
         ensures fault { IfErr result (λ fault. fault ≡ BoardFault.Memory) }
     {
-        self.turn_by(true, within, end)
+        self.engine.look_ahead();
+        let boundary = self.engine.boundary();
+        self.turn_by(boundary, true, within, end)
     }
 
-    /// The same, which leaps over edges of the timer only where it may: else no wire changes but in its first clock.
+    /// A turn from this case of a boundary. Where it may not leap over edges of the timer, no wire changes but in its first clock.
     #[inline(always)]
     pub(crate) fn turn_by(
         &mut self,
+        boundary: Boundary,
         over_edges: bool,
         within: u64,
         end: u64,
     ) -> Result<(), BoardFault>
+        requires boundary { act_at self.old.plain.cpu self.old.plain.chips boundary ≡ next_act self.old.plain }
         requires before { clock_of self.old.plain < within }
         requires order { within ≤ end }
         requires limit { end ≤ 2 ^ 40 }
@@ -382,8 +386,7 @@ impl<A: Allocator> Board<A> {
         ensures err { OnErr result (IsHeldBack self.old self.new) }
         ensures fault { IfErr result (λ fault. fault ≡ BoardFault.Memory) }
     {
-        self.engine.look_ahead();
-        match self.engine.boundary() {
+        match boundary {
             Boundary::Nothing => self.pass(over_edges, within, end),
             Boundary::Instruction => {
                 let next = self.engine.instruction();

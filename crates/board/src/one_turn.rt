@@ -4,7 +4,7 @@ ghost use Rattle.std.specs.Option.{option_to_list};
 ghost use Rattle.std.specs.Result.{IfErr};
 ghost use Rattle.decode.specs.Fields.{is_found};
 ghost use Rattle.board_plain.specs.Plain.{act_at, clock_of, decoded_at};
-ghost use Rattle.board_plain.specs.Trail.{entry_at, event_of, trail_next};
+ghost use Rattle.board_plain.specs.Trail.{entry_at, event_of};
 ghost use Rattle.board.specs.HeldBack.{IsHeldBack};
 ghost use Rattle.board.specs.OneTurn.{IsOneTurn, begun_of};
 
@@ -28,21 +28,9 @@ pub struct Begun {
 }
 
 impl Engine {
-    /// What begins in this clock, as the trail lists it, without an instruction's bytes.
+    /// What begins at a boundary of this case, as the trail lists it, without an instruction's bytes.
     #[inline(always)]
-    fn begins(&self) -> Option<Begun>
-        ensures begun { option_to_list result ≡ map begun_of (trail_next self.now) }
-        ensures clock { IfSome result (λ begun. begun.clock ≡ clock_of self.now) }
-    {
-        if !self.is_free() {
-            return None;
-        }
-        self.begins_at(self.cpu.may_take(self.chips.request()))
-    }
-
-    /// What begins at a free boundary of this case.
-    #[inline(always)]
-    fn begins_at(&self, boundary: Boundary) -> Option<Begun>
+    fn begins(&self, boundary: Boundary) -> Option<Begun>
         ensures begun { option_to_list result ≡ map begun_of
             (entry_at self.now (event_of self.now.cpu self.now.chips (act_at self.now.cpu self.now.chips boundary))) }
         ensures clock { IfSome result (λ begun. begun.clock ≡ clock_of self.now) }
@@ -50,14 +38,8 @@ impl Engine {
         match boundary {
             Boundary::Request => Some(self.begun(Some(self.chips.requested_type()))),
             Boundary::SingleStep => Some(self.begun(Some(1))),
-            Boundary::Instruction => {
-                if self.stands_here() {
-                    Some(self.begun(None))
-                } else {
-                    None
-                }
-            }
-            Boundary::Nothing | Boundary::Iteration => None,
+            Boundary::Instruction if self.stands_here() => Some(self.begun(None)),
+            Boundary::Instruction | Boundary::Nothing | Boundary::Iteration => None,
         }
     }
 
@@ -103,9 +85,11 @@ impl<A: Allocator> Board<A> {
         ensures err { OnErr result (IsHeldBack self.old self.new) }
         ensures fault { IfErr result (λ fault. fault ≡ BoardFault.Memory) }
     {
-        let begun = self.engine.begins();
+        self.engine.look_ahead();
+        let boundary = self.engine.boundary();
+        let begun = self.engine.begins(boundary);
         let to = end.get();
-        self.turn_by(false, to, to)?;
+        self.turn_by(boundary, false, to, to)?;
         Ok(begun)
     }
 }
