@@ -6,7 +6,9 @@ import re
 import resource
 import shutil
 import subprocess
+import time
 import unittest
+from collections.abc import Callable
 from dataclasses import replace
 
 from tests.repository import KIT, LOGIC, Repository
@@ -127,6 +129,65 @@ class Stored(Repository):
         put_back()
         self.assertEqual((self.launch(has_rt=False).stderr, self.launch().stderr), ('', ''))
         self.assertIn('program stored/pcboard, proved elsewhere\n', self.launch('--version').stdout)
+
+    def compared(self) -> int:
+        """How many sums a call works out."""
+        self.file('summed', '')
+        self.assertEqual(self.launch('--version').returncode, 0)
+        with open(f'{self.room}/summed', encoding='utf-8') as file:
+            return len(file.read())
+
+    def note(self) -> str:
+        """The note of a comparison, which a call makes once all files are older."""
+        os.chmod(self.file('bin/sha256sum', f'#!/bin/sh\nprintf x >> {self.room}/summed\nexec /usr/bin/sha256sum "$@"\n'), 0o755)
+        path = f'{self.room}/cache/zebludor/compared{self.top.replace("/", "+")}'
+        for _ in range(100):
+            self.compared()
+            if os.path.exists(path):
+                break
+            time.sleep(0.01)
+        return path
+
+    def test_files_that_nobody_touched_are_not_compared_again(self) -> None:
+        self.store()
+        note = self.note()
+        self.assertEqual((self.compared(), self.compared()), (0, 0))
+        self.assertEqual(sorted(os.listdir(os.path.dirname(note)))[0], os.path.basename(note))
+        for damage in ('', 'x', 'x' * 10000):
+            with open(note, 'w', encoding='utf-8') as file:
+                file.write(damage)
+            self.assertGreater(self.compared(), 0)
+            self.assertEqual(self.compared(), 0)
+        self.assertFalse([it for it in os.listdir(os.path.dirname(note)) if it.startswith('note-')])
+
+    def test_what_is_touched_is_compared_again(self) -> None:
+        """Also what is changed with its size and time kept, and what is written back."""
+        self.store()
+        self.note()
+        source, more = f'{self.top}/crates/low/src/lib.rt', f'{self.top}/crates/low/src/more.rt'
+        times = os.stat(source).st_atime_ns, os.stat(source).st_mtime_ns
+
+        def change(text: str) -> None:
+            with open(source, 'w', encoding='utf-8') as file:
+                file.write(text)
+            os.utime(source, ns=times)
+
+        steps: tuple[tuple[Callable[[], object], bool], ...] = (
+            (lambda: change('// NOTHING\n'), False),
+            (lambda: change('// nothing\n'), True),
+            (lambda: shutil.copyfile(source, more), False),
+            (lambda: os.rename(more, f'{self.top}/crates/low/src/most.rt'), False),
+            (lambda: os.remove(f'{self.top}/crates/low/src/most.rt'), True),
+            (lambda: os.remove(source), False),
+            (lambda: change('// nothing\n'), True),
+        )
+        for number, (step, is_taken) in enumerate(steps):
+            step()
+            told = self.launch('--version').stdout
+            self.assertEqual('program stored/pcboard' in told, is_taken, number)
+            self.note()
+        self.put(Stored.made['pcboard'].replace('it runs', 'it walks'))
+        self.assertEqual(self.launch().stdout, AT_ONCE[1].replace('it runs', 'it walks'))
 
     def test_one_that_is_damaged_is_told_and_not_taken(self) -> None:
         self.store()
