@@ -1,4 +1,4 @@
-"""What bench/count and bench/race share: the loops, their run files, and the processor time of a run."""
+"""What bench/count and bench/race share: loops and C programs, their run files, and the processor time of a run."""
 from __future__ import annotations
 
 import os
@@ -14,6 +14,8 @@ from toolbox.command import Sorry
 from toolbox.program import path as built_program
 from toolbox.runfile import read_run_file, text_of
 
+PROGRAMS = ('sieve', 'sort', 'digits', 'crc', 'matrix', 'life')  # those of bench/programs; any other name is of bench/loops
+
 
 def program(named: str | None) -> str:
     """The program that is measured. A script that starts it would be measured with it."""
@@ -28,17 +30,23 @@ def program(named: str | None) -> str:
     return found
 
 
-def source(loop: str) -> str:
-    """A loop's source."""
-    return f'{HERE}/loops/{loop}.asm'
+def source(name: str) -> str:
+    """A loop's source, or a C program's HEX."""
+    return f'{HERE}/programs/{name}.hex' if name in PROGRAMS else f'{HERE}/loops/{name}.asm'
 
 
-def run_file(folder: str, loop: str, budget: int) -> str:
-    """A loop's run file with another budget, written into the folder."""
-    path = f'{folder}/{loop}_{budget}.json'
+def run_file(folder: str, name: str, budget: int) -> str:
+    """The run file of a loop or a C program with another budget, written into the folder."""
+    path = f'{folder}/{name}_{budget}.json'
+    own = f'{HERE}/programs/run.json' if name in PROGRAMS else f'{HERE}/loops/{name}.json'
     with open(path, 'w', encoding='utf-8') as file:
-        file.write(text_of(read_run_file(f'{HERE}/loops/{loop}.json') | {'budget': budget}))
+        file.write(text_of(read_run_file(own) | {'budget': budget}))
     return path
+
+
+def command_line(board: str, task: str, code: str, run: str) -> list[str]:
+    """The command line of a run or a session with a source or HEX, and a run file."""
+    return [board, task, *(['--hex'] if code.endswith('.hex') else []), code, run]
 
 
 def processor_time(words: list[str], limit: float, folder: str, changed: dict[str, str] | None = None) -> tuple[float, str] | None:

@@ -2,9 +2,12 @@
 another emulator is needed: a script stands for valgrind, and Zebludor's own board runs what the peers would."""
 from __future__ import annotations
 
+import binascii
+import filecmp
 import io
 import os
 import shutil
+import subprocess
 import sys
 import unittest
 from contextlib import redirect_stdout
@@ -13,7 +16,7 @@ from importlib.util import module_from_spec, spec_from_loader
 from types import ModuleType
 from unittest.mock import patch
 
-from tests.support import TOP, ToolCase
+from tests.support import TOP, ToolCase, is_there
 
 BENCH = f'{TOP}/bench'
 CALLGRIND = '''==4711== Callgrind, a call-graph generating cache profiler
@@ -27,7 +30,8 @@ CALLGRIND = '''==4711== Callgrind, a call-graph generating cache profiler
 # Runs the program, and tells 1,000 host instructions and 60 a clock of the budget.
 VALGRIND = '''#!/bin/sh
 shift 2
-budget=${4%.json}
+for run; do :; done
+budget=${run%.json}
 "$@" && echo "==1== Collected : $((1000 + 60 * ${budget#*_}))" >&2
 '''
 
@@ -62,21 +66,31 @@ class Count(ToolCase):
 
     def test_a_line(self) -> None:
         line_of = module('count').line_of
-        self.assertEqual(line_of('a', 64303962, 130434, 'a step'), ('a              64,303,962     130,434           493.0  a step', True))
-        self.assertFalse(line_of('a', 1201, 10, 'a step', 120.0)[1])
-        self.assertTrue(line_of('a', 1200, 10, 'a step', 120.0)[1])
+        figures = '        64,303,962     130,434'
+        self.assertEqual(line_of('a', figures, 493.0, 'a step'), ('a                64,303,962     130,434           493.0  a step', True))
+        self.assertFalse(line_of('a', figures, 120.1, 'a step', 120.0)[1])
+        self.assertTrue(line_of('a', figures, 120.0, 'a step', 120.0)[1])
 
     def test_the_difference_of_two_budgets(self) -> None:
         self.with_valgrind()
-        out, _ = self.count('--only', 'a,f,go')
+        out, _ = self.count('--only', 'a,f,sieve,go')
         self.assertEqual(
             [it.split() for it in out.splitlines()[1:]],
             [
                 ['a', '60,000,000', '130,434', '460.0', 'a', 'step'],
                 ['f', '59,982,000,000', '3,813', '15,730,920.5', 'a', 'wake'],
                 ['go', '60,000,000', '130,434', '460.0', 'a', 'step'],
+                ['sieve', '120,000,000', '154,572', '776.3', 'a', 'step'],
             ],
         )
+
+    def test_the_mean_of_the_programs(self) -> None:
+        """120,000,000 by the steps of each, 154,572, 153,344, 152,931, 180,825, 113,666 and 169,967, are 4,768.93 in all."""
+        self.with_valgrind()
+        lines = self.count('--only', 'a,programs,crc')[0].splitlines()
+        self.assertEqual([it.split()[0] for it in lines[1:]], ['a', 'sieve', 'sort', 'digits', 'crc', 'matrix', 'life', 'programs'])
+        self.assertEqual(lines[-1].split(), ['programs', '794.8', 'a', 'step,', 'the', 'mean', 'of', 'the', 'six'])
+        self.assertNotIn('programs', self.count('--only', 'sieve,sort,digits,crc,matrix')[0])
 
     def test_limits(self) -> None:
         self.with_valgrind()
@@ -85,15 +99,31 @@ class Count(ToolCase):
         self.assertIn('at most 1,000.0: kept', out)
         self.assertIn('at most 459.9: above it', out)
 
+    def test_limits_of_the_programs(self) -> None:
+        self.with_valgrind()
+        lines = self.count('--limit', 'programs=794.9')[0].splitlines()
+        self.assertEqual(len(lines), 8)
+        self.assertRegex(lines[-1], 'of the six, at most 794.9: kept$')
+        lines = self.count('--limit', 'programs=794.7,life=706.1', status=1)[0].splitlines()
+        self.assertRegex(lines[-2], 'a step, at most 706.1: kept$')
+        self.assertRegex(lines[-1], 'of the six, at most 794.7: above it$')
+
     def test_a_wrong_answer(self) -> None:
         os.chmod(self.file('valgrind', VALGRIND.replace('"$@"', '"$@" | /bin/sed s/AX=3D82/AX=3D83/')), 0o755)
         out, _ = self.count('--only', 'a,start', status=1)
         self.assertRegex(out, 'wrong: budget 100000: .*AX=3D83')
         self.assertIn('a run of budget 0', out)
 
+    def test_a_wrong_report_of_a_program(self) -> None:
+        """One sign of the screen, at the second budget; the others are counted, and no mean is told."""
+        os.chmod(self.file('valgrind', VALGRIND.replace('"$@"', '"$@" | /bin/sed "s/ 1027 /.1027 /"')), 0o755)
+        lines = self.count('--only', 'programs', status=1)[0].splitlines()
+        self.assertRegex(lines[1], r"^sieve +wrong: budget 3000000: ' {4}\.1027 .*, and not ' {5}1027 ")
+        self.assertEqual([it.split()[0] for it in lines[2:]], ['sort', 'digits', 'crc', 'matrix', 'life'])
+
     def test_steps(self) -> None:
-        out, _ = self.count('--steps', '--only', 'a')
-        self.assertEqual(out, 'a  [13046, 143480]  as in steps.json\n')
+        out, _ = self.count('--steps', '--only', 'a,sieve')
+        self.assertEqual(out, 'a  [13046, 143480]  as in steps.json\nsieve  [75713, 230285]  as in steps.json\n')
 
     def test_the_steps_of_some_loops_by_their_clocks(self) -> None:
         """By the table of clocks: a far jump takes 15, MOV of a number 4, ADD and XOR 3, LOOP 17; IN 10, TEST 3, JZ 16; DEC 2."""
@@ -107,12 +137,37 @@ class Count(ToolCase):
                     steps += 1
                 self.assertEqual(steps, count, f'{name} at {budget}')
 
-    def test_each_loop_ends_with_the_registers_that_are_known(self) -> None:
+    def test_each_loop_and_program_answers_as_is_known(self) -> None:
+        """A loop with its registers and a C program with its report, which other implementations of the board gave."""
         count = module('count')
-        for name, loop in count.known().items():
-            for budget, registers in zip(loop.budgets, loop.registers, strict=True):
-                done = self.pcboard('run', count.source(name), count.run_file(self.room, name, budget))
-                self.assertEqual(done.stdout.splitlines()[1:3], registers, f'{name} at {budget}')
+        self.assertEqual(set(count.known()), set(count.NAMES) - {'start', 'go'})
+        for name, run in count.known().items():
+            for budget, answer in zip(run.budgets, run.answers, strict=True):
+                _, *words = count.command_line('', 'run', count.source(name), count.run_file(self.room, name, budget))
+                lines = self.pcboard(*words).stdout.splitlines()
+                self.assertEqual(lines if name in count.PROGRAMS else lines[1:3], answer, f'{name} at {budget}')
+
+    def test_what_the_programs_show(self) -> None:
+        """The odd primes below 8,192; no two numbers out of order; the sum of 256 bytes, twice; the trace of a product."""
+        known = module('count').known()
+        primes = sum(all(it % by for by in range(3, 91, 2) if by < it) for it in range(3, 8192, 2))
+        sums = [binascii.crc_hqx(bytes((it * 7 + turn) % 256 for it in range(256)), 0xFFFF) for turn in range(4)]
+        trace = sum((it * 3 + at) * (at - it * 5) for it in range(16) for at in range(16))
+        shown = {'sieve': [primes, 1], 'sort': [0, 2], 'crc': [sums[3], sums[3], 4], 'matrix': [trace % 65536, 1]}
+        for name, numbers in shown.items():
+            self.assertEqual([int(it) for it in known[name].answers[1][7].split()], numbers, name)
+
+    def test_the_programs_are_made_of_their_sources(self) -> None:
+        wanted = {'make': 'make', 'bcc': 'bcc', 'as86': 'bin86', 'objcopy': 'binutils'}
+        if not all(is_there(command, 'bench/programs', package) for command, package in wanted.items()):
+            return
+        room = shutil.copytree(f'{BENCH}/programs', f'{self.room}/programs')
+        names = [f'{it}.hex' for it in module('count').PROGRAMS]
+        for name in names:
+            os.remove(f'{room}/{name}')
+        done = subprocess.run(['make', '-s'], cwd=room, capture_output=True, text=True, check=False)
+        self.assertEqual(done.returncode, 0, done.stderr)
+        self.assertEqual(filecmp.cmpfiles(room, f'{BENCH}/programs', names, shallow=False), (names, [], []))
 
     def test_the_trail_of_a_delay_that_is_leapt_over(self) -> None:
         """By the table of clocks: the first LOOP of w1 begins at clock 23, and each next one 17 clocks later."""
@@ -126,13 +181,15 @@ class Count(ToolCase):
     def test_refusals(self) -> None:
         self.assertIn("valgrind, which counts, isn't there", self.count('--only', 'a', status=2)[1])
         for words, told in (
-            (['--only', 'x'], 'x is no loop'),
-            (['--only', ''], 'nothing is no loop'),
+            (['--only', 'x'], 'x is neither a loop nor a C program'),
+            (['--only', ''], 'nothing is neither'),
             (['--limit', 'a'], 'a is no limit'),
             (['--limit', 'a=-1'], 'a=-1 is no limit'),
-            (['--limit', 'x=1'], 'x is no loop'),
+            (['--limit', 'x=1'], 'x is neither'),
             (['--limit', 'a=1,a=2'], 'two limits'),
             (['--only', 'b', '--limit', 'a=1'], "a has a limit and isn't counted"),
+            (['--only', 'sieve,sort', '--limit', 'programs=1'], "programs has a limit and isn't counted"),
+            (['--limit', 'programs=1,programs=2'], 'programs has two limits'),
             (['--steps', '--only', 'f'], '--steps counts'),
             (['--steps', '--limit', 'a=1'], '--limit goes'),
             ([f'{TOP}/pcboard'], 'is no built program'),
