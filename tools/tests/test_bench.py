@@ -34,6 +34,11 @@ for run; do :; done
 budget=${run%.json}
 "$@" && echo "==1== Collected : $((1000 + 60 * ${budget#*_}))" >&2
 '''
+# Tells the core that its first command sets.
+DOSBOX = '''#!/bin/sh
+core=${4##*=}
+printf %s "${core%\\"}" > DONE
+'''
 
 
 def module(name: str) -> ModuleType:
@@ -272,6 +277,20 @@ class Race(ToolCase):
             run = self.file('it.json', '{"version":1,"ram":64,"sw1":0,"sw2":0,"budget":100000,"keys":[]}')
             report = self.pcboard('run', source, run).stdout
             self.assertTrue(loop != 'c' or ' DX=014D ' in report, report)
+
+    def test_dosbox_by_its_two_cores(self) -> None:
+        """A script stands for it, and tells the core that it was asked for; or another, as if it hadn't this one."""
+        race = module('race')
+        os.chmod(self.file('dosbox', DOSBOX), 0o755)
+        with patch.dict(os.environ, {'PATH': f'{self.room}:/usr/bin:/bin'}):
+            _, normal = race.Dosbox({'a': self.code('a')}, self.room).run('a')
+            _, dynamic = race.DosboxDynamic({'a': self.code('a')}, self.room).run('a')
+            with open(f'{self.room}/LOOP.COM', 'rb') as file:
+                times = int.from_bytes(file.read(3)[1:], 'little')
+            self.assertEqual((times, dynamic, normal), (8, 8 * 500 * (1 + 65535 * 3 + 2), 500 * (1 + 65535 * 3 + 2)))
+            self.file('dosbox', DOSBOX.replace('"${core%\\"}"', 'normal'))
+            race.Dosbox({}, self.room).run('')
+            self.assertRaisesRegex(race.Failed, 'by this core', race.DosboxDynamic({}, self.room).run, '')
 
     def test_a_race(self) -> None:
         race = module('race')
