@@ -8,7 +8,9 @@ import signal
 import subprocess
 import sys
 import tempfile
+import time
 import unittest
+from typing import Any, Callable
 
 TOOLS = os.path.dirname(os.path.dirname(os.path.realpath(__file__)))
 TOP = os.path.dirname(TOOLS)
@@ -19,8 +21,10 @@ sys.path.insert(0, TOOLS)
 signal.signal(signal.SIGINT, signal.default_int_handler)
 signal.signal(signal.SIGHUP, signal.SIG_DFL)
 
+# Whatever ends at all has ended in so many seconds, however busy the machine is; then a wait is given up.
+SECONDS = 300
 RESET = "ENDS\nSEGMENT RESET AT 0FFFFh\n        JMP FAR start\nENDS\n"
-# A board whose way back lasts for a minute.
+# A board whose way back lasts longer than any test.
 SLOW = """#!/usr/bin/env python3
 import sys, time
 clock = 0
@@ -29,7 +33,7 @@ for line in sys.stdin:
     if word == 'go':
         clock += int(more[0])
     if line == 'back stop\\n':
-        time.sleep(60)
+        time.sleep(6000)
     if word == 'regs':
         print(' '.join(it + '=0000' for it in 'AX BX CX DX SP BP SI DI'.split()))
         print(' '.join(it + '=0000' for it in 'CS DS ES SS IP FL'.split()))
@@ -80,6 +84,38 @@ def processor_seconds(of: int) -> float:
         return 0.0
 
 
+def until(holds: Callable[[], Any]) -> bool:
+    """Waits until something holds, and tells whether it does at last."""
+    end = time.monotonic() + SECONDS
+    while not (found := holds()) and time.monotonic() < end:
+        time.sleep(0.01)
+    return bool(found)
+
+
+def is_at_work(process: int, name: str = 'pcboard', seconds: float = 0.1) -> bool:
+    """Waits until a program of this name, which a process has started, has worked for so long from now on."""
+
+    def spent() -> float:
+        return max((processor_seconds(it) for it in children(process) if name_of(it) == name), default=0)
+
+    begun = spent()
+    return until(lambda: spent() - begun > seconds)
+
+
+def name_of(process: int) -> str:
+    """The name of the program that a process runs; of one that has ended meanwhile none."""
+    try:
+        with open(f'/proc/{process}/comm', encoding='utf-8') as file:
+            return file.read().strip()
+    except OSError:
+        return ''
+
+
+def but_progress(told: str) -> str:
+    """What a tool has told, without how far it was, which it tells on a busy machine."""
+    return re.sub(r'^\w+: .*, \d+ s\n', '', told, flags=re.M)
+
+
 class ToolCase(unittest.TestCase):
     """A case with a folder of its own, and tools run in it."""
 
@@ -114,7 +150,7 @@ class ToolCase(unittest.TestCase):
         if status is not None:
             self.assertEqual(ran.returncode, status, ran.stderr or ran.stdout)
         self.assertNotIn('Traceback', ran.stderr)
-        return ran.stdout, re.sub(r'^\w+: .*, \d+ s\n', '', ran.stderr, flags=re.M)  # without how far it was on a busy machine
+        return ran.stdout, but_progress(ran.stderr)
 
     def pcboard(self, *words: str, given: str = '') -> subprocess.CompletedProcess[str]:
         """A run of the program itself. That it isn't there is a failure."""

@@ -2,6 +2,7 @@
 from __future__ import annotations
 
 import concurrent.futures as futures
+import contextlib
 import gc
 import http.client
 import json
@@ -16,14 +17,16 @@ import threading
 import time
 import unittest
 from typing import Any
+from unittest import mock
 
-from tests.support import EXAMPLES, TOOLS, TOP, ToolCase, children, example, processor_seconds
+from tests.support import EXAMPLES, SECONDS, TOOLS, TOP, ToolCase, children, example, processor_seconds, until
 
+from toolbox import desk_board, desk_http, desk_words, desk_work
 from toolbox.chips import chip_lines, lines_in, probe
 from toolbox.command import Sorry
 from toolbox.desk_drafts import Drafts
 from toolbox.desk_files import Given, Kept
-from toolbox.desk_http import LONGEST_BODY, MOST_CONNECTIONS, MOST_STRANGERS, SECONDS_OF_A_STRANGER, Server, policy_of
+from toolbox.desk_http import LONGEST_BODY, MOST_CONNECTIONS, MOST_STRANGERS, SECONDS_OF_A_STRANGER, Refused, Server, policy_of
 from toolbox.desk_pages import as_html, examples, grammar, page_of
 from toolbox.desk_sound import Speaker
 from toolbox.desk_words import MOST_BOARDS, Desk
@@ -134,7 +137,7 @@ class Client:
         if method == 'POST':
             own |= {'Origin': f'http://{self.host}', 'Content-Type': 'application/json'}
         own |= {name.replace('_', '-'): it for name, it in headers.items()}
-        connection = http.client.HTTPConnection('127.0.0.1', self.port, timeout=30)
+        connection = http.client.HTTPConnection('127.0.0.1', self.port, timeout=SECONDS)
         try:
             connection.putrequest(method, path, skip_host=True, skip_accept_encoding=True)
             for name, value in own.items():
@@ -159,7 +162,7 @@ class Client:
 
     def raw(self, octets: bytes) -> bytes:
         """What bytes are answered by, up to the connection's end."""
-        with socket.create_connection(('127.0.0.1', self.port), timeout=30) as line:
+        with socket.create_connection(('127.0.0.1', self.port), timeout=SECONDS) as line:
             line.sendall(octets)
             found = b''
             try:
@@ -185,6 +188,10 @@ class Served(ToolCase):
         drafts = tempfile.TemporaryDirectory()
         self.addCleanup(drafts.cleanup)
         self.drafts = f'{drafts.name}/state/desk'
+        for module, name in ((desk_board, 'MARKS_SECONDS'), (desk_words, 'MESSAGES_SECONDS')):
+            patch = mock.patch.object(module, name, SECONDS)  # on a machine at which others are at work, all is told too
+            patch.start()
+            self.addCleanup(patch.stop)
         self.desk = Desk(self.room, Given(), Drafts(self.drafts))
         self.server = Server('<style>x</style>', {'main.js': 'y'}, self.desk.answer)
         self.thread = threading.Thread(target=self.server.serve_forever, args=(0.02,), daemon=True)
@@ -312,6 +319,7 @@ class Hostile(Served):
         for deep in range(900, 1000, 10):  # at the edge of what Python reads and writes
             body = b'{"do":"open","source":"HLT","run":{"keys":%s}}' % (b'[' * deep + b']' * deep)
             self.assertIn(self.status('POST', path, body), (200, 400), deep)
+        self.server.seconds_of_a_refusal = SECONDS
         for length in (LONGEST_BODY + 1, 10 << 20, 10**11):
             self.assertEqual(self.status('POST', path, b' ' * 100, **{'Content-Length': str(length)}), 413)
         self.assertEqual(self.status('POST', path, b' ' * (10 << 20)), 413)
@@ -323,45 +331,11 @@ class Hostile(Served):
         self.assertEqual(self.client.raw(b'\0' * 1000 + b'\r\n\r\n')[:12], b'HTTP/1.1 400')
         self.assertIn('examples', self.client.ask('hello'))
 
-    def test_half_a_request(self) -> None:
-        """It is cut off, and so is one that comes byte by byte; others are answered meanwhile."""
-        self.server.seconds_of_a_request = self.server.seconds_of_silence = 0.3
-        head = f'POST /{self.client.token}/do HTTP/1.1\r\nHost: {self.client.host}\r\n'.encode()
-        lines = [socket.create_connection(('127.0.0.1', self.client.port)) for _ in range(10)]
-        for at, line in enumerate(lines):
-            line.sendall(head[:2] if at % 2 else head)
-        self.assertIn('examples', self.client.ask('hello'))
-        begun = time.monotonic()
-        dropped = set[socket.socket]()
-        while len(dropped) < len(lines) and time.monotonic() < begun + 20:
-            self.server.cut_off()
-            for line in set(lines) - dropped:
-                line.settimeout(0.01)
-                try:
-                    line.sendall(b'X')
-                    if line.recv(1000) == b'':
-                        dropped.add(line)
-                except TimeoutError:
-                    pass
-                except OSError:
-                    dropped.add(line)
-        self.assertEqual(len(dropped), len(lines))
-        for line in lines:
-            line.close()
-        self.assertIn('examples', self.client.ask('hello'))
-
-    def test_those_who_show_no_token(self) -> None:
-        """They keep nobody out, however many they are, silent or with a byte now and then, and are cut off."""
-        self.server.seconds_of_a_stranger = 0.4
-        head = b'GET /'
-        lines = [socket.create_connection(('127.0.0.1', self.client.port)) for _ in range(3 * MOST_STRANGERS)]
-        for at, line in enumerate(lines):
-            if at % 2:
-                line.sendall(head)
-            self.assertIn('examples', self.client.ask('hello'))
-        begun = time.monotonic()
+    def are_cut_off(self, lines: list[socket.socket]) -> bool:
+        """Whether the server ends them all, on each of which a byte comes now and then."""
         left = set(lines)
-        while left and time.monotonic() < begun + 20:
+
+        def are_gone() -> bool:
             self.server.cut_off()
             for line in set(left):
                 line.settimeout(0.005)
@@ -373,41 +347,91 @@ class Hostile(Served):
                     pass
                 except OSError:
                     left.discard(line)
-        self.assertEqual(left, set())
-        for line in lines:
-            line.close()
+            return not left
+
+        return until(are_gone)
+
+    def lines(self, count: int) -> list[socket.socket]:
+        """So many connections."""
+        found = list[socket.socket]()
+        for _ in range(count):
+            found.append(socket.create_connection(('127.0.0.1', self.client.port), timeout=SECONDS))
+            self.addCleanup(found[-1].close)
+        return found
+
+    def test_half_a_request(self) -> None:
+        """It is cut off, and so is one that comes byte by byte; others are answered meanwhile."""
+        self.server.seconds_of_a_request, self.server.seconds_of_a_stranger = 0.3, SECONDS
+        head = f'POST /{self.client.token}/do HTTP/1.1\r\nHost: {self.client.host}\r\n'.encode()
+        lines = self.lines(10)
+        for at, line in enumerate(lines):
+            line.sendall(head[:2] if at % 2 else head)
+        self.assertIn('examples', self.client.ask('hello'))
+        self.assertTrue(self.are_cut_off(lines))
+        self.assertIn('examples', self.client.ask('hello'))
+
+    def test_one_that_is_silent(self) -> None:
+        self.server.seconds_of_silence = 0.3
+        self.assertEqual(self.lines(1)[0].recv(100), b'')
+
+    def test_those_who_show_no_token(self) -> None:
+        """They keep nobody out, however many they are, silent or with a byte now and then, and are cut off."""
+        self.server.seconds_of_a_request, self.server.seconds_of_a_stranger = SECONDS, 0.4
+        lines = self.lines(3 * MOST_STRANGERS)
+        for at, line in enumerate(lines):
+            if at % 2:
+                line.sendall(b'GET /')
+            self.assertIn('examples', self.client.ask('hello'))
+        self.assertTrue(self.are_cut_off(lines))
         # Who has shown it may be silent for longer.
-        with socket.create_connection(('127.0.0.1', self.client.port), timeout=20) as line:
-            for pause in (1, 0):
-                line.sendall(f'GET /{self.client.token}/ HTTP/1.1\r\nHost: {self.client.host}\r\n\r\n'.encode())
-                self.assertTrue(line.recv(5000).startswith(b'HTTP/1.1 200'))
-                time.sleep(pause)
-                self.server.cut_off()
+        self.server.seconds_of_a_stranger = 0
+        line = self.lines(1)[0]
+        for _ in range(2):
+            line.sendall(f'GET /{self.client.token}/ HTTP/1.1\r\nHost: {self.client.host}\r\n\r\n'.encode())
+            self.assertTrue(line.recv(5000).startswith(b'HTTP/1.1 200'))
+            self.server.cut_off()
 
     def test_a_hundred_at_once(self) -> None:
-        """Those for whom there is no room are told so."""
-        lines = [socket.create_connection(('127.0.0.1', self.client.port), timeout=20) for _ in range(100)]
+        """Each that stays has its answer before the next comes. Those for whom there is no room are told so; once all are gone,
+        there is room for others."""
+        self.server.seconds_of_silence = SECONDS
         request = f'GET /{self.client.token}/ HTTP/1.1\r\nHost: {self.client.host}\r\n\r\n'.encode()
-        seen = list[bytes]()
-        for line in lines:
-            try:
-                line.sendall(request)
-                seen.append(line.recv(1000)[:12])
-            except ConnectionError:
-                seen.append(b'')
-        self.assertEqual(seen.count(b'HTTP/1.1 200'), MOST_CONNECTIONS)
-        self.assertGreater(seen.count(b'HTTP/1.1 503'), 0)
+        lines, seen = list[socket.socket](), list[bytes]()
+        for _ in range(100):
+            lines += self.lines(1)
+            lines[-1].sendall(request)
+            seen.append(lines[-1].recv(12))
+        self.assertEqual(seen, [b'HTTP/1.1 200'] * MOST_CONNECTIONS + [b'HTTP/1.1 503'] * (100 - MOST_CONNECTIONS))
         for line in lines:
             line.close()
-        until = time.monotonic() + 20
-        while time.monotonic() < until:
-            try:
-                self.assertIn('examples', self.client.ask('hello'))
-                break
-            except (AssertionError, OSError):
-                time.sleep(0.02)
+        self.assertTrue(until(lambda: not self.server._known))
+
+        def answers(line: socket.socket) -> list[bytes]:
+            found = list[bytes]()
+            for _ in range(5):
+                line.sendall(request)
+                found.append(line.recv(5000)[:12])
+            return found
+
         with futures.ThreadPoolExecutor(20) as pool:
-            self.assertEqual({len(it['examples']) for it in pool.map(lambda _: self.client.ask('hello'), range(100))}, {len(examples())})
+            self.assertEqual(list(pool.map(answers, self.lines(20))), [[b'HTTP/1.1 200'] * 5] * 20)
+
+    def test_a_stranger_that_has_made_room(self) -> None:
+        """It isn't taken in, if its token comes before its end does; nor is one that was too slow."""
+        told, shut = list[int](), desk_http.shut
+
+        def late(connection: socket.socket) -> None:
+            with self.assertRaises(Refused) as refused:
+                self.server.shows_token(connection)
+            told.append(refused.exception.status)
+            shut(connection)
+
+        with mock.patch.object(desk_http, 'shut', late):
+            self.lines(MOST_STRANGERS + 1)
+            self.assertTrue(until(lambda: told == [503]))
+            self.server.seconds_of_a_stranger = 0
+            self.server.cut_off()
+        self.assertEqual(told, [503] * (MOST_STRANGERS + 1))
 
     def test_how_long_a_stranger_may_stay(self) -> None:
         self.assertEqual((self.server.seconds_of_a_stranger, SECONDS_OF_A_STRANGER), (2, 2))
@@ -530,10 +554,10 @@ class Boards(Served):
         ):
             answer = self.client.ask('open', source=FOREVER, run=RUN | fields)
             self.assertIn(name, answer['refused'][0]['text'], fields)
-        begun = time.monotonic()
+        begun = time.process_time() + sum(os.times()[2:4])
         long = self.client.ask('open', source=f"{'x' * 200_000}\n{'x' * 200_000}", run=RUN)['refused']
         self.assertEqual([(it['line'], it['text'].partition(':')[0]) for it in long], [(1, 'BadLine'), (2, 'BadLine')])
-        self.assertLess(time.monotonic() - begun, 10)
+        self.assertLess(time.process_time() + sum(os.times()[2:4]) - begun, 10)
         self.assertEqual(os.listdir(self.room), [])
 
     def test_hex(self) -> None:
@@ -619,15 +643,16 @@ class Boards(Served):
         shown = self.client.ask('run', board=board, ms=30)
         self.assertEqual((shown['why'], shown['state']), ('paused', 'running'))
         self.client.ask('go to', board=board, clock=15)
-        path = f'/{self.client.token}/do'
-        answer = json.loads(self.client.request('POST', path, json.dumps({'do': 'out', 'board': board}).encode())[1])
-        if answer.get('working'):
-            self.assertIn('at work', self.client.ask('step', board=board)['sorry'])
+        for word, fields in (('go to', {'clock': 1 << 40}), ('out', {})):
+            body = json.dumps({'do': word, 'board': board, **fields}).encode()
+            answer = json.loads(self.client.request('POST', f'/{self.client.token}/do', body)[1])
+            if word == 'go to':  # which isn't over before it is paused
+                self.assertIn('at work', self.client.ask('step', board=board)['sorry'])
             self.client.ask('pause', board=board)
-            answer = self.client.ask('wait', board=board)
             while answer.get('working'):
                 answer = self.client.ask('wait', board=board)
-        self.assertIn(answer['why'], ('paused', 'far'))
+            self.assertIn(answer['why'], ('paused', 'far') if word == 'out' else ('paused',))
+            self.assertEqual(self.client.ask('go to', board=board, clock=15)['clock'], 15)
         self.assertEqual(self.client.ask('go to', board=board, clock=0)['clock'], 0)
 
     def test_a_program_that_dies(self) -> None:
@@ -640,6 +665,7 @@ class Boards(Served):
         self.assertEqual(self.client.ask('step', board=self.client.open('hello')['board'])['clock'], 15)
 
     def test_two_pages_and_eight(self) -> None:
+        self.desk.least_idle = SECONDS
         boards = [self.client.open('hello')['board'] for _ in range(MOST_BOARDS)]
         self.client.ask('go to', board=boards[0], clock=100)
         self.assertEqual([self.client.ask('look', board=it)['clock'] for it in boards], [100] + [0] * 7)
@@ -671,8 +697,15 @@ class Boards(Served):
         """Those that close, those that are left, and those that are left while they run: what stays ends with the desk's tidying."""
         self.desk.least_idle = 0
         path = f'/{self.client.token}/do'
+        opened = list[Fields]()
+
+        def is_opened() -> bool:
+            opened.append(self.client.ask('open', source=FOREVER, run=RUN))
+            return 'board' in opened[-1]
+
         for turn in range(200):
-            board = self.client.ask('open', source=FOREVER, run=RUN)['board']
+            self.assertTrue(until(is_opened), opened[-1:])  # it isn't while eight run
+            board = opened[-1]['board']
             if turn % 3 == 0:
                 self.client.ask('close', board=board)
             elif turn % 3 == 1:
@@ -682,17 +715,17 @@ class Boards(Served):
                     line.sendall(f'{head}Content-Length: {len(body)}\r\n\r\n'.encode() + body)
             self.assertLessEqual(len(os.listdir(self.room)), MOST_BOARDS + 1)
         self.desk.idle_seconds = 0
-        until = time.monotonic() + 20
-        while (children(os.getpid()) or os.listdir(self.room)) and time.monotonic() < until:
+
+        def is_left() -> bool:
             self.desk.end_idle()
-            time.sleep(0.05)
+            return bool(children(os.getpid()) or os.listdir(self.room))
+
+        until(lambda: not is_left())
         self.assertEqual((children(os.getpid()), os.listdir(self.room)), ([], []))
 
     def test_idle_boards_end(self) -> None:
         board, other = self.client.open('hello')['board'], self.client.open('hello')['board']
-        self.desk.idle_seconds = 0.2
-        time.sleep(0.3)
-        self.client.ask('look', board=other)
+        self.desk._boards[board].used -= self.desk.idle_seconds + 1  # type: ignore[union-attr]
         self.desk.end_idle()
         self.assertIn('left alone', self.client.ask('look', board=board)['gone'])
         self.assertEqual(self.client.ask('look', board=other)['clock'], 0)
@@ -716,11 +749,10 @@ class Boards(Served):
                 self.client.ask('marks', board=board)
             if turn == 4:
                 before, used = count(), memory()
-        self.assertEqual(before[0], 1)
-        until = time.monotonic() + 5
-        while count() != before and time.monotonic() < until:
-            time.sleep(0.05)
-        self.assertEqual(count(), before)
+        # The last requests' threads end a little later, also when they were counted first.
+        until(lambda: all(now <= then for now, then in zip(count(), before)))
+        self.assertTrue(all(now <= then for now, then in zip(count(), before)), (count(), before))
+        self.assertEqual((count()[0], count()[3]), (1, 1))
         self.assertLess(memory() - used, 8000, 'kilobytes')
 
     def test_data(self) -> None:
@@ -847,6 +879,8 @@ class Beside(unittest.TestCase):
         helpers = Helpers()
         self.assertEqual(helpers.answer(['/bin/cat'], b'it'), 'it')
         self.assertIsNone(helpers.answer(['/bin/sh', '-c', 'kill -9 $$']))
+        with mock.patch.object(desk_work, 'REPORT_SECONDS', 1):
+            self.assertIsNone(helpers.answer(['/bin/sh', '-c', 'while :; do :; done']))
         for words, told in ((['/'], "/ can't be started"), (['/bin/sh', '-c', 'echo it >&2; exit 2'], 'it')):
             with self.assertRaisesRegex(Sorry, told):
                 helpers.answer(words)
@@ -876,11 +910,9 @@ class Begun(ToolCase):
         started = children(process.pid)
         self.assertGreater(len(started), 0)
         process.send_signal(number)
-        _, err = process.communicate(timeout=20)
+        _, err = process.communicate(timeout=SECONDS)
         self.assertNotIn('Traceback', err)
-        for one in started:
-            with self.assertRaises(ProcessLookupError):
-                os.kill(one, 0)
+        self.assertTrue(until(lambda: all(state_of(it) == 'Z' for it in started)))
         self.assertEqual([it for it in os.listdir(self.room) if it.startswith('desk')], [])
 
 
@@ -905,16 +937,12 @@ class Started(Begun):
         other = client.ask('open', source=FOREVER, run=RUN)['board']
         asking = threading.Thread(target=lambda: self.assertRaises(OSError, client.ask, 'heard', board=other, begin=0, end=1 << 40))
         asking.start()
-        until = time.monotonic() + 20
-        while len(started := children(process.pid)) < 3 and time.monotonic() < until:
-            time.sleep(0.01)
-        self.assertEqual(len(started), 3)
+        self.assertTrue(until(lambda: len(children(process.pid)) == 3))
+        started = children(process.pid)
         process.kill()
-        process.communicate(timeout=20)
-        asking.join(20)
-        while any(state_of(it) != 'Z' for it in started) and time.monotonic() < until:
-            time.sleep(0.01)
-        self.assertEqual([it for it in started if state_of(it) != 'Z'], [])
+        process.communicate(timeout=SECONDS)
+        asking.join(SECONDS)
+        self.assertTrue(until(lambda: all(state_of(it) == 'Z' for it in started)))
         left = [it for it in os.listdir(self.room) if it.startswith('desk')]
         self.assertEqual(len(left), 1)
         process, client = self.begin()
@@ -923,7 +951,7 @@ class Started(Begun):
         live, _ = self.begin()  # which leaves the live one's alone
         self.assertEqual(len([it for it in os.listdir(self.room) if it.startswith('desk')]), 2)
         live.send_signal(signal.SIGINT)
-        live.communicate(timeout=20)
+        live.communicate(timeout=SECONDS)
         self.ended(process, signal.SIGINT)
 
     def test_it_listens_in_one_place(self) -> None:
@@ -933,7 +961,8 @@ class Started(Begun):
         own = set[str]()
         for one in (process.pid, *children(process.pid)):
             for number in os.listdir(f'/proc/{one}/fd'):
-                own.add(os.readlink(f'/proc/{one}/fd/{number}'))
+                with contextlib.suppress(FileNotFoundError):  # of a request that has ended meanwhile
+                    own.add(os.readlink(f'/proc/{one}/fd/{number}'))
         found = list[str]()
         for table in ('tcp', 'tcp6', 'udp', 'udp6'):
             with open(f'/proc/{process.pid}/net/{table}', encoding='utf-8') as file:

@@ -18,7 +18,7 @@ Fields = dict[str, Any]
 HOST = '127.0.0.1'
 # A source of 1,048,576 bytes, written as JSON, fits twice.
 LONGEST_BODY, MOST_CONNECTIONS = 4 << 20, 32
-SECONDS_OF_A_REQUEST, SECONDS_OF_SILENCE = 10, 60
+SECONDS_OF_A_REQUEST, SECONDS_OF_SILENCE, SECONDS_OF_A_REFUSAL = 10, 60, 1
 # Who hasn't shown the token: so long, and so many at once, of which the oldest makes room.
 SECONDS_OF_A_STRANGER, MOST_STRANGERS = 2, 32
 HEADERS = (
@@ -58,7 +58,7 @@ class Server(http.server.ThreadingHTTPServer):
         self.answer = answer
         self.token = secrets.token_urlsafe(24)
         self.seconds_of_a_request, self.seconds_of_silence = float(SECONDS_OF_A_REQUEST), float(SECONDS_OF_SILENCE)
-        self.seconds_of_a_stranger = float(SECONDS_OF_A_STRANGER)
+        self.seconds_of_a_stranger, self.seconds_of_a_refusal = float(SECONDS_OF_A_STRANGER), float(SECONDS_OF_A_REFUSAL)
         self._lock, self._reading = threading.Lock(), dict[Any, float]()
         self._strangers, self._known = dict[Any, float](), set[Any]()
         super().__init__((HOST, port), Handler)
@@ -95,10 +95,12 @@ class Server(http.server.ThreadingHTTPServer):
                 self._known.discard(request)
 
     def shows_token(self, connection: Any) -> None:
-        """A connection has shown the token. There may be so many of them."""
+        """A connection has shown the token. There may be so many of them; a stranger that has made room, and is being shut, isn't
+        taken in any more."""
         with self._lock:
-            self._strangers.pop(connection, None)
-            if connection not in self._known and len(self._known) >= MOST_CONNECTIONS:
+            if connection in self._known:
+                return
+            if self._strangers.pop(connection, None) is None or len(self._known) >= MOST_CONNECTIONS:
                 raise Refused(503, 'desk is busy with other requests; try again')
             self._known.add(connection)
 
@@ -117,8 +119,10 @@ class Server(http.server.ThreadingHTTPServer):
         """Ends the connections that haven't shown the token in time, and those whose request comes too slowly."""
         now = time.monotonic()
         with self._lock:
-            late = [it for it, since in self._reading.items() if since < now - self.seconds_of_a_request]
-            late += [it for it, since in self._strangers.items() if since < now - self.seconds_of_a_stranger]
+            late = [it for it, since in self._strangers.items() if since < now - self.seconds_of_a_stranger]
+            for connection in late:
+                del self._strangers[connection]
+            late += [it for it, since in self._reading.items() if since < now - self.seconds_of_a_request]
         for connection in late:
             shut(connection)
 
@@ -220,14 +224,14 @@ class Handler(http.server.BaseHTTPRequestHandler):
         return found
 
     def _refuse(self, refused: Refused) -> None:
-        """A refusal ends the connection: what is left of its request isn't read."""
+        """A refusal ends the connection. What is left of its request is dropped for a while, so that who sends it reads the answer."""
         self.server.reads(self.connection, False)
         self.close_connection = True
         self._reply(refused.status, 'text/plain; charset=utf-8', f'{refused.sentence}\n'.encode())
         try:
             self.connection.shutdown(socket.SHUT_WR)
-            self.connection.settimeout(0.2)
-            until = time.monotonic() + 1
+            self.connection.settimeout(self.server.seconds_of_a_refusal)
+            until = time.monotonic() + self.server.seconds_of_a_refusal
             while time.monotonic() < until and self.connection.recv(1 << 16):
                 pass
         except OSError:
