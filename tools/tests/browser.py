@@ -13,7 +13,8 @@ import sys
 import time
 from typing import Any
 
-SECONDS = 60
+from tests.support import SECONDS
+
 # Of each key that the tests press: its name, its place, its number for Windows, and what it types.
 KEYS: dict[str, tuple[str, str, int, str]] = {
     'Enter': ('Enter', 'Enter', 13, '\r'),
@@ -81,6 +82,7 @@ class Browser:
         self._session = self.call('Target.attachToTarget', targetId=target, flatten=True)['sessionId']
         for it in ('Page', 'Runtime', 'Network', 'Log'):
             self.call(f'{it}.enable')
+        self.call('Performance.enable', timeDomain='threadTicks')
 
     def close(self) -> None:
         """Ends it."""
@@ -122,9 +124,9 @@ class Browser:
         assert 'exceptionDetails' not in found, (script, found)
         return found['result'].get('value')
 
-    def until(self, script: str, seconds: float = SECONDS) -> Any:
+    def until(self, script: str) -> Any:
         """Waits until an expression is true, and returns it."""
-        deadline = time.monotonic() + seconds
+        deadline = time.monotonic() + SECONDS
         while not (found := self.run(script)):
             assert time.monotonic() < deadline, (script, self.run("document.querySelector('#said')?.textContent"))
             time.sleep(0.02)
@@ -139,6 +141,15 @@ class Browser:
         """Another size, or other colours."""
         self.call('Emulation.setDeviceMetricsOverride', width=width, height=height, deviceScaleFactor=1, mobile=width < 600)
         self.call('Emulation.setEmulatedMedia', features=[{'name': 'prefers-color-scheme', 'value': 'dark' if is_dark else 'light'}])
+        self.drawn()
+
+    def drawn(self) -> None:
+        """Waits until what was changed is laid out and drawn, and what the page's observers make of it too."""
+        self.run('new Promise(it=>requestAnimationFrame(()=>requestAnimationFrame(()=>requestAnimationFrame(it))))')
+
+    def thread_seconds(self, what: str = 'TaskDuration') -> float:
+        """The processor time of the page's thread, of all that it does or of its script."""
+        return {it['name']: it['value'] for it in self.call('Performance.getMetrics')['metrics']}[what]
 
     def press(self, name: str, modifiers: int = 0) -> None:
         """A key, down and up."""

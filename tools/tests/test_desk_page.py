@@ -14,7 +14,7 @@ import unittest
 from typing import Any
 
 from tests.browser import CONTROL, SHIFT, Browser, path
-from tests.support import EXAMPLES, TOOLS, ToolCase, children, example, processor_seconds
+from tests.support import EXAMPLES, SECONDS, TOOLS, ToolCase, children, example, processor_seconds, until
 from tests.test_desk import BUZZ, DARK, DATA
 
 from toolbox.chips import END_OF_INTERRUPT, chip_lines, probe
@@ -28,10 +28,11 @@ NAMES = (
     'globalThis.named=new Proxy({},{has:(_,name)=>them.some(it=>name in it),get:(_,name)=>them.find(it=>name in it)?.[name]});return true})'
 )
 READY = "typeof view!=='undefined'&&view!==null&&board!==null&&!working&&!running"
-# The longest of fifty times between two calls that are wanted every 20 ms.
-LONGEST_TURN = (
-    'new Promise(told=>{let most=0,last=performance.now(),count=0;const it=setInterval(()=>{const now=performance.now();'
-    'most=Math.max(most,now-last);last=now;if(++count===50){clearInterval(it);told(most)}},20)})'
+# Why a run goes nowhere is answered late: at first the desk tells that it is at work. `window.late` counts what is answered then.
+LATE_WHY = (
+    'window.late=0;{const was=fetch;window.fetch=async(...it)=>{const word=it[1]?.body&&JSON.parse(it[1].body).do,answer=await was(...it);'
+    "if(word==='wait'&&window.late===1)window.late=2;if(word!=='why')return answer;window.late=1;"
+    'return new Response(\'{"working":true,"clock":0}\')}};0'
 )
 SHOWN = "[...document.querySelectorAll('#screen>div')].map(it=>it.textContent)"
 
@@ -65,7 +66,7 @@ class Page:
     def end(self, number: int) -> None:
         """Ends the desk by a signal."""
         self.desk.send_signal(number)
-        self.desk.communicate(timeout=20)
+        self.desk.communicate(timeout=SECONDS)
 
     def open(self, *window: Any) -> None:
         """Opens the page, and waits for its first run."""
@@ -102,6 +103,10 @@ class Page:
         """A click, and what comes of it."""
         self.browser.click(selector)
         self.settled(more)
+
+    def spent(self) -> float:
+        """The processor time of the desk and its boards."""
+        return sum(processor_seconds(it) for it in (self.desk.pid, *children(self.desk.pid)))
 
     @property
     def clock(self) -> int:
@@ -148,9 +153,9 @@ class OnePage(ToolCase):
         if page is None:
             return
         browser = page.browser
-        begun = time.monotonic()
+        before = page.spent()
         page.example('fibonacci')
-        self.assertLess(time.monotonic() - begun, 10)  # a second on an idle machine
+        self.assertLess(page.spent() - before, 5)
         report = self.report('fibonacci')
         self.assertEqual((page.screen(), page.clock), (report.screen, report.clock))
         self.assertEqual(browser.run("$('registers').textContent"), ''.join(f'{name} {value:04X}' for name, value in report.registers.items()))
@@ -283,9 +288,7 @@ class OnePage(ToolCase):
         browser.click('#up-to')
         for name in ('save-source', 'save-run'):
             browser.click(f'#{name}')
-        until = time.monotonic() + 20
-        while not (os.path.exists(f'{self.room}/keys.asm') and os.path.exists(f'{self.room}/keys.json')) and time.monotonic() < until:
-            time.sleep(0.05)
+        self.assertTrue(until(lambda: {'keys.asm', 'keys.json'} <= set(os.listdir(self.room))))
         report = report_of(self.pcboard('run', f'{self.room}/keys.asm', f'{self.room}/keys.json').stdout)
         self.assertEqual((page.screen(), page.clock), (report.screen, report.clock))
         self.fine(page)
@@ -377,7 +380,6 @@ class OnePage(ToolCase):
         for window in ((1280, 720), (390, 800)):
             for is_dark in (False, True):
                 browser.window(*window, is_dark)
-                time.sleep(0.1)
                 self.assertEqual(
                     browser.run('[document.documentElement.scrollWidth, $("screen").getBoundingClientRect().right<=innerWidth]'), [window[0], True]
                 )
@@ -398,12 +400,12 @@ class OnePage(ToolCase):
         browser.run("$('to').value='1,099,511,627,776'")
         browser.click('#go')
         browser.until("$('said').textContent.includes('of 1,099,511,627,776')&&$('run').textContent==='Pause'")
-        # Meanwhile the page goes on: no turn of it takes long.
-        self.assertLess(browser.run(LONGEST_TURN), 1000)
-        begun = time.monotonic()
+        # Meanwhile the page has little to do.
+        before = browser.thread_seconds()
+        browser.run('new Promise(it=>setTimeout(it,1000))')
+        self.assertLess(browser.thread_seconds() - before, 0.5)
         browser.click('#run')
         page.settled("$('run').textContent==='Run'&&view.clock<2**40")
-        self.assertLess(time.monotonic() - begun, 10)
         page.click('#start', 'view.clock===0')
         page.click('#over', "view.clock===50000000&&$('said').textContent.startsWith('not over')")
         browser.run("$('pace').value='fast'")
@@ -545,18 +547,16 @@ class OnePage(ToolCase):
         if page is None:
             return
 
-        def spent() -> float:
-            return sum(processor_seconds(it) for it in (page.desk.pid, *children(page.desk.pid)))
-
         page.example('keys')
         page.click('#start', 'view.clock===0')
         page.browser.run('run_or_pause();0')
         page.browser.until('running!==null&&view.clock>0')
-        begun, before, here = time.monotonic(), spent(), page.clock
+        before, (begun, here) = page.spent(), page.browser.run('[performance.now(),view.clock]')
         time.sleep(4)
-        seconds, used, clocks = time.monotonic() - begun, spent() - before, page.clock - here
-        self.assertLess(used, 0.1 * seconds)
-        self.assertLess(abs(clocks / (14318180 / 3) - seconds), 2)  # of seconds, on a machine that has others at work
+        # The page's own time counts; a machine that is too busy for it is told.
+        passed = f'(performance.now()-{begun})/1000'
+        page.browser.until(f"Math.abs((view.clock-{here})/HERTZ-{passed})<.5||$('said').textContent==='slower than a real board'")
+        self.assertLess(page.spent() - before, 0.1 * page.browser.run(passed))
         page.click('#run', "$('run').textContent==='Run'")
         self.fine(page)
 
@@ -663,18 +663,12 @@ class OnePage(ToolCase):
         text = ''.join(f'here{at}:  MOV AX,{at}  ; a line\n' for at in range(5000))
         browser.run(f"$('source').focus();$('source').value={json.dumps(text)};$('source').dispatchEvent(new Event('input'))")
         browser.run("$('source').setSelectionRange(60000,60000);$('source').scrollTop=30000")
-        browser.call('Performance.setTimeDomain', timeDomain='threadTicks')
-        browser.call('Performance.enable')
-
-        def spent() -> float:
-            return {it['name']: it['value'] for it in browser.call('Performance.getMetrics')['metrics']}['ScriptDuration']
-
         for _ in range(5):
             browser.press('a')
-        before = spent()
+        before = browser.thread_seconds('ScriptDuration')
         for _ in range(40):
             browser.press('b')
-        self.assertLess((spent() - before) / 40, 0.016)
+        self.assertLess((browser.thread_seconds('ScriptDuration') - before) / 40, 0.016)
         self.assertEqual(browser.run("$('source').value.split('b'.repeat(40)).length"), 2)
         self.assertTrue(browser.run("[...$('ink').children].some(it=>it.textContent.includes('b'.repeat(40)))"))
         self.fine(page)
@@ -842,7 +836,6 @@ class OnePage(ToolCase):
             sizes = list[float]()
             for window in ((1280, 720), (1920, 1080), (2560, 1440)):
                 browser.window(*window)
-                time.sleep(0.3)
                 sizes.append(browser.run("parseFloat(getComputedStyle($('screen')).fontSize)"))
                 inside = "(()=>{const t=$('tube').getBoundingClientRect();return [...$('screen').children].every(it=>{const r=it.getBoundingClientRect();return r.top>=t.top&&r.bottom<=t.bottom+.5&&r.right<=t.right})})()"
                 self.assertEqual(browser.run(f"[{inside},$('screen').children.length]"), [True, 25], window)
@@ -850,7 +843,7 @@ class OnePage(ToolCase):
             self.assertGreater(sizes[2], 1.3 * sizes[1])
             browser.window(1280, 720)
             browser.click('#keys-open')
-            time.sleep(0.3)
+            browser.drawn()
             self.assertTrue(browser.run(inside))
             browser.click('#keys-open')
             browser.click('#full')
@@ -860,7 +853,6 @@ class OnePage(ToolCase):
             browser.until('!document.fullscreenElement')
             for window in ((800, 600), (390, 800)):
                 browser.window(*window)
-                time.sleep(0.3)
                 for button, part in (('view-source', 'source'), ('view-screen', 'screen'), ('view-source', 'source')):
                     browser.click(f'#{button}')
                     seen = f"(()=>{{const r=$('{part}').getBoundingClientRect(),f=document.querySelector('footer').getBoundingClientRect().top;return Math.min(r.bottom,f)-Math.max(r.top,0)}})()"
@@ -928,7 +920,7 @@ class OnePage(ToolCase):
         self.fine(page)
 
     def test_a_board_that_was_left_alone(self) -> None:
-        """It is begun anew, at the clock where it was."""
+        """It is begun anew, at the clock where it was. That stays told, though the look that follows takes long."""
         page = self.opened()
         if page is None:
             return
@@ -946,7 +938,9 @@ class OnePage(ToolCase):
         browser.run("$('source').focus();$('source').setSelectionRange(0,0)")
         browser.call('Input.insertText', text='; not assembled\n')
         browser.run("ask('close',{board})")
+        browser.run(LATE_WHY)
         browser.run("$('back').click()")
+        browser.until('window.late===2')
         page.settled("$('said').textContent.startsWith('The board had ended')&&view.clock===4321")
         self.assertEqual((page.screen(), browser.run('view.raw'), browser.run('stops.map(it=>it.line)')), (before, keys, [41]))
         self.assertEqual(browser.run("[$('source').value,assembled,$('stale').hidden]"), [f'; not assembled\n{source}', source, False])
@@ -954,10 +948,7 @@ class OnePage(ToolCase):
         # Who leaves the page ends its board.
         page.browser.run('onbeforeunload=null')
         page.browser.open('about:blank')
-        until = time.monotonic() + 20
-        while children(page.desk.pid) and time.monotonic() < until:
-            time.sleep(0.05)
-        self.assertEqual(children(page.desk.pid), [])
+        self.assertTrue(until(lambda: not children(page.desk.pid)))
 
 
 WINDOWS = {'wide-light': (1280, 720, False), 'wide-dark': (1280, 720, True), 'narrow-light': (390, 800, False), 'narrow-dark': (390, 800, True)}
@@ -973,7 +964,7 @@ def pictures(folder: str) -> None:
             for window, size in WINDOWS.items():
                 browser.window(*size)
                 browser.run(f"$('{part}').scrollIntoView()")
-                time.sleep(0.3)
+                browser.drawn()
                 browser.picture(f'{folder}/{name}-{window}.png')
             browser.window(1280, 720)
 

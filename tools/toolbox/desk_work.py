@@ -2,6 +2,7 @@
 from __future__ import annotations
 
 import contextlib
+import resource
 import subprocess
 import tempfile
 import threading
@@ -12,6 +13,7 @@ from toolbox.program import Files, Session, path, refusal
 from toolbox.starting import started
 
 Fields = dict[str, Any]
+# Of the processor's time, so that on a busy machine as much is told.
 REPORT_SECONDS, LONGEST_REPORT = 5, 8 << 20
 
 
@@ -78,14 +80,12 @@ class Helpers:
             except OSError as error:
                 raise Sorry(f"{words[0]} can't be started: {error.strerror}") from None
             self.add(process)
-            watch = threading.Timer(REPORT_SECONDS, process.kill)
-            watch.start()
+            resource.prlimit(process.pid, resource.RLIMIT_CPU, (REPORT_SECONDS, REPORT_SECONDS))
             try:
                 assert process.stdout
                 out = process.stdout.read(LONGEST_REPORT + 1)
                 status = process.wait() if len(out) <= LONGEST_REPORT else -1
             finally:
-                watch.cancel()
                 self.drop(process)
             if status > 0:
                 err.seek(0)

@@ -13,8 +13,9 @@ export let board = null, seen = 0, view = null, looked = null, running = null, w
 export let lines = {}, stops = [];
 export let wake = () => {};  // ends the wait between two pieces of a run
 
-/* A page asks one thing at a time, and follows what takes long. */
+/* A page asks one thing at a time, and follows what takes long. What was told before stands there again then. */
 export async function followed(answer) {
+  const told = $('said').textContent, isGood = $('said').className === 'good';
   while (answer.working) {
     const far = answer['catches up'] ? `catching up with the key: clock ${number(answer.clock)} of ${number(answer.to)}; Pause drops the key` : `at clock ${number(answer.clock)}; Pause ends it`;
     say(far, true);
@@ -22,7 +23,7 @@ export async function followed(answer) {
     draw_run();
     answer = await ask('wait', {board});
   }
-  if (working) say('');
+  if (working) say(told, isGood);
   working = false;
   draw_run();
   return answer;
