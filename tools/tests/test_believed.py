@@ -47,7 +47,7 @@ class Believed(ToolCase):
                 self.file(f'crates/{crate}/specs/{name}.antt', text)
 
     def run_it(self, *words: str) -> tuple[int, str, str]:
-        ran = subprocess.run([sys.executable, f'{self.room}/dev/believed', *words], capture_output=True, text=True, check=False, timeout=20)
+        ran = subprocess.run([sys.executable, f'{self.room}/dev/believed', *words], capture_output=True, text=True, check=False)
         return ran.returncode, ran.stdout, ran.stderr
 
     def test_a_file_that_nothing_names_serves_proofs_alone(self) -> None:

@@ -15,7 +15,7 @@ import unittest
 import unittest.mock
 from typing import Any
 
-from tests.support import SLOW, TOOLS, ToolCase, example
+from tests.support import SECONDS, SLOW, TOOLS, ToolCase, example
 
 from toolbox.dap_board import ends_with_call
 from toolbox.dap_values import number_in
@@ -43,7 +43,7 @@ class Client:
         self.count, self.events = 0, list[Fields]()
         assert self.adapter.stdout
         self.reader = Reader(self.adapter.stdout.fileno())
-        self.watch = threading.Timer(120, self.adapter.kill)
+        self.watch = threading.Timer(SECONDS, self.adapter.kill)
         self.watch.start()
 
     def raw(self, octets: bytes) -> None:
@@ -368,9 +368,7 @@ class Sessions(ToolCase):
         client.ask('pause', threadId=1)
         self.assertEqual(client.event('stopped')['text'], 'clock 5000: paused')
         client.ask('reverseContinue', threadId=1)
-        begun = time.monotonic()
         self.assertEqual(client.end(), 0)  # one that goes on the way
-        self.assertLess(time.monotonic() - begun, 30)
         self.assertEqual(os.listdir(f'{self.room}/tmp'), [])
 
     def test_seventeen_breakpoints_and_halts(self) -> None:

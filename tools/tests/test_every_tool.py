@@ -7,14 +7,12 @@ import contextlib
 import os
 import signal
 import subprocess
-import time
 import unittest
 from collections.abc import Callable
 
-from tests.support import EXAMPLES, TOP, ToolCase
+from tests.support import EXAMPLES, SECONDS, TOP, ToolCase, until
 
 FOLDERS = ('tools', 'dev', 'bench')
-SECONDS = 60  # so long nothing takes, on a busy machine too; a proof takes longer
 # Words with a path, `{}`, beyond those that are tried of each tool: one path, two and three.
 WORDS = (
     'tools/judge --same all {} {}',
@@ -161,23 +159,27 @@ class EveryTool(ToolCase):
 
     def interrupted(self, process: subprocess.Popen[str]) -> str:
         """What a tool tells at control-C, which is pressed again where it goes on."""
-        for _ in range(SECONDS):
+        for _ in range(SECONDS // 10):
             os.killpg(process.pid, signal.SIGINT)
             with contextlib.suppress(subprocess.TimeoutExpired):
-                return process.communicate(timeout=1)[1]
+                return process.communicate(timeout=10)[1]
         os.killpg(process.pid, signal.SIGKILL)
         return self.fail(f'control-C ends it not: {process.args!r}')
 
     def opened(self, process: subprocess.Popen[str], path: str) -> int:
         """The other end of a pipe, once the tool has opened it."""
-        until = time.monotonic() + SECONDS
-        while time.monotonic() < until and process.poll() is None:
-            try:
-                return os.open(path, os.O_WRONLY | os.O_NONBLOCK)
-            except OSError:
-                time.sleep(0.01)
-        process.kill()
-        return self.fail(f'it never opened the pipe: {process.args!r}')
+        found = list[int]()
+
+        def is_opened() -> bool:
+            with contextlib.suppress(OSError):
+                found.append(os.open(path, os.O_WRONLY | os.O_NONBLOCK))
+            return bool(found) or process.poll() is not None
+
+        until(is_opened)
+        if not found:
+            process.kill()
+            self.fail(f'it never opened the pipe: {process.args!r}')
+        return found[0]
 
 
 if __name__ == '__main__':

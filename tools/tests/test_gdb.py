@@ -9,11 +9,10 @@ import signal
 import socket
 import subprocess
 import sys
-import time
 import unittest
 import unittest.mock
 
-from tests.support import SLOW, STORED, TOOLS, TOP, ToolCase, example
+from tests.support import SECONDS, SLOW, STORED, TOOLS, TOP, ToolCase, children, example, is_at_work, name_of, processor_seconds, until
 
 from toolbox.gdb_board import far_of_address
 from toolbox.gdb_elf import is_call, sleb, uleb
@@ -25,7 +24,6 @@ from toolbox.places import event_of
 from toolbox.program import Files, Session
 from toolbox.report import registers_of
 
-SECONDS = 60
 GDB = shutil.which('gdb')
 LONG = '{"version":1,"ram":64,"sw1":0,"sw2":0,"budget":1000000000000,"keys":[]}'
 RUN = '{"version":1,"ram":64,"sw1":0,"sw2":0,"budget":100000,"keys":[]}'
@@ -264,7 +262,7 @@ class Served(ToolCase):
     def test_an_interrupt(self) -> None:
         client = self.client(self.program(BUSY)[0], self.file('long.json', LONG))
         client.socket.sendall(framed('c'))
-        time.sleep(0.5)
+        self.assertTrue(is_at_work(self.tool_process.pid))
         client.socket.sendall(b'\x03')
         self.assertEqual(client.packet(), 'T02thread:1;')
         self.assertIn('interrupted; the processor is running', client.shown)
@@ -307,7 +305,7 @@ class Served(ToolCase):
     def test_one_that_goes_in_a_run(self) -> None:
         client = self.client(self.program(BUSY)[0], self.file('long.json', LONG))
         client.socket.sendall(framed('c'))
-        time.sleep(0.3)
+        self.assertTrue(is_at_work(self.tool_process.pid))
         client.close()
         self.assert_nothing_left()
 
@@ -342,23 +340,19 @@ class Served(ToolCase):
         self.assertEqual(client.monitor('go 5000'), 'clock 5000\n')
         first = self.board_of()
         client.ask('Z0,500,1')
-        client.socket.sendall(framed('bc'))
-        time.sleep(0.2)
-        begun = time.monotonic()
-        client.socket.sendall(b'\x03')
+        client.socket.sendall(framed('bc') + b'\x03')
         self.assertEqual(client.packet(), 'T02thread:1;')
-        self.assertLess(time.monotonic() - begun, 20)
         self.assertIn('clock 5000: interrupted', client.shown)
         self.assertNotEqual(self.board_of(), first)
         self.assertEqual(client.monitor('go 5'), 'clock 5005\n')
         client.socket.sendall(framed('bc'))
-        time.sleep(0.7)
+        self.assertTrue(until(lambda: len(children(self.tool_process.pid)) == 2))  # the other board is beside it
         client.close()  # one that goes on the way
         self.assert_nothing_left()
 
     def test_an_interrupt_on_a_very_long_way_back(self) -> None:
         """Where the other board is still far from the clock, it stays where it has come to."""
-        slow = self.file('pcboard', SLOW.replace('clock += int(more[0])', 'clock += int(more[0]); time.sleep(3 * (clock == 1 << 20))'))
+        slow = self.file('pcboard', SLOW.replace('clock += int(more[0])', 'clock += int(more[0]); time.sleep(6 * (clock == 1 << 20))'))
         os.chmod(slow, 0o755)
         with unittest.mock.patch.dict(os.environ, {'PCBOARD': slow}):
             client = self.client(self.file('it.hex', ':00000001FF\n'), self.file('long.json', LONG), '--hex')
@@ -395,17 +389,19 @@ class Served(ToolCase):
             client.close()
 
     def test_speed(self) -> None:
-        """No step walks the run again. The least of some times, far above what is usual, since other work may hold up each."""
+        """No step walks the run again: of the processors' time it takes less than that would."""
         client = self.client(self.program(BUSY)[0], self.file('long.json', LONG))
+
+        def spent() -> float:
+            return sum(map(processor_seconds, (self.tool_process.pid, *children(self.tool_process.pid))))
+
         client.monitor('go 10000000')
         for request, most in (('s', 1), ('bs', 4)):
-            times = []
+            before = spent()
             for _ in range(5):
-                begun = time.monotonic()
                 client.ask(request)
                 client.ask('g')
-                times.append(time.monotonic() - begun)
-            self.assertLess(min(times), most, request)
+            self.assertLess((spent() - before) / 5, most, request)
 
     def test_refusals(self) -> None:
         self.assertIn('fault 3', self.tool('gdb', '--serve', example('hello')[1], example('hello')[1], status=2)[1])
@@ -463,7 +459,7 @@ class Gdb(ToolCase):
             self.assertIn(wanted, told)
 
     def started(self, *commands: str) -> subprocess.Popen[str]:
-        """gdb on a run that lasts, in a group of its own, as at a terminal; behind these commands it has said that it runs."""
+        """gdb on a run that lasts, in a group of its own, as at a terminal."""
         os.makedirs(f'{self.room}/tmp')
         given = [it for command in (*commands, 'echo ready\\n', 'continue', 'monitor go 0') for it in ('-ex', command)]
         files = self.program(BUSY)[0], self.file('long.json', LONG)
@@ -479,18 +475,8 @@ class Gdb(ToolCase):
         assert tool.stdout
         while 'ready' not in tool.stdout.readline():
             self.assertIsNone(tool.poll())
-        time.sleep(0.5)
+        self.assertTrue(is_at_work(tool.pid))
         return tool
-
-    @staticmethod
-    def children(process: int) -> dict[str, int]:
-        """A process's own, by their names."""
-        found = {}
-        with open(f'/proc/{process}/task/{process}/children', encoding='ascii') as file:
-            for child in file.read().split():
-                with open(f'/proc/{child}/comm', encoding='ascii') as name:
-                    found[name.read().strip()] = int(child)
-        return found
 
     def test_control_c(self) -> None:
         if not GDB:
@@ -507,12 +493,12 @@ class Gdb(ToolCase):
         for name in ('gdb', 'pcboard') if GDB else ():
             with self.subTest(name):
                 tool = self.started()
-                theirs = self.children(tool.pid)
+                theirs = {name_of(it): it for it in children(tool.pid)}
                 os.kill(next(it for whose, it in theirs.items() if whose.startswith(name)), signal.SIGKILL)
                 tool.communicate(timeout=SECONDS)
                 self.assertEqual(os.listdir(f'{self.room}/tmp'), [])
                 os.rmdir(f'{self.room}/tmp')
-                self.assertEqual([it for it in theirs.values() if os.path.exists(f'/proc/{it}')], [])
+                self.assertTrue(until(lambda: not any(os.path.exists(f'/proc/{it}') for it in theirs.values())))
 
     def test_each_answer(self) -> None:
         """What gdb comes to is what the debugger's own commands come to."""

@@ -3,10 +3,9 @@ import re
 import signal
 import subprocess
 import sys
-import time
 import unittest
 
-from tests.support import STORED, TOOLS, ToolCase, example
+from tests.support import SECONDS, STORED, TOOLS, ToolCase, but_progress, example, is_at_work
 
 TYPED = """# A program that prints HELLO isn't enough.
 run = small letters
@@ -159,22 +158,25 @@ class Runs(ToolCase):
     def test_a_class(self) -> None:
         good, _ = example('keys')
         bad = self.file('bad.asm', 'SEGMENT A AT 0\n FROB\tX\n')
-        endless = self.file('endless.asm', 'SEGMENT A AT 0FFFFh\nnothing: INC AX\n JMP nothing\n')
-        page = self.file('page', TYPED.replace('50,000', '1,099,511,627,776'))
-        begun = time.monotonic()
-        out, _ = self.tool('judge', '--class', page, bad, good, 'nothing.asm', endless, '--seconds', '2', status=1)
-        self.assertLess(time.monotonic() - begun, 60)
+        page = self.file('page', TYPED)
+        out, _ = self.tool('judge', '--class', page, bad, good, 'nothing.asm', '--seconds', str(SECONDS), status=1)
         rows = [it.split('\t') for it in out.splitlines()]
         self.assertEqual({len(it) for it in rows}, {8})
-        self.assertEqual([it[0] for it in rows], ['file', bad, good, 'nothing.asm', endless])
+        self.assertEqual([it[0] for it in rows], ['file', bad, good, 'nothing.asm'])
         self.assertEqual(rows[0][2:5], ['small letters: shows = HELLO', 'small letters: not shown = WORLD', 'small letters: lost = 0'])
         self.assertEqual(rows[1][1:3], ['0', 'no: refused: fault 4 UnknownName line 2'])
         self.assertEqual((rows[2][1], rows[2][2:7]), ('4', ['ok', 'ok', 'ok', 'ok', f'no: came no nothing in {good}']))
         self.assertIn("can't be read", rows[3][7])
-        self.assertEqual(rows[4][7], 'took more than 2 s, and was ended')
         self.assertIn('no expectation', self.tool('judge', '--class', self.file('page', 'AX 5\n'), good, status=2)[1])
         page = self.file('page', 'plain keys = hello\nshows = HELLO\n')
         self.assertEqual(self.tool('judge', '--class', page, good, good)[0].splitlines()[2], f'{good}\t1\tok\t')
+
+    def test_a_class_with_endless_programs(self) -> None:
+        """Each is ended, and the others are gone on with."""
+        endless = self.file('endless.asm', 'SEGMENT A AT 0FFFFh\nnothing: INC AX\n JMP nothing\n')
+        page = self.file('page', 'budget = 1,099,511,627,776\nlost = 0\n')
+        out, _ = self.tool('judge', '--class', page, *[endless] * 9, '--seconds', '1', status=1)
+        self.assertEqual(out.splitlines()[1:], [f'{endless}\t0\tno\ttook more than 1 s, and was ended'] * 9)
 
     def test_an_interrupt_leaves_no_traceback(self) -> None:
         endless = self.file('endless.asm', 'SEGMENT A AT 0FFFFh\nnothing: INC AX\n JMP nothing\n')
@@ -187,10 +189,10 @@ class Runs(ToolCase):
                 text=True,
                 start_new_session=True,
             ) as process:
-                time.sleep(1.3)  # so that it runs, on a busy machine too, and doesn't tell yet how long
+                self.assertTrue(is_at_work(process.pid))
                 process.send_signal(signal.SIGINT)
-                _, err = process.communicate(timeout=10)
-                self.assertEqual((process.returncode, err), (130, ''))
+                _, err = process.communicate(timeout=SECONDS)
+                self.assertEqual((process.returncode, but_progress(err)), (130, ''))
 
 
 if __name__ == '__main__':

@@ -4,22 +4,22 @@ import os
 import signal
 import subprocess
 import sys
-import time
 import unittest
 from unittest import mock
 
-from tests.support import EXAMPLES, TOOLS, ToolCase
+from tests.support import EXAMPLES, SECONDS, TOOLS, ToolCase, but_progress, until
 
-# It shows T, but where a key comes in the first three clocks of ten, and keeps a list of the keys that it was run with.
+# It shows T, but where a key comes in the first three clocks of ten, and keeps a list of the keys that it was run with. Once there
+# are nine of them it waits while a file `waits` is there.
 STAND_IN = """#!/bin/sh
 run=$(cat "$4")
 keys=${run##*keys\\":}
 case $keys in *[0-9][0-2],*) line=a;; *) line=T;; esac
-sleep SECONDS
+while [ -e ROOM/waits ] && [ $(wc -l < ROOM/list) -ge 9 ]; do sleep 0.02; done
 printf 'clock 900\\nAX=0708 BX=0000 CX=0000 DX=03B8 SP=0000 BP=0000 SI=0000 DI=0004\\nCS=F000 DS=0000 ES=B000 SS=0000 IP=0017 FL=F002\\n'
 printf 'state halted\\nlost 0\\nsound 0\\nscreen\\n%-80s\\n' $line
 for _ in 2 3 4 5 6 7 8 9 10 11 12 13 14 15 16 17 18 19 20 21 22 23 24 25; do printf '%-80s\\n' ''; done
-printf '%s\\n' "$keys" >> LIST
+printf '%s\\n' "$keys" >> ROOM/list
 """
 TURNS = f'{EXAMPLES}/moments/turns'
 
@@ -27,9 +27,9 @@ TURNS = f'{EXAMPLES}/moments/turns'
 class StandIn(ToolCase):
     """Over a program that stands in."""
 
-    def begin(self, seconds: str, keys: str = '[]') -> list[str]:
+    def begin(self, keys: str = '[]') -> list[str]:
         """Puts it in the board's place, and returns the files' names."""
-        program = self.file('program', STAND_IN.replace('SECONDS', seconds).replace('LIST', f'{self.room}/list'))
+        program = self.file('program', STAND_IN.replace('ROOM', self.room))
         os.chmod(program, 0o755)
         self.enterContext(mock.patch.dict(os.environ, {'PCBOARD': program}))
         run = f'{{"version":1,"ram":64,"sw1":0,"sw2":0,"budget":900,"keys":{keys}}}'
@@ -45,7 +45,7 @@ class StandIn(ToolCase):
             return sorted(json.loads(it.rstrip('}\n')) for it in lines)
 
     def test_ranges_and_the_first_run_file(self) -> None:
-        out, _ = self.tool('moments', *self.begin('0', '[[105,2],[115,3]]'), '--key', '1e', '--at', '105..125', status=1)
+        out, _ = self.tool('moments', *self.begin('[[105,2],[115,3]]'), '--key', '1e', '--at', '105..125', status=1)
         self.assertEqual(
             out.splitlines(),
             [
@@ -62,7 +62,7 @@ class StandIn(ToolCase):
         self.assertIn([[105, 2], [105, 30], [115, 3]], self.listed())
 
     def test_pairs_and_samples(self) -> None:
-        files, pairs = self.begin('0'), ('--key', '1E', '--at', '103..106', '--key', '9E', '--at', '207..211')
+        files, pairs = self.begin(), ('--key', '1E', '--at', '103..106', '--key', '9E', '--at', '207..211')
         out, _ = self.tool('moments', *files, *pairs, status=1)
         self.assertEqual(
             [it for it in out.splitlines() if it.startswith(('12 of', 'failing'))],
@@ -77,7 +77,7 @@ class StandIn(ToolCase):
         self.assertNotEqual(self.listed()[-6:], self.listed()[:6])
 
     def test_a_page_with_its_own_runs(self) -> None:
-        page, source, _ = self.begin('0')
+        page, source, _ = self.begin()
         self.file('page', 'run = one\nbudget = 900\nline 1 = T\nrun = two\nbudget = 900\nlost = 1\n')
         out, _ = self.tool('moments', page, source, '--key', '1E', '--at', '113', status=1)
         self.assertEqual(
@@ -85,7 +85,7 @@ class StandIn(ToolCase):
         )
 
     def test_what_cant_be_tried(self) -> None:
-        files = self.begin('0')
+        files = self.begin()
         for words, wanted in (
             ([], 'has its --at'),
             (['--key', 'EE', '--at', '1..9'], 'no scan code'),
@@ -101,18 +101,19 @@ class StandIn(ToolCase):
         self.assertIn('remove it', self.tool('moments', *files, '--key', '1E', '--at', '1..9', status=2)[1])
 
     def test_goes_on_behind_an_interrupt(self) -> None:
-        words = [*self.begin('0.05'), '--key', '1E', '--at', '103..163', '--jobs', '2']
+        words = [*self.begin(), '--key', '1E', '--at', '103..163', '--jobs', '2']
+        waits = self.file('waits', '')
+        self.file('list', '')
         with subprocess.Popen(
             [sys.executable, '-S', f'{TOOLS}/moments', *words], stdout=subprocess.PIPE, stderr=subprocess.PIPE, text=True, cwd=self.room, start_new_session=True
         ) as process:
-            until = time.monotonic() + 60
-            while process.poll() is None and time.monotonic() < until and not (os.path.exists(f'{self.room}/list') and len(self.listed()) > 8):
-                time.sleep(0.02)
+            self.assertTrue(until(lambda: len(self.listed()) > 8))
             os.killpg(process.pid, signal.SIGINT)
-            out, err = process.communicate(timeout=60)
+            out, err = process.communicate(timeout=SECONDS)
+        os.remove(waits)
         self.assertEqual(process.returncode, 130, err)
         self.assertRegex(out, r'^\d+ of 60 moments tried')
-        self.assertEqual(err, 'moments: it.moments keeps what was tried; the same command goes on from there\n')
+        self.assertEqual(but_progress(err), 'moments: it.moments keeps what was tried; the same command goes on from there\n')
         tried, before = int(out.split()[0]), len(self.listed())
         out, _ = self.tool('moments', *words, status=1)
         self.assertEqual(out.splitlines()[0], '60 of 60 moments tried, 18 failed')
@@ -122,7 +123,7 @@ class StandIn(ToolCase):
         self.assertFalse(os.path.exists(f'{self.room}/it.moments'))
 
     def test_what_was_kept_of_others_isnt_taken(self) -> None:
-        files = self.begin('0')
+        files = self.begin()
         self.file('it.moments', '{"of":"others","tried":[[0,8]],"failed":[]}')
         out, err = self.tool('moments', *files, '--key', '1E', '--at', '103..107')
         self.assertEqual((out.splitlines()[0], err.count('begins anew')), ('4 of 4 moments tried, 0 failed', 1))

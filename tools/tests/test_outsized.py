@@ -11,7 +11,7 @@ from dataclasses import dataclass, field
 
 from tests.support import STORED, ToolCase
 
-SECONDS = 20  # on four idle processors each takes below one
+SECONDS = 20  # of a processor; on an idle one each takes below one
 MEMORY = 600 << 20
 
 
@@ -23,6 +23,12 @@ def plain(text: str) -> bytes:
         return ' ' * int(blanks, 16) if blanks else chr(int(number, 16)) if number else '\\'
 
     return re.sub(r'\\(?:_(..)|([0-9A-F]{2})|\\)', byte, text).encode('latin-1')
+
+
+def limited() -> None:
+    """In the program's process: it is killed behind so much time, and refused more memory."""
+    resource.setrlimit(resource.RLIMIT_CPU, (SECONDS, SECONDS))
+    resource.setrlimit(resource.RLIMIT_AS, (MEMORY, MEMORY))
 
 
 @dataclass
@@ -70,9 +76,8 @@ class Outsized(ToolCase):
             input=case.texts.get('stdin', b''),
             capture_output=True,
             cwd=self.room,
-            timeout=SECONDS,
             check=False,
-            preexec_fn=lambda: resource.setrlimit(resource.RLIMIT_AS, (MEMORY, MEMORY)),
+            preexec_fn=limited,
         )
         for name in case.texts:
             if name.startswith('file '):

@@ -14,7 +14,7 @@ import tarfile
 import unittest
 
 from tests.repository import KIT, LOGIC, Repository
-from tests.support import TOP, is_there
+from tests.support import SECONDS, TOP, is_there
 from toolbox import program, release
 from toolbox.crates import Crates
 from toolbox.proved import Proved
@@ -24,7 +24,7 @@ VERDICT = 'logic=proved functions=1 sum=0123456789abcdef native=nat'
 CRATES = {'pcboard': {'low', 'pcboard'}, 'zebludor_chips': {'low', 'zebludor_chips'}, 'zebludor_run': {'low', 'zebludor_run'}}
 NAME = release.name()
 HAS_CC = is_there('cc', 'a release', 'gcc')  # without it none is made, and no case here is run
-NOBODY, SECONDS = 65534, 60
+NOBODY = 65534
 # A bench in C. What it prints of the gate's library docs/parts.md works out by hand; stand-ins leave the zeros in it.
 BENCH = r"""#include "zebludor.h"
 #include <stdio.h>

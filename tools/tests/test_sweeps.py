@@ -6,13 +6,25 @@ import os
 import shutil
 import signal
 import subprocess
-import time
 import unittest
 
-from tests.support import EXAMPLES, TOOLS, ToolCase, is_there
+from tests.support import EXAMPLES, SECONDS, TOOLS, ToolCase, is_there, until
 
-# It tells in a list which run file it was given, and takes its time over it.
-STAND_IN = '#!/bin/sh\necho "$4" >> {room}/list\nsleep {seconds}\nexec {program} "$@"\n'
+# It tells in a list which run file it was given. While a file `waits` is there, it waits once two reports are.
+STAND_IN = """#!/bin/sh
+echo "$4" >> {room}/list
+while [ -e {room}/waits ] && [ $(ls {room}/sweep/*.txt | wc -l) -ge 2 ]; do sleep 0.02; done
+exec {program} "$@"
+"""
+
+
+def is_group(number: int) -> bool:
+    """Whether a process of this group is there."""
+    try:
+        os.killpg(number, 0)
+    except ProcessLookupError:
+        return False
+    return True
 
 
 class Sweeps(ToolCase):
@@ -43,9 +55,9 @@ class Sweeps(ToolCase):
         self.assertEqual(done.returncode, status, done.stdout)
         return done.stdout
 
-    def stand_in(self, seconds: str) -> str:
+    def stand_in(self) -> str:
         """A program that tells of its runs."""
-        path = self.file('program', STAND_IN.format(room=self.room, seconds=seconds, program=os.path.realpath(f'{self.room}/pcboard')))
+        path = self.file('program', STAND_IN.format(room=self.room, program=os.path.realpath(f'{self.room}/pcboard')))
         os.chmod(path, 0o755)
         return path
 
@@ -82,7 +94,7 @@ class Sweeps(ToolCase):
 
     def interrupted(self, line: str) -> None:
         """A sweep that is ended in its midst and begun again: what was told before isn't run again."""
-        program = self.stand_in('0.1')
+        program, waits = self.stand_in(), self.file('waits', '')
         with subprocess.Popen(
             line,
             shell=True,
@@ -93,11 +105,11 @@ class Sweeps(ToolCase):
             env=os.environ | {'PCBOARD': program},
             start_new_session=True,
         ) as process:
-            until = time.monotonic() + 60
-            while self.kinds()[0] < 2 and time.monotonic() < until and process.poll() is None:
-                time.sleep(0.01)
+            self.assertTrue(until(lambda: self.kinds()[0] >= 2))
             os.killpg(process.pid, signal.SIGINT)
-            process.wait(60)
+            process.wait(SECONDS)
+        self.assertTrue(until(lambda: not is_group(process.pid)))
+        os.remove(waits)
         done, before = self.kinds(), self.ran()
         self.assertLess(sum(done[:2]), 12, 'it had come to its end')
         self.shell(line, status=1, PCBOARD=program)
@@ -110,7 +122,7 @@ class Sweeps(ToolCase):
         self.interrupted('examples/sweep/each examples/nested.asm sweep/*.json')
 
     def test_slurms_tasks_share_them(self) -> None:
-        program = self.stand_in('0')
+        program = self.stand_in()
         for task in ('0', '1', '2'):
             self.shell('examples/sweep/slurm.sh examples/nested.asm sweep || true', SLURM_ARRAY_TASK_COUNT='3', SLURM_ARRAY_TASK_ID=task, PCBOARD=program)
         self.assertEqual((len(self.ran()), len(set(self.ran())), self.kinds()), (12, 12, [11, 1, 0]))
@@ -126,7 +138,7 @@ class Sweeps(ToolCase):
             return
         line = 'snakemake -s examples/sweep/Snakefile -j 2 --config program=nested.asm folder=sweep'
         shutil.copy(f'{EXAMPLES}/nested.asm', self.room)
-        program = self.stand_in('0')
+        program = self.stand_in()
         self.shell(line, PCBOARD=program, HOME=self.room)
         with open(f'{self.room}/sweep/table.tsv', encoding='utf-8') as file:
             self.assertEqual(len(file.read().splitlines()), 13)

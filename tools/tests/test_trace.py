@@ -6,13 +6,12 @@ import random
 import signal
 import subprocess
 import sys
-import time
 import unittest
 from bisect import bisect_left
 from collections.abc import Iterable
 from unittest import mock
 
-from tests.support import TOOLS, ToolCase, example
+from tests.support import SECONDS, TOOLS, ToolCase, but_progress, example, is_at_work, until
 
 from toolbox import events  # where zebludor is found
 from toolbox.command import Sorry
@@ -177,15 +176,16 @@ class Runs(ToolCase):
                 [sys.executable, '-S', f'{TOOLS}/trace', *words, *files], stdout=subprocess.PIPE, stderr=subprocess.PIPE, text=True, start_new_session=True
             ) as process:
                 assert process.stdout
-                printed = process.stdout.readline() if not words else ''
-                until = time.monotonic() + 60
-                while not printed and not (os.path.exists(path) and os.path.getsize(path) > 1 << 16) and time.monotonic() < until:
-                    time.sleep(0.05)
-                if words == ['--profile']:
-                    time.sleep(1)
+                if not words:
+                    process.stdout.readline()
+                elif words == ['--profile']:
+                    self.assertTrue(is_at_work(process.pid))
+                else:
+                    self.assertTrue(until(lambda: os.path.exists(path) and os.path.getsize(path) > 1 << 16))
                 os.killpg(process.pid, signal.SIGINT)
-                out, err = process.communicate(timeout=60)
+                out, err = process.communicate(timeout=SECONDS)
             self.assertEqual(process.returncode, 130, err)
+            err = but_progress(err)
             self.assertRegex(err, r'^trace: ended at clock \d+ of 274877906944; .*' + keeps)
             self.assertEqual(err.count('\n'), 1)
             if words == ['--profile']:

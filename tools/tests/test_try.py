@@ -3,13 +3,13 @@ import contextlib
 import io
 import json
 import os
+import re
 import signal
 import subprocess
 import sys
-import time
 import unittest
 
-from tests.support import TOOLS, ToolCase, example
+from tests.support import SECONDS, TOOLS, ToolCase, but_progress, example, is_at_work, until
 
 from toolbox.command import waiting
 
@@ -129,11 +129,10 @@ class Tries(ToolCase):
         self.assertIn('--write', self.tool('try', '--help')[0])
 
     def test_tells_how_far_it_is(self) -> None:
-        with contextlib.redirect_stderr(io.StringIO()) as err, waiting('at work', 0.01) as say:
+        with contextlib.redirect_stderr(io.StringIO()) as err, waiting('at work', 0.2) as say:
             say('half done')
-            time.sleep(0.1)
-        self.assertEqual(err.getvalue(), 'at work: half done, 0 s\n')
-        with contextlib.redirect_stderr(io.StringIO()) as err, waiting('at work'):
+            self.assertTrue(until(lambda: re.search(r'^at work: half done, \d+ s$', err.getvalue(), re.M)))
+        with contextlib.redirect_stderr(io.StringIO()) as err, waiting('at work', SECONDS):
             pass
         self.assertEqual(err.getvalue(), '')
 
@@ -151,10 +150,10 @@ class Tries(ToolCase):
             text=True,
             start_new_session=True,
         ) as process:
-            time.sleep(0.7)
+            self.assertTrue(is_at_work(process.pid))
             os.killpg(process.pid, signal.SIGINT)  # as a terminal does
-            _, err = process.communicate(timeout=10)
-            self.assertEqual((process.returncode, err), (130, ''))
+            _, err = process.communicate(timeout=SECONDS)
+            self.assertEqual((process.returncode, but_progress(err)), (130, ''))
 
 
 if __name__ == '__main__':
