@@ -8,7 +8,7 @@ import time
 import unittest
 from unittest import mock
 
-from tests.support import TOOLS, ToolCase, example
+from tests.support import SECONDS, TOOLS, ToolCase, example, is_at_work
 
 from toolbox.command import Sorry
 from toolbox.listing import Line, Listing, code_of, label_in, line_of
@@ -193,10 +193,10 @@ class Terminal(ToolCase):
         os.close(self.terminal)
         os.waitpid(self.pid, 0)
 
-    def wait_for(self, text: str, meanwhile: bytes = b'', pause: float = 0.5) -> str:
+    def wait_for(self, text: str, meanwhile: bytes = b'', pause: float = 20) -> str:
         """What is shown before a text; while nothing is for so many seconds, something is typed again and again."""
-        until = time.monotonic() + 60
-        while text not in self.shown and time.monotonic() < until:
+        end = time.monotonic() + SECONDS
+        while text not in self.shown and time.monotonic() < end:
             if select.select([self.terminal], [], [], pause)[0]:
                 self.shown += os.read(self.terminal, 4096).decode()
             elif meanwhile:
@@ -206,8 +206,9 @@ class Terminal(ToolCase):
         return before
 
     def say(self, command: str) -> str:
-        """What a command shows."""
+        """What a command shows behind its own line."""
         os.write(self.terminal, f'{command}\n'.encode())
+        self.wait_for(command)
         return self.wait_for('dbg> ').partition('\n')[2].replace('\r', '')
 
     def test_ends_a_run(self) -> None:
@@ -215,7 +216,9 @@ class Terminal(ToolCase):
         before = self.say('to 1000')
         for command, typed in (('go 1000000000000', b'\x03\x03\x03'), ('to 1000000000000', b'\x03'), ('step 1000000000', b'\x03')):
             os.write(self.terminal, f'{command}\n'.encode())
-            self.wait_for('interrupted: the board is at clock 1000, where it was', typed)
+            self.assertTrue(is_at_work(self.pid))
+            os.write(self.terminal, typed)
+            self.wait_for('interrupted: the board is at clock 1000, where it was')
             self.wait_for('dbg> ')
             self.assertEqual((self.say('where'), self.say('stops')), (before, 'stop 1: byte B0000 77\n'))
 
@@ -225,7 +228,7 @@ class Terminal(ToolCase):
         self.wait_for('go 100000')
         os.write(self.terminal, b'\x03')
         # Python's reader of lines sees a control-C late that comes just before it begins to wait.
-        self.wait_for('dbg> ', b'\x03', pause=5)
+        self.wait_for('dbg> ', b'\x03')
         self.assertEqual(self.say('where'), before)
 
 

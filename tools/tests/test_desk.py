@@ -816,7 +816,7 @@ class Boards(Served):
         self.assertEqual((shown['state'], [shown['line']]), ('halted', lines))
 
     def test_how_fast_it_tells_why(self) -> None:
-        """Within 0.3 seconds of processor time, also where the run is long."""
+        """Within a second of processor time, also where the run is long."""
         for source, clocks in ((DARK, 10**6), (DARK, 20_000_000), (DARK, 10**8), (FOREVER, 10**8)):
             board = self.client.ask('open', source=source, run=RUN)['board']
             self.client.ask('go to', board=board, clock=clocks)
@@ -825,7 +825,7 @@ class Boards(Served):
             self.client.ask('why', board=board)
             spent = time.process_time() + sum(os.times()[2:4]) - before
             spent += sum(processor_seconds(it) - started.get(it, 0) for it in children(os.getpid()))
-            self.assertLess(spent, 0.3, clocks)
+            self.assertLess(spent, 1, clocks)
             self.client.ask('close', board=board)
 
     def test_how_fast_it_is(self) -> None:
