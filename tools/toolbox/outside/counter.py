@@ -100,8 +100,8 @@ class Counter:
             self.is_out = False
         self.newest, self.has_count = number, True
         self.is_frozen = self.has('load tick')
-        if self.has('count 1') and self.mode == 2 and number == 1:
-            self.newest = 2
+        if self.has('count 1') and self.mode in (2, 3) and number == 1:
+            self.newest = 2 if self.mode == 2 else 0
         if self.mode == 0:
             self.is_out = False
         if self.mode in (0, 4) or (self.mode in (2, 3) and (self.phase == 0 if self.has('shown at once') else self.is_first)):
@@ -207,6 +207,8 @@ class Counter:
         """A half of mode 3 ends."""
         self.waits, self.is_fresh = False, not self.has('square wave') or (self.is_fresh and self.phase == 3)
         self.load()
+        if self.has('square wave'):
+            self.value &= 0xFFFE
         self.phase = 5 - self.phase if self.has('square wave') else 2
         self.is_out = self.phase == 2 if self.has('square wave') else not self.is_out or self.left == 1
 

@@ -16,7 +16,7 @@ from toolbox.outside.both import RESET
 from toolbox.outside.counter import ALL, CAUSES, Cause, Counter
 
 CASES = f'{TOP}/crates/chip_cases/stdin'
-FARTHEST, LONGEST = 3000, 3000  # ticks ahead of a state, and of a case's own; longer ones are left out
+FARTHEST, LONGEST = 3000, 70_000  # ticks ahead of a state, and of a case's own; longer ones are left out
 SECONDS = 280  # of MAME's time
 IDLE = 'SEGMENT M AT 0F600h\ngo: CLI\n HLT\nENDS\n' + RESET
 
@@ -87,10 +87,14 @@ def case_of(line: str) -> Case:
     return Case(first.strip(), operations, tuple((at, out, count) for at, out, count in states if at <= FARTHEST))
 
 
+def length_of(case: Case) -> int:
+    """The ticks of its operations."""
+    return sum(number for kind, number in case.operations if kind == 'T')
+
+
 def is_fit(case: Case) -> bool:
     """Whether it can be made in MAME: from the mode word on, without a read-back, and not too long."""
-    ticks = sum(number for kind, number in case.operations if kind == 'T')
-    return ticks <= LONGEST and all(kind in 'CWGRT' and not (kind == 'C' and number >= 0xC0) for kind, number in case.operations)
+    return length_of(case) <= LONGEST and all(kind in 'CWGRT' and not (kind == 'C' and number >= 0xC0) for kind, number in case.operations)
 
 
 def cases(seed: int, count: int) -> list[Case]:
