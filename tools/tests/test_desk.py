@@ -643,7 +643,8 @@ class Boards(Served):
         shown = self.client.ask('run', board=board, ms=30)
         self.assertEqual((shown['why'], shown['state']), ('paused', 'running'))
         self.client.ask('go to', board=board, clock=15)
-        for word, fields in (('go to', {'clock': 1 << 40}), ('out', {})):
+        asked: tuple[tuple[str, Fields], ...] = (('go to', {'clock': 1 << 40}), ('out', {}))
+        for word, fields in asked:
             body = json.dumps({'do': word, 'board': board, **fields}).encode()
             answer = json.loads(self.client.request('POST', f'/{self.client.token}/do', body)[1])
             if word == 'go to':  # which isn't over before it is paused

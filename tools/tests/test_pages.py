@@ -6,7 +6,7 @@ import re
 import subprocess
 import unittest
 
-from tests.support import EXAMPLES, TOOLS, TOP, ToolCase
+from tests.support import EXAMPLES, TOOLS, TOP, ToolCase, but_progress
 
 from toolbox.chips import probe
 
@@ -126,9 +126,10 @@ class Pages(ToolCase):
     def shell(self, command: str, typed: str = '', has_probe: bool = False) -> str:
         """What a command prints, on both streams; without the probe, as in a clone where it isn't built."""
         environment = os.environ if has_probe else os.environ | {'PCPROBE': os.devnull}
-        return subprocess.run(
+        ran = subprocess.run(
             command, shell=True, input=typed, stdout=subprocess.PIPE, stderr=subprocess.STDOUT, text=True, cwd=self.room, check=False, env=environment
-        ).stdout
+        )
+        return but_progress(ran.stdout)
 
     def check(self, page: str) -> int:
         """Runs a page's commands, and returns how many there were."""
