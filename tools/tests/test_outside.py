@@ -1,5 +1,5 @@
-"""dev/outside: its models of chips beside this board, what MAME 0.251 answered (stored), and the list of its flaws; MAME itself where
-it is installed."""
+"""dev/outside: its models of chips beside this board, what MAME 0.251, Unicorn 2.0.1 and ndisasm 2.16.01 answered (stored), and the
+lists of what they do otherwise; each of them itself where it is installed."""
 from __future__ import annotations
 
 import json
@@ -10,11 +10,23 @@ from unittest import mock
 from tests.support import STORED, ToolCase
 
 from toolbox.command import Sorry
-from toolbox.outside import both, comparison, controller, instruction_flaws, instructions, mame, port, screens, sequences, timer
+from toolbox.outside import both, comparison, controller, instruction_flaws, instructions, mame, nasm, port, screens, sequences, timer, unicorn, unicorn_flaws
 from toolbox.outside.counter import ALL, CAUSES, Counter
 from toolbox.outside.instruction_flaws import FLAWS, witness
 
 KINDS = (controller.KIND, port.KIND)
+# Instructions beside those in which Unicorn does otherwise; in these it does as this board.
+ALIKE = (
+    witness('ADD', '00 C8', AX=0x12, CX=0x34),
+    witness('DIV', 'F6 F1', AX=100),
+    witness('IDIV', 'F6 F9', AX=0x10000 - 127, CX=1),
+    witness('INT', 'CD 21'),
+    witness('string A4', 'A4', '', 'F3', SI=0x100, DI=0x120, CX=3),
+    witness('AAA', '37', AX=0xF9, BX=3),
+    witness('SHL by CL', 'D3 E0', 'A', AX=0x8001, CX=0),
+    witness('DAS', '2F', 'A', AX=6),
+    witness('PUSH 50', '50', AX=0x1234),
+)
 
 
 class Models(unittest.TestCase):
@@ -140,9 +152,9 @@ class Instructions(unittest.TestCase):
         def difference(case: instructions.Case, *places: str) -> instructions.Difference:
             return instructions.Difference(case, places, b'', b'')
 
-        self.assertEqual(instruction_flaws.unexplained(difference(witness('MUL', 'F6 E1'), 'FL:Z')), frozenset())
-        self.assertEqual(instruction_flaws.unexplained(difference(witness('MUL', 'F6 E1'), 'FL:Z', 'AX')), frozenset(['AX']))
-        self.assertEqual(instruction_flaws.unexplained(difference(witness('ADD', '00 C0'), 'FL:A')), frozenset(['FL:A']))
+        self.assertEqual(instruction_flaws.unexplained(difference(witness('MUL', 'F6 E1'), 'FL:Z'), FLAWS), frozenset())
+        self.assertEqual(instruction_flaws.unexplained(difference(witness('MUL', 'F6 E1'), 'FL:Z', 'AX'), FLAWS), frozenset(['AX']))
+        self.assertEqual(instruction_flaws.unexplained(difference(witness('ADD', '00 C0'), 'FL:A'), FLAWS), frozenset(['FL:A']))
 
     def test_where_blocks_differ(self) -> None:
         here = bytearray(instructions.BLOCK)
@@ -152,8 +164,113 @@ class Instructions(unittest.TestCase):
         self.assertEqual(instructions.places(bytes(here), bytes(there)), ('AX', 'FL:C', 'FL:Z', 'data', 'stack'))
 
 
+class StandIn:
+    """A processor that comes to interrupts at places, one after the other, and then halts."""
+
+    def __init__(self, *met: tuple[int, int, int]) -> None:
+        self.met, self.registers, self.memory = list(met), dict[str, int](), bytearray(unicorn.SIZE)
+
+    def get(self, name: str) -> int:
+        return self.registers.get(name, 0)
+
+    def put(self, name: str, value: int) -> None:
+        self.registers[name] = value
+
+    def read(self, at: int, count: int) -> bytes:
+        return bytes(self.memory[at : at + count])
+
+    def write(self, at: int, octets: bytes) -> None:
+        self.memory[at : at + len(octets)] = octets
+
+    def go(self) -> int:
+        if not self.met:
+            return unicorn.NO_INTERRUPT
+        kind, segment, offset = self.met.pop(0)
+        self.registers |= {'CS': segment, 'IP': offset, 'SS': 0x5000, 'SP': 2, 'FL': 0x0346}
+        return kind
+
+
+class Unicorn(unittest.TestCase):
+    """What it answered, and how an interrupt is entered for it."""
+
+    def test_it_answered_by_the_list(self) -> None:
+        with open(f'{STORED}/unicorn.json', encoding='ascii') as file:
+            stored = json.load(file)
+        made = [*(it.witness for it in unicorn_flaws.FLAWS), *ALIKE]
+        self.assertEqual([row[0] for row in stored], [bytes(it.prefixes + list(it.code)).hex() for it in made])
+        ram = both.run_here(instructions.image_of(made)).ram
+        for at, (case, (_, kept, window)) in enumerate(zip(made, stored)):
+            here = ram[instructions.FIRST + instructions.BLOCK * at :][: instructions.BLOCK]
+            there = bytearray(here)
+            there[instructions.KEPT : instructions.MARK + 1] = bytes.fromhex(kept)
+            there[instructions.WINDOW : instructions.STACK_END - 2] = bytes.fromhex(window)
+            where = instructions.places(here, bytes(there))
+            wanted = unicorn_flaws.FLAWS[at].where if at < len(unicorn_flaws.FLAWS) else frozenset[str]()
+            self.assertTrue(bool(wanted & set(where)) if wanted else not where, (case.name, where))
+            difference = instructions.Difference(case, where, here, bytes(there))
+            self.assertEqual(instruction_flaws.unexplained(difference, unicorn_flaws.FLAWS), frozenset(), case.name)
+
+    def test_each_flaw_holds_for_its_witness_and_not_nearby(self) -> None:
+        for flaw in unicorn_flaws.FLAWS:
+            self.assertTrue(flaw.holds(flaw.witness), flaw.name)
+        for case in ALIKE:
+            held = [it.name for it in unicorn_flaws.FLAWS if it.holds(case) and not it.why.startswith(unicorn_flaws.UNDEFINED)]
+            self.assertEqual(held, [], case.name)
+
+    def test_an_interrupt_is_entered_as_on_an_8086(self) -> None:
+        """Behind the instruction that makes a fault; the stack wraps, and the flags word is pushed with bits 12 to 15 set."""
+        made = [witness('DIV', 'F6 F1')]
+        place, behind = instructions.place_of(0, made[0])
+        image = {0: 0x34, 1: 0x12, 2: 0x00, 3: 0xF7}
+        for offset, wanted in ((place - 0x1000, behind), (7, 7)):
+            it = StandIn((0, 0x100, offset))
+            unicorn.run(it, image, made)
+            self.assertEqual((it.get('CS'), it.get('IP'), it.get('SP'), it.get('FL')), (0xF700, 0x1234, 0xFFFC, 0x0046))
+            self.assertEqual((it.read(0x50000, 2), it.read(0x5FFFC, 4)), (b'\x46\xf3', bytes([wanted, 0, 0x00, 0x01])))
+
+    def test_versions(self) -> None:
+        self.assertEqual((unicorn.version_of(0x020001FF), unicorn.version_of(0x020100FF)), ('2.0.1', '2.1.0'))
+        with mock.patch.dict(os.environ), mock.patch('ctypes.util.find_library', return_value=None):
+            os.environ.pop('UNICORN', None)
+            self.assertIsNone(unicorn.loaded())
+
+
+class Nasm(unittest.TestCase):
+    """Texts, and what ndisasm answered."""
+
+    def test_it_answered_by_the_list(self) -> None:
+        with open(f'{STORED}/ndisasm.json', encoding='ascii') as file:
+            stored = json.load(file)
+        self.assertEqual([row[0] for row in stored[: len(nasm.FLAWS)]], [it.witness.hex() for it in nasm.FLAWS])
+        self.assertGreater(len(stored), 60)
+        for at, (octets, text, length) in enumerate(stored):
+            made = bytes.fromhex(octets)
+            is_alike = nasm.said(*nasm.ours(nasm.SLOT * at, made)) == nasm.said(text, length)
+            self.assertTrue(not is_alike if at < len(nasm.FLAWS) else is_alike or nasm.known(made), (octets, text))
+
+    def test_what_texts_say(self) -> None:
+        for here, there in (
+            ('DS: REP SBB WORD [BP+DI+0FFF0h],00011h', 'rep sbb word [ds:bp+di-0x10],byte +0x11'),
+            ('ADD AX,0FFFEh', 'add ax,byte -0x2'),
+            ('LOCK REPNE ES: JMP WORD [DI]', 'bnd lock jmp [es:di]'),
+            ('CALL FAR 06361h:0E690h', 'call 0x6361:0xe690'),
+            ('XCHG [BX],DL', 'xchg dl,[bx]'),
+            ('JNB 00060h', 'jnc 0x60'),
+        ):
+            self.assertEqual(nasm.said(here, 2), nasm.said(there, 2))
+        for here, there in (
+            ('CALL FAR [BX]', 'call [bx]'),
+            ('MOV AX,BX', 'mov bx,ax'),
+            ('ES: MOV AL,[BX]', 'mov al,[bx]'),
+            ('INC BYTE [BX]', 'inc word [bx]'),
+            ('MOV AX,00010h', 'mov ax,10'),
+        ):
+            self.assertNotEqual(nasm.said(here, 2), nasm.said(there, 2))
+        self.assertNotEqual(nasm.said('NOP', 1), nasm.said('nop', 2))
+
+
 class Outside(ToolCase):
-    """The command, and what it knows of a MAME."""
+    """The command, and what it knows of the others."""
 
     def test_refusals(self) -> None:
         with mock.patch.dict(os.environ, {'MAME': f'{self.room}/none'}):
@@ -161,6 +278,7 @@ class Outside(ToolCase):
         for words, wanted in (
             (['bochs'], 'bochs is none of them'),
             (['mame', '--only', 'x'], 'x is no part'),
+            (['unicorn', '--only', 'port'], '--only goes with mame'),
             (['mame', '--seed', '-1'], '-1 is no seed'),
             (['mame', '--seed', 'x'], 'x is no seed'),
             (['mame', '--count', '0'], '0 is no number of cases'),
@@ -170,13 +288,27 @@ class Outside(ToolCase):
             os.environ.pop('MAME', None)
             self.assertIsNone(mame.path())
 
+    def test_what_isnt_there(self) -> None:
+        with mock.patch.dict(os.environ, {'UNICORN': f'{self.room}/none', 'NDISASM': f'{self.room}/none'}):
+            self.assertIn("can't be loaded as Unicorn", self.tool('dev/outside', 'unicorn', status=2)[1])
+            self.assertIn("can't be started", self.tool('dev/outside', 'nasm', status=2)[1])
+        with mock.patch.dict(os.environ, {'PATH': self.room}):
+            os.environ.pop('NDISASM', None)
+            self.assertIn(nasm.PACKAGE, self.tool('dev/outside', 'nasm', status=2)[1])
+
     def test_another_version_is_told(self) -> None:
-        """A MAME that leaves no answer, too."""
+        """A program that leaves no answer, too."""
+        other = self.file('ndisasm', '#!/bin/sh\n[ "$1" = -v ] && echo "NDISASM version 3.00 compiled on a day"\n')
+        os.chmod(other, 0o755)
+        with mock.patch.dict(os.environ, {'NDISASM': other}):
+            out, err = self.tool('dev/outside', 'nasm', '--seed', '7', status=2)
+        self.assertEqual(out.splitlines(), ['ndisasm 3.00, seed 7', 'what is listed is of 2.16.01'])
+        self.assertIn('tells nothing', err)
         other = self.file('mame', '#!/bin/sh\n[ "$1" = -version ] && echo "0.299 (unknown)"\n')
         os.chmod(other, 0o755)
         with mock.patch.dict(os.environ, {'MAME': other}):
             out, err = self.tool('dev/outside', 'mame', '--only', 'port', '--seed', '7', status=2)
-        self.assertEqual(out.splitlines()[:2], ['MAME 0.299, seed 7', 'the flaws that are listed are those of 0.251'])
+        self.assertEqual(out.splitlines()[:2], ['MAME 0.299, seed 7', 'what is listed is of 0.251'])
         self.assertIn('MAME left no answer', err)
 
     def test_hex_and_roms(self) -> None:
@@ -200,6 +332,22 @@ class Outside(ToolCase):
     def test_every_example_is_compared_or_named(self) -> None:
         self.assertLess(set(screens.EXCEPTIONS), set(screens.names()))
         self.assertIn('moments/turns', screens.names())
+
+    def test_with_unicorn(self) -> None:
+        library = unicorn.loaded()
+        if library is None or unicorn.version(library) != unicorn.VERSION:
+            print(f'not run: dev/outside unicorn; {unicorn.PACKAGE} ({unicorn.VERSION})', flush=True)
+            return
+        out, _ = self.tool('dev/outside', 'unicorn', '--count', '400', '--seed', '1')
+        self.assertEqual((out.splitlines()[0], out.count('0 of them by nothing')), (f'Unicorn {unicorn.VERSION}, seed 1', 1), out)
+
+    def test_with_nasm(self) -> None:
+        program = nasm.path()
+        if program is None or nasm.version(program) != nasm.VERSION:
+            print(f'not run: dev/outside nasm; {nasm.PACKAGE} ({nasm.VERSION})', flush=True)
+            return
+        out, _ = self.tool('dev/outside', 'nasm', '--count', '60', '--seed', '1')
+        self.assertEqual((out.splitlines()[0], out.count('0 of them by nothing')), (f'ndisasm {nasm.VERSION}, seed 1', 1), out)
 
     def test_with_mame(self) -> None:
         program = mame.path()

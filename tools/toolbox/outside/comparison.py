@@ -1,11 +1,15 @@
-"""MAME's 5150 beside the board, part by part: what is compared, and what is told of it."""
+"""MAME's 5150 beside the board, part by part; Unicorn and ndisasm beside its processor: what is compared, and what is told of it."""
 from __future__ import annotations
 
 from collections import Counter
+from collections.abc import Callable
 
 from toolbox.command import waiting
-from toolbox.outside import controller, instruction_flaws, instructions, port, screens, sequences, timer
+from toolbox.outside import both, controller, instruction_flaws, instructions, nasm, port, screens, sequences, timer, unicorn, unicorn_flaws
 from toolbox.outside.counter import CAUSES
+from toolbox.outside.instruction_flaws import Flaw
+from toolbox.outside.instructions import Case
+from toolbox.outside.mame import Answer, Image
 from toolbox.outside.sequences import Kind
 
 SHOWN = 10  # differences that are told in full
@@ -27,20 +31,49 @@ def of_screens(program: str, _seed: int, _count: int) -> bool:
 
 
 def of_instructions(program: str, seed: int, count: int) -> bool:
+    """Random instructions on MAME's processor."""
+    return instructions_alike('MAME', lambda image, _: both.run_there(program, image), instruction_flaws.FLAWS, instructions.cases(seed, count))
+
+
+def instructions_alike(name: str, run_there: Callable[[Image, list[Case]], Answer], flaws: tuple[Flaw, ...], random_cases: list[Case]) -> bool:
     """Random instructions, and the witnesses of what is listed."""
-    flaws = instruction_flaws.FLAWS
-    made = [it.witness for it in flaws] + instructions.cases(seed, count)
-    found = instructions.differences(program, made)
-    strange = [it for it in found if instruction_flaws.unexplained(it)]
+    made = [it.witness for it in flaws] + random_cases
+    found = instructions.differences(name, run_there, made)
+    strange = [it for it in found if instruction_flaws.unexplained(it, flaws)]
     for it in strange[:SHOWN]:
         told(f'  {it.case.name}: {bytes(it.case.prefixes + list(it.case.code)).hex(" ").upper()} differs in {", ".join(it.places)}')
         told(f'    found {values(it.case.registers)} FL={it.case.flags | 0xF002:04X} SP={it.case.stack:04X}')
         told(f'    here  {values(instructions.registers_in(it.here))}')
-        told(f'    MAME  {values(instructions.registers_in(it.there))}')
+        told(f'    {name:5} {values(instructions.registers_in(it.there))}')
     shown = Counter(flaw.name for it in found for flaw in flaws if flaw.holds(it.case) and flaw.where & set(it.places))
     gone = [it.name for it in flaws if not any(it.witness is that.case for that in found)]
     told(f'  {len(made):,} cases, {len(found):,} differ, {len(strange):,} of them by nothing that is listed')
     tell_flaws([(it.name, it.why, shown[it.name]) for it in flaws], gone)
+    return not strange and not gone
+
+
+def of_unicorn(library: unicorn.Library, seed: int, count: int) -> bool:
+    """Random instructions on Unicorn."""
+
+    def run_there(image: Image, made: list[Case]) -> Answer:
+        with unicorn.processor(library) as it:
+            return unicorn.run(it, image, made)
+
+    return instructions_alike('Unicorn', run_there, unicorn_flaws.FLAWS, unicorn.cases(seed, count))
+
+
+def of_texts(program: str, seed: int, count: int) -> bool:
+    """The texts of random instructions, and of the witnesses of what is listed, by ndisasm."""
+    made = [it.witness for it in nasm.FLAWS] + nasm.cases(seed, count)
+    found = nasm.differences(program, made)
+    strange = [it for it in found if not nasm.known(it.octets)]
+    for it in strange[:SHOWN]:
+        told(f'  {it.octets.hex(" ").upper()} is {it.here} here, and {it.there} there')
+    shown = Counter(name for it in found for name in nasm.known(it.octets))
+    different = {it.octets for it in found}
+    gone = [it.name for it in nasm.FLAWS if it.witness not in different]
+    told(f'  {len(made):,} instructions, {len(found):,} differ, {len(strange):,} of them by nothing that is listed')
+    tell_flaws([(it.name, it.why, shown[it.name]) for it in nasm.FLAWS], gone)
     return not strange and not gone
 
 

@@ -190,7 +190,7 @@ FLAWS = (
 )
 
 
-def unexplained(difference: Difference) -> frozenset[str]:
-    """Where a case differs by no flaw that holds for it."""
-    known = (it.where for it in FLAWS if it.holds(difference.case))
+def unexplained(difference: Difference, flaws: tuple[Flaw, ...]) -> frozenset[str]:
+    """Where a case differs by none of these that holds for it."""
+    known = (it.where for it in flaws if it.holds(difference.case))
     return frozenset(difference.places).difference(*known)

@@ -3,13 +3,14 @@ keeps them, and a window of data with the stack. Both sides run all blocks, and 
 from __future__ import annotations
 
 import random
+from collections.abc import Callable
 from dataclasses import dataclass, field
 from typing import NamedTuple
 
 from toolbox.command import Sorry
 from toolbox.outside import both, mame
 from toolbox.outside.both import RESET, with_bytes, word
-from toolbox.outside.mame import Image
+from toolbox.outside.mame import Answer, Image
 
 BLOCK, FIRST, MOST = 512, 0x1000, 1250  # bytes of a block; where the first stands; so many have room
 KEPT, MARK, WINDOW = 0xA0, 0xC0, 0x100  # of a block: registers, whether a transfer was made or an interrupt entered, data
@@ -310,6 +311,13 @@ def image_of(cases: list[Case]) -> Image:
     return image
 
 
+def place_of(at: int, case: Case) -> tuple[int, int]:
+    """Of a case of an image: the address of its instruction, and the offset behind it in its block."""
+    paragraph = (FIRST + BLOCK * at) >> 4
+    first = len(begun(case, paragraph))
+    return 16 * paragraph + first, first + len(case.prefixes) + len(case.code)
+
+
 class Difference(NamedTuple):
     """A case of which both sides leave something else, and where: registers, `FL:` with a flag, `mark`, `data`, `stack`, `code`."""
 
@@ -333,18 +341,18 @@ def places(here: bytes, there: bytes) -> tuple[str, ...]:
     return (*found, *(name for name, (first, end) in parts.items() if here[first:end] != there[first:end]))
 
 
-def differences(program: str, made: list[Case]) -> list[Difference]:
-    """Where both sides differ."""
+def differences(name: str, run_there: Callable[[Image, list[Case]], Answer], made: list[Case]) -> list[Difference]:
+    """Where both sides differ. The other side's name is told if it goes astray."""
     found = list[Difference]()
     for first in range(0, len(made), MOST):
         some = made[first : first + MOST]
         image = image_of(some)
-        here, there = both.run_here(image), both.run_there(program, image)
+        here, there = both.run_here(image), run_there(image, some)
         if here.place != there.place:
-            raise Sorry(f'MAME went astray: it halted at {there.place[0]:04X}:{there.place[1]:04X}')
+            raise Sorry(f'{name} went astray: it halted at {there.place[0]:04X}:{there.place[1]:04X}')
         blocks = ((it, FIRST + BLOCK * at) for at, it in enumerate(some))
         pairs = ((it, here.ram[at : at + BLOCK], there.ram[at : at + BLOCK]) for it, at in blocks)
-        found += [Difference(it, places(mine, theirs), mine, theirs) for it, mine, theirs in pairs if mine != theirs]
+        found += [Difference(it, where, mine, theirs) for it, mine, theirs in pairs if (where := places(mine, theirs))]
     return found
 
 
