@@ -7,6 +7,7 @@ Before each program a .COM program clears the screen, with mode 7 of a Hercules 
 it one writes text memory to a file."""
 from __future__ import annotations
 
+import functools
 import json
 import os
 import re
@@ -15,8 +16,9 @@ import subprocess
 import sys
 import tempfile
 
-from tests.support import EXAMPLES, STORED
+from tests.support import EXAMPLES, SECONDS, STORED
 
+from toolbox.command import Sorry
 from toolbox.guests import Guest, compiled
 from toolbox.program import answer_of
 from toolbox.scancodes import SIGNS
@@ -24,7 +26,6 @@ from toolbox.symbols import image_of
 
 BOOKS, KEPT = f'{EXAMPLES}/books', f'{STORED}/books.json'
 COMPILERS = {'.nasm': 'nasm', '.c': 'bcc'}
-SECONDS = 120
 # What is typed at each; 15 keys at most, as the BIOS's buffer holds. `tail` is given a command's tail.
 KEYS = {
     'reverse': 'Madam, I am{enter}',
@@ -75,6 +76,20 @@ SPECIAL |= {'{up}': 0x4800, '{left}': 0x4B00, '{right}': 0x4D00, '{down}': 0x500
 def names() -> list[str]:
     """The programs, by their files' names."""
     return sorted(it for it in os.listdir(BOOKS) if os.path.splitext(it)[1] in ('.asm', *COMPILERS))
+
+
+@functools.cache
+def has_bcc() -> bool:
+    """Whether bcc is there, with its library. If it isn't, that is told, once."""
+    with tempfile.TemporaryDirectory() as room:
+        with open(f'{room}/it.c', 'w', encoding='ascii') as file:
+            file.write('int main() { return 0; }\n')
+        try:
+            compiled(Guest(file.name, compiler='bcc'), room)
+        except Sorry as sorry:
+            print(f'not run: what bcc makes; {sorry}', flush=True)
+            return False
+    return True
 
 
 def com_of(name: str, room: str) -> bytes:

@@ -8,7 +8,7 @@ import subprocess
 import unittest
 
 from tests import dosbox
-from tests.support import ToolCase, is_there
+from tests.support import SECONDS, ToolCase, is_there
 
 from toolbox.guests import Guest, prepared
 from toolbox.nowhere import told_of
@@ -24,11 +24,11 @@ class Books(ToolCase):
     """Over the built program, and DOSBox where it is installed."""
 
     def com(self, name: str) -> bytes | None:
-        """A program's bytes, of NASM's as they are stored; nothing of a C source without bcc."""
+        """A program's bytes, of NASM's as they are stored; nothing of a C source without bcc and its library."""
         stored = dosbox.kept()[name].get('bytes')
         if isinstance(stored, str):
             return bytes.fromhex(stored)
-        if name.endswith('.c') and not shutil.which('bcc'):
+        if name.endswith('.c') and not dosbox.has_bcc():
             return None
         return dosbox.com_of(name, self.room)
 
@@ -58,7 +58,6 @@ class Books(ToolCase):
         return [text[it : it + 80].replace('\0', ' ').rstrip() for it in range(0, 2000, 80)]
 
     def test_each_screen_is_that_of_dosbox(self) -> None:
-        is_there('bcc', 'the C sources of examples/books', 'bcc elks-libc')
         for name, stored in dosbox.kept().items():
             guest = self.guest_of(name)
             if guest:
@@ -149,7 +148,7 @@ class Sectors(ToolCase):
         rc = self.file('bochsrc', BOCHS.format(image=image))
         commands = self.file('commands', 'sb 60000000\nc\nx /2000hx 0xb8000\nq\n')
         ran = subprocess.run(
-            ['bochs', '-q', '-f', rc, '-rc', commands], stdin=subprocess.DEVNULL, capture_output=True, text=True, errors='replace', timeout=60, check=False
+            ['bochs', '-q', '-f', rc, '-rc', commands], stdin=subprocess.DEVNULL, capture_output=True, text=True, errors='replace', timeout=SECONDS, check=False
         )
         rows = [it for it in ran.stdout.splitlines() if it.startswith('0x00000000000b8')]
         text = ''.join(chr(int(it, 16) & 0xFF) for row in rows for it in re.findall(r'\t0x([0-9a-f]{4})', row))

@@ -9,7 +9,7 @@ import shutil
 import subprocess
 import unittest
 
-from tests.support import EXAMPLES, TOOLS, TOP, ToolCase, example
+from tests.support import EXAMPLES, SECONDS, TOOLS, TOP, ToolCase, example
 
 from toolbox.hints import STATEMENTS, WORDS
 from toolbox.program import Files, Session
@@ -28,7 +28,7 @@ def batch(room: str, *words: str) -> list[str]:
     """What Emacs prints, with a home of its own."""
     os.makedirs(f'{room}/tmp')
     done = subprocess.run(
-        ['emacs', '--batch', *words], capture_output=True, text=True, check=False, timeout=300, env=os.environ | {'HOME': room, 'TMPDIR': f'{room}/tmp'}
+        ['emacs', '--batch', *words], capture_output=True, text=True, check=False, timeout=SECONDS, env=os.environ | {'HOME': room, 'TMPDIR': f'{room}/tmp'}
     )
     assert done.returncode == 0, done.stderr
     return done.stdout.splitlines()
@@ -118,7 +118,7 @@ class Editors(ToolCase):
         if shutil.which('vim'):
             self.file('it.vim', f"let &makeprg = '{TOOLS}/why --lines %'\nsilent! make\ncall writefile(map(getqflist(), 'v:val.lnum'), 'found')\nqa!\n")
             subprocess.run(
-                ['vim', '-u', 'NONE', '-es', '-S', 'it.vim', source], cwd=self.room, stdin=subprocess.DEVNULL, capture_output=True, check=False, timeout=100
+                ['vim', '-u', 'NONE', '-es', '-S', 'it.vim', source], cwd=self.room, stdin=subprocess.DEVNULL, capture_output=True, check=False, timeout=SECONDS
             )
             with open(f'{self.room}/found', encoding='ascii') as file:
                 self.assertEqual(file.read().split(), ['3', '4'])
@@ -158,7 +158,7 @@ class Editors(ToolCase):
             capture_output=True,
             text=True,
             check=False,
-            timeout=100,
+            timeout=SECONDS,
         )
         with open(f'{self.room}/found', encoding='utf-8') as file:
             self.assertEqual(json.load(file), [f'{TOP}/tools/dap', 'zebludor', [3, 4]], done.stderr)

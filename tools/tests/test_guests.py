@@ -7,7 +7,9 @@ import struct
 import subprocess
 import sys
 import unittest
+from unittest import mock
 
+from tests import dosbox
 from tests.support import TOOLS, ToolCase, example, is_there
 
 from toolbox import loading, program
@@ -302,7 +304,7 @@ class Compiled(ToolCase):
 
     def test_bcc(self) -> None:
         path = self.file('it.c', 'main(argc, argv) int argc; char **argv; { printf("%s %d\\n", argv[1], argc); return 5; }\n')
-        if not is_there('bcc', 'tools/try --bcc', 'bcc elks-libc'):
+        if not dosbox.has_bcc():
             return
         out, _ = self.tool('try', '--bcc', path, '--args', 'one two')
         self.assertRegex(out, r'^one 3\n\(ended with exit code 5, at clock [\d,]+\)\n\Z')
@@ -310,17 +312,11 @@ class Compiled(ToolCase):
 
     def test_they_are_missing(self) -> None:
         path = self.file('it.asm', 'nop\n')
-        for name in ('nasm', 'bcc'):
-            ran = subprocess.run(
-                [sys.executable, '-S', f'{TOOLS}/try', f'--{name}', path],
-                env=os.environ | {'PATH': self.room, 'PCBOARD': program.path()},
-                capture_output=True,
-                text=True,
-                check=False,
-            )
-            self.assertEqual(ran.returncode, 2)
-            self.assertIn(f"{name} isn't there; install it (Debian: apt-get install", ran.stderr)
-            self.assertNotIn('Traceback', ran.stderr)
+        with mock.patch.dict(os.environ, {'PATH': self.room, 'PCBOARD': program.path()}):
+            for name in ('nasm', 'bcc'):
+                self.assertIn(f"{name} isn't there; install it (Debian: apt-get install {name}", self.tool('try', f'--{name}', path, status=2)[1])
+            os.chmod(self.file('bcc', '#!/bin/sh\necho "ld86: cannot open input file crt0.o" >&2\nexit 1\n'), 0o755)
+            self.assertIn('install it (Debian: apt-get install bcc elks-libc)', self.tool('try', '--bcc', path, status=2)[1])
 
 
 if __name__ == '__main__':

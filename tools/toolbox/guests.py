@@ -20,7 +20,8 @@ from toolbox.runfile import DEFAULTS, read_run_file, text_of
 from toolbox.services import MOST_RAM
 
 BINARIES = ('.com', '.exe', '.bin')
-COMPILERS = {'nasm': ('nasm', 'nasm'), 'bcc': ('bcc', 'bcc')}  # the command, and Debian's package
+COMPILERS = {'nasm': ('nasm', 'nasm'), 'bcc': ('bcc', 'bcc elks-libc')}  # the command, and Debian's packages
+FIRST_OF_BCC = 'crt0.o'  # what stands before a program, of bcc's library
 LONGEST = 1 << 20
 
 
@@ -121,6 +122,8 @@ def compiled(guest: Guest, room: str) -> str:
         raise Sorry(f"{command} isn't there; install it (Debian: apt-get install {package})") from None
     told = (ran.stdout + ran.stderr).strip()
     if ran.returncode or not os.path.isfile(made):
+        if FIRST_OF_BCC in told:
+            raise Sorry(f'{command} has no library to link programs with; install it (Debian: apt-get install {package})')
         raise Sorry(f'{command} refuses {guest.file}:\n{told or f"status {ran.returncode}"}')
     if told:
         print(told, file=sys.stderr)
