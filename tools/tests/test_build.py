@@ -8,11 +8,10 @@ import shlex
 import shutil
 import signal
 import subprocess
-import time
 import unittest
 
 from tests.repository import Repository
-from tests.support import TOP
+from tests.support import SECONDS, TOP, until
 from toolbox import building, sources
 from toolbox.crates import Crates
 
@@ -216,19 +215,16 @@ class Build(Repository):
         self.assertEqual((closed.returncode, closed.stdout), (1, b''))
 
     def test_signals_reach_the_program_and_it_never_outlives_the_launcher(self) -> None:
-        self.stand_in('echo $$; exec sleep 100')
+        self.stand_in('echo $$; exec sleep 6000')
         for number in (signal.SIGTERM, signal.SIGINT, signal.SIGHUP, signal.SIGKILL):
             words = ['env', '--default-signal=TERM,INT,HUP', f'{self.room}/top/pcboard', 'run']  # also where nohup runs the tests
             with subprocess.Popen(words, stdin=subprocess.DEVNULL, stdout=subprocess.PIPE, text=True) as process:
                 assert process.stdout
                 program = int(process.stdout.readline())
                 process.send_signal(number)
-                self.assertEqual(process.wait(timeout=60), -number)
+                self.assertEqual(process.wait(timeout=SECONDS), -number)
                 self.assertEqual(process.stdout.read(), '')  # no one has it open any more, so the program has ended too
-            until = time.monotonic() + 60
-            while is_running(program) and time.monotonic() < until:  # it closes its files a little before its end
-                time.sleep(0.01)
-            self.assertFalse(is_running(program))
+            self.assertTrue(until(lambda: not is_running(program)))  # it closes its files a little before its end
 
     def test_a_crate_that_fails_is_told(self) -> None:
         os.chmod(self.file('bin/rattle', '#!/bin/sh\necho "not proved: $PWD"\nexit 1\n'), 0o755)
@@ -257,4 +253,4 @@ class Build(Repository):
             progress.stay_in_touch(['isa', 'board'])
             progress.told -= building.QUIET_SECONDS
             progress.stay_in_touch(['isa', 'board'])
-        self.assertEqual(told.getvalue(), 'pcboard: proving board, isa; 0 of 37 crates, 0 s so far\n')
+        self.assertRegex(told.getvalue(), r'\Apcboard: proving board, isa; 0 of 37 crates, \d+ s so far\n\Z')

@@ -13,7 +13,7 @@ from typing import Any
 
 from tests import test_desk
 from tests.browser import CONTROL, Browser, path
-from tests.support import ToolCase
+from tests.support import SECONDS, ToolCase
 from tests.test_desk import FOREVER, RUN, Fields
 from tests.test_desk_page import Page
 from tests.test_writing import full_disk
@@ -179,7 +179,7 @@ class Drafts(test_desk.Served):
         self.assertEqual([stat.S_IMODE(os.stat(self.drafts).st_mode), len(os.listdir(self.drafts))], [0o700, 1])
         offered = self.client.ask('hello')['drafts']
         self.assertEqual([(it['id'], it['name'], it['lines'], it['given']) for it in offered], [('page-one-1', 'x.asm', 9, False)])
-        self.assertLess(abs(offered[0]['time'] - time.time()), 60)
+        self.assertLess(abs(offered[0]['time'] - time.time()), SECONDS)
         found = self.client.ask('draft', id='page-one-1', given=False, source=FOREVER)
         self.assertEqual((found['source'], found['run'], found['stops']), (LATER, RUN, [':3']))
         self.assertEqual([it for it in found['difference'][2:] if it[0] in '+-'], ['-deep:   INC AX', '+deep:   DEC AX'])
@@ -244,13 +244,13 @@ class Killed(test_desk.Begun):
         for text in (FOREVER + ';', FOREVER + '; x'):
             self.assertEqual(client.ask('keep draft', source=text, **fields), {})
         process.kill()
-        process.communicate(timeout=20)
+        process.communicate(timeout=SECONDS)
         other, client = self.begin(source)
         answer = client.ask('hello')
         self.assertEqual((answer['given']['source'], [it['id'] for it in answer['drafts']]), (FOREVER, ['page-one-1']))
         self.assertEqual(client.ask('draft', id='page-one-1', given=True, source='')['source'], FOREVER + '; x')
         other.send_signal(signal.SIGINT)
-        other.communicate(timeout=20)
+        other.communicate(timeout=SECONDS)
 
 
 class OnThePage(ToolCase):
