@@ -948,7 +948,8 @@ class OnePage(ToolCase):
         # Who leaves the page ends its board.
         page.browser.run('onbeforeunload=null')
         page.browser.open('about:blank')
-        self.assertTrue(until(lambda: not children(page.desk.pid)))
+        desk = page.desk.pid
+        self.assertTrue(until(lambda: not children(desk)))
 
 
 WINDOWS = {'wide-light': (1280, 720, False), 'wide-dark': (1280, 720, True), 'narrow-light': (390, 800, False), 'narrow-dark': (390, 800, True)}
