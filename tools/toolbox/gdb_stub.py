@@ -4,10 +4,11 @@ from __future__ import annotations
 import re
 
 from toolbox.command import Sorry
-from toolbox.gdb_board import MEMORY, MOST_STOPS, Board, Met, far_of_address
+from toolbox.gdb_board import MEMORY, Board, Met, far_of_address
 from toolbox.gdb_frames import Frames
 from toolbox.gdb_wire import MOST_BYTES, Wire
 from toolbox.listing import Listing, physical
+from toolbox.session_board import MOST_STOPS, Gone, Paused, break_at
 
 # The order of the `g` packet. Those that point into a segment are told as physical addresses, so that gdb finds code and stack.
 NAMES = ('AX', 'CX', 'DX', 'BX', 'SP', 'BP', 'SI', 'DI', 'IP', 'FL', 'CS', 'SS', 'DS', 'ES')
@@ -35,7 +36,12 @@ class Stub:
         self._frames = Frames(board.dump)
         self._has_ended, self._last, self._state = False, 'S05', 'running'
         self._can_name_breaks = False
-        board.is_interrupted = wire.is_interrupted
+        board.poll = self._poll
+
+    def _poll(self) -> None:
+        """Between the pieces of a run: an interrupt ends it."""
+        if self._wire.is_interrupted():
+            raise Paused('interrupted')
 
     def serve(self) -> None:
         """Answers until the client goes, or the board has died, which it is told."""
@@ -44,15 +50,15 @@ class Stub:
             try:
                 answer = self.answer(request)
             except Sorry as sorry:
-                answer = self._sorry(request, str(sorry))
+                answer = self._sorry(request, sorry)
             self._wire.send(answer)
             if request == 'QStartNoAckMode':
                 self._wire.has_acknowledgements = False
 
-    def _sorry(self, request: str, text: str) -> str:
+    def _sorry(self, request: str, sorry: Sorry) -> str:
         """The answer where the board gave none. One that has died has no more to say."""
-        text = re.sub(r'[^ -~]|[$#}*]', ' ', text)
-        if not self._board.is_alive:
+        text = re.sub(r'[^ -~]|[$#}*]', ' ', str(sorry))
+        if isinstance(sorry, Gone):
             self._has_ended = True
             if self._is_run(request):
                 self.tell('the board has died: its process was ended from outside')
@@ -148,7 +154,7 @@ class Stub:
             segment, offset, is_known = far_of_address(self._listing, address, self._board.registers()['CS'])
             if address in self._frames.returns:
                 (segment, offset), is_known = self._frames.returns[address], True
-            found.append(f'break {segment:X}:{offset:X}')
+            found.append(break_at((segment, offset)))
             if not is_known and address not in self._told:
                 self._told.add(address)
                 self.tell(f'breakpoint at {address:05x}: where CS:IP is {segment:04X}:{offset:04X}; by another CS it is passed')
@@ -174,7 +180,7 @@ class Stub:
             met = self._board.wake(self._breaks())
             self._state = 'running'
             return self._stopped(TRAP) if met.how == 'woken' else self._ended(met, before)
-        self._board.step()
+        self._board.one('step')
         is_clock = self._board.clock == before + 1
         state = self._board.state() if is_clock else 'halted' if self._board.is_halted else 'running'
         if state not in ('running', self._state):
@@ -237,7 +243,7 @@ class Stub:
                 self._board.go_to(here)
                 return 'fault 54 BeforeStart'
             return self._answered(met)
-        return self._board.one(' '.join(words))
+        return self._board.answer(' '.join(words))
 
     def _answered(self, met: Met) -> str:
         """A run's end, as the debugger tells it."""

@@ -10,8 +10,13 @@ from toolbox.program import Files, Session
 SHORT_WAIT, POLLED_EACH = 0.5, 0.1  # seconds of a way back
 GIVEN_STILL = 1  # seconds in which a spare session may still come to the clock
 FIRST_PIECE = 1 << 20
-LEAST_SECONDS, MOST_SECONDS = 0.15, 0.5  # of a piece of the spare session's run
+LEAST_SECONDS, MOST_SECONDS = 0.05, 0.2  # of a run's piece
 S = TypeVar('S', bound=Session)
+
+
+def paced(piece: int, seconds: float) -> int:
+    """How many clocks a run's next piece has, after one that took so long."""
+    return piece * 2 if seconds < LEAST_SECONDS else max(1, piece // 2) if seconds > MOST_SECONDS else piece
 
 
 class Spare:
@@ -30,8 +35,7 @@ class Spare:
         """Whether it stands there. Else it goes on for so many seconds at most, with the next piece where one is over."""
         if not self.session.is_idle and self.session.is_answered(seconds):
             self.session.rest()
-            took = time.monotonic() - self._begun
-            self._piece = self._piece * 2 if took < LEAST_SECONDS else max(1, self._piece // 2) if took > MOST_SECONDS else self._piece
+            self._piece = paced(self._piece, time.monotonic() - self._begun)
             if self.session.clock < self.clock:
                 self._begin()
         return self.session.clock == self.clock

@@ -1,0 +1,288 @@
+"""The board at a clock, over sessions of `pcboard debug`: what tools/dbg, tools/gdb, editors and the desk share of stops, ways to a
+clock, and beginnings anew. It decides nothing: each place is that of a session."""
+from __future__ import annotations
+
+import time
+from typing import Callable, Collection, Iterable, TypeVar
+
+from toolbox.command import Sorry
+from toolbox.listing import physical
+from toolbox.places import Event, event_of, operation_of
+from toolbox.program import CLOCKS_OF_A_TRAIL, LAST_CLOCK, Files, Session
+from toolbox.report import registers_of
+from toolbox.returns import Far
+from toolbox.way_back import last_stop, paced
+
+MOST_STOPS = 16
+MOST_PASSED = 64  # stops that nobody wants any more, before a session without them is begun
+FIRST_PIECE = 1 << 16
+BEFORE_START = 'fault 54 BeforeStart'
+T = TypeVar('T')
+
+
+class Gone(Sorry):
+    """The session's process has ended by itself."""
+
+
+class Paused(Sorry):
+    """The run is to end where it is."""
+
+
+class Left(Paused):
+    """The client has left."""
+
+
+def refused(answer: str) -> str:
+    """An answer that isn't a refusal, but for one that is expected."""
+    if answer.startswith('fault') and answer != BEFORE_START:
+        raise Sorry(f'the debugger refuses: {answer}')
+    return answer
+
+
+def break_at(place: Far) -> str:
+    """The stop at which the processor is free at a CS:IP."""
+    return 'break {:X}:{:X}'.format(*place)
+
+
+def place_of(stop: str) -> Far | None:
+    """Its CS:IP, or none of a stop of another kind."""
+    word, _, place = stop.partition(' ')
+    segment, _, offset = place.partition(':')
+    return (int(segment, 16), int(offset, 16)) if word == 'break' else None
+
+
+class SessionBoard:
+    """A board. A stop is the debugger's command that sets it. Those of a session can't be taken out: places that nobody wants any
+    more are passed, and where they are many, or the sixteen used up, a session is begun anew. `poll` is called between the pieces
+    of a run, and raises Paused to end it."""
+
+    def __init__(self, files: Files, budget: int, poll: Callable[[], None] = lambda: None) -> None:
+        self.files, self.budget, self.poll = files, budget, poll
+        self._stops, self._piece = list[str](), FIRST_PIECE
+        # The registers and the trail are asked for once at each clock: what a board holds there is determined.
+        self._registers, self._trail = (-1, dict[str, int]()), (-1, list[Event]())
+        self._session = Session(files)
+        try:
+            self._session.many('regs')
+        except BaseException:
+            self._session.close()
+            raise
+
+    @property
+    def clock(self) -> int:
+        """Where the board stands."""
+        return self._session.clock
+
+    def close(self) -> None:
+        """Ends the session."""
+        self._session.close()
+
+    # Questions
+
+    def _talk(self, ask: Callable[[], T]) -> T:
+        """What the session answers, unless its process has ended."""
+        try:
+            return ask()
+        except Paused:
+            raise
+        except (Sorry, OSError) as error:
+            raise Gone(f"the board's process has ended: {error}") from None
+
+    def answer(self, command: str) -> str:
+        """The line that answers a command, a refusal too."""
+        return self._talk(lambda: self._session.one(command))
+
+    def one(self, command: str) -> str:
+        """The line that answers a command; a refusal, but for one that is expected, as a sentence."""
+        return refused(self.answer(command))
+
+    def many(self, command: str) -> list[str]:
+        """The lines that answer a command. On a long way back the session answers nothing else."""
+        if not self._session.is_idle:
+            raise Sorry('the board goes back; pause first')
+        return self._talk(lambda: self._session.many(command))
+
+    def dump(self, address: int, count: int) -> bytes:
+        """Bytes from a physical address on, as many as there are."""
+        return self._talk(lambda: self._session.dump(address, count))
+
+    def registers(self) -> dict[str, int]:
+        """The registers."""
+        if self._registers[0] != self.clock:
+            self._registers = self.clock, registers_of(self.many('regs'))
+        return self._registers[1]
+
+    def place(self) -> Far:
+        """CS and IP."""
+        registers = self.registers()
+        return registers['CS'], registers['IP']
+
+    def trail(self) -> list[Event]:
+        """The last instruction starts and entries."""
+        if self._trail[0] != self.clock:
+            self._trail = self.clock, [event_of(it) for it in self.many('trail')]
+        return self._trail[1]
+
+    @property
+    def is_halted(self) -> bool:
+        """Whether the processor is halted, behind its HLT: nothing comes then but an interrupt, which would be in the trail."""
+        last = self.trail()[-1] if self.trail() else None
+        return bool(
+            last
+            and last.entry is None
+            and operation_of(last.text) == 'HLT'
+            and (last.segment, (last.offset + len(last.octets)) % 0x10000) == self.place()
+            and self.clock > last.clock + 1
+        )
+
+    def state(self) -> str:
+        """Running, halted or jammed. A jammed processor steps by single clocks; an instruction takes two or more."""
+        if self.is_halted:
+            return 'halted'
+        here, last = self.clock, self.trail()[-1:]
+        self.one('step')
+        once = self.clock
+        self.one('step')
+        is_jammed = (once, self.clock) == (here + 1, here + 2) and self.trail()[-1:] == last
+        self.go_to(here)
+        return 'jammed' if is_jammed else 'running'
+
+    # Stops
+
+    def begin_anew(self, stops: Iterable[str] = (), clock: int | None = None) -> None:
+        """A session at this clock, else at the present one, with these stops alone. They are set there, so that none is met on the
+        way. Until it stands there, the old one stays."""
+        to, them, session = self.clock if clock is None else clock, list(stops), Session(self.files)
+        try:
+            while session.clock < to:
+                self._run_a_piece(session, to)
+                self.poll()
+            for stop in them:
+                refused(session.stop(stop))
+        except BaseException:
+            session.close()
+            raise
+        old, self._session, self._stops = self._session, session, them
+        old.close()
+
+    def want(self, stops: Collection[str]) -> None:
+        """Sees to it that the session stops at these. Places that aren't wanted are passed; another stop could hide a wanted one,
+        since of those that hold at a clock the first is told."""
+        more = [it for it in stops if it not in self._stops]
+        if len(self._stops) + len(more) > MOST_STOPS or any(it not in stops and not place_of(it) for it in self._stops):
+            self.begin_anew(stops)
+            return
+        for stop in more:
+            self.one(stop)
+            self._stops.append(stop)
+
+    # Ways
+
+    def _run_a_piece(self, session: Session, end: int) -> str:
+        """What answers a piece of a run, at most to this clock. The next one is as long as suits."""
+        begun = time.monotonic()
+        answer = refused(self._talk(lambda: session.go(min(self._piece, end - session.clock))))
+        if not answer.startswith('stop'):
+            self._piece = paced(self._piece, time.monotonic() - begun)
+        return answer
+
+    def _stop_in(self, answer: str) -> str | None:
+        """The stop that an answer tells."""
+        words = answer.split()
+        return self._stops[int(words[1]) - 1] if words[0] == 'stop' else None
+
+    def go_on(self, end: int) -> str | None:
+        """Goes on to the session's next stop, at most to this clock, and returns it."""
+        while self.clock < end:
+            met = self._stop_in(self._run_a_piece(self._session, end))
+            if met:
+                return met
+            self.poll()
+        return None
+
+    def go_to(self, clock: int) -> None:
+        """The board at this clock, earlier or later, past all stops."""
+        if clock < self.clock:
+            self.one(f'back {self.clock - clock}')
+        elif clock > self.clock and self._stops:
+            self.begin_anew(self._stops, clock)
+        else:
+            self.go_on(clock)
+
+    def run(self, wanted: Collection[str], end: int) -> str | None:
+        """Goes on to one of these stops, at most to this clock, and returns it. In a halt the place behind the HLT is none."""
+        self.want(wanted)
+        passed = 0
+        while self.clock < end:
+            met = self.go_on(end)
+            if met and place_of(met) and self.is_halted:
+                met = self.leave_halt(wanted, end)
+                self.want(wanted)
+            elif met and met not in wanted:
+                passed += 1
+                self._pass(passed, wanted)
+            if met and met in wanted:
+                return met
+        return None
+
+    def _pass(self, passed: int, wanted: Collection[str]) -> None:
+        """Passes a stop that nobody wants any more; after many of them there are none."""
+        if passed == MOST_PASSED:
+            self.begin_anew(wanted)
+        self.poll()
+
+    def leave_halt(self, wanted: Collection[str], end: int) -> str | None:
+        """From within a halt to where the interrupt that ends it begins to be taken, at most to this clock, or to one of these stops,
+        which it returns. The place behind the HLT is none: there it would hold at each clock."""
+        if self.place() in map(place_of, self._stops):
+            self.begin_anew(it for it in wanted if place_of(it) != self.place())
+        halted, length = self.trail()[-1], 1
+        while self.clock < end:
+            here = self.clock
+            met, trail = self.go_on(min(here + length, end)), self.trail()
+            if trail[-1] == halted:
+                if met and met in wanted:
+                    return met
+                length *= 2
+            elif behind := [after for event, after in zip(trail, trail[1:]) if event == halted]:
+                self.go_to(behind[0].clock)
+                return None
+            else:
+                self.go_to(here)  # too far for the trail
+                length = max(1, length // 2) if length > CLOCKS_OF_A_TRAIL else 1
+        return None
+
+    def back_to(self, wanted: Collection[str]) -> str | None:
+        """Goes back to the last earlier clock at which one of these stops held, and returns it; without one to the first clock."""
+        self.want(wanted)
+        passed = 0
+        while wanted and self.clock:
+            met = self._stop_in(self._last_stop())
+            if met is None:
+                break
+            if place_of(met) and self.is_halted:
+                self.go_to(self.trail()[-1].clock)
+            elif met in wanted:
+                return met
+            passed += 1
+            self._pass(passed, wanted)
+        self.go_to(0)
+        return None
+
+    def _last_stop(self) -> str:
+        """The answer to `back stop`. Where it is ended before, the board stands where it was, or on the way there."""
+
+        def is_ended() -> bool:
+            try:
+                self.poll()
+            except Left:
+                raise
+            except Paused:
+                return True
+            return False
+
+        self._session, answer = self._talk(lambda: last_stop(self._session, self.files, is_ended))
+        if not answer:
+            self._stops = []
+            raise Paused('paused')
+        return refused(answer)
