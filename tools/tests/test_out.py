@@ -15,6 +15,7 @@ from toolbox.program import Files, Session
 from toolbox.report import registers_of
 from toolbox.returns import ends_with_call, places_on_stack
 from toolbox.runfile import DEFAULTS, text_of
+from toolbox.session_board import break_at
 
 BUDGET, ROUTINES = 60_000, 5
 HEAD = """SEGMENT MAIN AT 0F000h
@@ -169,8 +170,8 @@ class Out(ToolCase):
         machine = self.machine(DELAY, 2_000_000)
         machine.go_to(200)
         for label in ('w1', 'delay'):
-            place = machine.listing.labels[label]
-            self.assertEqual((machine.out({place}), machine.why), ((place, 'stop') if label == 'w1' else (None, 'returned')), label)
+            stop = break_at(machine.listing.labels[label])
+            self.assertEqual((machine.out({stop}), machine.why), ((stop, 'stop') if label == 'w1' else (None, 'returned')), label)
 
     def test_a_long_loop(self) -> None:
         """From within a LOOP of 65,536 rounds it takes at most half a second of the processors, over such a call too; so does finish."""
@@ -185,7 +186,7 @@ class Out(ToolCase):
             end = session.clock
         for move in (machine.out, machine.next):
             machine.go_to(0)
-            machine.run({machine.listing.labels['w1'] if move == machine.out else (0xF000, 3)}, 1000)
+            machine.run({break_at(machine.listing.labels['w1']) if move == machine.out else 'break F000:3'}, 1000)
             before = spent()
             move(set())
             self.assertLess(spent() - before, 0.5)

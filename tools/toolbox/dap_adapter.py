@@ -9,14 +9,16 @@ import subprocess
 from typing import Any, Callable
 
 from toolbox.command import PYTHON, Sorry
-from toolbox.dap_board import ENDS, FLAG_BITS, MOST_BREAKPOINTS, Far, Gone, Left, Machine, Paused
+from toolbox.dap_board import ENDS, FLAG_BITS, MOST_BREAKPOINTS, Machine
 from toolbox.dap_values import Disassembly, Expression, is_code
 from toolbox.dap_wire import Broken, Read
 from toolbox.listing import labels_alone, listing_of, physical
 from toolbox.places import far_of
 from toolbox.program import TOP, Files, copied
+from toolbox.returns import Far
 from toolbox.runfile import DEFAULTS, budget_of, text_of
 from toolbox.scancodes import stamped, strokes_of
+from toolbox.session_board import Gone, Left, Paused, break_at
 
 Fields = dict[str, Any]
 THREAD, REGISTERS, FLAGS, BOARD = 1, 1, 2, 3
@@ -62,7 +64,7 @@ class Adapter:
         self.messages, self.write, self.room = messages, write, room
         self.machine: Machine | None = None
         self.program, self.line_base, self.is_entry = '', 1, False
-        self.breakpoints: dict[str, dict[Far, int]] = {'line': {}, 'function': {}, 'instruction': {}}
+        self.breakpoints: dict[str, dict[str, int]] = {'line': {}, 'function': {}, 'instruction': {}}
         self.count, self.is_running, self.is_over, self.is_paused, self.screen = 0, False, False, False, ''
 
     def serve(self) -> None:
@@ -163,7 +165,7 @@ class Adapter:
     def stopped(self, reason: str, text: str) -> None:
         """Tells a stop, and the screen if it is another."""
         try:
-            place, lines = self.board().place(), self.board().many('screen')
+            here, lines = break_at(self.board().place()), self.board().many('screen')
         except Gone as gone:
             return self.end(gone)
         screen = '\n'.join(it.rstrip() for it in lines).rstrip()
@@ -171,7 +173,7 @@ class Adapter:
             self.screen = screen
             edge = '-' * 80
             self.output(f'screen at clock {self.board().clock}\n{edge}\n{screen}\n{edge}\n', 'stdout')
-        hit = [them[place] for them in self.breakpoints.values() if place in them] if reason.endswith('breakpoint') else []
+        hit = [them[here] for them in self.breakpoints.values() if here in them] if reason.endswith('breakpoint') else []
         told = {'reason': reason, 'description': text, 'text': text, 'threadId': THREAD, 'allThreadsStopped': True}
         self.event('stopped', told | ({'hitBreakpointIds': hit} if hit else {}))
 
@@ -262,9 +264,9 @@ class Adapter:
 
     # breakpoints
 
-    def wanted(self) -> set[Far]:
-        """The places of all breakpoints."""
-        return {place for them in self.breakpoints.values() for place in them}
+    def wanted(self) -> set[str]:
+        """The stops of all breakpoints."""
+        return {stop for them in self.breakpoints.values() for stop in them}
 
     def set_breakpoints(self, kind: str, asked: list[Any], place_of: Callable[[Any], tuple[Far, Fields]]) -> Fields:
         """Puts these breakpoints for those of a kind, and tells of each where it is, or why it is nowhere."""
@@ -273,9 +275,9 @@ class Adapter:
             self.count += 1
             try:
                 place, more = place_of(it)
-                if len(self.wanted() | {place}) > MOST_BREAKPOINTS:
+                if len(self.wanted() | {break_at(place)}) > MOST_BREAKPOINTS:
                     raise Sorry(f'there are {MOST_BREAKPOINTS} breakpoints already, the most that go')
-                number = self.breakpoints[kind].setdefault(place, self.count)
+                number = self.breakpoints[kind].setdefault(break_at(place), self.count)
                 told.append({'id': number, 'verified': True, 'instructionReference': f'0x{physical(*place):05X}'} | more)
             except Sorry as sorry:
                 told.append({'id': self.count, 'verified': False, 'message': str(sorry)})
@@ -335,7 +337,7 @@ class Adapter:
 
     # moving
 
-    def told(self, met: Far | None, reason: str, text: str) -> tuple[str, str]:
+    def told(self, met: str | None, reason: str, text: str) -> tuple[str, str]:
         """Why the board stands where it does."""
         if met:
             kinds = [kind for kind, them in self.breakpoints.items() if met in them]
@@ -345,7 +347,7 @@ class Adapter:
             return 'pause', f'the run ends at clock {self.board().clock}, {self.board().state()}'
         return reason, f'clock {self.board().clock}: {text}'
 
-    def told_of_a_way(self, met: Far | None, text: str) -> tuple[str, str]:
+    def told_of_a_way(self, met: str | None, text: str) -> tuple[str, str]:
         """Why a way over or out of a routine ended."""
         board = self.board()
         if board.why in ENDS:

@@ -11,18 +11,20 @@ from typing import Any, Callable
 
 from toolbox.chips import facts, lines_in, question
 from toolbox.command import Sorry
-from toolbox.dap_board import ENDS, MOST_BREAKPOINTS, Far, Machine, Paused, is_repeated
+from toolbox.dap_board import ENDS, MOST_BREAKPOINTS, Machine
 from toolbox.desk_data import Datum, data_of, values_of
 from toolbox.desk_sound import MOST_SAMPLES, Speaker
 from toolbox.desk_work import Fields, Helpers, Job
 from toolbox.events import commands
 from toolbox.listing import labels_alone, listing_of, physical
 from toolbox.nowhere import told_of_end
-from toolbox.places import address_of, event_of, line_at
+from toolbox.places import address_of, event_of, is_repeated, line_at
 from toolbox.program import LAST_CLOCK, Files, answer_of, path
-from toolbox.report import REGISTERS, Report, registers_of, report_of
+from toolbox.report import REGISTERS, Report, report_of
+from toolbox.returns import Far
 from toolbox.runfile import text_of, with_budget
 from toolbox.scancodes import names
+from toolbox.session_board import Paused, break_at
 from toolbox.symbols import image_of
 from toolbox.text_memory import TEXT_MEMORY, WORDS, Cell, cells_at, plain_cells, starts
 
@@ -170,7 +172,7 @@ class Board:
         """Goes on to a clock, past all stops or to the first one."""
         here, why = self.clock, 'there'
         try:
-            met = self.machine.run(set() if is_past else set(self.stops), min(to, LAST_CLOCK))
+            met = self.machine.run([] if is_past else self._wanted(), min(to, LAST_CLOCK))
             why = 'stop' if met else why
         except Paused:
             why = 'paused'
@@ -180,9 +182,8 @@ class Board:
 
     def _back_to_the_end(self, here: int) -> None:
         """Where the processor has halted for good since a clock: back to where it did, so that the run isn't full of nothing."""
-        trail = self.machine.trail()
-        if self._state(self.machine.registers(), trail) == 'halted for good':
-            self.machine.go_to(min(max(here, trail[-1].clock + CLOCKS_OF_HLT + 1), self.clock))
+        if self._state() == 'halted for good':
+            self.machine.go_to(min(max(here, self.machine.trail()[-1].clock + CLOCKS_OF_HLT + 1), self.clock))
 
     def step(self, seen: int) -> Fields:
         """Makes one instruction, iteration or entry."""
@@ -190,15 +191,15 @@ class Board:
 
     def over(self, seen: int) -> Fields:
         """Makes one instruction with all that it calls."""
-        return self._from_a_halt(seen) or self._moved(lambda: self.machine.next(set(self.stops)), seen)
+        return self._from_a_halt(seen) or self._moved(lambda: self.machine.next(self._wanted()), seen)
 
     def out(self, seen: int) -> Fields:
         """Runs to where the routine has returned."""
-        return self._moved(lambda: self.machine.out(set(self.stops)), seen)
+        return self._moved(lambda: self.machine.out(self._wanted()), seen)
 
     def _from_a_halt(self, seen: int) -> Fields | None:
         """A step of a halted processor: into the interrupt that ends the halt; where none can, a clock. None of one that runs."""
-        here, state = self.clock, self._state(self.machine.registers(), self.machine.trail())
+        here, state = self.clock, self._state()
         if state == 'running':
             return None
         if state != 'halted':
@@ -215,7 +216,7 @@ class Board:
         here, why = self.clock, 'there'
         self.machine.budget, self.machine.why = min(here + FARTHEST, LAST_CLOCK), ''
         try:
-            if isinstance(move(), tuple):
+            if isinstance(move(), str):
                 why = 'stop'
             elif self.machine.why in ENDS or self.clock == self.machine.budget:
                 why = self.machine.why if self.machine.why in ENDS else 'far'
@@ -239,7 +240,7 @@ class Board:
             raise Sorry('there is no stop; click beside a line, or type a place under Stops')
         here = self.clock
         try:
-            if self.machine.back_to(set(self.stops)) is None:
+            if self.machine.back_to(self._wanted()) is None:
                 self.machine.go_to(here)
                 raise Sorry('no stop held at any earlier clock')
         except Paused:
@@ -261,7 +262,7 @@ class Board:
         self._turn += self.clock < self._was_at
         self._was_at, self.furthest = self.clock, max(self.furthest, self.clock)
         registers, trail = self.machine.registers(), self.machine.trail()
-        place, state = (registers['CS'], registers['IP']), self._state(registers, trail)
+        place, state = (registers['CS'], registers['IP']), self._state()
         # A halted processor is still at its HLT: what stands behind it may never run.
         line = line_at(self.listing, trail[-1]) if state.startswith('halted') else self.listing.at.get(physical(*place))
         found: Fields = {
@@ -282,17 +283,12 @@ class Board:
             self._vectors = self.machine.dump(0, 4 * 256)
         return found
 
-    def _state(self, registers: dict[str, int], trail: list[Any]) -> str:
+    def _state(self) -> str:
         """Running, halted, halted for good, or jammed, as the trail tells it: a report tells it of each clock."""
+        if self.machine.is_halted:
+            return 'halted' if self.machine.registers()['FL'] & IF else 'halted for good'
+        trail = self.machine.trail()
         last = trail[-1] if trail else None
-        if (
-            last
-            and last.entry is None
-            and last.text.split()[-1:] == ['HLT']
-            and self.clock > last.clock + 1
-            and (last.segment, (last.offset + len(last.octets)) % 0x10000) == (registers['CS'], registers['IP'])
-        ):
-            return 'halted' if registers['FL'] & IF else 'halted for good'
         quiet = self.clock - (last.clock if last else 0)
         return 'jammed' if quiet > LONGEST_STEP and not (last and is_repeated(last.text)) else 'running'
 
@@ -341,7 +337,7 @@ class Board:
         """Bytes from a place on: a label, SEGMENT:OFFSET, an address, or two registers, as SS:SP."""
         text = place.strip()
         if all(it.upper() in REGISTERS for it in text.split(':')) and text.count(':') == 1:
-            registers = registers_of(self.machine.many('regs'))
+            registers = self.machine.registers()
             address = physical(*(registers[it.upper()] for it in text.split(':')))
         else:
             address = address_of(self.listing, text)
@@ -366,7 +362,7 @@ class Board:
     def why(self) -> Fields:
         """Why the run goes nowhere, if it does, as tools/why tells it of a run up to this clock."""
         clock, registers = self.clock, self.machine.registers()
-        state = self._state(registers, self.machine.trail()).partition(' ')[0]
+        state = self._state().partition(' ')[0]
         report = Report(clock, registers, state, 0, [], self.machine.many('screen'))
         try:
             told = told_of_end(report, self.files, self.machine, self.listing, REACH)
@@ -382,6 +378,10 @@ class Board:
             raise Sorry(f'{MOST_BREAKPOINTS} stops are the most')
         self.stops = list(dict.fromkeys(places))
         return {'stops': [self._stop(it) for it in self.stops]}
+
+    def _wanted(self) -> list[str]:
+        """The stops as the debugger has them."""
+        return list(map(break_at, self.stops))
 
     def _stop(self, place: Far) -> list[Any]:
         """A stop: its address, label and source line."""
@@ -415,7 +415,7 @@ class Board:
         beside = self._machine(files)
         self._beside = beside
         try:
-            beside.run(set(), clock)
+            beside.go_to(clock)
         except BaseException as error:
             self._beside = None
             self._helpers.drop(beside)
@@ -485,7 +485,7 @@ class Board:
         deadline, found = time.monotonic() + MARKS_SECONDS, dict[int, int]()
         with self._helpers.session(self.files) as session:
             for place in self._handlers():
-                session.stop('break {:X}:{:X}'.format(*place))
+                session.stop(break_at(place))
             while session.clock < until and time.monotonic() < deadline and len(found) < MOST_MARKS:
                 session.go(until - session.clock)
                 for line in session.many('trail')[-1:]:

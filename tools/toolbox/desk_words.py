@@ -12,7 +12,6 @@ from typing import Any, Callable
 
 from toolbox.chips import probe
 from toolbox.command import Sorry, read_text
-from toolbox.dap_board import Gone
 from toolbox.desk_board import Board
 from toolbox.desk_drafts import Drafts
 from toolbox.desk_files import Given, Kept, difference
@@ -25,6 +24,7 @@ from toolbox.places import far_of
 from toolbox.program import LAST_CLOCK, TOP, Files
 from toolbox.runfile import DEFAULTS, read_run_file
 from toolbox.scancodes import stamped, strokes_of
+from toolbox.session_board import Gone
 from toolbox.symbols import image_of
 
 MOST_BOARDS, IDLE_SECONDS = 8, 900

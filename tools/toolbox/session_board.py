@@ -6,9 +6,8 @@ import time
 from typing import Callable, Collection, Iterable, TypeVar
 
 from toolbox.command import Sorry
-from toolbox.listing import physical
 from toolbox.places import Event, event_of, operation_of
-from toolbox.program import CLOCKS_OF_A_TRAIL, LAST_CLOCK, Files, Session
+from toolbox.program import CLOCKS_OF_A_TRAIL, Files, Session
 from toolbox.report import registers_of
 from toolbox.returns import Far
 from toolbox.way_back import last_stop, paced
@@ -234,8 +233,9 @@ class SessionBoard:
     def leave_halt(self, wanted: Collection[str], end: int) -> str | None:
         """From within a halt to where the interrupt that ends it begins to be taken, at most to this clock, or to one of these stops,
         which it returns. The place behind the HLT is none: there it would hold at each clock."""
-        if self.place() in map(place_of, self._stops):
-            self.begin_anew(it for it in wanted if place_of(it) != self.place())
+        kept = [it for it in wanted if place_of(it) != self.place()]
+        if any(place_of(it) == self.place() or not place_of(it) and it not in kept for it in self._stops):
+            self.begin_anew(kept)
         halted, length = self.trail()[-1], 1
         while self.clock < end:
             here = self.clock
