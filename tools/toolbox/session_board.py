@@ -165,10 +165,12 @@ class SessionBoard:
         old.close()
 
     def want(self, stops: Collection[str]) -> None:
-        """Sees to it that the session stops at these. Places that aren't wanted are passed; another stop could hide a wanted one,
-        since of those that hold at a clock the first is told."""
+        """Sees to it that the session stops at these. Of the stops that hold at a clock the first is told, so that one which isn't
+        wanted could hide one that is; but no two places hold at once."""
         more = [it for it in stops if it not in self._stops]
-        if len(self._stops) + len(more) > MOST_STOPS or any(it not in stops and not place_of(it) for it in self._stops):
+        them = [*self._stops, *more]
+        unwanted = next((at for at, it in enumerate(them) if it not in stops), len(them))
+        if len(them) > MOST_STOPS or not all(map(place_of, them[unwanted:])):
             self.begin_anew(stops)
             return
         for stop in more:
@@ -234,8 +236,9 @@ class SessionBoard:
         """From within a halt to where the interrupt that ends it begins to be taken, at most to this clock, or to one of these stops,
         which it returns. The place behind the HLT is none: there it would hold at each clock."""
         kept = [it for it in wanted if place_of(it) != self.place()]
-        if any(place_of(it) == self.place() or not place_of(it) and it not in kept for it in self._stops):
+        if self.place() in map(place_of, self._stops):
             self.begin_anew(kept)
+        self.want(kept)
         halted, length = self.trail()[-1], 1
         while self.clock < end:
             here = self.clock
