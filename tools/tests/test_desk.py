@@ -452,8 +452,8 @@ class Hostile(Served):
             {'do': 'type', 'codes': [212]},
             {'do': 'type', 'codes': ['a']},
             {'do': 'type', 'codes': [1] * 20_000},
-            {'do': 'stops', 'places': 'x'},
-            {'do': 'stops', 'places': [1]},
+            {'do': 'stops', 'stops': 'x'},
+            {'do': 'stops', 'stops': [1]},
             {'do': 'drop keys', 'keys': [-1]},
             {'do': 'memory', 'place': 5},
             {'do': 'run', 'ms': None},
@@ -464,7 +464,7 @@ class Hostile(Served):
             {'do': 'go to', 'clock': -1},
             {'do': 'go to', 'clock': 1 << 41},
             {'do': 'memory', 'place': 'nowhere'},
-            {'do': 'stops', 'places': ['F000:0\nquit']},
+            {'do': 'stops', 'stops': ['F000:0\nquit']},
             {'do': 'type', 'text': '{no such key}'},
             {'do': 'type', 'text': 'x' * 1001},
             {'do': 'type', 'text': '{wait 9999999999999}a'},
@@ -519,7 +519,7 @@ class Boards(Served):
             self.assertEqual(self.client.ask('memory', board=board, place='0FFE0', count=32)['bytes'], session.dump(0xFFE0, 32).hex())
         if probe():
             self.assertEqual(self.client.ask('chips', board=board), {'lines': chip_lines(Files(*example('fibonacci')), 9999), 'facts': []})
-        self.assertEqual(self.client.ask('stops', board=board, places=[':28'])['stops'][0][2], 28)
+        self.assertEqual(self.client.ask('stops', board=board, stops=[':28'])['stops'][0][2], 28)
         self.client.ask('go to', board=board, clock=0)
         met = self.client.ask('run', board=board, ms=200)
         self.assertEqual((met['why'], met['line']), ('stop', 28))
@@ -529,6 +529,49 @@ class Boards(Served):
         self.assertIn('no stop held', self.client.ask('last', board=board)['sorry'])
         self.assertEqual(self.client.ask('look', board=board)['clock'], met['clock'])
         self.assertNotIn('screen', self.client.ask('look', board=board, seen=met['screen number']) if met['screen number'] == again['screen number'] else {})
+
+    def holding(self, files: Files, stop: str, until: int) -> list[int]:
+        """The clocks at which a stop comes to hold, by a session that goes on clock by clock."""
+        with Session(files) as session:
+            session.stop(stop)
+            held = [False, *(session.go(1).startswith('stop') for _ in range(until))]
+        return [at for at in range(1, until + 1) if held[at] and not held[at - 1]]
+
+    def met(self, board: str, until: int) -> list[tuple[int, str]]:
+        """The clocks and states at which runs end at stops, from the start on."""
+        found, shown = list[tuple[int, str]](), self.client.ask('go to', board=board, clock=0)
+        while shown['clock'] < until:
+            shown = self.client.ask('run', board=board, to=until, ms=200)
+            found += [(shown['clock'], shown['state'])] if shown['why'] == 'stop' else []
+        return found
+
+    def test_stops_of_other_kinds(self) -> None:
+        """A byte, the speaker and a halt are met where they come to hold, and passed while they go on holding; so too over a call."""
+        board, until = self.client.open('ticks')['board'], 2600
+        stops = ['halted', 'byte B0000 31', 'byte tick 26', 'break tick', 'byte b0000 0x32', 'F600:5D']
+        told = self.client.ask('stops', board=board, stops=stops)['stops']
+        wanted = ['F600:0058', 'F600:005D', 'byte B0000 31', 'byte F6058 26', 'byte B0000 32', 'halted']
+        self.assertEqual([(it[0], it[1]) for it in told], [(it, {'F600:0058': 'tick', 'F600:005D': 'tick+5', 'byte F6058 26': 'tick'}.get(it, '')) for it in wanted])
+        files = Files(*example('ticks'))
+        clocks = {it for stop in ('break F600:58', 'break F600:5D', *wanted[2:]) for it in self.holding(files, stop, until)}
+        self.assertEqual([clock for clock, _ in self.met(board, until)], sorted(clocks - {1}))
+        self.client.ask('stops', board=board, stops=['halted'])
+        halts = self.met(board, until)
+        self.assertEqual([clock for clock, _ in halts], self.holding(files, 'halted', until))
+        self.assertEqual({state for _, state in halts}, {'halted'})
+        for bad in ('byte B0000', 'byte B0000 100', 'byte nowhere 1', 'break', ''):
+            self.assertIn('sorry', self.client.ask('stops', board=board, stops=[bad]), bad)
+
+    def test_a_stop_at_the_speaker(self) -> None:
+        board, until = self.client.ask('open', source=BUZZ, run=RUN)['board'], 3000
+        self.client.ask('stops', board=board, stops=['sound'])
+        files = Files(self.file('buzz.asm', BUZZ), self.file('buzz.json', text_of(RUN | {'budget': until})))
+        report = report_of(self.pcboard('run', files.file, files.run_file).stdout)
+        rises = [clock for clock, level in report.changes if level]
+        self.assertGreater(len(rises), 3)
+        self.assertEqual([clock for clock, _ in self.met(board, until)], rises)
+        self.client.ask('go to', board=board, clock=0)
+        self.assertEqual(self.client.ask('last', board=board)['sorry'], 'no stop held at any earlier clock')
 
     def test_attributes(self) -> None:
         with open(f'{TOOLS}/tests/attributes.asm', encoding='utf-8') as file:
@@ -585,7 +628,7 @@ class Boards(Served):
                 self.client.ask('go to', board=board, clock=5000) | {'trail without lines': [it[:4] for it in self.client.ask('look', board=board)['trail']]}
             )
             label = shown[0]['label'].partition('+')[0]
-            shown[-1]['stops'] = [it[:2] for it in self.client.ask('stops', board=board, places=[label])['stops']]
+            shown[-1]['stops'] = [it[:2] for it in self.client.ask('stops', board=board, stops=[label])['stops']]
         for name in ('label', 'trail without lines', 'stack', 'stops'):
             self.assertEqual(shown[1][name], shown[0][name], name)
         self.assertTrue(label and shown[1]['line'] is None)
@@ -689,7 +732,7 @@ class Boards(Served):
         self.client.ask('look', board=boards[3])
         ninth = self.client.ask('open', source=SHORT, run=RUN)['board']
         self.assertEqual(self.client.ask('look', board=ninth)['clock'], 0)
-        told = [self.client.ask('stops', board=it, places=[]).get('gone') for it in boards]
+        told = [self.client.ask('stops', board=it, stops=[]).get('gone') for it in boards]
         self.assertEqual([bool(it) for it in told], [False, False, True] + [False] * 5)
         self.assertIn('left alone while others were wanted', told[2])
         self.client.ask('pause', board=boards[0])

@@ -18,13 +18,13 @@ from toolbox.desk_work import Fields, Helpers, Job
 from toolbox.events import commands
 from toolbox.listing import labels_alone, listing_of, physical
 from toolbox.nowhere import told_of_end
-from toolbox.places import address_of, event_of, is_repeated, line_at
+from toolbox.places import address_of, event_of, far_of, is_repeated, line_at, number_of, operation_of
 from toolbox.program import LAST_CLOCK, Files, answer_of, path
 from toolbox.report import REGISTERS, Report, report_of
 from toolbox.returns import Far
 from toolbox.runfile import text_of, with_budget
 from toolbox.scancodes import names
-from toolbox.session_board import Paused, break_at
+from toolbox.session_board import Paused, break_at, place_of
 from toolbox.symbols import image_of
 from toolbox.text_memory import TEXT_MEMORY, WORDS, Cell, cells_at, plain_cells, starts
 
@@ -88,7 +88,8 @@ class Board:
         self._vectors, self._helpers = b'', Helpers()
         self._of_the_run: tuple[tuple[str, int], Fields] = (('', 0), {})
         self._beside: Machine | None = None
-        self.stops, self.furthest, self._was_at, self._turn = list[Far](), 0, 0, 0
+        self.stops, self._held = list[str](), (-1, list[str]())
+        self.furthest, self._was_at, self._turn, self._began_at = 0, 0, 0, 0
         self._looks = 0
         self._data: list[Datum] | None = None
         self._speaker = Speaker([], 0)
@@ -135,9 +136,9 @@ class Board:
     # Jobs
 
     def _poll(self) -> None:
-        """Called between the pieces of a run."""
-        if self._is_ended or time.monotonic() > self._until:
-            raise Paused
+        """Called between the pieces of a run. Its time isn't over before it has moved the board: a session may be begun anew first."""
+        if self._is_ended or time.monotonic() > self._until and self.clock != self._began_at:
+            raise Paused('paused')
 
     @property
     def is_at_work(self) -> bool:
@@ -149,7 +150,7 @@ class Board:
         with self._lock:
             if self.is_at_work:
                 raise Sorry('the board is at work; pause it first')
-            self._is_ended, self._until = False, time.monotonic() + seconds
+            self._is_ended, self._until, self._began_at = False, time.monotonic() + seconds, self.clock
             self._job = Job(work)
 
     def outcome(self, seconds: float) -> Fields:
@@ -172,13 +173,67 @@ class Board:
         """Goes on to a clock, past all stops or to the first one."""
         here, why = self.clock, 'there'
         try:
-            met = self.machine.run([] if is_past else self._wanted(), min(to, LAST_CLOCK))
-            why = 'stop' if met else why
+            if is_past:
+                self.machine.run([], min(to, LAST_CLOCK))
+            elif self._run_to_a_stop(min(to, LAST_CLOCK)):
+                why = 'stop'
         except Paused:
             why = 'paused'
         if not is_past and why != 'stop':
             self._back_to_the_end(here)
         return self.view(why, seen, is_light)
+
+    def _run_to_a_stop(self, end: int) -> str | None:
+        """Goes on to a stop, at most to this clock. One that isn't a place and holds here already counts once it has ceased to hold."""
+        met = None
+        try:
+            met = self._past_held(end) or self.machine.run(self.stops, end)
+        finally:
+            # If no stop is met, none holds but those that are being passed.
+            self._held = (-1, []) if met else (self.clock, self._held[1])
+        return met
+
+    def _past_held(self, end: int) -> str | None:
+        """Goes on past the stops that hold here and aren't places, to where none of them does, or to another stop."""
+        held = self._held[1] if self._held[0] == self.clock else self._holding()
+        while held and self.clock < end:
+            self._held = here, _ = self.clock, held
+            if held == ['halted'] and self.machine.is_halted:
+                met = self.machine.leave_halt([it for it in self.stops if it not in held], end)
+                if met:
+                    return met
+            if self.clock == here:
+                self.machine.want(self.stops)
+                met = self.machine.go_on(here + 1)
+                if met and place_of(met) and not self.machine.is_halted:
+                    return met
+                now = self._holding(met == 'sound') if met else []
+                if more := [it for it in now if it not in held]:
+                    return more[0]
+                held = now
+            self._held = self.clock, held
+            self._poll()
+        self._held = self.clock, held
+        return None
+
+    def _holding(self, is_high: bool | None = None) -> list[str]:
+        """The stops that hold here and aren't places. Whether the speaker is high may be known."""
+        if is_high is None and 'sound' in self.stops:
+            report = self.report(self.clock)
+            is_high = bool(report and report.changes and report.changes[-1][1])
+        return [it for it in self.stops if (is_high if it == 'sound' else self._holds(it))]
+
+    def _holds(self, stop: str) -> bool:
+        """Whether a stop holds here that is a byte's or `halted`."""
+        kind, *words = stop.split()
+        if kind == 'byte':
+            return self.machine.dump(int(words[0], 16), 1) == bytes([int(words[1], 16)])
+        return kind == 'halted' and self._is_halted()
+
+    def _is_halted(self) -> bool:
+        """Whether the processor is halted, as it is from the clock after its HLT's first to that of the entry that ends it."""
+        began = [it for it in self.machine.trail() if it.clock < self.clock]
+        return bool(began) and operation_of(began[-1].text) == 'HLT'
 
     def _back_to_the_end(self, here: int) -> None:
         """Where the processor has halted for good since a clock: back to where it did, so that the run isn't full of nothing."""
@@ -191,11 +246,20 @@ class Board:
 
     def over(self, seen: int) -> Fields:
         """Makes one instruction with all that it calls."""
-        return self._from_a_halt(seen) or self._moved(lambda: self.machine.next(self._wanted()), seen)
+        return self._from_a_halt(seen) or self._moved(lambda: self._way(self.machine.next), seen)
 
     def out(self, seen: int) -> Fields:
         """Runs to where the routine has returned."""
-        return self._moved(lambda: self.machine.out(self._wanted()), seen)
+        return self._moved(lambda: self._way(self.machine.out), seen)
+
+    def _way(self, way: Callable[[list[str]], str | None]) -> str | None:
+        """A way over or out of a routine, at most to a stop. It ends at places; so for the others it is gone once more."""
+        here, places = self.clock, list(filter(place_of, self.stops))
+        met = way(places)
+        if there := self.clock if places != self.stops and self.clock > here else 0:
+            self.machine.go_to(here)
+            met = self._run_to_a_stop(there) or met
+        return met
 
     def _from_a_halt(self, seen: int) -> Fields | None:
         """A step of a halted processor: into the interrupt that ends the halt; where none can, a clock. None of one that runs."""
@@ -240,7 +304,7 @@ class Board:
             raise Sorry('there is no stop; click beside a line, or type a place under Stops')
         here = self.clock
         try:
-            if self.machine.back_to(self._wanted()) is None:
+            if self.machine.back_to(self.stops) is None:
                 self.machine.go_to(here)
                 raise Sorry('no stop held at any earlier clock')
         except Paused:
@@ -285,7 +349,7 @@ class Board:
 
     def _state(self) -> str:
         """Running, halted, halted for good, or jammed, as the trail tells it: a report tells it of each clock."""
-        if self.machine.is_halted:
+        if self._is_halted():
             return 'halted' if self.machine.registers()['FL'] & IF else 'halted for good'
         trail = self.machine.trail()
         last = trail[-1] if trail else None
@@ -372,21 +436,31 @@ class Board:
 
     # Stops and keys
 
-    def set_stops(self, places: list[Far]) -> Fields:
-        """These places are the stops."""
-        if len(set(places)) > MOST_BREAKPOINTS:
+    def set_stops(self, texts: list[str]) -> Fields:
+        """These are the stops. Of those that hold at a clock the first is told: places, and then the speaker's, which nothing else tells."""
+        stops = sorted(dict.fromkeys(map(self._stop, texts)), key=lambda it: (place_of(it) is None, it != 'sound', it == 'halted'))
+        if len(stops) > MOST_BREAKPOINTS:
             raise Sorry(f'{MOST_BREAKPOINTS} stops are the most')
-        self.stops = list(dict.fromkeys(places))
-        return {'stops': [self._stop(it) for it in self.stops]}
+        self.stops, self._held = stops, (-1, [])
+        return {'stops': list(map(self._told, stops))}
 
-    def _wanted(self) -> list[str]:
-        """The stops as the debugger has them."""
-        return list(map(break_at, self.stops))
+    def _stop(self, text: str) -> str:
+        """The debugger's stop that a page means: a place as tools/dbg takes it, `break` before it or not, `byte PLACE VALUE`, `sound`
+        or `halted`."""
+        kind, *words = text.split() or ['']
+        if kind == 'byte' and len(words) == 2:
+            return f'byte {address_of(self.listing, words[0]):X} {number_of(words[1], 0xFF):X}'
+        if text in ('sound', 'halted'):
+            return text
+        return break_at(far_of(self.listing, text.removeprefix('break').strip()))
 
-    def _stop(self, place: Far) -> list[Any]:
-        """A stop: its address, label and source line."""
-        line = self.listing.at.get(physical(*place))
-        return ['%04X:%04X' % place, self.listing.label_before(*place), line.number if line else None]
+    def _told(self, stop: str) -> list[Any]:
+        """A stop as the page has it: its address or the debugger's words, label and source line."""
+        if place := place_of(stop):
+            line = self.listing.at.get(physical(*place))
+            return ['%04X:%04X' % place, self.listing.label_before(*place), line.number if line else None]
+        labels = {physical(*far): name for name, far in self.listing.labels.items()}
+        return [stop, labels.get(int(stop.split()[1], 16), '') if stop.startswith('byte') else '', None]
 
     def _comes_later(self, key: Key) -> bool:
         """Whether a key's clock lies ahead, and it wasn't typed since the board last went back."""

@@ -20,7 +20,6 @@ from toolbox.desk_pages import examples, files_of, grammar, page_of
 from toolbox.desk_work import Fields
 from toolbox.faults import fault_in
 from toolbox.messages import messages
-from toolbox.places import far_of
 from toolbox.program import LAST_CLOCK, TOP, Files
 from toolbox.runfile import DEFAULTS, read_run_file
 from toolbox.scancodes import stamped, strokes_of
@@ -288,11 +287,11 @@ class Desk:
         return self._do(board, board.why)
 
     def _stops(self, board: Board, fields: Fields) -> Fields:
-        """Sets the stops: places as tools/dbg takes them."""
-        places = want(fields, 'places', list)
-        if len(places) > 1000 or not all(isinstance(it, str) for it in places):
-            raise Refused(400, 'places are wanted')
-        return board.set_stops([far_of(board.listing, it.strip()) for it in places])
+        """Sets the stops."""
+        stops = want(fields, 'stops', list)
+        if len(stops) > 1000 or not all(isinstance(it, str) for it in stops):
+            raise Refused(400, 'texts of stops are wanted')
+        return board.set_stops([it.strip() for it in stops])
 
     def _type(self, board: Board, fields: Fields) -> Fields:
         """Keys typed now: codes, or a text as tools/keys takes it."""

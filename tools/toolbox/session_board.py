@@ -166,11 +166,13 @@ class SessionBoard:
 
     def want(self, stops: Collection[str]) -> None:
         """Sees to it that the session stops at these. Of the stops that hold at a clock the first is told, so that one which isn't
-        wanted could hide one that is; but no two places hold at once."""
+        wanted could hide one that is, and those that aren't places stand before or behind these as is wanted; but no two places hold
+        at once."""
         more = [it for it in stops if it not in self._stops]
         them = [*self._stops, *more]
         unwanted = next((at for at, it in enumerate(them) if it not in stops), len(them))
-        if len(them) > MOST_STOPS or not all(map(place_of, them[unwanted:])):
+        is_in_order = [place_of(it) is None for it in them if it in stops] == [place_of(it) is None for it in stops]
+        if len(them) > MOST_STOPS or not is_in_order or not all(map(place_of, them[unwanted:])):
             self.begin_anew(stops)
             return
         for stop in more:
