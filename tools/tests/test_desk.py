@@ -16,6 +16,7 @@ import tempfile
 import threading
 import time
 import unittest
+import unittest.mock
 from typing import Any
 from unittest import mock
 
@@ -561,6 +562,36 @@ class Boards(Served):
         self.assertEqual({state for _, state in halts}, {'halted'})
         for bad in ('byte B0000', 'byte B0000 100', 'byte nowhere 1', 'break', ''):
             self.assertIn('sorry', self.client.ask('stops', board=board, stops=[bad]), bad)
+
+    def test_a_call_with_a_stop_in_it(self) -> None:
+        """Over and Out end at a byte too."""
+        source = (
+            'SEGMENT MAIN AT 0F000h\nstart:  MOV SP,400h\n        CALL deep\n        HLT\ndeep:   MOV BYTE [500h],7\n        MOV CX,300\n'
+            'again:  LOOP again\n        MOV BYTE [500h],8\n        RET\nENDS\nSEGMENT RESET AT 0FFFFh\n        JMP FAR start\nENDS\n'
+        )
+        board = self.client.ask('open', source=source, run=RUN)['board']
+        self.client.ask('stops', board=board, stops=['byte 500 7', 'byte 00500 8'])
+        for _ in range(2):
+            here = self.client.ask('step', board=board)
+        files = Files(self.file('it.asm', source), self.file('it.json', text_of(RUN)))
+        wanted = [it for stop in ('byte 500 7', 'byte 500 8', 'break F000:6') for it in self.holding(files, stop, 8000)][:3]
+        self.assertEqual(len(set(wanted)), 3)
+        for move, clock, why in zip(('over', 'out', 'out'), wanted, ('stop', 'stop', 'there')):
+            self.assertLess(here['clock'], clock)
+            here = self.client.ask(move, board=board)
+            self.assertEqual((here['clock'], here['why']), (clock, why), move)
+
+    def test_a_failure_of_its_own(self) -> None:
+        """The page is told what happened, and the board goes on."""
+        board = self.client.open('ticks')['board']
+        path = f'/{self.client.token}/do'
+        for error, told in ((MemoryError(), 'desk has not enough memory'), (ZeroDivisionError('by 0'), 'a mistake of its own: ZeroDivisionError: by 0')):
+            with unittest.mock.patch('toolbox.desk_board.Board.memory', side_effect=error):
+                body = json.dumps({'do': 'memory', 'board': board, 'place': '0'}).encode()
+                status, text, _ = self.client.request('POST', path, body)
+                self.assertEqual(status, 500)
+                self.assertIn(told, text)
+        self.assertEqual(len(self.client.ask('memory', board=board, place='0', count=16)['bytes']), 32)
 
     def test_a_stop_at_the_speaker(self) -> None:
         board, until = self.client.ask('open', source=BUZZ, run=RUN)['board'], 3000

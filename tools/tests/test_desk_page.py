@@ -241,6 +241,54 @@ class OnePage(ToolCase):
         page.settled('stops.length===1&&stops[0].line===4')
         self.fine(page)
 
+    def test_stops_of_other_kinds(self) -> None:
+        """A byte, the speaker and a halt, chosen under Stops, are met, kept in a draft, and taken out again."""
+        page = self.opened()
+        if page is None:
+            return
+        browser = page.browser
+        page.example('ticks')
+        page.click('#tab-stops')
+        self.assertEqual(browser.run("[$('stop-at').checkVisibility(),$('stop-is').checkVisibility()]"), [True, False])
+        for kind, place, value, told in (
+            ('byte', 'b0000', '31', 'the byte at B0000 is 31'),
+            ('byte', 'tick', '0', 'the byte at F6058 tick is 00'),
+            ('sound', '', '', 'the speaker is high'),
+            ('halted', '', '', 'the processor is halted'),
+        ):
+            browser.run(f"$('stop-kind').value='{kind}';$('stop-kind').onchange();$('stop-place').value='{place}';$('stop-value').value='{value}'")
+            self.assertEqual(browser.run("[$('stop-at').checkVisibility(),$('stop-is').checkVisibility()]"), [bool(place), bool(value)])
+            page.click('#stop-add', f"$('stop-list').textContent.includes('{told} ')")
+        self.assertEqual(set(browser.run('held().stops')), {'byte B0000 31', 'byte F6058 0', 'sound', 'halted'})
+        page.click('#start', 'view.clock===0')
+        for clock, state in ((947, 'halted'), (1010, 'running'), (1094, 'halted')):
+            page.click('#run', f"view.why==='stop'&&view.clock==={clock}")
+            self.assertEqual(browser.run('view.state'), state)
+        for _ in range(4):
+            page.click('#stop-list button')
+        self.assertEqual(browser.run('stops.length'), 0)
+        self.fine(page)
+
+    def test_a_finger(self) -> None:
+        """Lines are 24 pixels high for it, and a stop is set at the one that it touches."""
+        page = self.opened()
+        if page is None:
+            return
+        browser = page.browser
+        page.example('first')
+        high = "[...document.querySelectorAll('#gutter span,#ink>span')].map(it=>it.getBoundingClientRect().height)"
+        self.assertEqual(set(browser.run(high)), {18})
+        browser.call('Emulation.setTouchEmulationEnabled', enabled=True)
+        try:
+            browser.until(f"matchMedia('(pointer: coarse)').matches&&Math.min(...{high})===24")
+            self.assertEqual(browser.run("$('source').scrollHeight"), 24 * browser.run("$('source').value.split('\\n').length"))
+            line = browser.run("Number([...document.querySelectorAll('#gutter span.can')][3].dataset.line)")
+            page.click(f'#gutter span[data-line="{line}"]', f'stops.length===1&&stops[0].line==={line}')
+        finally:
+            browser.call('Emulation.setTouchEmulationEnabled', enabled=False)
+        browser.until(f'Math.max(...{high})===18')
+        self.fine(page)
+
     def test_keys_and_files(self) -> None:
         """Keys typed while it runs; what is saved repeats what is shown."""
         page = self.opened()

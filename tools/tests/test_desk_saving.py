@@ -100,6 +100,21 @@ class Files(test_desk.Served):
         self.assertEqual((octets_in(self.source), json.loads(octets_in(self.run_file))), (LATER.encode(), RUN))
         self.assertEqual(self.keep(FOREVER, {**given, **done})['kept'], [self.source, self.run_file])
 
+    def test_what_has_changed_is_asked_for(self) -> None:
+        """Before anything is to be written: nothing, the source, the run file, a file that is gone."""
+        given = self.client.ask('hello')['given']
+        asked = {'source': FOREVER, 'sums': given['sums']}
+        self.assertEqual(self.client.ask('changed', **asked), {})
+        self.put(self.source, LATER.encode())
+        answer = self.client.ask('changed', **asked)
+        self.assertEqual((answer['changed'], answer['gone']), ([self.source], False))
+        self.assertIn('-' + next(it for it in LATER.splitlines() if 'DEC' in it), answer['difference'])
+        self.put(self.run_file, b'{}')
+        self.assertEqual(self.client.ask('changed', **asked)['changed'], [self.source, self.run_file])
+        os.remove(self.source)
+        self.assertTrue(self.client.ask('changed', **asked)['gone'])
+        self.assertEqual(self.client.ask('changed', **asked)['now'][0], None)
+
     def test_a_folder_in_its_place_and_a_file_without_rights(self) -> None:
         given = self.given()
         os.chmod(self.source, 0o444)
@@ -376,9 +391,18 @@ class OnThePage(ToolCase):
         browser.click('#offer-take')
         page.settled("$('source').value.endsWith('; mine\\n')&&$('offer').hidden")
         self.assertTrue(self.asks(page))
+        # The window that gets the focus notices it by itself, once.
         self.file('k.asm', FOREVER + '; theirs again\n')
+        browser.run("dispatchEvent(new Event('focus'))")
+        browser.until("$('conflict').open")
+        self.assertRegex(browser.run("$('conflict-text').textContent"), r'k\.asm has changed since this page has read it\.$')
+        browser.click('#conflict form button')
+        browser.until("!$('conflict').open")
+        browser.run('notice()')
+        self.assertFalse(browser.run("$('conflict').open"))
         browser.press('s', CONTROL)
         browser.until("$('conflict').open")
+        self.assertIn('Nothing was written', browser.run("$('conflict-text').textContent"))
         browser.click('#conflict-over')
         browser.until("$('said').textContent.startsWith('saved: ')")
         self.assertEqual(octets_in(self.source), (FOREVER + '; mine\n').encode())

@@ -141,11 +141,10 @@ class Kept:
         if not self.given.file:
             raise Sorry('desk was started without FILE: save the files from the page')
         with self._lock:
-            paths = [it for it in (self.given.file, self.given.run_file) if it]
-            there = [octets_of(it) for it in paths]
-            changed = [path for path, octets, was in zip(paths, there, sums) if sum_of(octets) != was]
+            paths, there = self._there()
+            changed = self._changed(source, sums, paths, there)
             if changed and not is_over:
-                return {'changed': changed} | self._changed(source, there[0])
+                return changed
             texts = [self._spelled(source, there[0]), *([text_of(fields)] if len(paths) > 1 else [])]
             found: Fields = {'kept': [], 'sums': [sum_of(there[0]), sum_of(there[1]) if len(there) > 1 else None]}
             for at, (path, text, octets) in enumerate(zip(paths, texts, there)):
@@ -171,10 +170,23 @@ class Kept:
             return sum_of(octets)
         return sum_of(old)
 
-    def _changed(self, source: str, there: bytes | None) -> Fields:
-        """What another hand has left, and how the page's text differs from it."""
-        text = there.decode('utf-8', 'replace') if there is not None else ''
-        return {'difference': difference(text, source, ('the file', 'this page')), 'gone': there is None}
+    def _there(self) -> tuple[list[str], list[bytes | None]]:
+        """The files, and what they hold now."""
+        paths = [it for it in (self.given.file, self.given.run_file) if it]
+        return paths, [octets_of(it) for it in paths]
+
+    def changed(self, source: str, sums: list[Any]) -> Fields:
+        """What another hand has changed since the files had these sums, as `write` tells it; nothing where none has."""
+        return self._changed(source, sums, *self._there())
+
+    def _changed(self, source: str, sums: list[Any], paths: list[str], there: list[bytes | None]) -> Fields:
+        """Which files have no longer these sums, the sums of now, and how the page's text differs from FILE's."""
+        now = [sum_of(it) for it in there]
+        changed = [path for path, is_now, was in zip(paths, now, sums) if is_now != was]
+        if not changed:
+            return {}
+        text = there[0].decode('utf-8', 'replace') if there[0] is not None else ''
+        return {'changed': changed, 'now': now, 'difference': difference(text, source, ('the file', 'this page')), 'gone': there[0] is None}
 
 
 def is_same(octets: bytes, fields: Fields) -> bool:

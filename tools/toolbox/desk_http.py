@@ -127,6 +127,13 @@ class Server(http.server.ThreadingHTTPServer):
             shut(connection)
 
 
+def failure(error: Exception) -> str:
+    """What the page is told of a failure of the desk's own: it goes on."""
+    if isinstance(error, MemoryError):
+        return 'desk has not enough memory for this; close pages that you no longer need, and try again'
+    return f'desk could not do this, which is a mistake of its own: {type(error).__name__}: {error}'
+
+
 def shut(connection: Any) -> None:
     """Ends a connection under its thread."""
     try:
@@ -179,11 +186,14 @@ class Handler(http.server.BaseHTTPRequestHandler):
             self._checked(is_asking=True)
             question = self._question()
             self.server.reads(self.connection, False)
-            answer = self.server.answer(question)
+            answer = json.dumps(self.server.answer(question), separators=(',', ':')).encode()
         except Refused as refused:
             self._refuse(refused)
             return
-        self._reply(200, 'application/json', json.dumps(answer, separators=(',', ':')).encode())
+        except Exception as error:  # pylint: disable=broad-exception-caught
+            self._refuse(Refused(500, failure(error)))
+            return
+        self._reply(200, 'application/json', answer)
 
     def _checked(self, is_asking: bool) -> str:
         """What is asked for, behind the token. What isn't the page's own request is refused."""

@@ -50,6 +50,14 @@ def numbers(given: list[Any], least: int, most: int) -> list[int]:
     return given
 
 
+def sums_in(fields: Fields) -> list[Any]:
+    """The sums by which a page names what it has read of the command's files."""
+    sums = want(fields, 'sums', list)
+    if len(sums) != 2 or not all(it is None or isinstance(it, str) for it in sums):
+        raise Refused(400, 'the sums of two files are wanted')
+    return sums
+
+
 class Desk:
     """The boards, and what is asked of them."""
 
@@ -203,10 +211,12 @@ class Desk:
 
     def _keep(self, fields: Fields) -> Fields:
         """Writes a page's text and fields to the files that the command's words name. What was written is no draft any more."""
-        source, run, sums = want(fields, 'source', str), want(fields, 'run', dict), want(fields, 'sums', list)
-        if len(sums) != 2 or not all(it is None or isinstance(it, str) for it in sums):
-            raise Refused(400, 'the sums of two files are wanted')
-        return self.files.write(source, run, sums, want(fields, 'over', bool, False))
+        source, run = want(fields, 'source', str), want(fields, 'run', dict)
+        return self.files.write(source, run, sums_in(fields), want(fields, 'over', bool, False))
+
+    def _changed(self, fields: Fields) -> Fields:
+        """What another hand has changed in those files since the page has read them."""
+        return self.files.changed(want(fields, 'source', str), sums_in(fields))
 
     def _of(self, fields: Fields) -> str | None:
         """The file that a draft is of: FILE, or none."""
@@ -335,6 +345,7 @@ class Desk:
         'open': _open,
         'close': _close,
         'keep': _keep,
+        'changed': _changed,
         'keep draft': _keep_draft,
         'drop draft': _drop_draft,
         'draft': _draft,

@@ -127,13 +127,21 @@ export function show(answer, isLight = false) {
 /* Stops. */
 export async function put_stops(wanted) {
   if (!board) return;
-  let answer = await ask('stops', {board, places: wanted.map(it => it.place)});
+  let answer = await ask('stops', {board, stops: wanted.map(it => it.place)});
   if (answer.sorry && wanted.length) {
     say(answer.sorry);
-    answer = await ask('stops', {board, places: stops === wanted ? [] : stops.map(it => it.place)});
+    answer = await ask('stops', {board, stops: stops === wanted ? [] : stops.map(it => it.place)});
   }
   if (answer.stops) stops = answer.stops.map(([place, label, line]) => ({place: line ? `:${line}` : place, at: place, label, line}));
   draw_stops();
+}
+/* A stop in words: of a place its address, label and line. */
+function told_of(stop) {
+  if (stop.place === 'sound') return 'the speaker is high';
+  if (stop.place === 'halted') return 'the processor is halted';
+  const [, address, value] = /^byte (\w+) (\w+)$/.exec(stop.place) || [];
+  if (address) return `the byte at ${address}${stop.label ? ` ${stop.label}` : ''} is ${value.padStart(2, '0')}`;
+  return stop.at ? `${stop.at} ${stop.label}${stop.line ? `, line ${stop.line}` : ''}` : stop.place;
 }
 function draw_stops() {
   touched();
@@ -142,7 +150,7 @@ function draw_stops() {
     row.className = 'bar mono';
     gone.textContent = 'Remove';
     gone.onclick = () => acts(() => put_stops(stops.filter(it => it !== stop)));
-    row.append(stop.at ? `${stop.at} ${stop.label}${stop.line ? `, line ${stop.line}` : ''} ` : stop.place, gone);
+    row.append(`${told_of(stop)} `, gone);
     return row;
   }));
   draw_paper();

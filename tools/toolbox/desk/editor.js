@@ -4,7 +4,10 @@ import {board, lines, stops, toggle_stop, view} from './board.js';
 import {isHex} from './files.js';
 import {touched} from './saving.js';
 import {key} from './screen.js';
-const HIGH = 18;
+/* A line's height, as the page's style has it: more where fingers point. */
+const height = () => parseFloat(getComputedStyle($('source')).lineHeight);
+let lineHigh = height();
+matchMedia('(pointer: coarse)').addEventListener('change', () => { lineHigh = height(); draw_paper(); });
 export let assembled = '', refused = [];
 export function note_assembled(text) { assembled = text; stale(); }
 export function tell_refused(them) { refused = them; draw_refusals(); }
@@ -21,10 +24,10 @@ function keep_rows(list, count) {
 export function draw_paper(isFollowed = false) {
   const source = $('source'), now = view && board ? view.line : null, high = source.clientHeight;
   if (isFollowed && now && document.activeElement !== source) {
-    const top = (now - 1) * HIGH;
-    if (top < source.scrollTop + HIGH || top > source.scrollTop + high - 3 * HIGH) source.scrollTop = Math.max(0, top - high / 2);
+    const top = (now - 1) * lineHigh;
+    if (top < source.scrollTop + lineHigh || top > source.scrollTop + high - 3 * lineHigh) source.scrollTop = Math.max(0, top - high / 2);
   }
-  const top = source.scrollTop, texts = source.value.split('\n'), first = Math.floor(top / HIGH), last = Math.min(texts.length, first + Math.ceil(high / HIGH) + 1);
+  const top = source.scrollTop, texts = source.value.split('\n'), first = Math.floor(top / lineHigh), last = Math.min(texts.length, first + Math.ceil(high / lineHigh) + 1);
   const bad = new Set(refused.map(it => it.line));
   draw_gutter(first, last, top, now, bad);
   draw_ink(texts, first, last, top, bad);
@@ -35,7 +38,7 @@ function draw_gutter(first, last, top, now, bad) {
   const stopped = new Set(stops.map(it => it.line)), gutter = $('gutter'), shown = [];
   keep_rows(gutter, last - first);
   for (let line = first + 1; line <= last; line++) {
-    const row = gutter.children[line - first - 1], kind = kind_of(line, now), high = `${(line - 1) * HIGH - top}px`;
+    const row = gutter.children[line - first - 1], kind = kind_of(line, now), high = `${(line - 1) * lineHigh - top}px`;
     row.textContent = line;
     row.dataset.line = line;
     row.className = [lines[line] && 'can', stopped.has(line) && 'stop', kind, bad.has(line) && 'bad'].filter(Boolean).join(' ');
@@ -63,7 +66,7 @@ export function note_grammar(rows) {
 function draw_ink(texts, first, last, top, bad) {
   const ink = $('ink');
   keep_rows(ink, last - first);
-  ink.style.transform = `translate(${-$('source').scrollLeft}px, ${first * HIGH - top}px)`;
+  ink.style.transform = `translate(${-$('source').scrollLeft}px, ${first * lineHigh - top}px)`;
   for (let line = first; line < last; line++) {
     const row = ink.children[line - first], text = texts[line], isBad = bad.has(line + 1), key = `${isBad} ${text}`;
     if (row.said === key) continue;
@@ -114,17 +117,17 @@ export function to_line(line) {
 }
 function show_line(line) {
   const source = $('source');
-  if ((line - 1) * HIGH < source.scrollTop || (line + 3) * HIGH > source.scrollTop + source.clientHeight) source.scrollTop = Math.max(0, (line - 1) * HIGH - source.clientHeight / 2);
+  if ((line - 1) * lineHigh < source.scrollTop || (line + 3) * lineHigh > source.scrollTop + source.clientHeight) source.scrollTop = Math.max(0, (line - 1) * lineHigh - source.clientHeight / 2);
 }
 
 $('gutter').addEventListener('click', event => {  // by its height, since the numbers may be drawn anew under a finger
-  const line = Math.floor((event.clientY - $('gutter').getBoundingClientRect().top + $('source').scrollTop) / HIGH) + 1;
+  const line = Math.floor((event.clientY - $('gutter').getBoundingClientRect().top + $('source').scrollTop) / lineHigh) + 1;
   if (line <= $('source').value.split('\n').length) toggle_stop(line);
 });
 $('gutter').addEventListener('wheel', event => {
   if (event.ctrlKey) return;  // which makes the page larger
   const source = $('source'), before = source.scrollTop;
-  source.scrollTop += event.deltaY * (event.deltaMode ? HIGH : 1);
+  source.scrollTop += event.deltaY * (event.deltaMode ? lineHigh : 1);
   if (source.scrollTop !== before) event.preventDefault();
 }, {passive: false});
 /* So many lines are changed as if typed; of more the browser takes milliseconds each, so these are put there, and can't be undone. */

@@ -20,8 +20,19 @@ function go() {
 }
 $('go').onclick = go;
 $('to').addEventListener('keydown', event => { if (event.key === 'Enter') go(); });
-$('stop-add').onclick = () => { const place = $('stop-place').value.trim(); if (place) acts(() => put_stops([...stops, {place}])); $('stop-place').value = ''; };
-$('stop-place').addEventListener('keydown', event => { if (event.key === 'Enter') $('stop-add').click(); });
+$('stop-kind').onchange = () => {
+  const kind = $('stop-kind').value;
+  $('stop-at').hidden = !['break', 'byte'].includes(kind);
+  $('stop-is').hidden = kind !== 'byte';
+  $('stop-hint').textContent = {break: 'label, label+N, :LINE or SEGMENT:OFFSET; or click beside a line, F9 in the editor', byte: 'at a label or an address; the value is hexadecimal'}[kind] || '';
+};
+$('stop-add').onclick = () => {
+  const kind = $('stop-kind').value, words = [kind, ...['stop-at', 'stop-is'].filter(it => !$(it).hidden).map(it => $(it).querySelector('input').value.trim())];
+  if (words.includes('')) return;
+  acts(() => put_stops([...stops, {place: words.join(' ')}]));
+  for (const name of ['stop-place', 'stop-value']) $(name).value = '';
+};
+for (const name of ['stop-place', 'stop-value']) $(name).addEventListener('keydown', event => { if (event.key === 'Enter') $('stop-add').click(); });
 for (const name of ['input', 'change']) $('fields').addEventListener(name, touched);
 $('help').onclick = () => $('helping').showModal();
 document.addEventListener('keydown', event => {

@@ -5,10 +5,10 @@ import {act, acts, begin, stops, view} from './board.js';
 import {ends, fields_now, given, isGiven, isHex, put_file, take_given} from './files.js';
 const SOON = 500, LATEST = 3000;  // so long after a change, and at most after the first one, its draft is sent
 export let draftId = new_id(), kept = '', home = {}, fileHome = {}, sums = [null, null], offers = [];
-export let soon = 0, since = 0, drafting = Promise.resolve();
+export let soon = 0, since = 0, drafting = Promise.resolve(), noticed = '';
 function new_id() { return crypto.randomUUID(); }
 /* All that a draft keeps. */
-function held() {
+export function held() {
   return {given: isGiven, name: $('name').textContent, hex: isHex, source: $('source').value, run: fields_now(), stops: stops.map(it => it.place)};
 }
 const said = run => JSON.stringify(run);
@@ -109,7 +109,7 @@ async function write(isOver = false) {
   try {
     answer = await ask('keep', {source: now.source, run: budgeted(now.run), sums, over: isOver});
   } catch (error) { tell(error.message); open_saving(); return; }
-  if (answer.changed) { show_conflict(answer); return; }
+  if (answer.changed) { show_conflict(answer, ' Nothing was written.'); return; }
   if (!answer.kept) { tell(answer.sorry); return; }
   sums = answer.sums;
   const [isSource, isRun] = [answer.kept.includes(given.file), answer.kept.includes(given['run file'])];
@@ -122,8 +122,19 @@ async function write(isOver = false) {
 }
 function tell(text, isGood = false) { say(text, isGood); $('kept').textContent = text; }
 export function save_now() { if (isGiven) write(); else open_saving(); }
-function show_conflict(answer) {
-  $('conflict-text').textContent = `${answer.changed.join(' and ')} ${answer.changed.length > 1 ? 'have' : 'has'} changed since this page has read ${answer.changed.length > 1 ? 'them' : 'it'}${answer.gone ? ': the file is no longer there' : ''}. Nothing was written.`;
+/* Another hand's change is noticed when the window gets the focus, each once. */
+export async function notice() {
+  if (!isGiven || given.note || document.querySelector('dialog[open]')) return;
+  try {
+    const answer = await ask('changed', {source: $('source').value, sums});
+    if (!answer.changed || said(answer.now) === noticed || document.querySelector('dialog[open]')) return;
+    noticed = said(answer.now);
+    show_conflict(answer, '');
+  } catch { /* who saves is told */ }
+}
+addEventListener('focus', notice);
+function show_conflict(answer, more) {
+  $('conflict-text').textContent = `${answer.changed.join(' and ')} ${answer.changed.length > 1 ? 'have' : 'has'} changed since this page has read ${answer.changed.length > 1 ? 'them' : 'it'}${answer.gone ? ': the file is no longer there' : ''}.${more}`;
   $('conflict-difference').textContent = answer.difference.slice(2).join('\n') || 'The texts are the same; the run files differ.';
   $('conflict-difference').hidden = true;
   $('conflict-take').hidden = Boolean(answer.gone);
