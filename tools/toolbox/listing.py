@@ -87,8 +87,8 @@ def probed(source: str, names: list[str]) -> dict[str, tuple[int, int]]:
     text = ''.join(f'        DW {name},SEG {name}\n' for name in names)
     with tempfile.TemporaryDirectory() as room:
         path = os.path.join(room, 'probe.asm')
-        for closing in ('ENDS\n', ''):
-            for paragraph in (0x9000, 0x8000, 0x7000, 0x6000):
+        for paragraph in (0x9000, 0x8000, 0x7000, 0x6000):
+            for closing in ('', 'ENDS\n'):  # most sources close their last segment by themselves
                 with open(path, 'w', encoding='utf-8', errors='surrogateescape', newline='') as file:
                     file.write(f'{source}\n{closing}SEGMENT {PROBE_NAME} AT {paragraph:05X}h\n{text}')
                 ran = run(['asm', '--list', '--', path])

@@ -2,6 +2,7 @@
 which it shows."""
 from __future__ import annotations
 
+import functools
 from dataclasses import dataclass
 
 from toolbox.command import Sorry
@@ -21,6 +22,7 @@ class Cell:
     is_reverse: bool = False
 
 
+@functools.cache
 def cell_of(sign: str, attribute: int) -> Cell:
     """A character with its attribute: bit 3 is bright, foreground 1 on black is underlined, 0 on 7 is reverse."""
     return Cell(sign, bool(attribute & 8), attribute & 0x77 == 1, attribute & 0x77 == 0x70)
@@ -42,7 +44,7 @@ def shown(memory: bytes, word: int) -> str:
 def starts(screen: list[str], memory: bytes) -> list[int]:
     """The start addresses with which text memory shows this screen; the adapter's own can't be read."""
     signs, wanted = ''.join(shown(memory, it) for it in range(WORDS)) * 2, ''.join(screen)
-    return [it for it in range(WORDS) if signs[it : it + ROWS * COLUMNS] == wanted]
+    return [it for it in range(WORDS) if signs.startswith(wanted, it)]
 
 
 def cells_at(screen: list[str], memory: bytes, start: int) -> list[list[Cell]]:
