@@ -125,11 +125,12 @@ class Browser:
         return found['result'].get('value')
 
     def until(self, script: str) -> Any:
-        """Waits until an expression is true, and returns it."""
-        deadline = time.monotonic() + SECONDS
+        """Waits until an expression is true, and returns it. The longer it takes, the less often it is asked for."""
+        deadline, pause = time.monotonic() + SECONDS, 0.02
         while not (found := self.run(script)):
             assert time.monotonic() < deadline, (script, self.run("document.querySelector('#said')?.textContent"))
-            time.sleep(0.02)
+            time.sleep(pause)
+            pause = min(1.2 * pause, 0.2)
         return found
 
     def open(self, address: str, width: int = 1280, height: int = 720, is_dark: bool = False) -> None:

@@ -916,20 +916,20 @@ class OnePage(ToolCase):
             return
         browser = page.browser
         page.write(BUZZ)
-        browser.run("$('f-budget').value='4000000'")
-        page.click('#assemble', "assembled.includes('buzz')&&view.clock===4000000")
-        browser.until("marks&&marks['all changes']>400000&&drawnSpeaker&&drawnSpeaker.high===4000000")
+        browser.run("$('f-budget').value='1200000'")
+        page.click('#assemble', "assembled.includes('buzz')&&view.clock===1200000")
+        browser.until("marks&&marks['all changes']>120000&&drawnSpeaker&&drawnSpeaker.high===1200000")
         self.assertLess(browser.run('drawnSpeaker.stretches.length'), 4097)
-        self.assertGreater(browser.run('drawnSpeaker.stretches[drawnSpeaker.stretches.length-1][1]'), 3_999_000)
+        self.assertGreater(browser.run('drawnSpeaker.stretches[drawnSpeaker.stretches.length-1][1]'), 1_199_000)
         self.assertEqual(browser.run("$('sound-list').textContent.split('\\n').length"), 501)
-        browser.run("acts(()=>go_to(3900000))")
-        page.settled('view.clock===3900000')
+        browser.run("acts(()=>go_to(1100000))")
+        page.settled('view.clock===1100000')
         page.click('#tab-sound')
         browser.run(
             "window.sounds=[];{const was=AudioBuffer.prototype.copyToChannel;AudioBuffer.prototype.copyToChannel=function(data,...it){sounds.push([data.length,Math.max(...data)]);return was.call(this,data,...it)}}"
         )
-        browser.until("marks&&marks.clock===3900000")
-        page.click('#play', "$('said').textContent.startsWith('played from clock 3,900,000 on, 0.0')")
+        browser.until("marks&&marks.clock===1100000")
+        page.click('#play', "$('said').textContent.startsWith('played from clock 1,100,000 on, 0.0')")
         self.assertGreater(browser.run('sounds[0][1]'), 0.05)
         self.assertEqual(browser.run('sounds[0][0]'), int(100_000 / (14318180 / 3 / 48000)))
         self.fine(page)

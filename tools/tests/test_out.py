@@ -131,8 +131,8 @@ def by_steps(session: Session, end: int) -> tuple[int, str]:
     while session.clock < end:
         here = session.clock
         session.one('step')
-        began = [it for it in map(event_of, session.many('trail')) if it.clock >= here]
-        if began and began[-1].entry is None and began[-1].text.split()[0] in ('RET', 'RETF', 'IRET'):
+        last = event_of(session.many('trail')[-1])
+        if last.clock >= here and last.entry is None and last.text.split()[0] in ('RET', 'RETF', 'IRET'):
             now = registers_of(session.many('regs'))
             if now['SS'] != before['SS'] or now['SP'] > before['SP']:
                 return session.clock, 'returned'
