@@ -130,7 +130,7 @@ class Browser:
         while not (found := self.run(script)):
             assert time.monotonic() < deadline, (script, self.run("document.querySelector('#said')?.textContent"))
             time.sleep(pause)
-            pause = min(1.2 * pause, 0.2)
+            pause = min(1.1 * pause, 0.1)
         return found
 
     def open(self, address: str, width: int = 1280, height: int = 720, is_dark: bool = False) -> None:

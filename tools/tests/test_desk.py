@@ -574,7 +574,7 @@ class Boards(Served):
         for _ in range(2):
             here = self.client.ask('step', board=board)
         files = Files(self.file('it.asm', source), self.file('it.json', text_of(RUN)))
-        wanted = [it for stop in ('byte 500 7', 'byte 500 8', 'break F000:6') for it in self.holding(files, stop, 8000)][:3]
+        wanted = [it for stop in ('byte 500 7', 'byte 500 8', 'break F000:6') for it in self.holding(files, stop, 6000)][:3]
         self.assertEqual(len(set(wanted)), 3)
         for move, clock, why in zip(('over', 'out', 'out'), wanted, ('stop', 'stop', 'there')):
             self.assertLess(here['clock'], clock)
@@ -594,7 +594,7 @@ class Boards(Served):
         self.assertEqual(len(self.client.ask('memory', board=board, place='0', count=16)['bytes']), 32)
 
     def test_a_stop_at_the_speaker(self) -> None:
-        board, until = self.client.ask('open', source=BUZZ, run=RUN)['board'], 3000
+        board, until = self.client.ask('open', source=BUZZ, run=RUN)['board'], 400
         self.client.ask('stops', board=board, stops=['sound'])
         files = Files(self.file('buzz.asm', BUZZ), self.file('buzz.json', text_of(RUN | {'budget': until})))
         report = report_of(self.pcboard('run', files.file, files.run_file).stdout)

@@ -305,9 +305,9 @@ class OnThePage(ToolCase):
 
     def saved(self, page: Page, told: str = 'saved: ') -> None:
         """Saves by its keys, and waits for what is told."""
-        page.browser.run("$('said').textContent=''")
+        page.browser.run("$('kept').textContent=''")
         page.browser.press('s', CONTROL)
-        page.browser.until(f"$('said').textContent.startsWith({json.dumps(told)})")
+        page.browser.until(f"$('kept').textContent.startsWith({json.dumps(told)})")
 
     def asks(self, page: Page) -> bool:
         """Whether the browser asks before the page is left."""
@@ -404,7 +404,7 @@ class OnThePage(ToolCase):
         browser.until("$('conflict').open")
         self.assertIn('Nothing was written', browser.run("$('conflict-text').textContent"))
         browser.click('#conflict-over')
-        browser.until("$('said').textContent.startsWith('saved: ')")
+        browser.until("$('kept').textContent.startsWith('saved: ')")
         self.assertEqual(octets_in(self.source), (FOREVER + '; mine\n').encode())
 
     def test_keys_stops_and_fields_count(self) -> None:

@@ -16,14 +16,15 @@ export let wake = () => {};  // ends the wait between two pieces of a run
 /* A page asks one thing at a time, and follows what takes long. What was told before stands there again then. */
 export async function followed(answer) {
   const told = $('said').textContent, isGood = $('said').className === 'good';
+  let far = '';
   while (answer.working) {
-    const far = answer['catches up'] ? `catching up with the key: clock ${number(answer.clock)} of ${number(answer.to)}; Pause drops the key` : `at clock ${number(answer.clock)}; Pause ends it`;
+    far = answer['catches up'] ? `catching up with the key: clock ${number(answer.clock)} of ${number(answer.to)}; Pause drops the key` : `at clock ${number(answer.clock)}; Pause ends it`;
     say(far, true);
     working = true;
     draw_run();
     answer = await ask('wait', {board});
   }
-  if (working) say(told, isGood);
+  if (far && $('said').textContent === far) say(told, isGood);  // what was said meanwhile stays
   working = false;
   draw_run();
   return answer;

@@ -5,7 +5,7 @@ import {act, acts, begin, stops, view} from './board.js';
 import {ends, fields_now, given, isGiven, isHex, put_file, take_given} from './files.js';
 const SOON = 500, LATEST = 3000;  // so long after a change, and at most after the first one, its draft is sent
 export let draftId = new_id(), kept = '', home = {}, fileHome = {}, sums = [null, null], offers = [];
-export let soon = 0, since = 0, drafting = Promise.resolve(), noticed = '';
+export let soon = 0, since = 0, drafting = Promise.resolve(), noticed = '', writing = 0;
 function new_id() { return crypto.randomUUID(); }
 /* All that a draft keeps. */
 export function held() {
@@ -106,9 +106,10 @@ function budgeted(run) { return $('up-to').checked && view ? {...run, budget: vi
 async function write(isOver = false) {
   const now = held();
   let answer;
+  writing++;
   try {
     answer = await ask('keep', {source: now.source, run: budgeted(now.run), sums, over: isOver});
-  } catch (error) { tell(error.message); open_saving(); return; }
+  } catch (error) { tell(error.message); open_saving(); return; } finally { writing--; }
   if (answer.changed) { show_conflict(answer, ' Nothing was written.'); return; }
   if (!answer.kept) { tell(answer.sorry); return; }
   sums = answer.sums;
@@ -124,10 +125,11 @@ function tell(text, isGood = false) { say(text, isGood); $('kept').textContent =
 export function save_now() { if (isGiven) write(); else open_saving(); }
 /* Another hand's change is noticed when the window gets the focus, each once. */
 export async function notice() {
-  if (!isGiven || given.note || document.querySelector('dialog[open]')) return;
+  const read = sums, isBusy = () => writing > 0 || sums !== read || document.querySelector('dialog[open]') !== null;
+  if (!isGiven || given.note || isBusy()) return;
   try {
     const answer = await ask('changed', {source: $('source').value, sums});
-    if (!answer.changed || said(answer.now) === noticed || document.querySelector('dialog[open]')) return;
+    if (!answer.changed || said(answer.now) === noticed || isBusy()) return;
     noticed = said(answer.now);
     show_conflict(answer, '');
   } catch { /* who saves is told */ }
