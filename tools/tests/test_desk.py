@@ -552,7 +552,9 @@ class Boards(Served):
         stops = ['halted', 'byte B0000 31', 'byte tick 26', 'break tick', 'byte b0000 0x32', 'F600:5D']
         told = self.client.ask('stops', board=board, stops=stops)['stops']
         wanted = ['F600:0058', 'F600:005D', 'byte B0000 31', 'byte F6058 26', 'byte B0000 32', 'halted']
-        self.assertEqual([(it[0], it[1]) for it in told], [(it, {'F600:0058': 'tick', 'F600:005D': 'tick+5', 'byte F6058 26': 'tick'}.get(it, '')) for it in wanted])
+        self.assertEqual(
+            [(it[0], it[1]) for it in told], [(it, {'F600:0058': 'tick', 'F600:005D': 'tick+5', 'byte F6058 26': 'tick'}.get(it, '')) for it in wanted]
+        )
         files = Files(*example('ticks'))
         clocks = {it for stop in ('break F600:58', 'break F600:5D', *wanted[2:]) for it in self.holding(files, stop, until)}
         self.assertEqual([clock for clock, _ in self.met(board, until)], sorted(clocks - {1}))
