@@ -5,5 +5,5 @@ local dap = require('dap')
 dap.adapters.zebludor = { type = 'executable', command = tools .. 'dap' }
 dap.configurations.asm = { { type = 'zebludor', request = 'launch', name = 'Zebludor', program = '${file}', stopOnEntry = true } }
 vim.api.nvim_create_autocmd('FileType', { pattern = 'asm', callback = function()
-  vim.bo.makeprg, vim.bo.errorformat = tools .. 'why --lines %', '%f:%l: %trror: %m'
+  vim.bo.makeprg, vim.bo.errorformat = tools .. 'why --lines %', '%f:%l: %trror: %m,%f:%l: %tarning: %m'
 end })

@@ -94,6 +94,7 @@ LINES = {
     '.code': "MASM's",
     # What had a right hint keeps it.
     'MOV AX,FFh': '0FFh for FFh',
+    'MOV AX,B800': 'ends with h: 0B800h',
     'MOV AX,msg[SI]': '[msg+SI] for msg[SI]',
     'IN AL,3B8h': 'MOV DX,3B8h',
     'LEA AX,go': 'LEA AX,[go]',

@@ -7,7 +7,7 @@ import unittest
 
 from tests.support import EXAMPLES, ToolCase, example
 
-from toolbox.nowhere import told_of
+from toolbox.nowhere import told_of_end
 from toolbox.program import Files, Session, answer_of
 from toolbox.report import report_of
 
@@ -26,7 +26,7 @@ CASES: tuple[tuple[str, str, str, str], ...] = (
     ('a tick without a handler', TICK, 'interrupt 08 came; its vector, at 00020h, is 0000:0000', TICK + VECTOR.format(0x20)),
     ('a division by 0', ' MOV AX,5\n MOV BL,0\n DIV BL\n HLT', 'has no quotient', ' MOV AX,5\n MOV BL,1\n DIV BL\n HLT'),
     ('a return without a call', ' RETF', 'led to 0000:0000', ' PUSH CS\n MOV AX,over\n PUSH AX\n RETF\nover: HLT'),
-    ('a jump to itself', 'over: JMP SHORT over', 'off: nothing leads out', ' STI\nover: JMP SHORT over'),
+    ('a flag that never comes', 'over: TEST AL,1\n JZ over', 'off: nothing leads out', 'over: JMP SHORT over'),
     ('a flag that nothing sets', 'over: CMP BYTE [500h],0\n JZ over', 'off: nothing leads out', 'over: INC BYTE [500h]\n CMP BYTE [500h],0\n JMP over'),
     ('a counter set anew', 'over: MOV CX,10\n LOOP over', 'off: nothing leads out', ' MOV CX,0\nover: LOOP over'),
     ('a port that is none', 'over: IN AL,64h\n TEST AL,1\n JNZ over', 'nothing answers at port 64h', ' MOV CX,200\nover: IN AL,64h\n LOOP over'),
@@ -53,7 +53,7 @@ CASES: tuple[tuple[str, str, str, str], ...] = (
         'a string in ROM',
         ' MOV AX,0F000h\n MOV ES,AX\n STOSB\n HLT',
         'ROM: what is written there is lost',
-        ' MOV AX,0F000h\n MOV ES,AX\n STOSB\n XOR AX,AX\n MOV ES,AX\n HLT',
+        ' MOV AX,0F000h\n MOV ES,AX\n XOR AX,AX\n MOV ES,AX\n STOSB\n HLT',
     ),
     ('no RAM there', ' MOV AX,2000h\n MOV ES,AX\n MOV ES:[BX],AX\n HLT', 'nothing answers there', ' MOV AX,0FFFh\n MOV ES,AX\n MOV ES:[0],AX\n HLT'),
     (
@@ -62,7 +62,7 @@ CASES: tuple[tuple[str, str, str, str], ...] = (
         'which is ROM',
         ' MOV AX,0F000h\n MOV ES,AX\n REP STOSB\n HLT',
     ),
-    ('a stack in ROM', ' MOV AX,CS\n MOV SS,AX\n MOV SP,100h\n PUSH AX\n HLT', 'a push goes to F00FCh', ' MOV AX,CS\n MOV SS,AX\n MOV SP,100h\n HLT'),
+    ('a stack in ROM', ' MOV AX,CS\n MOV SS,AX\n MOV SP,100h\n PUSH AX\n HLT', 'pushes to F00FEh, which is ROM', ' MOV AX,CS\n MOV SS,AX\n MOV SP,100h\n HLT'),
     (
         'a stack in code',
         CODE_IN_RAM + 'MOV AX,50h\n MOV SS,AX\n MOV SP,room\n PUSH AX\n PUSH AX\n HLT\nroom: DW 0,0',
@@ -81,7 +81,7 @@ class Nowhere(ToolCase):
         report = report_of(answer_of(files.words('run')))
         with Session(files) as session:
             session.go_to(report.clock)
-            return told_of(report, files, session)
+            return told_of_end(report, files, session)
 
     def test_each_mistake_is_told(self) -> None:
         for name, lines, wanted, near in CASES:
@@ -113,7 +113,7 @@ class Nowhere(ToolCase):
         told = self.told(Files(*self.program(CODE_IN_RAM + 'MOV CX,100\nover: LOOP over\n MOV BX,CX', 9000)))
         self.assertIn('MOV BX,CX', ' '.join(told))
         told = self.told(Files(*self.program(CODE_IN_RAM + 'MOV CX,100\nover: LOOP over\n MOV BX,CX', 1850)))
-        self.assertIn('before them came line 8 (MOV BX,CX)', ' '.join(told))
+        self.assertIn('behind line 8 (MOV BX,CX), 0050:0005 came 0050:0007, where the program has no byte', ' '.join(told))
 
     def test_a_return_that_led_astray(self) -> None:
         told = self.told(Files(*self.program(CODE_IN_RAM + 'MOV AX,200h\n PUSH AX\n RET 2', 900)))

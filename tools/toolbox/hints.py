@@ -200,6 +200,8 @@ def of_a_name(code: str, source: list[str]) -> str | None:
         meant = [lower[it] for it in difflib.get_close_matches(word.lower(), lower, 3, 0.6)]
         if meant:
             return f'no line defines {word.lower()}; is {" or ".join(meant)} meant?'
+    if unknown and re.fullmatch(r'[A-F][0-9A-F]*\d[0-9A-F]*', unknown[0]):
+        return f'no line defines {unknown[0].lower()}; a hexadecimal number begins with a digit and ends with h: 0{unknown[0]}h'
     if unknown and source:
         return f'no line defines {unknown[0].lower()}: a label begins its line and takes a colon, {unknown[0].lower()}:'
     return None

@@ -1,10 +1,12 @@
-"""A refused line in one line, in the form that compilers use and editors read: FILE:LINE: error: NAME: what to do."""
+"""A refused line in one line, in the form that compilers use and editors read: FILE:LINE: error: NAME: what to do; and what is
+hardly meant of the others: FILE:LINE: warning: what it does."""
 from __future__ import annotations
 
 import re
 from typing import Iterator
 
 from toolbox.command import read_text
+from toolbox.doubts import doubts
 from toolbox.every import refused_lines
 from toolbox.faults import Fault
 from toolbox.hints import hint_of
@@ -35,3 +37,9 @@ def messages(path: str, is_told: bool = True) -> Iterator[tuple[int, str]]:
     for fault, is_after in refused_lines(path, is_told):
         behind = ' (where the refused lines above are blank)' if is_after else ''
         yield fault.line or 1, f'{fault.kind.name}: {what_to_do(lines, fault)}{behind}'
+
+
+def warnings(path: str, refused: set[int]) -> Iterator[tuple[int, str]]:
+    """Each line of a source that the program takes, these being refused, and that is hardly meant."""
+    lines = [it.rstrip('\r') for it in read_text(path).split('\n')]
+    return ((number, told) for number, told in doubts(lines) if number not in refused)

@@ -1,15 +1,21 @@
 """Why a run went nowhere, read off its report, the trail of its last 32 instruction starts, and sessions. A sentence is printed
-exactly if its condition holds:
+exactly if its condition holds; what an instruction did is looked at in the first 50,000 clocks of a source's run and the last 5,000, of
+Intel HEX in the trail; of its registers and the memory that it reached the first time counts, and after a run that is over the last:
 
 it has jammed, at which bytes                the report's state is `jammed`
 text memory has characters, the screen none  a word at B0000h to B0F9Fh would show one
 a character's attribute shows nothing        the screen is blank, no such word would show one, and the low byte of one is 21h to 7Eh
+another byte than the source placed          the processor jammed at it; the instruction is the one that ran before the byte first had its value
 what led to 0000:0000                        the run came to CS:IP 0000:0000 where 00 00 was; the first time counts. INT, INT3, INTO,
                                              DIV, IDIV and entries are by a vector
+INT 21 is decimal                            the INT that led there is written so, and INT 21h would be one of doubts.py's calls
 the last N instructions were 00 00           four or more at the trail's end, none by an ADD of the source
-the last 32 were the same few in turn        running, the trail is full and has no entry, up to eight instructions in turn in all of it,
-                                             and within a second no conditional jump of them leads out, also if a key is typed, and no
-                                             request's handler is entered
+a step led to where no byte of the program   the run came from an instruction of the source to 00 00 that is no ADD, or to where neither the
+is                                           program has a byte nor RAM is; if it jammed or ended so, also to another place without a byte,
+                                             or to a line of DB, DW. Not if it came to 0000:0000
+the last 32 were the same few in turn        running, the trail is full and has no entry, up to eight instructions in turn in all of it, but
+                                             for one JMP to itself, which ends a program; within a second no conditional jump of them leads
+                                             out, also if a key is typed, and no request's handler is entered
 nothing leads out but what a port reads      one of these reads a port, into AL; all others are CMP, TEST, near jumps by flags or without
                                              condition, NOP, and MOV, AND, OR of a number to a register but DX. With IF 1 `or an interrupt`
 nothing answers at that port                 it is none of PORTS
@@ -18,10 +24,21 @@ nothing leads out                            IF and TF are 0; none of these writ
 halted with interrupts off                   halted by HLT, IF and TF 0, a JMP SHORT behind it leads up to 32 bytes back, and a vector
                                              from 08h to 0Fh isn't 0
 DS or ES is B800h                            at the run's end
-a write is lost                              an instruction of the trail without REP writes through a segment register that nothing in
-                                             the trail changes later; its address, or all of its segment where a register is in it, is
-                                             ROM, or nothing answers there; not through B800h
-a push goes to ROM, or nowhere               so for the word below SS:SP, and the trail has a PUSH, PUSHF, CALL, INT or entry with this SS
+IF is 0 by an interrupt                      so halted; an interrupt was entered and nothing since was an IRET, POPF or STI. A RET ended its
+                                             handler if since the entry each RET before it had its CALL
+a write is lost, a push is lost              an instruction of the program wrote or pushed where ROM is, or nothing answers; not through B800h
+strings go downward                          of such a write by MOVS or STOS the direction flag was 1
+it came with CX 0                            a LOOP round such a write did
+a return with nothing on the stack           since MOV SP with a number, after which nothing else has set SP or SS, the words that were pushed
+                                             have been taken
+a return before which no CALL stands         RET or RETF of the source led to a place of it that has no label, and no CALL or INT before it
+DS is 0, as at power-on                      it is; no line has MOV DS, POP DS or LDS; by DS an address was reached where the program has no
+                                             byte, and in another segment a label has its offset
+a label taken for a number                   MOV of one to a byte register has run
+words read from bytes                        an instruction read a word at the first byte of a line of DB with three numbers or more, and one two
+                                             bytes or more behind the last line of DB below it, but no further than these lines are long
+a scan code taken for a sign                 within 40 events behind IN AL,60h, which read a key's code, SUB AL,'0' found it in AL, less than
+                                             30h, or a MOV or STOS wrote it as a character to text memory; it came from no other place
 the source placed other bytes                of an instruction in RAM at most 32 bytes below SS:SP, or at it
 a call isn't among the services              the services (docs/services.md) are in ROM, and have noted it
 keys were lost                               so too
@@ -38,25 +55,26 @@ key codes wait                               port B empties the latch (line 7 is
 from __future__ import annotations
 
 import re
-from dataclasses import dataclass, field
-from typing import Protocol
+from itertools import takewhile
 
 from toolbox.chips import chip_lines, facts, probe
+from toolbox.doubts import of_a_call
 from toolbox.later import later
 from toolbox.leaving import is_left
-from toolbox.listing import Line, Listing, code_of, listing_of, physical
+from toolbox.listing import Listing, code_of, listing_of, physical
+from toolbox.missteps import A_RETURN, is_zeros, of_astray, of_labels_as_bytes, of_returns, of_scan_codes, of_the_data_segment, of_words_from_bytes, of_writes
 from toolbox.places import Event, event_of, line_at
 from toolbox.program import LAST_CLOCK, Files, Session
 from toolbox.report import COLUMNS, ROWS, Report
 from toolbox.runfile import read_run_file
 from toolbox.services import SIGNATURE, SIGNED, served_of
 from toolbox.text_memory import TEXT_MEMORY, shown
+from toolbox.walk import WRITERS, Run, Talker, mnemonic, statement_of
 
 TRAIL, LONGEST_LOOP, ZEROS, NEAR = 32, 8, 4, 32
 IF, TF = 0x200, 0x100
-ROM, TEXT, TEXT_END = 0xF0000, 0xB0000, 0xB0FFF
+SETTERS = {'STI', 'IRET', 'POPF'}
 PORTS = {0x20, 0x21, 0x40, 0x41, 0x42, 0x43, 0x60, 0x61, 0x62, 0x63, 0x3B4, 0x3B5, 0x3B8, 0x3BA}
-PREFIX = re.compile(r'^(?:(?:LOCK|REPN?[EZ]?|[ECSD]S:) )*')
 WITH_SERVICES = 'or let tools/try --services put such calls into ROM (docs/services.md)'
 NO_BIOS = f'no BIOS is here; {WITH_SERVICES}'
 SERVICES = dict.fromkeys((0x11, 0x12, 0x13, 0x14, 0x15, 0x17, 0x18, 0x19, 0x1A), NO_BIOS) | {
@@ -65,110 +83,66 @@ SERVICES = dict.fromkeys((0x11, 0x12, 0x13, 0x14, 0x15, 0x17, 0x18, 0x19, 0x1A),
     0x10: f'no BIOS is here: text goes to text memory at B000:0000, a character and its attribute in each word; {WITH_SERVICES}',
     0x16: f'no BIOS is here: keys come from port 60h, by polling or by interrupt; {WITH_SERVICES}',
 }
-# What writes its first operand, and what does nothing but to registers and flags, if its first operand is a register.
-WRITERS = set('MOV ADD ADC SUB SBB AND OR XOR INC DEC NEG NOT SHL SAL SHR SAR ROL ROR RCL RCR XCHG POP'.split())
+# What does nothing but to registers and flags, if its first operand is a register.
 INNER = WRITERS - {'POP'} | set('CBW CWD LEA MUL IMUL LAHF SAHF CLC STC CMC CLD STD NOP XLAT LODSB LODSW AAA AAS AAD AAM DAA DAS'.split())
 READERS = {'CMP', 'TEST', 'SCASB', 'SCASW', 'CMPSB', 'CMPSW', 'NOP', 'JMP', 'LOOP', 'LOOPE', 'LOOPZ', 'LOOPNE', 'LOOPNZ', 'JCXZ'}
-PUSHES = {'PUSH', 'PUSHF', 'CALL', 'INT', 'INT3'}
-
-
-class Talker(Protocol):
-    """What answers the debugger's commands at a clock: a session, or the board of another tool."""
-
-    @property
-    def clock(self) -> int:
-        """Where it stands."""
-
-    def one(self, command: str) -> str:
-        """The line that answers a command."""
-
-    def many(self, command: str) -> list[str]:
-        """The lines that answer a command."""
-
-    def dump(self, address: int, count: int) -> bytes:
-        """Bytes from a physical address on."""
-
-
-@dataclass
-class Run:
-    """A run at its end: report, trail, the source's lines, RAM's end."""
-
-    report: Report
-    files: Files
-    session: Talker
-    listing: Listing = field(default_factory=Listing)
-    trail: list[Event] = field(default_factory=list)
-    ram_end: int = 0
-    reach: int = LAST_CLOCK
-
-    @property
-    def is_repeated(self) -> bool:
-        """Whether the run is short enough to be repeated."""
-        return self.report.clock <= self.reach
-
-    def place(self, event: Event) -> str:
-        """Where an event was, with its source line, or what it did."""
-        line = line_at(self.listing, event)
-        name = f'{event.segment:04X}:{event.offset:04X}'
-        if line and event.entry is None:
-            return f'line {line.number} ({code_of(line.text).strip()}), {name}'
-        return name if event.entry is not None else f'{name} ({event.text})'
-
-    def region(self, segment: int, offset: int | None) -> str:
-        """What is wrong with writing there: at an offset, or, where it isn't known, at each offset. Nothing, or a clause."""
-        low = physical(segment, offset or 0)
-        high = low if offset is not None else 16 * segment + 0xFFFF
-        if low >= ROM and high <= 0xFFFFF:
-            return 'which is ROM: what is written there is lost'
-        if self.ram_end <= low and high < TEXT:
-            return f'and nothing answers there (RAM ends at {self.ram_end - 1:05X}h): what is written there is lost'
-        if low > TEXT_END and high < ROM:
-            return 'and nothing answers there: what is written there is lost'
-        return ''
-
-
-def mnemonic(event: Event) -> tuple[str, str]:
-    """An instruction's mnemonic and operands, without prefixes."""
-    name, _, operands = PREFIX.sub('', event.text, count=1).partition(' ')
-    return name, operands
 
 
 def told_of_end(report: Report, files: Files, session: Talker, listing: Listing | None = None, reach: int = LAST_CLOCK) -> list[str]:
-    """What isn't as most programs want it, of a run whose session stands at the report's clock, as lines: a jam, text that isn't
-    shown, and what else can be told. A run of more than `reach` clocks isn't repeated for it. The session may have moved then."""
-    told = of_a_jam(report, session, files.is_hex) if report.state == 'jammed' else of_a_blank(report, session)
-    return told + told_of(report, files, session, listing, reach)
-
-
-def told_of(report: Report, files: Files, session: Talker, listing: Listing | None = None, reach: int = LAST_CLOCK) -> list[str]:
-    """What can be told of where a run went."""
+    """What isn't as most programs want it, of a run whose session stands at the report's clock, as lines. A run of more than `reach`
+    clocks isn't repeated for it. The session may have moved then."""
     it = Run(report, files, session, listing_of(files) if listing is None else listing, reach=reach)
     it.trail = [event_of(line) for line in session.many('trail')]
     ram = read_run_file(files.run_file).get('ram')
     it.ram_end = 1024 * ram if isinstance(ram, int) else 0
-    astray = of_address_zero(it)
-    told = astray or of_zeros(it)
-    told += of_the_services(it) + of_a_halt(it) + of_colour_memory(it) + of_writes(it) + of_the_stack(it) + of_code_in_the_stack(it)
-    return told + ([] if astray else of_a_loop(it)) + of_the_chips(it)
+    told = of_a_jam(it) if report.state == 'jammed' else of_a_blank(report, session)
+    at_zero = of_address_zero(it)
+    astray = at_zero or of_zeros(it) + of_astray(it)
+    halt = of_a_halt(it)
+    told += of_code_in_the_stack(it) + astray + of_the_services(it) + halt + of_colour_memory(it) + of_writes(it)
+    told += [] if astray or halt else of_returns(it)
+    told += [] if astray else of_the_data_segment(it) + of_labels_as_bytes(it) + of_words_from_bytes(it) + of_scan_codes(it)
+    return told + ([] if at_zero else of_a_loop(it)) + of_the_chips(it)
 
 
-def of_a_jam(report: Report, session: Talker, is_hex: bool) -> list[str]:
+def of_a_jam(it: Run) -> list[str]:
     """Where the processor jammed, at which bytes, and what ran before."""
-    segment, offset = report.registers['CS'], report.registers['IP']
-    octets = session.dump(physical(segment, offset), 6)
-    place = f'{segment:04X}:{offset:04X}'
-    told = [f'the processor has jammed: {place} has {octets.hex(" ").upper()}, which is no instruction of the 8086']
-    told += [f'hint: {it}' for it in [later(octets)] if it]
-    trail = session.many('trail')
-    if not trail:
+    segment, offset = it.report.registers['CS'], it.report.registers['IP']
+    octets, address = it.session.dump(physical(segment, offset), 6), physical(segment, offset)
+    told = [f'the processor has jammed: {segment:04X}:{offset:04X} has {octets.hex(" ").upper()}, which is no instruction of the 8086']
+    if not it.trail:
         return told + [
             'hint: the processor begins at FFFF:0000, and no far jump stands there'
-            + ("; is a ROM's file loaded at its own address?" if is_hex else ': SEGMENT RESET AT 0FFFFh, JMP FAR start, ENDS')
+            + ("; is a ROM's file loaded at its own address?" if it.files.is_hex else ': SEGMENT RESET AT 0FFFFh, JMP FAR start, ENDS')
         ]
-    told.append(f'the last instruction before: {trail[-1]}')
-    if octets[:2] == b'\xFF\xFF':
+    line = it.listing.at.get(address)
+    is_meant = line is not None and "'" not in code_of(line.text) or not it.listing.lines
+    told += of_changed_code(it, address, octets) or [f'hint: {it}' for it in [later(octets)] if it and is_meant]
+    told.append(f'the last instruction before: {text_of(it.trail[-1])}')
+    if octets[:2] == b'\xFF\xFF' and it.region(address) and not it.has(address):
         told.append('hint: FFh is read where no image and no RAM is: the program ran past its end, or jumped astray; HLT ends it')
     return told
+
+
+def text_of(event: Event) -> str:
+    """An event as the trail has it."""
+    return f'{event.clock} {event.segment:04X}:{event.offset:04X} {event.octets.hex().upper()} {event.text}'.replace('  ', ' ')
+
+
+def of_changed_code(it: Run, address: int, octets: bytes) -> list[str]:
+    """What the source placed where other bytes are now, and which instruction changed the first of these."""
+    line = it.listing.at.get(address)
+    place = next((n for n, (was, now) in enumerate(zip(line.shown, octets)) if was != now), None) if line else None
+    if line is None or place is None:
+        return []
+    told = f'line {line.number} ({code_of(line.text).strip()}): the source placed {line.shown.hex(" ").upper()} there, and the program has changed it'
+    if not it.is_repeated:
+        return [told]
+    with Session(it.files) as session:
+        session.stop(f'byte {address + place:X} {octets[place]:X}')
+        _ = session.go(it.report.clock)
+        trail, clock = session.many('trail'), session.clock
+    return [f'{told}: the byte at {address + place:05X}h became {octets[place]:02X}h at clock {clock}, by {it.place(event_of(trail[-1]))}']
 
 
 def of_a_blank(report: Report, session: Talker) -> list[str]:
@@ -217,7 +191,7 @@ def of_address_zero(it: Run) -> list[str]:
     if kind is None:
         return [
             f'clock {clock}: {place} led to 0000:0000, where memory is 00 00',
-            'hint: a return takes what the stack holds, and zeros where nothing was pushed; HLT ends a program',
+            A_RETURN,
         ]
     name = 'entry' if last.entry is not None else mnemonic(last)[0]
     said = {
@@ -225,7 +199,12 @@ def of_address_zero(it: Run) -> list[str]:
         'DIV': f'{place} has no quotient (the divisor is 0, or the quotient too large), which enters interrupt 0',
         'INTO': f'{place} enters interrupt 4',
     }.get(name.removeprefix('I') if name == 'IDIV' else name, f'{place} enters interrupt {kind:02X}')
-    hint = SERVICES.get(kind, f'the address of a handler goes there: SEGMENT VECTORS AT 0, ORG {4 * kind:X}h, DW own,SEG own, ENDS')
+    line = line_at(it.listing, last) if last.entry is None else None
+    hint = (
+        line
+        and of_a_call(line.text)
+        or SERVICES.get(kind, f'the address of a handler goes there: SEGMENT VECTORS AT 0, ORG {4 * kind:X}h, DW own,SEG own, ENDS')
+    )
     return [f'clock {clock}: {said}; its vector, at {4 * kind:05X}h, is 0000:0000', f'hint: {hint}']
 
 
@@ -243,51 +222,9 @@ def vector_of(event: Event) -> int | None:
 
 def of_zeros(it: Run) -> list[str]:
     """Whether the last instructions were 00 00, and no ADD of the source."""
-    astray = [event.octets == b'\0\0' and not is_add(line_at(it.listing, event)) for event in it.trail]
+    astray = [is_zeros(it, event) for event in it.trail]
     count = next((n for n, is_zero in enumerate(reversed(astray)) if not is_zero), len(astray))
-    if count < ZEROS:
-        return []
-    told = [f'the last {count} instructions were 00 00, which is ADD [BX+SI],AL, and what RAM holds at power-on']
-    before = it.trail[-count - 1] if count < len(it.trail) else before_the_zeros(it)
-    if before:
-        told.append(f'{"before them came" if count < len(it.trail) else f"at clock {before.clock} 00 00 came behind"} {it.place(before)}')
-    if before and mnemonic(before)[0] in ('RET', 'RETF', 'IRET'):
-        return told + ['hint: a return takes what the stack holds, and zeros where nothing was pushed; HLT ends a program']
-    return told + ['hint: the program ran past its end, or jumped astray; HLT ends it, JMP goes back']
-
-
-def before_the_zeros(it: Run) -> Event | None:
-    """An instruction behind which 00 00 came, by halving the run, where the halves tell."""
-    if not it.is_repeated:
-        return None
-    low, high = 0, it.report.clock
-    with Session(it.files) as session:
-        while high - low > 60:
-            middle = (low + high) // 2
-            trail = trail_at(session, middle)
-            if trail and trail[-1].octets == b'\0\0':
-                high = middle
-            else:
-                low = middle
-        pairs = zip(trail := trail_at(session, high), trail[1:])
-    return next((one for one, two in pairs if one.octets != b'\0\0' and two.octets == b'\0\0'), None)
-
-
-def trail_at(session: Session, clock: int) -> list[Event]:
-    """The trail at a clock."""
-    session.go_to(clock)
-    return [event_of(line) for line in session.many('trail')]
-
-
-def statement_of(line: Line | None) -> str:
-    """The first word of a line's statement."""
-    found = re.match(r'\s*(?:\w+\s*:(?!\s*\[))?\s*(?:(?:LOCK|REPN?[EZ]?|[ECSD]S:)\s*)*(\w+)', code_of(line.text), re.I) if line else None
-    return found[1].upper() if found else ''
-
-
-def is_add(line: Line | None) -> bool:
-    """Whether a line is an ADD."""
-    return statement_of(line) == 'ADD'
+    return [f'the last {count} instructions were 00 00, which is ADD [BX+SI],AL, and what RAM holds at power-on'] if count >= ZEROS else []
 
 
 def period_of(trail: list[Event]) -> int:
@@ -303,10 +240,9 @@ def of_a_loop(it: Run) -> list[str]:
     period = period_of(it.trail) if it.report.state == 'running' else 0
     if not period:
         return []
-    turn = sorted(it.trail[-period:], key=lambda event: (event.segment, event.offset))
-    if is_left(it.files, it.report, turn):
+    turn, is_one = sorted(it.trail[-period:], key=lambda event: (event.segment, event.offset)), period == 1
+    if is_one and mnemonic(turn[0])[0] == 'JMP' or is_left(it.files, it.report, turn):
         return []
-    is_one = period == 1
     told = ['the last 32 instructions were the same one:' if is_one else f'the last 32 instructions were the same {period} in turn:']
     told += [f'  {it.place(event)}' for event in turn]
     return told + (of_a_port(it, turn) or of_an_endless_loop(it, turn))
@@ -371,10 +307,33 @@ def of_a_halt(it: Run) -> list[str]:
     back = code[1] - 256 if len(code) == 2 and code[0] == 0xEB else 0
     if mnemonic(it.trail[-1])[0] != 'HLT' or not -NEAR <= back <= -3 or not any(vectors):
         return []
-    return [
-        f'{it.place(it.trail[-1])} has halted the processor with interrupts off: nothing wakes it, and the jump back behind it' " isn't reached",
-        'hint: STI lets interrupts in, before the HLT',
-    ]
+    told = f'{it.place(it.trail[-1])} has halted the processor with interrupts off: nothing wakes it, and the jump back behind it' " isn't reached"
+    return [told, *of_a_handler(it)]
+
+
+def of_a_handler(it: Run) -> list[str]:
+    """Why IF is 0: an interrupt set it so, and no IRET has ended its handler; or nothing has set it to 1."""
+    since = list(takewhile(lambda event: mnemonic(event)[0] not in SETTERS, reversed(it.walk[-1])))
+    entry = next((n for n, event in enumerate(since) if event.entry is not None), None)
+    if entry is not None:
+        begun = since[entry]
+        ended = return_of(since[:entry][::-1])
+        told = f'{it.place(ended)} ended its handler and left CS and the flags on the stack' if ended else 'no IRET has set it again'
+        return [f'clock {begun.clock}: interrupt {begun.entry:02X} set IF to 0, and {told}', 'hint: IRET ends a handler']
+    if any(mnemonic(event)[0] in SETTERS for part in it.walk for event in part):
+        return []
+    return ['hint: STI lets interrupts in, before the HLT']
+
+
+def return_of(handler: list[Event]) -> Event | None:
+    """The RET that took what the entry of an interrupt had pushed: one that no CALL of the handler's goes before."""
+    depth = 0
+    for event in handler:
+        name = mnemonic(event)[0]
+        if name in ('RET', 'RETF') and not depth:
+            return event
+        depth += (name == 'CALL') - (name in ('RET', 'RETF'))
+    return None
 
 
 def of_colour_memory(it: Run) -> list[str]:
@@ -387,74 +346,6 @@ def of_colour_memory(it: Run) -> list[str]:
             'hint: monochrome text memory begins at paragraph 0B000h',
         ]
         if names
-        else []
-    )
-
-
-def store_of(event: Event) -> tuple[str, int | None] | None:
-    """The segment register through which an instruction writes memory, and the offset where it is direct."""
-    name, operands = mnemonic(event)
-    if 'REP' in event.text.partition(name)[0]:  # with CX 0 it writes nothing
-        return None
-    prefixes = re.findall(r'([ECSD]S):', event.text)
-    if name in ('STOSB', 'STOSW', 'MOVSB', 'MOVSW'):
-        return 'ES', None
-    found = re.search(r'\[([^\]]*)\]', operands)
-    first = operands.partition(',')[0]
-    if not found or name not in WRITERS or not ('[' in first or name == 'XCHG'):
-        return None
-    inside = found[1]
-    direct = re.fullmatch(r'([0-9A-F]+)h', inside)
-    segment = prefixes[-1] if prefixes else 'SS' if 'BP' in inside else 'DS'
-    return segment, int(direct[1], 16) if direct else None
-
-
-def changed_by(event: Event) -> set[str]:
-    """The segment registers that an instruction changes, but for CS."""
-    name, operands = mnemonic(event)
-    first = operands.partition(',')[0]
-    found = {'LDS': {'DS'}, 'LES': {'ES'}}.get(name, set[str]())
-    return found | {first} & {'DS', 'ES', 'SS'} if name in ('MOV', 'POP') else found
-
-
-def known_segments(it: Run) -> list[tuple[Event, dict[str, int]]]:
-    """The trail's instructions, the newest first, each with the segment registers that nothing has changed since."""
-    known, found = {name: it.report.registers[name] for name in ('DS', 'ES', 'SS')}, []
-    for event in reversed(it.trail):
-        for name in changed_by(event) if event.entry is None else ():
-            known.pop(name, None)
-        found.append((event, known | {'CS': event.segment}))
-    return found
-
-
-def of_writes(it: Run) -> list[str]:
-    """Writes of the trail that are lost, each instruction once."""
-    told: dict[int, str] = {}
-    for event, known in known_segments(it):
-        store = store_of(event) if event.entry is None else None
-        if store is None or store[0] not in known or known[store[0]] == 0xB800:
-            continue
-        segment, offset = known[store[0]], store[1]
-        wrong = it.region(segment, offset)
-        at = f'{physical(segment, offset):05X}h' if offset is not None else f'segment {segment:04X}h'
-        if wrong:
-            told.setdefault(event.address, f'{it.place(event)} writes to {at}, {wrong}')
-    hint = ['hint: what a program changes stands in RAM, in a segment of its own, and DS or ES names it'] if told else []
-    return list(told.values())[:3] + hint
-
-
-def of_the_stack(it: Run) -> list[str]:
-    """A stack without memory, where something was pushed in the trail."""
-    if not any('SS' in known and (event.entry is not None or mnemonic(event)[0] in PUSHES) for event, known in known_segments(it)):
-        return []
-    segment, offset = it.report.registers['SS'], (it.report.registers['SP'] - 2) % 0x10000
-    wrong = it.region(segment, offset)
-    return (
-        [
-            f'SS:SP is {segment:04X}:{it.report.registers["SP"]:04X}, so a push goes to {physical(segment, offset):05X}h, {wrong}',
-            'hint: room for the stack lies in RAM, and SP begins at its end',
-        ]
-        if wrong
         else []
     )
 
