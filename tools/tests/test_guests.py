@@ -95,9 +95,10 @@ class Guests(ToolCase):
             self.tool('try', echo, f'--args={args}', '--output', 'out')
             with open(f'{self.room}/out', 'rb') as file:
                 self.assertEqual(file.read(), wanted)
-        for args, wanted in (('', b''), (' x', b' x'), ('/s', b' /s'), ('x' * 125, b' ' + b'x' * 125)):
+        tails = (('', b''), (' x', b' x'), ('/s', b' /s'), ('x' * 125, b' ' + b'x' * 125), ('x' * 126, b'x' * 126), (' ' * 126, b' ' * 126))
+        for args, wanted in tails:
             self.assertEqual(loading.tail_of(args), bytes([len(wanted)]) + wanted + b'\r')
-        for args, told in (('x' * 127, '126 characters at most'), ('x' * 126, '126 characters at most'), ('ä', 'printable'), ('a\n', 'printable')):
+        for args, told in (('x' * 127, '126 characters at most, and here are 127'), (' ' * 127, 'here are 127'), ('ä', 'printable'), ('a\n', 'printable')):
             with self.assertRaisesRegex(Sorry, told):
                 loading.tail_of(args)
         self.assertIn('126 characters at most', self.tool('try', echo, '--args', 'x' * 127, status=2)[1])
@@ -204,6 +205,8 @@ class Guests(ToolCase):
             process.terminate()
         with open(f'{self.room}/kept.hex', encoding='ascii') as file:
             self.assertEqual(image_of(file.read())[0x1100], MODULE[0])
+        seen = self.tool('try', path)[0].split('\n')[0]
+        self.assertIn(f'\n{seen:80}\n', self.pcboard('run', '--hex', f'{self.room}/kept.hex', f'{self.room}/kept.json').stdout)
         self.assertIn('is there already', self.tool('desk', '--no-open', path, '--keep', 'kept', status=2)[1])
         for other in (['--keep', 'x'], ['--services'], [example('hello')[0], '--keep', 'x']):
             self.assertIn('go with a program with services', self.tool('desk', '--no-open', *other, status=2)[1])

@@ -44,12 +44,12 @@ def placed(address: int, octets: bytes) -> dict[int, int]:
 
 
 def tail_of(args: str) -> bytes:
-    """A command's tail as DOS hands it on: a blank before what was typed, the return behind it."""
-    tail = f'{"" if args[:1] in ("", " ") else " "}{args}'
-    if not tail.isascii() or not tail.isprintable():
+    """A command's tail as DOS hands it on: a blank before what was typed, unless it has one or fills the room, the return behind it."""
+    if not args.isascii() or not args.isprintable():
         raise Sorry('--args takes printable ASCII')
-    if len(tail) > TAIL:
-        raise Sorry(f'--args takes {TAIL} characters at most, with the blank that DOS puts before them, and here are {len(tail)}')
+    if len(args) > TAIL:
+        raise Sorry(f'--args takes {TAIL} characters at most, and here are {len(args)}')
+    tail = args if args[:1] in ('', ' ') or len(args) == TAIL else f' {args}'
     return bytes([len(tail)]) + tail.encode() + b'\r'
 
 

@@ -95,9 +95,9 @@ def told_of_end(report: Report, files: Files, session: Talker, listing: Listing 
     it.trail = [event_of(line) for line in session.many('trail')]
     ram = read_run_file(files.run_file).get('ram')
     it.ram_end = 1024 * ram if isinstance(ram, int) else 0
-    told = of_a_jam(it) if report.state == 'jammed' else of_a_blank(report, session)
     at_zero = of_address_zero(it)
     astray = at_zero or of_zeros(it) + of_astray(it)
+    told = of_a_jam(it, bool(astray)) if report.state == 'jammed' else of_a_blank(report, session)
     halt = of_a_halt(it)
     told += of_code_in_the_stack(it) + astray + of_the_services(it) + halt + of_colour_memory(it) + of_writes(it)
     told += [] if astray or halt else of_returns(it)
@@ -105,8 +105,8 @@ def told_of_end(report: Report, files: Files, session: Talker, listing: Listing 
     return told + ([] if at_zero else of_a_loop(it)) + of_the_chips(it)
 
 
-def of_a_jam(it: Run) -> list[str]:
-    """Where the processor jammed, at which bytes, and what ran before."""
+def of_a_jam(it: Run, is_led: bool) -> list[str]:
+    """Where the processor jammed, at which bytes, and what ran before; what led there may be told already."""
     segment, offset = it.report.registers['CS'], it.report.registers['IP']
     octets, address = it.session.dump(physical(segment, offset), 6), physical(segment, offset)
     told = [f'the processor has jammed: {segment:04X}:{offset:04X} has {octets.hex(" ").upper()}, which is no instruction of the 8086']
@@ -119,7 +119,7 @@ def of_a_jam(it: Run) -> list[str]:
     is_meant = line is not None and "'" not in code_of(line.text) or not it.listing.lines
     told += of_changed_code(it, address, octets) or [f'hint: {it}' for it in [later(octets)] if it and is_meant]
     told.append(f'the last instruction before: {text_of(it.trail[-1])}')
-    if octets[:2] == b'\xFF\xFF' and it.region(address) and not it.has(address):
+    if not is_led and octets[:2] == b'\xFF\xFF' and it.region(address) and not it.has(address):
         told.append('hint: FFh is read where no image and no RAM is: the program ran past its end, or jumped astray; HLT ends it')
     return told
 
