@@ -53,7 +53,7 @@ def way_out(it: Run) -> tuple[Event, Event] | None:
 
 def by_halving(it: Run) -> tuple[Event, Event] | None:
     """A step to where no instruction of the program is, where the halves of the run tell."""
-    low, high = 0, it.report.clock
+    low, high = 0, it.end
     with Session(it.files) as session:
         while high - low > 60:
             middle = (low + high) // 2

@@ -183,7 +183,7 @@ def of_address_zero(it: Run) -> list[str]:
         return []
     with Session(it.files) as session:
         session.stop('break 0:0')
-        if not session.go(it.report.clock).startswith('stop') or session.dump(0, 2) != b'\0\0':
+        if not session.go(it.end).startswith('stop') or session.dump(0, 2) != b'\0\0':
             return []
         trail = session.many('trail')
         last, clock = event_of(trail[-1]), session.clock

@@ -2,6 +2,7 @@
 instruction found and the memory that it reached."""
 from __future__ import annotations
 
+import contextlib
 import re
 from bisect import bisect_right
 from dataclasses import dataclass, field
@@ -11,12 +12,13 @@ from typing import Iterator, Protocol
 from toolbox.comments import handed
 from toolbox.events import events
 from toolbox.listing import Line, Listing, code_of, physical
-from toolbox.places import Event, event_of, line_at
+from toolbox.places import Event, event_of, is_repeated, line_at
 from toolbox.program import LAST_CLOCK, Files, Session, answer_of
 from toolbox.report import Report, registers_of
 from toolbox.symbols import image_of
 
 FIRST, LAST = 50_000, 5_000  # the clocks that are looked at
+LONG, LONGEST = 1000, 2_000_000  # no instruction takes so many clocks, and no repeated one
 WAKES = 0x300  # IF and TF
 ROM, TEXT, TEXT_END = 0xF0000, 0xB0000, 0xB0FFF
 PREFIX = re.compile(r'^(?:(?:LOCK|REPN?[EZ]?|[ECSD]S:) )*')
@@ -124,7 +126,7 @@ class Run:
     @cached_property
     def walk(self) -> list[list[Event]]:
         """The events of the first clocks and of the last ones, each without a gap; of Intel HEX, which has no lines, the trail's."""
-        end = self.report.clock
+        end = self.end
         if not self.listing.lines or not self.is_repeated:
             return [self.trail]
         if end <= FIRST + LAST:
@@ -139,6 +141,12 @@ class Run:
         if last and self.report.state == 'jammed':
             segment, offset = self.report.registers['CS'], self.report.registers['IP']
             yield last[0], Event(self.report.clock, segment, offset, self.session.dump(physical(segment, offset), 6), '', None)
+
+    @property
+    def end(self) -> int:
+        """A clock behind which nothing begins: the report's, or one soon after the last event, if nothing has come since."""
+        last = self.trail[-1] if self.trail else None
+        return min(self.report.clock, last.clock + (LONGEST if is_repeated(last.text) else LONG) if last else 0)
 
     @property
     def is_over(self) -> bool:
@@ -203,6 +211,21 @@ class Run:
         if self.ram_end <= address < TEXT:
             return f'and nothing answers there (RAM ends at {self.ram_end - 1:05X}h): what is written there is lost'
         return 'and nothing answers there: what is written there is lost' if address > TEXT_END else ''
+
+
+@contextlib.contextmanager
+def at_end(files: Files, report: Report) -> Iterator[Session]:
+    """A session at a run's end. If its first halt is for good, it stands there already: nothing changes behind it but the chips."""
+    if report.state == 'halted' and not report.registers['FL'] & WAKES:
+        with Session(files) as session:
+            session.stop('halted')
+            _ = session.go(report.clock)
+            if not registers_of(session.many('regs'))['FL'] & WAKES:
+                yield session
+                return
+    with Session(files) as session:
+        session.go_to(report.clock)
+        yield session
 
 
 def trail_at(session: Session, clock: int) -> list[Event]:
