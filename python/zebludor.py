@@ -393,10 +393,11 @@ class Dialogue:
                 return lines
             lines.append(line)
 
-    def trails(self, clocks: list[int]) -> list[list[bytes]]:
-        """The trails behind runs of so many clocks each, one behind the other, in a session without stops; lines for `event_of`.
-        All are asked for at once, so that neither side waits for the other: at most some thirty, whose answers fit in the pipe."""
-        self._send(''.join(f'go {it}\ntrail\n' for it in clocks) + 'go 0\n')
+    def trails(self, clocks: list[int], command: str = 'trail') -> list[list[bytes]]:
+        """The trails behind runs of so many clocks each, one behind the other, in a session without stops; lines for `event_of`. Or
+        the answers to another command. All are asked for at once, so that neither side waits for the other: at most some thirty,
+        whose answers fit in the pipe."""
+        self._send(''.join(f'go {it}\n{command}\n' for it in clocks) + 'go 0\n')
         octets, last = bytearray(b'\n'), b''
         while last[:1].isdigit() or not last.endswith(b'\n') or octets.count(b'clock ') + octets.count(b'fault ') <= len(clocks):
             piece = self._out.read1(1 << 16)

@@ -57,6 +57,8 @@ class Listing:
 
 def code_of(line: str) -> str:
     """A line without its comment; a `;` in quotes is none."""
+    if "'" not in line:
+        return line.partition(';')[0].rstrip()
     kept, quote = '', False
     for sign in line:
         if sign == ';' and not quote:

@@ -1,6 +1,7 @@
 """Steps of a run that are hardly meant, each told with its clock and its line. The conditions stand at the head of nowhere.py."""
 from __future__ import annotations
 
+import functools
 import re
 from itertools import takewhile
 from typing import Iterator
@@ -11,7 +12,7 @@ from toolbox.places import Event, line_at
 from toolbox.program import Session
 from toolbox.returns import ends_with_call
 from toolbox.scancodes import names
-from toolbox.walk import DATA, TEXT, TEXT_END, Access, Run, accesses_of, mnemonic, statement_of, trail_at
+from toolbox.walk import DATA, TEXT, TEXT_END, Access, Run, accesses_of, mnemonic, parts_of_text, statement_of, trail_at
 
 IF, DF = 0x200, 0x400
 RETURNS = ('RET', 'RETF', 'IRET')
@@ -42,7 +43,7 @@ def way_out(it: Run) -> tuple[Event, Event] | None:
     """A step that led out of the program's instructions: the first one, as far as the run is looked at, else one by halving."""
     if it.listing.lines:
         ends_badly = it.report.state == 'jammed' or bool(it.trail and is_outside(it, it.trail[-1]))
-        for before, event in it.steps():
+        for before, event in it.steps:
             if event.entry is not None or not it.has(before.address):
                 continue
             is_data = statement_of(it.line_over(event.address)) in DATA
@@ -85,7 +86,7 @@ def of_returns(it: Run) -> list[str]:
     if empty:
         return empty
     places = set(it.listing.labels.values())
-    for before, event in it.steps():
+    for before, event in it.steps:
         name, to = mnemonic(before)[0], (event.segment, event.offset)
         if name not in ('RET', 'RETF') or to in places or not line_at(it.listing, before) or not it.has(event.address):
             continue
@@ -100,15 +101,20 @@ def of_returns(it: Run) -> list[str]:
     return []
 
 
-def words_taken(event: Event, behind: Event) -> int | None:
-    """How many words an event takes from the stack, or pushes (then less than 0); None where that isn't known."""
-    name, operands = mnemonic(event)
-    if event.entry is not None or name in ENTERING and behind.entry is None and behind.offset != (event.offset + len(event.octets)) % 0x10000:
-        return -3
+@functools.lru_cache(1 << 14)
+def words_taken(text: str) -> int | None:
+    """How many words an instruction takes from the stack, or pushes (then less than 0); None where that isn't known."""
+    name, operands = parts_of_text(text)
     if name in TAKEN:
         more = int(operands.rstrip('h'), 16) // 2 if name in ('RET', 'RETF') and operands else 0
         return TAKEN[name] + more - ('FAR' in operands and name == 'CALL')
     return None if re.search(r'\bSP\b', operands.partition(',')[0]) or re.match('SS', operands) and name == 'MOV' else 0
+
+
+def is_entered(event: Event, behind: Event) -> bool:
+    """Whether an interrupt was entered: between instructions, or by one that does so at times."""
+    is_division = mnemonic(event)[0] in ENTERING and behind.entry is None
+    return event.entry is not None or is_division and behind.offset != (event.offset + len(event.octets)) % 0x10000
 
 
 def of_an_empty_stack(it: Run) -> list[str]:
@@ -116,13 +122,13 @@ def of_an_empty_stack(it: Run) -> list[str]:
     begun: Event | None = None
     held = 0
     for event, behind in zip(it.walk[0], it.walk[0][1:]):
-        if re.fullmatch(r'MOV SP,[0-9A-F]+h', event.text):
+        if event.text.startswith('MOV SP,') and re.fullmatch('[0-9A-F]+h', mnemonic(event)[1][3:]):
             begun, held = event, 0
             continue
-        taken = words_taken(event, behind)
+        taken = -3 if is_entered(event, behind) else words_taken(event.text)
         if taken is None:
             begun = None
-        elif begun and mnemonic(event)[0] in RETURNS and held <= 0 and line_at(it.listing, event):
+        elif begun and held <= 0 and mnemonic(event)[0] in RETURNS and line_at(it.listing, event):
             return [f'clock {event.clock}: {it.place(event)} returned with nothing on the stack, which began at {it.place(begun)}', EMPTY]
         held -= taken or 0
     return []

@@ -3,6 +3,7 @@ instruction found and the memory that it reached."""
 from __future__ import annotations
 
 import contextlib
+import functools
 import re
 from bisect import bisect_right
 from dataclasses import dataclass, field
@@ -20,6 +21,7 @@ from toolbox.symbols import image_of
 FIRST, LAST = 50_000, 5_000  # the clocks that are looked at
 LONG, LONGEST = 1000, 2_000_000  # no instruction takes so many clocks, and no repeated one
 WAKES = 0x300  # IF and TF
+AT_ONCE = 24  # so many registers are asked for together
 ROM, TEXT, TEXT_END = 0xF0000, 0xB0000, 0xB0FFF
 PREFIX = re.compile(r'^(?:(?:LOCK|REPN?[EZ]?|[ECSD]S:) )*')
 DATA = ('DB', 'DW', 'DD')
@@ -65,7 +67,13 @@ class Access:
 
 def mnemonic(event: Event) -> tuple[str, str]:
     """An instruction's mnemonic and operands, without prefixes."""
-    name, _, operands = PREFIX.sub('', event.text, count=1).partition(' ')
+    return parts_of_text(event.text)
+
+
+@functools.lru_cache(1 << 14)
+def parts_of_text(text: str) -> tuple[str, str]:
+    """An instruction's mnemonic and operands, by its text."""
+    name, _, operands = PREFIX.sub('', text, count=1).partition(' ')
     return name, operands
 
 
@@ -133,14 +141,19 @@ class Run:
             return [list(events(self.files, 0, end))]
         return [list(events(self.files, 0, FIRST)), list(events(self.files, end - LAST, end)) or self.trail]
 
-    def steps(self) -> Iterator[tuple[Event, Event]]:
-        """Each event with the next one; at the end of a run that has jammed, with what it jammed at."""
+    @cached_property
+    def steps(self) -> list[tuple[Event, Event]]:
+        """Each event with the one behind it, as it came first; at the end of a run that has jammed, with what it jammed at."""
+        found = dict[tuple[object, ...], tuple[Event, Event]]()
         for part in self.walk:
-            yield from zip(part, part[1:])
+            for pair in zip(part, part[1:]):
+                found.setdefault((pair[0][1:], pair[1][1:]), pair)
         last = self.walk[-1][-1:]
         if last and self.report.state == 'jammed':
             segment, offset = self.report.registers['CS'], self.report.registers['IP']
-            yield last[0], Event(self.report.clock, segment, offset, self.session.dump(physical(segment, offset), 6), '', None)
+            jam = Event(self.report.clock, segment, offset, self.session.dump(physical(segment, offset), 6), '', None)
+            return [*found.values(), (last[0], jam)]
+        return list(found.values())
 
     @property
     def end(self) -> int:
@@ -166,9 +179,10 @@ class Run:
         wanted = sorted({it.clock for it in them} - self._registers.keys()) if self.is_repeated else []
         if wanted:
             with Session(self.files) as session:
-                for clock in wanted:
-                    session.go_to(clock)
-                    self._registers[clock] = registers_of(session.many('regs'))
+                for at in range(0, len(wanted), AT_ONCE):
+                    clocks = wanted[at : at + AT_ONCE]
+                    answers = session.trails([b - a for a, b in zip([session.clock, *clocks], clocks)], 'regs')
+                    self._registers |= {clock: registers_of([it.decode('ascii') for it in lines[:2]]) for clock, lines in zip(clocks, answers)}
         return [(it, self._registers[it.clock]) for it in them if it.clock in self._registers]
 
     @cached_property
