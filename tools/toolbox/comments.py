@@ -12,7 +12,6 @@ MARK, END_OF_FILE, LAST_PLAIN = b'\xEF\xBB\xBF', b'\x1A', 0x7E
 _copies: dict[tuple[str, int, int], str] = {}
 _told = set[bytes]()
 _room: list[str] = []
-is_quiet = False  # where another tool has told it, or will
 
 
 def plain_of(octets: bytes) -> bytes:
@@ -70,7 +69,7 @@ def handed(path: str) -> str:
         return path
     plain = plain_of(octets) if not octets.isascii() or END_OF_FILE in octets[-3:] else octets
     _copies[key] = path if plain == octets else copy_of(path, plain)
-    if plain != octets and not is_quiet and octets not in _told:
+    if plain != octets and octets not in _told:
         _told.add(octets)
         print(f"{os.path.basename(sys.argv[0])}: {path}: characters of comments that aren't ASCII are handed to pcboard as ?", file=sys.stderr)
     return _copies[key]
