@@ -1,6 +1,10 @@
 """What the tools' tests share: running a tool as a user does, on files in a folder of its own."""
 from __future__ import annotations
 
+import contextlib
+import functools
+import importlib.machinery
+import io
 import os
 import re
 import shutil
@@ -9,6 +13,7 @@ import subprocess
 import sys
 import tempfile
 import time
+import types
 import unittest
 from typing import Any, Callable
 
@@ -58,6 +63,15 @@ def is_there(command: str, what: str, package: str) -> bool:
 def example(name: str) -> tuple[str, str]:
     """The source and the run file of an example."""
     return f'{EXAMPLES}/{name}.asm', f'{EXAMPLES}/{name}.json'
+
+
+@functools.cache
+def main_of(name: str) -> Callable[[list[str]], int]:
+    """A tool's own function."""
+    loader = importlib.machinery.SourceFileLoader(f'tool_{name}', f'{TOOLS}/{name}')
+    module = types.ModuleType(loader.name)
+    loader.exec_module(module)
+    return module.main  # type: ignore[no-any-return]
 
 
 def children(of: int) -> list[int]:
@@ -151,6 +165,23 @@ class ToolCase(unittest.TestCase):
             self.assertEqual(ran.returncode, status, ran.stderr or ran.stdout)
         self.assertNotIn('Traceback', ran.stderr)
         return ran.stdout, but_progress(ran.stderr)
+
+    def called(self, name: str, *words: str, status: int = 0) -> tuple[str, str]:
+        """As `tool`, in this process: a start of Python less for each of many calls."""
+        from toolbox.command import Sorry, refuse, status_of
+
+        out, err, argv = io.StringIO(), io.StringIO(), sys.argv
+        sys.argv = [f'{TOOLS}/{name}', *words]
+        try:
+            with contextlib.redirect_stdout(out), contextlib.redirect_stderr(err), contextlib.chdir(self.room):
+                try:
+                    came = status_of(main_of(name))
+                except Sorry as sorry:
+                    came = refuse(str(sorry))
+        finally:
+            sys.argv = argv
+        self.assertEqual(came, status, err.getvalue() or out.getvalue())
+        return out.getvalue(), but_progress(err.getvalue())
 
     def pcboard(self, *words: str, given: str = '') -> subprocess.CompletedProcess[str]:
         """A run of the program itself. That it isn't there is a failure."""

@@ -41,7 +41,7 @@ class Guests(ToolCase):
 
     def refused(self, octets: bytes, name: str, *words: str) -> str:
         """The sentence with which tools/try refuses bytes."""
-        out, err = self.tool('try', self.binary(name, octets), *words, status=2)
+        out, err = self.called('try', self.binary(name, octets), *words, status=2)
         self.assertEqual(out, '')
         self.assertRegex(err, r'^try: [^\n]+\n\Z')
         return err
@@ -56,7 +56,7 @@ class Guests(ToolCase):
     def test_exe(self) -> None:
         """Its relocation adds the paragraph 0110h to the 2 at 0000:0001, so DS is that of the text."""
         for name in ('it.exe', 'it.com'):  # for DOS it is its first bytes that count
-            out, err = self.tool('try', self.binary(name, exe()))
+            out, err = self.called('try', self.binary(name, exe()))
             self.assertRegex(out, r'^Exe\n\(ended with exit code 7, at clock [\d,]+\)\n\Z')
             self.assertEqual(err, '')
         image = loading.exe('it', exe(), '', 640).image
@@ -67,32 +67,32 @@ class Guests(ToolCase):
     def test_sector(self) -> None:
         # MOV AX,0E53h; INT 10h; MOV AX,0E00h + DL + '0'; INT 10h; INT 19h
         code = bytes.fromhex('B8530ECD1088D00430B40ECD10CD19')
-        out, err = self.tool('try', self.binary('it.bin', code.ljust(510, b'\0') + b'\x55\xAA'))
+        out, err = self.called('try', self.binary('it.bin', code.ljust(510, b'\0') + b'\x55\xAA'))
         self.assertRegex(out, r'^S0\n\(ended by INT 19h: there is no diskette to begin from, at clock [\d,]+\)\n\Z')
         self.assertEqual(err, '')
 
     def test_source(self) -> None:
         lines = " MOV AH,9\n MOV DX,text\n INT 21h\n MOV AX,4C03h\n INT 21h\ntext: DB 'Hello$'\n"
         plain = self.file('it.asm', f'SEGMENT MAIN AT 100h\n ORG 100h\nstart:{lines}ENDS\n')
-        out, err = self.tool('try', '--services', plain)
+        out, err = self.called('try', '--services', plain)
         self.assertRegex(out, r'^Hello\n\(ended with exit code 3, at clock [\d,]+\)\n\Z')
         self.assertEqual(err, '')
         # The far jump of a source that also runs alone says where it begins, here behind its data.
         far = self.file('far.asm', f"SEGMENT MAIN AT 50h\n DB 'data'\nstart: MOV AX,CS\n MOV DS,AX\n{lines}ENDS\nSEGMENT R AT 0FFFFh\n JMP FAR start\nENDS\n")
-        self.assertEqual(self.tool('try', '--services', far)[0].split('\n')[0], 'Hello')
+        self.assertEqual(self.called('try', '--services', far)[0].split('\n')[0], 'Hello')
         for at, wrong in (('0F600h', 'where the services stand'), ('0FFFFh', 'nothing but JMP FAR')):
             path = self.file('rom.asm', f'SEGMENT MAIN AT 100h\nstart: NOP\nENDS\nSEGMENT R AT {at}\n DB 1\nENDS\n')
-            self.assertIn(wrong, self.tool('try', '--services', path, status=2)[1])
+            self.assertIn(wrong, self.called('try', '--services', path, status=2)[1])
         high = self.file('high.asm', 'SEGMENT MAIN AT 8F00h\nstart: NOP\nENDS\n')
-        self.assertIn('no room', self.tool('try', '--services', high, status=2)[1])
-        self.assertIn('fault 3', self.tool('try', '--services', self.file('bad.asm', 'MOV AX,0x1\n'), status=2)[1])
+        self.assertIn('no room', self.called('try', '--services', high, status=2)[1])
+        self.assertIn('fault 3', self.called('try', '--services', self.file('bad.asm', 'MOV AX,0x1\n'), status=2)[1])
 
     def test_args(self) -> None:
         """The tail at 80h, by INT 21h function 40h."""
         # MOV CL,[80h]; MOV CH,0; MOV DX,81h; MOV BX,1; MOV AH,40h; INT 21h; INT 20h
         echo = self.binary('echo.com', bytes.fromhex('8A0E8000B500BA8100BB0100B440CD21CD20'))
         for args, wanted in (('a b', b' a b'), (' ' + 'y' * 125, b' ' + b'y' * 125)):
-            self.tool('try', echo, f'--args={args}', '--output', 'out')
+            self.called('try', echo, f'--args={args}', '--output', 'out')
             with open(f'{self.room}/out', 'rb') as file:
                 self.assertEqual(file.read(), wanted)
         tails = (('', b''), (' x', b' x'), ('/s', b' /s'), ('x' * 125, b' ' + b'x' * 125), ('x' * 126, b'x' * 126), (' ' * 126, b' ' * 126))
@@ -101,33 +101,33 @@ class Guests(ToolCase):
         for args, told in (('x' * 127, '126 characters at most, and here are 127'), (' ' * 127, 'here are 127'), ('ä', 'printable'), ('a\n', 'printable')):
             with self.assertRaisesRegex(Sorry, told):
                 loading.tail_of(args)
-        self.assertIn('126 characters at most', self.tool('try', echo, '--args', 'x' * 127, status=2)[1])
-        self.assertIn('goes with', self.tool('try', example('hello')[0], '--args', 'x', status=2)[1])
-        self.assertIn('no command', self.tool('try', self.binary('s.bin', b'\0' * 510 + b'\x55\xAA'), '--args', 'x', status=2)[1])
+        self.assertIn('126 characters at most', self.called('try', echo, '--args', 'x' * 127, status=2)[1])
+        self.assertIn('goes with', self.called('try', example('hello')[0], '--args', 'x', status=2)[1])
+        self.assertIn('no command', self.called('try', self.binary('s.bin', b'\0' * 510 + b'\x55\xAA'), '--args', 'x', status=2)[1])
 
     def test_keys(self) -> None:
         # again: MOV AH,1; INT 21h; CMP AL,13; JNE again; INT 20h
         path = self.binary('keys.com', bytes.fromhex('B401CD213C0D75F8CD20'))
-        self.assertEqual(self.tool('try', path, '--keys', 'Hello, World!{enter}')[0].split('\n')[0], 'Hello, World!')
+        self.assertEqual(self.called('try', path, '--keys', 'Hello, World!{enter}')[0].split('\n')[0], 'Hello, World!')
         long = 'The quick brown fox jumps over the lazy dog. ' * 3
-        self.assertEqual(self.tool('try', path, '--keys', long + '{enter}', '--output', 'out')[0].split('\n')[0], long[:80].rstrip())
+        self.assertEqual(self.called('try', path, '--keys', long + '{enter}', '--output', 'out')[0].split('\n')[0], long[:80].rstrip())
 
     def test_output(self) -> None:
         """All that has scrolled away; of too much nothing is written."""
         # MOV CX,30; again: MOV DX,010Eh; MOV AH,9; INT 21h; LOOP again; INT 20h
         text = b'line\r\n$'
         return_lines = self.binary('lines.com', bytes.fromhex('B91E00BA0E01B409CD21E2F7CD20') + text)
-        self.tool('try', return_lines, '--output', 'out')
+        self.called('try', return_lines, '--output', 'out')
         with open(f'{self.room}/out', 'rb') as file:
             self.assertEqual(file.read(), text[:-1] * 30)
         # MOV BX,1; MOV CX,FC01h; MOV DX,8000h; MOV AH,40h; INT 21h; INT 20h
         much = self.binary('much.com', bytes.fromhex('BB0100B901FCBA0080B440CD21CD20'))
-        _, err = self.tool('try', much, '--output', 'much.out', '--budget', '400,000,000', status=2)
+        _, err = self.called('try', much, '--output', 'much.out', '--budget', '400,000,000', status=2)
         self.assertIn('64,513 bytes, and the services keep the first 64,512', err)
         self.assertFalse(os.path.exists(f'{self.room}/much.out'))
-        self.assertIn("can't be written", self.tool('try', return_lines, '--output', 'no/out', status=2)[1])
-        self.assertIn('goes with', self.tool('try', example('hello')[0], '--output', 'out', status=2)[1])
-        self.assertIn('had not begun', self.tool('try', return_lines, '--output', 'out', '--budget', '5', status=2)[1])
+        self.assertIn("can't be written", self.called('try', return_lines, '--output', 'no/out', status=2)[1])
+        self.assertIn('goes with', self.called('try', example('hello')[0], '--output', 'out', status=2)[1])
+        self.assertIn('had not begun', self.called('try', return_lines, '--output', 'out', '--budget', '5', status=2)[1])
 
     def test_keep(self) -> None:
         """What is kept gives the same screen by pcboard alone, and the tools know it again."""
@@ -136,7 +136,7 @@ class Guests(ToolCase):
         ran = self.pcboard('run', '--hex', f'{self.room}/kept.hex', f'{self.room}/kept.json')
         self.assertEqual(ran.stdout.split('screen\n')[1].split('\n')[0].rstrip(), 'Hello')
         page = self.file('it.page', 'exit = 0\noutput = Hello\n')
-        self.assertIn('2 met, 0 not', self.tool('judge', page, 'kept.hex', 'kept.json', '--hex')[0])
+        self.assertIn('2 met, 0 not', self.called('judge', page, 'kept.hex', 'kept.json', '--hex')[0])
         self.assertIn('Hello', out)
         self.assertIn("can't be written", self.tool('try', path, '--keep', 'no/kept', status=2)[1])
 
@@ -153,23 +153,23 @@ class Guests(ToolCase):
         page = self.file('it.page', 'exit = 7\noutput = Exe\nshows = Exe\nruns = start\n')
         wrong = self.file('no.page', 'exit = 8\noutput = Ex\n')
         path = self.binary('it.exe', exe())
-        self.assertIn('4 met, 0 not', self.tool('judge', page, path)[0])
-        out, _ = self.tool('judge', wrong, path, status=1)
+        self.assertIn('4 met, 0 not', self.called('judge', page, path)[0])
+        out, _ = self.called('judge', wrong, path, status=1)
         self.assertEqual(out, "no  exit = 8: came ended with exit code 7\nno  output = Ex: came 'Exe'\n0 met, 2 not\n")
         typed = self.file('keys.page', 'keys = ab\nshows = ab\nexit = 0\n')
         echo = self.binary('echo.com', bytes.fromhex('B401CD21B401CD21CD20'))
-        self.assertIn('2 met', self.tool('judge', typed, echo)[0])
+        self.assertIn('2 met', self.called('judge', typed, echo)[0])
         source = self.file('s.asm', 'SEGMENT MAIN AT 100h\n ORG 100h\nstart: MOV AX,4C07h\n INT 21h\nENDS\n')
-        self.assertIn('1 met', self.tool('judge', self.file('e.page', 'exit = 7\n'), source, '--services')[0])
-        self.assertIn('no services', self.tool('judge', self.file('e.page', 'exit = 7\n'), source, status=1)[0])
+        self.assertIn('1 met', self.called('judge', self.file('e.page', 'exit = 7\n'), source, '--services')[0])
+        self.assertIn('no services', self.called('judge', self.file('e.page', 'exit = 7\n'), source, status=1)[0])
         lines = self.binary('two.com', bytes.fromhex('BA0B01B409CD21CD209090') + b'one\r\n\ttwo\r\n$')
-        self.assertIn('1 met', self.tool('judge', self.file('l.page', 'output = one\\n\\ttwo\n'), lines)[0])
+        self.assertIn('1 met', self.called('judge', self.file('l.page', 'output = one\\n\\ttwo\n'), lines)[0])
         for line, told in (('exit = x', 'no exit code'), ('exit = 256', 'no exit code'), ('output =', 'no expectation')):
-            self.assertIn(told, self.tool('judge', self.file('bad.page', line + '\n'), path, status=2)[1])
+            self.assertIn(told, self.called('judge', self.file('bad.page', line + '\n'), path, status=2)[1])
         running = self.binary('loop.com', b'\xEB\xFE')
-        self.assertIn('came no end up to clock', self.tool('judge', self.file('e.page', 'exit = 0\n'), running, status=1)[0])
+        self.assertIn('came no end up to clock', self.called('judge', self.file('e.page', 'exit = 0\n'), running, status=1)[0])
         divided = self.binary('div.com', bytes.fromhex('B300F6F3'))
-        self.assertIn('came ended by a division', self.tool('judge', self.file('e.page', 'exit = 255\n'), divided, status=1)[0])
+        self.assertIn('came ended by a division', self.called('judge', self.file('e.page', 'exit = 255\n'), divided, status=1)[0])
 
     def test_judge_a_class(self) -> None:
         page = self.file('it.page', 'exit = 7\n')
@@ -205,7 +205,7 @@ class Guests(ToolCase):
             process.terminate()
         with open(f'{self.room}/kept.hex', encoding='ascii') as file:
             self.assertEqual(image_of(file.read())[0x1100], MODULE[0])
-        seen = self.tool('try', path)[0].split('\n')[0]
+        seen = self.called('try', path)[0].split('\n')[0]
         self.assertIn(f'\n{seen:80}\n', self.pcboard('run', '--hex', f'{self.room}/kept.hex', f'{self.room}/kept.json').stdout)
         self.assertIn('is there already', self.tool('desk', '--no-open', path, '--keep', 'kept', status=2)[1])
         for other in (['--keep', 'x'], ['--services'], [example('hello')[0], '--keep', 'x']):
@@ -214,14 +214,14 @@ class Guests(ToolCase):
     def test_run_files(self) -> None:
         path = self.binary('it.com', HELLO)
         small = self.file('small.json', '{"version":1,"ram":128,"sw1":0,"sw2":0,"budget":1000000,"keys":[]}')
-        self.assertIn('the services want 144 to 640 KB of RAM', self.tool('try', path, '--run', small, status=2)[1])
+        self.assertIn('the services want 144 to 640 KB of RAM', self.called('try', path, '--run', small, status=2)[1])
         enough = self.file('enough.json', '{"version":1,"ram":144,"sw1":0,"sw2":0,"budget":1000000,"keys":[]}')
-        self.assertEqual(self.tool('try', path, '--run', enough)[0].split('\n')[0], 'Hello')
+        self.assertEqual(self.called('try', path, '--run', enough)[0].split('\n')[0], 'Hello')
         self.assertIn('Hello', self.tool('dbg', path, enough, given='go\nscreen\n')[0])
 
     def test_bad_bytes(self) -> None:
         self.assertIn('65,281 bytes, and a .COM program has at most 65,280', self.refused(b'\x90' * 65281, 'big.com'))
-        self.tool('try', self.binary('full.com', b'\xCD\x20'.ljust(65280, b'\0')))
+        self.called('try', self.binary('full.com', b'\xCD\x20'.ljust(65280, b'\0')))
         self.assertIn('--com', self.refused(b'\0' * 511, 'short.bin'))
         self.assertIn('--com', self.refused(b'\0' * 512, 'plain.bin'))
         self.assertIn('--com', self.refused(b'\0' * 513, 'long.bin'))
@@ -229,9 +229,9 @@ class Guests(ToolCase):
         self.assertIn('is empty', self.refused(b'', 'empty.com'))
         self.assertIn('more than 1,048,576 bytes', self.refused(b'\0' * 1048577, 'huge.com'))
         os.mkdir(f'{self.room}/folder.com')
-        self.assertIn('Is a directory', self.tool('try', 'folder.com', status=2)[1])
-        self.assertIn("can't be read", self.tool('try', 'nothing.exe', status=2)[1])
-        self.assertIn('no Intel HEX', self.tool('try', '--hex', self.binary('it.com', HELLO), status=2)[1])
+        self.assertIn('Is a directory', self.called('try', 'folder.com', status=2)[1])
+        self.assertIn("can't be read", self.called('try', 'nothing.exe', status=2)[1])
+        self.assertIn('no Intel HEX', self.called('try', '--hex', self.binary('it.com', HELLO), status=2)[1])
 
     def test_headers_that_lie(self) -> None:
         for more, told in (
@@ -253,7 +253,7 @@ class Guests(ToolCase):
         outside = exe()[:28] + struct.pack('<HH', 0x2F, 0) + MODULE
         self.assertIn('relocation 1 is of 0000:002F, outside', self.refused(outside, 'it.exe'))
         # CS FFF0h and IP 100h is the module's beginning, as of a .COM program made an .EXE.
-        self.assertEqual(self.tool('try', self.binary('it.exe', exe(cs=0xFFF0, ip=0x100)))[0].split('\n')[0], 'Exe')
+        self.assertEqual(self.called('try', self.binary('it.exe', exe(cs=0xFFF0, ip=0x100)))[0].split('\n')[0], 'Exe')
 
 
 class Loading(unittest.TestCase):
@@ -297,21 +297,21 @@ class Compiled(ToolCase):
         path = self.file('it.asm', "org 100h\n mov ah,9\n mov dx,text\n int 21h\n mov ax,4c02h\n int 21h\ntext: db 'NASM$'\n")
         if not is_there('nasm', 'tools/try --nasm', 'nasm'):
             return
-        out, err = self.tool('try', '--nasm', path)
+        out, err = self.called('try', '--nasm', path)
         self.assertRegex(out, r'^NASM\n\(ended with exit code 2, at clock [\d,]+\)\n\Z')
         self.assertEqual(err, '')
-        _, err = self.tool('try', '--nasm', self.file('bad.asm', 'mov ax\n'), status=2)
+        _, err = self.called('try', '--nasm', self.file('bad.asm', 'mov ax\n'), status=2)
         self.assertIn('bad.asm:1: error', err)
         sector = self.file('boot.asm', "org 7c00h\n mov ax,0e42h\n int 10h\n int 18h\n times 510-($-$$) db 0\n dw 0aa55h\n")
-        self.assertIn('ended by INT 18h', self.tool('try', '--nasm', sector)[0])
+        self.assertIn('ended by INT 18h', self.called('try', '--nasm', sector)[0])
 
     def test_bcc(self) -> None:
         path = self.file('it.c', 'main(argc, argv) int argc; char **argv; { printf("%s %d\\n", argv[1], argc); return 5; }\n')
         if not dosbox.has_bcc():
             return
-        out, _ = self.tool('try', '--bcc', path, '--args', 'one two')
+        out, _ = self.called('try', '--bcc', path, '--args', 'one two')
         self.assertRegex(out, r'^one 3\n\(ended with exit code 5, at clock [\d,]+\)\n\Z')
-        self.assertIn('bcc refuses', self.tool('try', '--bcc', self.file('bad.c', 'main( {\n'), status=2)[1])
+        self.assertIn('bcc refuses', self.called('try', '--bcc', self.file('bad.c', 'main( {\n'), status=2)[1])
 
     def test_they_are_missing(self) -> None:
         path = self.file('it.asm', 'nop\n')
