@@ -324,13 +324,13 @@ class Sessions(ToolCase):
         self.assertEqual(client.leave(), 0)
 
     def test_a_refused_source(self) -> None:
-        source, run = self.program('        MOV AX,0x10\n        FROB')
+        source, run = self.program('        MOV AX,0x10\n        FROB\n        INT 21')
         client = self.client()
         client.ask('initialize')
         self.assertIn('it.asm, line 3: BadLine: hexadecimal', client.refused('launch', program=source, run=run))
-        told = [client.event('output'), client.event('output')]
-        self.assertEqual([it['line'] for it in told], [3, 4])
-        self.assertEqual(told[0]['output'].rstrip(), self.tool('why', '--lines', source, status=1)[0].splitlines()[0])
+        told = [client.event('output') for _ in range(3)]
+        self.assertEqual([it['line'] for it in told], [3, 4, 5])
+        self.assertEqual([it['output'].rstrip() for it in told], self.tool('why', '--lines', source, status=1)[0].splitlines())
         self.assertIn('no board', client.refused('continue', threadId=1))
         self.assertIn("can't be read", client.refused('launch', program='nothing.asm', run=run))
         bad = self.file('bad.json', '{}')

@@ -78,11 +78,13 @@ class Folder(ToolCase):
 
     def test_the_matcher_reads_why(self) -> None:
         pattern = self.package['problemMatchers'][0]['pattern']
-        source, _ = self.program(' FROB')
-        found = re.match(pattern['regexp'], self.tool('why', '--lines', source, status=1)[0].splitlines()[0])
-        assert found
-        self.assertEqual((found[pattern['file']], found[pattern['line']], found[pattern['severity']]), (source, '3', 'error'))
-        self.assertTrue(found[pattern['message']].startswith('UnknownName: '))
+        source, _ = self.program(' INT 21\n FROB')
+        lines = self.tool('why', '--lines', source, status=1)[0].splitlines()
+        for line, wanted, begins in zip(lines, (('4', 'error'), ('3', 'warning')), ('UnknownName: ', '21 is decimal'), strict=True):
+            found = re.match(pattern['regexp'], line)
+            assert found
+            self.assertEqual((found[pattern['file']], found[pattern['line']], found[pattern['severity']]), (source, *wanted))
+            self.assertTrue(found[pattern['message']].startswith(begins))
 
     def test_ten_lines(self) -> None:
         for name in ('emacs.el', 'nvim.lua'):

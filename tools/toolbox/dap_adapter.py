@@ -232,10 +232,10 @@ class Adapter:
                 [*why, '--lines', '--', self.program], stdin=subprocess.DEVNULL, capture_output=True, text=True, errors='replace', check=False
             )
             for line in told.stdout.splitlines():
-                number, _, text = line.removeprefix(f'{self.program}:').partition(': error: ')
+                number, kind, text = line.removeprefix(f'{self.program}:').split(': ', 2)
                 at = {'source': self.source(), 'line': int(number) - 1 + self.line_base}
                 self.output(f'{line}\n', 'stderr', at)
-                first = first or f'{os.path.basename(self.program)}, line {number}: {text}'
+                first = first or (f'{os.path.basename(self.program)}, line {number}: {text}' if kind == 'error' else '')
         if not first:
             told = subprocess.run(
                 [*why, 'run', *(['--hex'] if is_hex else []), '--', self.program, run_file],
