@@ -18,7 +18,7 @@ from typing import Any
 from tests.support import SECONDS, SLOW, TOOLS, ToolCase, example
 
 from toolbox.dap_values import number_in
-from toolbox.dap_wire import Broken, Reader
+from toolbox.framing import Broken, Reader
 from toolbox.places import is_repeated, operation_of
 from toolbox.program import Files, Session, path
 from toolbox.report import registers_of

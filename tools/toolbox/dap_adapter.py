@@ -11,7 +11,7 @@ from typing import Any, Callable
 from toolbox.command import PYTHON, Sorry
 from toolbox.dap_board import ENDS, FLAG_BITS, MOST_BREAKPOINTS, Machine
 from toolbox.dap_values import Disassembly, Expression, is_code
-from toolbox.dap_wire import Broken, Read
+from toolbox.framing import Broken, Read
 from toolbox.listing import labels_alone, listing_of, physical
 from toolbox.places import far_of
 from toolbox.program import TOP, Files, copied
@@ -65,7 +65,7 @@ class Adapter:
         self.machine: Machine | None = None
         self.program, self.line_base, self.is_entry = '', 1, False
         self.breakpoints: dict[str, dict[str, int]] = {'line': {}, 'function': {}, 'instruction': {}}
-        self.count, self.is_running, self.is_over, self.is_paused, self.screen = 0, False, False, False, ''
+        self.sent, self.count, self.is_running, self.is_over, self.is_paused, self.screen = 0, 0, False, False, False, ''
 
     def serve(self) -> None:
         """Answers messages until the client leaves."""
@@ -97,11 +97,16 @@ class Adapter:
         }
         if error:
             told |= {'message': error, 'body': {'error': {'id': 1, 'format': re.sub(r'[{}]', '', error), 'showUser': True}}}
-        self.write(told)
+        self.send(told)
+
+    def send(self, message: Fields) -> None:
+        """Writes a message with its own number."""
+        self.sent += 1
+        self.write({'seq': self.sent} | message)
 
     def event(self, name: str, body: Fields | None = None) -> None:
         """An event."""
-        self.write({'type': 'event', 'event': name, 'body': body or {}})
+        self.send({'type': 'event', 'event': name, 'body': body or {}})
 
     def output(self, text: str, category: str = 'console', at: Fields | None = None) -> None:
         """Text for the user."""

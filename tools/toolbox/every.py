@@ -3,17 +3,15 @@ only what others need of it, and asked about again, until none is refused."""
 from __future__ import annotations
 
 import contextlib
-import os
 import re
-import tempfile
-from typing import Iterator
+from typing import Callable, Iterator
 
 from toolbox.command import Sorry, waiting
 from toolbox.comments import handed
 from toolbox.faults import Fault, fault_in
 from toolbox.hints import STATEMENTS, WORDS
 from toolbox.listing import code_of, label_in
-from toolbox.program import refusal, run
+from toolbox.program import given_text, refusal
 
 NO_SEGMENT, SHORT_OF_A_LINE = 11, (8, 9, 10, 12)
 DEFINING = re.compile(r'EQU|D[BWDQT]|RES[BWDQ]|PROC|LABEL|MACRO|SEGMENT|STRUC|TIMES', re.I)
@@ -47,17 +45,17 @@ def uses(line: str, names: set[str]) -> bool:
 class Copy:
     """A copy of a source, some lines of which are blank."""
 
-    def __init__(self, path: str, room: str) -> None:
-        with open(handed(path), encoding='utf-8', errors='surrogateescape', newline='') as file:
-            self.lines = file.read().split('\n')
-        self.room, self.lost = room, set[str]()
+    def __init__(self, text: str) -> None:
+        self.lines, self.lost = text.split('\n'), set[str]()
+
+    @property
+    def text(self) -> str:
+        """What it is now."""
+        return '\n'.join(self.lines)
 
     def fault(self) -> Fault | None:
         """The copy's first fault."""
-        path = os.path.join(self.room, 'copy.asm')
-        with open(path, 'w', encoding='utf-8', errors='surrogateescape', newline='') as file:
-            file.write('\n'.join(self.lines))
-        ran = run(['asm', '--', path])
+        ran = given_text(['asm'], self.text)
         told = fault_in(ran.err)
         if ran.status and told is None:
             raise Sorry(refusal(ran.status, ran.err))
@@ -89,26 +87,32 @@ class Copy:
         return self.fault()
 
 
+def refused_in(copy: Copy, say: Callable[[str], None] = lambda _: None) -> Iterator[tuple[Fault, bool] | None]:
+    """The refused lines of a source, and of each whether it was judged without the earlier ones, which then may be why it
+    doesn't fit its place. A line that uses a name whose own line is refused isn't judged, and None. The copy is at the end
+    what is left of the source; `say` is told how far it is."""
+    opened, told = True, False
+    fault = copy.fault()
+    while fault is not None:
+        if fault.line is None:
+            yield fault, told
+            return
+        line = copy.lines[fault.line - 1]
+        follows = uses(line, copy.lost) or fault.number == NO_SEGMENT and not opened
+        yield None if follows else (fault, told and fault.number in SHORT_OF_A_LINE)
+        told = True
+        opened = opened and not OPENING.match(line)
+        if fault.number == NO_SEGMENT:
+            fault, opened = copy.take_out_to_the_next_segment(fault), True
+        else:
+            fault = copy.take_out(fault)
+        say(f'at line {fault.line}' if fault else 'at the end')
+
+
 def refused_lines(path: str, is_told: bool = True) -> Iterator[tuple[Fault, bool]]:
-    """A source's refused lines, and of each whether it was judged in a copy without the earlier ones, which then may be
-    why it doesn't fit its place. A line that uses a name whose own line is refused isn't judged. How far it is, is told on
-    standard error."""
+    """Those of a file. How far it is, is told on standard error."""
     tells = waiting(f'why: asking about the lines of {path}') if is_told else contextlib.nullcontext(lambda _: None)
-    with tempfile.TemporaryDirectory() as room, tells as say:
-        copy, opened = Copy(path, room), True
-        fault, told = copy.fault(), False
-        while fault is not None:
-            if fault.line is None:
-                yield fault, told
-                return
-            line = copy.lines[fault.line - 1]
-            follows = uses(line, copy.lost) or fault.number == NO_SEGMENT and not opened
-            if not follows:
-                yield fault, told and fault.number in SHORT_OF_A_LINE
-            told = True
-            opened = opened and not OPENING.match(line)
-            if fault.number == NO_SEGMENT:
-                fault, opened = copy.take_out_to_the_next_segment(fault), True
-            else:
-                fault = copy.take_out(fault)
-            say(f'at line {fault.line}' if fault else 'at the end')
+    with open(handed(path), encoding='utf-8', errors='surrogateescape', newline='') as file:
+        copy = Copy(file.read())
+    with tells as say:
+        yield from filter(None, refused_in(copy, say))

@@ -1,14 +1,12 @@
 """Where a source's lines and labels stand, as the program's listing tells it."""
 from __future__ import annotations
 
-import os
 import re
-import tempfile
 from dataclasses import dataclass, field, replace
 
 from toolbox.command import Sorry, read_text
 from toolbox.comments import handed, own_lines
-from toolbox.program import Files, answer_of, run
+from toolbox.program import Files, answer_of, given_text
 
 ADDRESS_COLUMNS = 28
 PROBE_NAME = 'PROBE_OF_LABELS'
@@ -87,16 +85,12 @@ def probed(source: str, names: list[str]) -> dict[str, tuple[int, int]]:
     """The labels' addresses, which no listing has. So the program is asked: it lists a copy of the source that ends with
     a segment of far pointers to them, in a place where the source has nothing."""
     text = ''.join(f'        DW {name},SEG {name}\n' for name in names)
-    with tempfile.TemporaryDirectory() as room:
-        path = os.path.join(room, 'probe.asm')
-        for paragraph in (0x9000, 0x8000, 0x7000, 0x6000):
-            for closing in ('', 'ENDS\n'):  # most sources close their last segment by themselves
-                with open(path, 'w', encoding='utf-8', errors='surrogateescape', newline='') as file:
-                    file.write(f'{source}\n{closing}SEGMENT {PROBE_NAME} AT {paragraph:05X}h\n{text}')
-                ran = run(['asm', '--list', '--', path])
-                if ran.status == 0:
-                    rows = [line_of(0, it).shown for it in ran.out.splitlines()[-len(names) :]]
-                    return {name: (int.from_bytes(row[2:4], 'little'), int.from_bytes(row[:2], 'little')) for name, row in zip(names, rows)}
+    for paragraph in (0x9000, 0x8000, 0x7000, 0x6000):
+        for closing in ('', 'ENDS\n'):  # most sources close their last segment by themselves
+            ran = given_text(['asm', '--list'], f'{source}\n{closing}SEGMENT {PROBE_NAME} AT {paragraph:05X}h\n{text}')
+            if ran.status == 0:
+                rows = [line_of(0, it).shown for it in ran.out.splitlines()[-len(names) :]]
+                return {name: (int.from_bytes(row[2:4], 'little'), int.from_bytes(row[:2], 'little')) for name, row in zip(names, rows)}
     return {}
 
 

@@ -35,8 +35,12 @@ def messages(path: str, is_told: bool = True) -> Iterator[tuple[int, str]]:
     """Each refused line of a source, with its message. A fault of the whole source stands at line 1."""
     lines = [it.rstrip('\r') for it in read_text(path).split('\n')]
     for fault, is_after in refused_lines(path, is_told):
-        behind = ' (where the refused lines above are blank)' if is_after else ''
-        yield fault.line or 1, f'{fault.kind.name}: {what_to_do(lines, fault)}{behind}'
+        yield fault.line or 1, f'{fault.kind.name}: {what_to_do(lines, fault)}{judged(is_after)}'
+
+
+def judged(is_after: bool) -> str:
+    """What is said behind the message of a line that was judged without earlier ones."""
+    return ' (where the refused lines above are blank)' if is_after else ''
 
 
 def warnings(path: str, refused: set[int]) -> Iterator[tuple[int, str]]:

@@ -14,7 +14,7 @@ from zebludor import LAST_CLOCK, TOP, Ran, Unfit
 from toolbox.command import Sorry
 from toolbox.comments import handed
 
-__all__ = ['CLOCKS_OF_A_TRAIL', 'LAST_CLOCK', 'TOP', 'Files', 'Ran', 'Session', 'answer_of', 'copied', 'path', 'refusal', 'run']
+__all__ = ['CLOCKS_OF_A_TRAIL', 'LAST_CLOCK', 'TOP', 'Files', 'Ran', 'Session', 'answer_of', 'copied', 'given_text', 'path', 'refusal', 'run']
 # An instruction takes two clocks or more, so no more than 31 begin in so many clocks, and the trail of 32 has them all.
 CLOCKS_OF_A_TRAIL = 60
 
@@ -31,6 +31,11 @@ def run(words: list[str], given: bytes = b'') -> Ran:
     """Runs the program to its end."""
     path()
     return zebludor.ran(words, given)
+
+
+def given_text(words: list[str], text: str) -> Ran:
+    """Runs the program on a source that is no file."""
+    return run([*words, '--', '/dev/stdin'], text.encode('utf-8', 'surrogateescape'))
 
 
 @dataclass(frozen=True)

@@ -1,4 +1,5 @@
-"""Messages of the Debug Adapter Protocol: a header with the body's length, and a body of JSON."""
+"""Messages as the Debug Adapter Protocol and the Language Server Protocol frame them: a header with the body's length, and a body of
+JSON."""
 from __future__ import annotations
 
 import json
@@ -8,7 +9,7 @@ import re
 import threading
 from typing import Any, Callable
 
-LONGEST_BODY, LONGEST_HEADER = 1 << 20, 4096
+LONGEST_BODY, LONGEST_HEADER = 1 << 23, 4096  # a source of the greatest length fits, all its characters escaped
 
 
 class Broken:
@@ -96,13 +97,10 @@ def reading(handle: int) -> queue.Queue[Read]:
 
 
 def writing(handle: int) -> Callable[[dict[str, Any]], None]:
-    """What writes a message to a file descriptor, each with its own number."""
-    count = 0
+    """What writes a message to a file descriptor."""
 
     def write(message: dict[str, Any]) -> None:
-        nonlocal count
-        count += 1
-        body = json.dumps({'seq': count} | message).encode()
+        body = json.dumps(message).encode()
         left = b'Content-Length: %d\r\n\r\n%b' % (len(body), body)
         while left:
             left = left[os.write(handle, left) :]
