@@ -1,0 +1,62 @@
+"""An open document, and the client's settings."""
+from __future__ import annotations
+
+from dataclasses import dataclass
+from typing import Any, Callable
+
+from toolbox.lsp.answers import Answers
+from toolbox.lsp.foreign import Note, seems
+from toolbox.lsp.source import Source
+from toolbox.lsp.text import Text
+
+OWN = 'zebludor'
+
+
+@dataclass(frozen=True)
+class Settings:
+    """Whether lines end with hints; `zebludor` as the dialect, if every file is one of it; and the names of warnings that are off."""
+
+    hints: bool = False
+    dialect: str = ''
+    off: frozenset[str] = frozenset()
+
+    @staticmethod
+    def of(given: Any) -> Settings:
+        """Those that a client gives; what isn't as it should be is left out."""
+        found = given if isinstance(given, dict) else {}
+        found = found[OWN] if isinstance(found.get(OWN), dict) else found
+        off = found.get('off')
+        names = [it for it in off if isinstance(it, str)] if isinstance(off, list) else []
+        return Settings(found.get('hints') is True, OWN if found.get('dialect') == OWN else '', frozenset(names))
+
+
+class Document:
+    """What the client has open under a name."""
+
+    def __init__(self, uri: str, text: str, version: Any, settings: Settings, poll: Callable[[], None]) -> None:
+        self.uri, self.settings, self._poll = uri, settings, poll
+        self.take(Text.of(text), version)
+
+    def take(self, text: Text, version: Any) -> None:
+        """Another text is the document's now, and nothing is known of it."""
+        self.version: int | None = version if isinstance(version, int) else None
+        self.source = Source(text)
+        self.note: Note | None = None if self.settings.dialect == OWN else seems(self.uri, self.source)
+        self.answers = Answers(self.source, self._poll)
+
+    def change(self, changes: list[Any], version: Any) -> None:
+        """Makes the client's changes, one after another."""
+        text = self.text
+        for it in changes:
+            text = text.changed(it)
+        self.take(text, version)
+
+    def set(self, settings: Settings) -> None:
+        """Other settings hold."""
+        self.settings = settings
+        self.take(self.text, self.version)
+
+    @property
+    def text(self) -> Text:
+        """Its text."""
+        return self.source.text

@@ -1,0 +1,132 @@
+"""What the program accepts and is hardly meant. Each has a name, by which it is turned off."""
+from __future__ import annotations
+
+from dataclasses import dataclass
+from typing import Callable, Iterator
+
+from toolbox.lsp.answers import Answers
+from toolbox.lsp.lines import LABEL, Token
+from toolbox.lsp.source import Source
+from toolbox.lsp.straight import held, register_in
+from toolbox.lsp.text import Fields, Text
+
+BYTE_REGISTERS = ('AL', 'AH', 'BL', 'BH', 'CL', 'CH', 'DL', 'DH')
+WRITERS = tuple('MOV ADD ADC SUB SBB AND OR XOR INC DEC NEG NOT XCHG POP'.split())
+STORES = ('STOSB', 'STOSW', 'MOVSB', 'MOVSW')
+ROM, RESET, OF_THE_SERVICES = 0xF000, 0xFFFF0, range(0x10, 0x22)
+
+
+@dataclass(frozen=True)
+class Doubt:
+    """A warning: its name, its place, and what it says."""
+
+    name: str
+    line: int
+    first: int
+    last: int
+    text: str
+
+    def range_in(self, text: Text) -> Fields:
+        """Its place as the protocol has it."""
+        return text.range(self.line, self.first, self.last)
+
+
+def lone_label(source: Source, tokens: tuple[Token, ...]) -> Token | None:
+    """The label of an expression that has one, and no other name, SEG or $ beside it."""
+    names = [it for it in tokens if it.kind == 'name']
+    if len(names) != 1 or any(it.kind in ('operator', 'register') or it.text in '[]$' for it in tokens):
+        return None
+    found = source.definitions.get(names[0].key)
+    return names[0] if found and found.kind == LABEL else None
+
+
+def offsets_in_bytes(source: Source, _: Answers) -> Iterator[Doubt]:
+    """A label's offset in a byte register."""
+    for number, line in enumerate(source.lines):
+        groups = line.groups()
+        if len(groups) == 2 and register_in(groups[0]) in BYTE_REGISTERS and (name := lone_label(source, groups[1])):
+            text = f"{groups[0][0].key} takes {name.text}'s offset, not what is stored there: [{name.text}] is that byte"
+            yield Doubt('offset-in-byte', number, name.start, name.end, text)
+
+
+def in_rom(source: Source, label: Token) -> bool:
+    """Whether a label's segment is ROM."""
+    span = source.span_of(source.definitions[label.key].line)
+    return bool(span and source.constants.get(span.name.key, 0) >= ROM)
+
+
+def variables_in_rom(source: Source, _: Answers) -> Iterator[Doubt]:
+    """A write to a label whose segment is ROM, or a stack there."""
+    for number, line in enumerate(source.lines):
+        groups = line.groups()
+        if not groups or not line.does(*WRITERS):
+            continue
+        inside = addressed(groups)
+        overridden = any(it.key in ('ES', 'SS', 'DS') for it in groups[0])
+        name = lone_label(source, tuple(it for it in inside if it.kind != 'register' and it.text != '+')) if not overridden else None
+        if name and in_rom(source, name):
+            yield Doubt(
+                'variable-in-rom', number, name.start, name.end, f'{name.text} stands in ROM, where a write is lost: variables stand in a segment of RAM'
+            )
+        if line.does('MOV') and register_in(groups[0]) == 'SS' and len(groups) == 2:
+            paragraph = held(source, number, register_in(groups[1])) if register_in(groups[1]) else None
+            if paragraph is not None and paragraph >= ROM:
+                yield Doubt('variable-in-rom', number, groups[0][0].start, groups[1][-1].end, 'the stack stands in ROM, where a write is lost')
+
+
+def no_vectors(source: Source, answers: Answers) -> Iterator[Doubt]:
+    """INT to a vector that no line sets: none places bytes there, writes to its address, stores through a register or calls the services."""
+    wanted = interrupts(source)
+    if any(value in OF_THE_SERVICES for _, value in wanted) or any(
+        line.does(*STORES) or writes_through_a_register(line.groups(), line.does(*WRITERS)) for line in source.lines
+    ):
+        return
+    written = {source.value(inside) for inside in (addressed(line.groups()) for line in source.lines if line.does(*WRITERS)) if inside}
+    for number, value in wanted:
+        places = {4 * value + at for at in range(4)}
+        if not places & written and not any(map(answers.has, places)):
+            it = source.lines[number].operands
+            yield Doubt('no-vector', number, it[0].start, it[-1].end, f'no line sets the vector of interrupt {value:X}h, at {4 * value:05X}h')
+
+
+def interrupts(source: Source) -> list[tuple[int, int]]:
+    """The lines with INT and a number."""
+    found = [(number, source.value(line.groups()[0])) for number, line in enumerate(source.lines) if line.does('INT') and line.groups()]
+    return [(number, value) for number, value in found if value is not None]
+
+
+def addressed(groups: list[tuple[Token, ...]]) -> tuple[Token, ...]:
+    """What stands in the brackets of a first operand."""
+    texts = [it.text for it in groups[0]] if groups else []
+    return groups[0][texts.index('[') + 1 : -1] if '[' in texts else ()
+
+
+def writes_through_a_register(groups: list[tuple[Token, ...]], is_writer: bool) -> bool:
+    """Whether the first operand is memory by a register."""
+    return is_writer and any(it.kind == 'register' for it in addressed(groups))
+
+
+def no_reset(source: Source, answers: Answers) -> Iterator[Doubt]:
+    """Nothing stands where the processor begins, and no call to the services says that they stand there."""
+    has_code = any(line.statement and line.statement.kind == 'mnemonic' for line in source.lines)
+    if has_code and source.spans and not any(value in OF_THE_SERVICES for _, value in interrupts(source)) and not answers.has(RESET):
+        span = source.spans[-1]
+        text = 'the processor begins at FFFF:0000, and nothing stands there: SEGMENT RESET AT 0FFFFh, JMP FAR start, ENDS'
+        yield Doubt('no-reset', span.first, span.name.start, span.name.end, text)
+
+
+def foreign_comments(source: Source, _: Answers) -> Iterator[Doubt]:
+    """Comments with characters that aren't ASCII, which pcboard itself refuses."""
+    for number, line in enumerate(source.lines):
+        if line.comment and not line.comment.text.isascii():
+            text = "pcboard itself takes ASCII alone; the tools hand it this comment's other characters as ?"
+            yield Doubt('comment-not-ascii', number, line.comment.start, line.comment.end, text)
+
+
+DOUBTS: tuple[Callable[[Source, Answers], Iterator[Doubt]], ...] = (offsets_in_bytes, variables_in_rom, no_vectors, no_reset, foreign_comments)
+NAMES = ('offset-in-byte', 'variable-in-rom', 'no-vector', 'no-reset', 'comment-not-ascii')
+
+
+def doubts_of(source: Source, answers: Answers) -> list[Doubt]:
+    """All of an accepted source."""
+    return sorted((it for look in DOUBTS for it in look(source, answers)), key=lambda it: (it.line, it.first))

@@ -1,0 +1,129 @@
+"""What is told of the word at a place: of a mnemonic its bytes, clocks and forms, of a label its address, of a number its value, of a port
+its chip."""
+from __future__ import annotations
+
+from toolbox.lsp.asked import want
+from toolbox.lsp.clocks import cost_of
+from toolbox.lsp.documents import Document
+from toolbox.lsp.instructions import forms_of, instruction_of
+from toolbox.lsp.lines import LABEL, Token
+from toolbox.lsp.ports import ports, written
+from toolbox.lsp.source import Definition, number_in
+from toolbox.lsp.straight import bytes_before, bytes_out, port_of
+from toolbox.lsp.text import Fields
+
+WITHOUT = 'of the text without its refused lines'
+MOST_USES = 20
+
+
+def hover(document: Document, asked: Fields) -> Fields | None:
+    """The text for the asked place."""
+    line, column = document.text.place(want(asked, 'position', dict))
+    it = document.source.lines[line].at(column)
+    told = told_of(document, line, it) if it and not document.note else []
+    if it is None or not told:
+        return None
+    return {'contents': {'kind': 'markdown', 'value': '\n\n'.join(told)}, 'range': document.text.range(line, it.start, it.end)}
+
+
+def told_of(document: Document, line: int, it: Token) -> list[str]:
+    """The paragraphs for a token."""
+    if it.kind == 'mnemonic':
+        return of_a_mnemonic(document, line, it) + of_a_port(document, line)
+    definition = document.source.definitions.get(it.key) if it.kind == 'name' else None
+    if definition and definition.kind == LABEL:
+        return of_a_label(document, definition)
+    value = document.source.constants.get(it.key) if definition else number_in(it) if it.kind in ('number', 'text') else None
+    told = [f'`{it.text}` {as_number(value)}'] if value is not None else []
+    return told + (of_a_port(document, line) if it.kind in ('number', 'name', 'register') else [])
+
+
+def of_a_mnemonic(document: Document, line: int, it: Token) -> list[str]:
+    """The line's bytes and clocks, the flags, and the mnemonic's forms."""
+    forms = forms_of(it.text)
+    told = [f'**{it.key}** {forms[0].does}'] if forms else []
+    row = document.answers.rows.get(line)
+    found = instruction_of(document.answers.octets(line)) if row else None
+    if row and found:
+        told.append(f'`{row}`{partly(document)}')
+        told.append(f'Clocks by C1: {cost_of(found, False)}  \nClocks by C2: {cost_of(found, True)}')
+        told.append(f'Flags that change: {found.row.flags or "none"}')
+    if forms:
+        rows = [f'|{row.names[0] if it.key not in row.names else it.key} {row.operands}|{row.octets}|{row.clocks}|' for row in forms]
+        told.append('\n'.join(['|Form|Bytes|Clocks|', '|-|-|-|', *rows]))
+    return told
+
+
+def partly(document: Document) -> str:
+    """What is said beside an answer while lines are refused."""
+    return '' if document.answers.is_whole else f', {WITHOUT}'
+
+
+def of_a_port(document: Document, line: int) -> list[str]:
+    """The chip and register that IN or OUT reaches, and what the byte says that is written there."""
+    port = port_of(document.source, line)
+    if port is None:
+        return []
+    told = [f'port {port:X}h: {ports().get(port, "nothing answers")}']
+    before = bytes_before(document.source, line)
+    for at, byte in bytes_out(document.source, line):
+        says = written(at, byte, before)
+        told += [f'{byte:02X}h there: {says}' if at == port else f'{byte:02X}h at port {at:X}h: {says}'] if says else []
+        before = [*before, (at, byte)]
+    return told
+
+
+def of_a_label(document: Document, it: Definition) -> list[str]:
+    """A label's address, its comment or first bytes, and its uses."""
+    far = document.answers.labels.get(it.name.key)
+    told = [f'**{it.name.text}** label' + (f', `{far[0]:04X}:{far[1]:04X}`{partly(document)}' if far else '')]
+    comment = comment_of(document, it.line)
+    first = next((document.answers.rows[at] for at in range(it.line, len(document.text.lines)) if at in document.answers.rows), None)
+    if comment:
+        told.append(comment)
+    elif first and first.address == far:
+        told.append(f'begins with `{first.shown.hex(" ").upper()}`')
+    uses = [number + 1 for number, name in document.source.places[it.name.key] if name in document.source.lines[number].uses]
+    more = ' ..' if len(uses) > MOST_USES else ''
+    lines = ', '.join(map(str, dict.fromkeys(uses[:MOST_USES])))
+    return told + [f'used in line{"s" * (len(set(uses)) > 1)} {lines}{more}' if uses else 'used nowhere']
+
+
+def comment_of(document: Document, line: int) -> str:
+    """The comment lines just above a line, else its own comment."""
+    found, at = list[str](), line - 1
+    while at >= 0 and len(document.source.lines[at].tokens) == 1 and (above := document.source.lines[at].comment):
+        found.insert(0, above.text.lstrip('; '))
+        at -= 1
+    own = document.source.lines[line].comment
+    return ' '.join(found) if found else own.text.lstrip('; ') if own else ''
+
+
+def as_number(value: int) -> str:
+    """A number in hexadecimal, decimal and binary, and as text if it is one."""
+    width = next(it for it in (8, 16, 32, 64) if -(1 << it - 1) <= value < 1 << it)
+    bits = value % (1 << width)
+    hexadecimal = f'{bits:X}h' if f'{bits:X}'[0].isdigit() else f'0{bits:X}h'
+    octets = bits.to_bytes(width // 8, 'big').lstrip(b'\0')
+    text = f", '{octets.decode('ascii')}'" if octets and all(0x20 <= it <= 0x7E for it in octets) else ''
+    return f'is {hexadecimal}, {value}, {bits:b}b{text}'
+
+
+def inlay_hints(document: Document, asked: Fields) -> list[Fields]:
+    """Address, bytes and clocks at each line's end, if the settings want them."""
+    if not document.settings.hints or document.note:
+        return []
+    span = want(asked, 'range', dict)
+    first, last = (document.text.place(span.get(it))[0] for it in ('start', 'end'))
+    return [hint for line in range(first, last + 1) if (hint := hint_of(document, line))]
+
+
+def hint_of(document: Document, line: int) -> Fields | None:
+    """A line's hint."""
+    row, parsed = document.answers.rows.get(line), document.source.lines[line]
+    if row is None:
+        return None
+    found = instruction_of(document.answers.octets(line)) if parsed.statement and parsed.statement.kind == 'mnemonic' else None
+    label = f'{row} {cost_of(found, False).short}' if found else str(row)
+    told = {'position': document.text.position(line, len(document.text.lines[line])), 'label': label, 'paddingLeft': True}
+    return told if document.answers.is_whole else told | {'tooltip': WITHOUT}

@@ -1,0 +1,167 @@
+"""The table of instructions of docs/machine.md: each row's mnemonics, operands, bytes, clocks, effect and flags; and which row
+an instruction's bytes are of."""
+from __future__ import annotations
+
+import functools
+import re
+from dataclasses import dataclass, replace
+
+from toolbox.command import read_text
+from toolbox.program import TOP
+
+PREFIXES = {0x26: 'ES:', 0x2E: 'CS:', 0x36: 'SS:', 0x3E: 'DS:', 0xF0: 'LOCK', 0xF2: 'REPNE', 0xF3: 'REP'}
+REPEATS = (0xF2, 0xF3)
+WAYS = {'+r': (1, 8), '+8s': (8, 4), '+n/8': (1, 8)}
+BYTES = re.compile(r'([0-9A-F]{2})h(\+r|\+8s|\+n/8|)(?:,? /(\d|[rs]|\(n mod 8\)))?')
+
+
+@dataclass(frozen=True)
+class Row:
+    """One way to write an instruction: what the page has of it."""
+
+    names: tuple[str, ...]
+    operands: str
+    octets: str
+    clocks: str
+    does: str
+    flags: str
+
+    @property
+    def has_place(self) -> bool:
+        """Whether a second byte mod, reg, r/m follows."""
+        return '/' in self.octets.replace('+n/8', '')
+
+    @property
+    def kinds(self) -> list[str]:
+        """Its operands, parted."""
+        return self.operands.split(',') if self.operands else []
+
+
+@dataclass(frozen=True)
+class Instruction:
+    """The bytes of an instruction: its prefixes, its row, and mod, reg, r/m if there is one."""
+
+    prefixes: tuple[int, ...]
+    row: Row
+    place: int | None
+
+    @property
+    def is_memory(self) -> bool:
+        """Whether r/m is memory."""
+        return self.place is not None and self.place < 0xC0
+
+    @property
+    def is_repeated(self) -> bool:
+        """Whether it is a string instruction under a repeat prefix."""
+        return any(it in REPEATS for it in self.prefixes) and self.row.names[0][:4] in ('CMPS', 'LODS', 'MOVS', 'SCAS', 'STOS')
+
+
+def table(page: str, head: str) -> list[list[str]]:
+    """The cells of a page's table whose first line begins so."""
+    rows = page.partition(f'\n{head}')[2].partition('\n\n')[0].splitlines()[2:]
+    return [it.strip('|').split('|') if it.count('|') < 3 else it[1:-1].split('|') for it in rows]
+
+
+def shared(alternatives: str, count: int) -> list[str]:
+    """So many alternatives; one that stands alone is that of all."""
+    found = re.split(r'; ', alternatives)
+    found = found if len(found) == count else alternatives.split(', ')
+    return found if len(found) == count else [alternatives] * count
+
+
+def expanded(row: Row, forms: list[list[str]], k: str) -> list[Row]:
+    """A row of arithmetic or shift instructions as one for each form, with k in its place."""
+    found = list[Row]()
+    for operands, octets, clocks in forms:
+        operands, _, those = operands.partition(': ')
+        if operands.startswith('decoded') or those and row.names[0] not in those.split(', '):
+            continue
+        mine = re.search(rf', {row.names[0]} (.*)', clocks)
+        first, _, memory = re.sub(r', [A-Z]+ .*', '', clocks).partition('; ')
+        clocks = '; '.join(filter(None, (first, mine[1] if mine else memory)))
+        octets = re.sub(r'([0-9A-F]{2})h\+8k', lambda it: f'{int(it[1], 16) + 8 * int(k):02X}h', octets)
+        found.append(replace(row, operands=operands, octets=octets.replace('/k', f'/{k}'), clocks=clocks))
+    return found
+
+
+def jumps(row: Row, conditions: list[list[str]]) -> list[Row]:
+    """The row of conditional jumps as one for each condition."""
+    found = list[Row]()
+    for cells in conditions:
+        for name, does in (cells[:2], cells[2:]):
+            number, _, names = name.partition(' ')
+            opcode = 0x70 + int(number.rstrip('h'), 16)
+            found.append(replace(row, names=tuple(names.split(', ')), octets=f'{opcode:02X}h rel8', does=f'jumps where {does}'))
+    return found
+
+
+@functools.cache
+def rows() -> list[Row]:
+    """All rows, each alternative of a line by itself, in the order of the page."""
+    page = read_text(f'{TOP}/docs/machine.md')
+    forms = {name: table(page, f'|{name}|') for name in ('arithmetic', 'shift')}
+    found, does, flags, before = list[Row](), '', '', ''
+    for names, operands, octets, clocks, what, changed in table(page, '|Mnemonic|'):
+        does, flags = (what, changed) if names != before else (what or does, changed or flags)
+        row, before = Row(tuple(names.split(', ')), operands, octets, clocks, does, flags), names
+        if operands in forms:
+            found += expanded(row, forms[operands], octets.removeprefix('k='))
+        elif names == 'Jcc':
+            found += jumps(row, table(page, '|c|'))
+        else:
+            found.append(row)
+    return [one for row in found for one in alternatives(row)]
+
+
+def alternatives(row: Row) -> list[Row]:
+    """A line's alternatives, each with its bytes, and its mnemonic where each has its own."""
+    given = row.operands.split('; ')
+    count = len(given) if len(given) > 1 else len(row.names) if ', ' in row.octets and not row.operands else 1
+    own = not row.operands and count > 1
+    return [
+        replace(row, names=(row.names[at],) if own else row.names, operands=given[at % len(given)], octets=octets)
+        for at, octets in enumerate(shared(row.octets, count) if count > 1 else [row.octets])
+    ]
+
+
+@functools.cache
+def by_opcode() -> dict[tuple[int, int | None], Row]:
+    """The rows by opcode, and by the digit of the second byte where that names one."""
+    found = dict[tuple[int, int | None], Row]()
+    for row in rows():
+        told = BYTES.match(row.octets)
+        assert told, row
+        step, count = WAYS.get(told[2], (1, 1))
+        for number in range(count):
+            digit = int(told[3]) if told[3] and told[3].isdigit() else None
+            found.setdefault((int(told[1], 16) + step * number, digit), row)
+    return found
+
+
+def instruction_of(octets: bytes) -> Instruction | None:
+    """The instruction that these bytes begin with, or None."""
+    at = 0
+    while at < len(octets) and octets[at] in PREFIXES:
+        at += 1
+    prefixes, rest = tuple(octets[:at]), octets[at:]
+    if not rest:
+        return None
+    place = rest[1] if len(rest) > 1 else None
+    digit = place >> 3 & 7 if place is not None else None
+    row = by_opcode().get((rest[0], digit)) or by_opcode().get((rest[0], None))
+    return Instruction(prefixes, row, place if row.has_place else None) if row else None
+
+
+@functools.cache
+def by_name() -> dict[str, list[Row]]:
+    """The rows by mnemonic."""
+    found = dict[str, list[Row]]()
+    for row in rows():
+        for name in dict.fromkeys(it.partition(' ')[0] for it in row.names):
+            found.setdefault(name, []).append(row)
+    return found
+
+
+def forms_of(name: str) -> list[Row]:
+    """The rows of a mnemonic."""
+    return by_name().get(name.upper(), [])

@@ -1,0 +1,107 @@
+"""A source's segments, labels and constants as a tree, what folds in it, and the names of many sources."""
+from __future__ import annotations
+
+import os
+import urllib.parse
+from pathlib import Path
+from typing import Iterable, Iterator
+
+from toolbox.lsp.documents import Document
+from toolbox.lsp.lines import CONSTANT, LABEL, SEGMENT
+from toolbox.lsp.source import Definition, Source, Span
+from toolbox.lsp.text import Fields, Text
+
+NAMESPACE, FUNCTION, VARIABLE, CONSTANT_SYMBOL = 3, 12, 13, 14
+MOST_FILES, LONGEST_FILE, MOST_FOUND = 500, 1 << 20, 1000
+
+
+def symbol_kind(source: Source, it: Definition) -> int:
+    """What the protocol calls a name."""
+    if it.kind == LABEL:
+        return VARIABLE if source.is_data(it.line) else FUNCTION
+    return NAMESPACE if it.kind == SEGMENT else CONSTANT_SYMBOL
+
+
+def symbol(document: Document, it: Definition, last: int, children: list[Fields]) -> Fields:
+    """A name with the lines that belong to it."""
+    text = document.text
+    told = {'name': it.name.text, 'kind': symbol_kind(document.source, it), 'range': text.lines_range(it.line, last)}
+    return told | {'selectionRange': text.range(it.line, it.name.start, it.name.end), 'children': children}
+
+
+def document_symbols(document: Document, _: Fields) -> list[Fields]:
+    """The segments with their labels, and beside them the constants and what is in no segment."""
+    source = document.source
+    labels, found, told = sorted(source.labels(), key=lambda it: it.line), list[Fields](), set[str]()
+    for span in source.spans:
+        inside = [it for it in labels if span.first <= it.line <= span.last]
+        told |= {it.name.key for it in inside}
+        ends = [it.line for it in inside[1:]] + [span.last]
+        children = [symbol(document, it, max(it.line, end - 1), []) for it, end in zip(inside, ends)]
+        found.append(symbol(document, Definition(SEGMENT, span.first, span.name), span.last, children))
+    rest = [it for it in source.definitions.values() if it.kind != SEGMENT and it.name.key not in told]
+    return found + [symbol(document, it, it.line, []) for it in rest]
+
+
+def folds(document: Document, _: Fields) -> list[Fields]:
+    """The segments, and comments of two lines or more."""
+    found = [{'startLine': it.first, 'endLine': it.last, 'kind': 'region'} for it in document.source.spans if it.last > it.first]
+    first = None
+    for number, line in enumerate([*document.source.lines, None]):
+        is_comment = line is not None and len(line.tokens) == 1 and line.comment is not None
+        if is_comment and first is None:
+            first = number
+        elif not is_comment and first is not None:
+            found += [{'startLine': first, 'endLine': number - 1, 'kind': 'comment'}] if number - first > 1 else []
+            first = None
+    return found
+
+
+def path_of(uri: str) -> str | None:
+    """The path of a file's name in the protocol."""
+    parts = urllib.parse.urlsplit(uri)
+    return urllib.parse.unquote(parts.path) if parts.scheme == 'file' else None
+
+
+def sources_below(folders: Iterable[str]) -> Iterator[str]:
+    """The sources in folders, a few hundred at most; none that is hidden."""
+    count = 0
+    for top in folders:
+        for folder, inner, names in os.walk(top):
+            inner[:] = sorted(it for it in inner if not it.startswith('.'))
+            for name in sorted(it for it in names if it.lower().endswith('.asm')):
+                count += 1
+                if count > MOST_FILES:
+                    return
+                yield os.path.join(folder, name)
+
+
+def read(path: str) -> Source | None:
+    """A file's source, or None where it can't be read or is too long."""
+    try:
+        with open(path, 'rb') as file:
+            octets = file.read(LONGEST_FILE + 1)
+    except OSError:
+        return None
+    return Source(Text.of(octets.decode('utf-8', 'replace'))) if len(octets) <= LONGEST_FILE else None
+
+
+def workspace_symbols(documents: Iterable[Document], folders: list[str], query: str) -> list[Fields]:
+    """The names that have the query's letters in their order, of open documents and of the folders' sources."""
+    sources = {it.uri: it.source for it in documents if not it.note}
+    for path in sources_below(folders):
+        uri = Path(path).as_uri()
+        source = read(path) if uri not in sources else None
+        if source:
+            sources[uri] = source
+    return [told for uri, source in sources.items() for told in matching(uri, source, query)][:MOST_FOUND]
+
+
+def matching(uri: str, source: Source, query: str) -> Iterator[Fields]:
+    """A source's names that match."""
+    for it in source.definitions.values():
+        letters = iter(it.name.key)
+        if all(sign in letters for sign in query.upper()):
+            span: Span | None = source.span_of(it.line) if it.kind != CONSTANT else None
+            at = {'uri': uri, 'range': source.text.range(it.line, it.name.start, it.name.end)}
+            yield {'name': it.name.text, 'kind': symbol_kind(source, it), 'location': at, 'containerName': span.name.text if span else ''}

@@ -1,0 +1,279 @@
+"""The protocol: messages in, answers out, and the work that goes on between them."""
+from __future__ import annotations
+
+import contextlib
+import os
+import queue
+from collections import deque
+from typing import Any, Callable
+
+from toolbox.command import Sorry
+from toolbox.framing import Broken, Read
+from toolbox.lsp import calls, colours, completing, diagnosing, hovering, layout, naming, outline
+from toolbox.lsp.asked import CANCELLED, FAILED, INTERNAL, INVALID, NO_METHOD, NOT_BEGUN, PARSE, Unfit, want
+from toolbox.lsp.documents import Document, Settings
+from toolbox.lsp.text import Fields
+
+OF_A_DOCUMENT: dict[str, Callable[[Document, Fields], Any]] = {
+    'textDocument/codeAction': diagnosing.code_actions,
+    'textDocument/completion': completing.completion,
+    'textDocument/definition': naming.definition,
+    'textDocument/documentHighlight': naming.highlights,
+    'textDocument/documentSymbol': outline.document_symbols,
+    'textDocument/foldingRange': outline.folds,
+    'textDocument/formatting': layout.formatting,
+    'textDocument/hover': hovering.hover,
+    'textDocument/inlayHint': hovering.inlay_hints,
+    'textDocument/prepareCallHierarchy': calls.prepare,
+    'textDocument/prepareRename': naming.renamed_at,
+    'textDocument/rangeFormatting': layout.range_formatting,
+    'textDocument/references': naming.references,
+    'textDocument/rename': naming.rename,
+    'textDocument/semanticTokens/full': colours.semantic_tokens,
+    'textDocument/signatureHelp': completing.signature_help,
+    'callHierarchy/incomingCalls': calls.incoming,
+    'callHierarchy/outgoingCalls': calls.outgoing,
+}
+CAPABILITIES: Fields = {
+    'positionEncoding': 'utf-16',
+    'textDocumentSync': {'openClose': True, 'change': 2},
+    'codeActionProvider': {'codeActionKinds': ['quickfix']},
+    'completionProvider': {'triggerCharacters': [' ', '[', ',']},
+    'definitionProvider': True,
+    'documentHighlightProvider': True,
+    'documentSymbolProvider': True,
+    'foldingRangeProvider': True,
+    'documentFormattingProvider': True,
+    'hoverProvider': True,
+    'inlayHintProvider': True,
+    'callHierarchyProvider': True,
+    'renameProvider': {'prepareProvider': True},
+    'documentRangeFormattingProvider': True,
+    'referencesProvider': True,
+    'semanticTokensProvider': {'legend': {'tokenTypes': colours.TYPES, 'tokenModifiers': colours.MODIFIERS}, 'full': True},
+    'signatureHelpProvider': {'triggerCharacters': [' ', ',']},
+    'workspaceSymbolProvider': True,
+}
+PATIENCE = 1.0  # so often it looks whether its client is there still
+LOG_ERROR = 1
+
+
+class Left(Exception):
+    """The client has gone."""
+
+
+class Server:
+    """One client's documents, from its first message to its last."""
+
+    def __init__(self, messages: queue.Queue[Read], write: Callable[[Fields], None]) -> None:
+        self.messages, self._write = messages, write
+        self.waiting = deque[Read]()
+        self.documents, self.folders, self.settings = dict[str, Document](), list[str](), Settings()
+        self.due = dict[str, list[Fields] | None]()  # documents that are being judged, with what was told last of this text
+        self.client, self.is_begun, self.is_shut, self.is_over, self.told = 0, False, False, False, ''
+
+    def serve(self) -> int:
+        """Answers messages until the client leaves, and gives the exit status."""
+        with contextlib.suppress(Left, BrokenPipeError):
+            while not self.is_over:
+                self.gather(PATIENCE if not self.due else 0)
+                if self.waiting:
+                    self.take(self.waiting.popleft())
+                else:
+                    self.judge()
+        return 0 if self.is_shut else 1
+
+    def gather(self, seconds: float) -> None:
+        """Takes in what has come, and waits for it so long at most if nothing has."""
+        with contextlib.suppress(queue.Empty):
+            if not self.waiting and seconds:
+                self.keep(self.messages.get(timeout=seconds))
+            while True:
+                self.keep(self.messages.get_nowait())
+        if self.client:
+            try:
+                os.kill(self.client, 0)
+            except ProcessLookupError:
+                raise Left from None
+            except PermissionError:
+                pass
+
+    def keep(self, message: Read) -> None:
+        """Puts a message behind the others; one that calls off another is done with at once."""
+        if message is None:
+            raise Left
+        if isinstance(message, dict) and message.get('method') == '$/cancelRequest':
+            number = message['params'].get('id') if isinstance(message.get('params'), dict) else None
+            for it in self.waiting:
+                if isinstance(it, dict) and 'method' in it and it.get('id') == number is not None:
+                    it['method'] = '$/cancelled'
+        else:
+            self.waiting.append(message)
+
+    def poll(self) -> None:
+        """Between the pieces of long work: looks whether the client is there still."""
+        self.gather(0)
+
+    # Messages
+
+    def write(self, message: Fields) -> None:
+        """Sends a message."""
+        self._write({'jsonrpc': '2.0'} | message)
+
+    def refuse(self, number: Any, unfit: Unfit) -> None:
+        """Sends an error for an answer."""
+        self.write({'id': number, 'error': {'code': unfit.code, 'message': str(unfit)}})
+
+    def take(self, message: Read) -> None:
+        """Answers a message; what isn't as the protocol has it gets an error, or if it wants no answer, none."""
+        if isinstance(message, Broken):
+            self.refuse(None, Unfit(message.why, PARSE))
+            return
+        if message is None or not isinstance(message.get('method'), str):
+            if message and 'id' in message and 'result' not in message and 'error' not in message:
+                self.refuse(None, Unfit('a request has a method', INVALID))
+            return
+        number, is_request = message.get('id'), 'id' in message
+        if is_request and (isinstance(number, bool) or not isinstance(number, (int, str))):
+            self.refuse(None, Unfit("a request's id is a number or a string", INVALID))
+            return
+        try:
+            result = self.answer(message['method'], message.get('params') or {}, is_request)
+            if is_request:
+                self.write({'id': number, 'result': result})
+        except (Unfit, Sorry) as sorry:
+            unfit = sorry if isinstance(sorry, Unfit) else Unfit(str(sorry), FAILED)
+            self.refuse(number, unfit) if is_request else self.log(str(unfit))
+        except (TypeError, ValueError, KeyError, IndexError, AttributeError, RecursionError, OverflowError) as error:
+            told = f"{message['method']} can't be answered: {type(error).__name__}: {error}"
+            self.refuse(number, Unfit(told, INTERNAL)) if is_request else self.log(told)
+
+    def log(self, text: str) -> None:
+        """Tells the client's log, once."""
+        if text != self.told:
+            self.told = text
+            self.write({'method': 'window/logMessage', 'params': {'type': LOG_ERROR, 'message': text}})
+
+    def answer(self, method: str, asked: Fields, is_request: bool) -> Any:
+        """The result of a request, or what a notification does."""
+        if method == 'exit':
+            self.is_over = True
+        elif is_request and method == '$/cancelled':
+            raise Unfit('called off', CANCELLED)
+        elif not self.is_begun and method != 'initialize':
+            if is_request:
+                raise Unfit('initialize comes first', NOT_BEGUN)
+        elif self.is_shut:
+            if is_request:
+                raise Unfit('the server is shut down', INVALID)
+        elif is_request and method in OF_A_DOCUMENT:
+            return OF_A_DOCUMENT[method](self.document(asked), asked)
+        elif method in (self.REQUESTS if is_request else self.NOTIFICATIONS):
+            return (self.REQUESTS if is_request else self.NOTIFICATIONS)[method](self, asked)
+        elif is_request:
+            raise Unfit(f'{method} is no request that is known here', NO_METHOD)
+        return None
+
+    def document(self, asked: Fields) -> Document:
+        """The open document that a request names."""
+        holder = asked.get('item') or asked.get('textDocument')
+        uri = want(holder, 'uri', str)
+        if uri not in self.documents:
+            raise Unfit(f"{uri} isn't open", FAILED)
+        return self.documents[uri]
+
+    # The life of the server
+
+    def initialize(self, asked: Fields) -> Fields:
+        """What it can do."""
+        if self.is_begun:
+            raise Unfit('initialize comes once', INVALID)
+        self.is_begun = True
+        client = asked.get('processId')
+        self.client = client if isinstance(client, int) and client > 0 else 0
+        given = asked.get('workspaceFolders')
+        roots = [it.get('uri') for it in given] if isinstance(given, list) else [asked.get('rootUri')]
+        self.folders = [path for it in roots if isinstance(it, str) and (path := outline.path_of(it))]
+        self.settings = Settings.of(asked.get('initializationOptions'))
+        return {'capabilities': CAPABILITIES, 'serverInfo': {'name': 'zebludor'}}
+
+    def shutdown(self, _: Fields) -> None:
+        """The end begins: nothing is judged any more."""
+        self.is_shut = True
+        self.due.clear()
+
+    def configure(self, asked: Fields) -> None:
+        """Other settings."""
+        self.settings = Settings.of(asked.get('settings'))
+        for it in self.documents.values():
+            it.set(self.settings)
+            self.due[it.uri] = None
+
+    # Documents
+
+    def open(self, asked: Fields) -> None:
+        """A document is the client's now."""
+        given = want(asked, 'textDocument', dict)
+        uri = want(given, 'uri', str)
+        self.documents[uri] = Document(uri, want(given, 'text', str, ''), given.get('version'), self.settings, self.poll)
+        self.due[uri] = None
+
+    def change(self, asked: Fields) -> None:
+        """A document's text changes. Changes that aren't as the protocol has them leave none that is known, so it is closed."""
+        given = want(asked, 'textDocument', dict)
+        document = self.document(asked)
+        try:
+            document.change(want(asked, 'contentChanges', list), given.get('version'))
+        except Unfit:
+            self.close(asked)
+            raise
+        self.due[document.uri] = None
+
+    def close(self, asked: Fields) -> None:
+        """A document is the client's no more, and nothing is underlined in it."""
+        uri = self.document(asked).uri
+        del self.documents[uri]
+        self.due.pop(uri, None)
+        self.write({'method': 'textDocument/publishDiagnostics', 'params': {'uri': uri, 'diagnostics': []}})
+
+    def workspace_symbols(self, asked: Fields) -> list[Fields]:
+        """The names in all sources."""
+        return outline.workspace_symbols(self.documents.values(), self.folders, want(asked, 'query', str, ''))
+
+    def judge(self) -> None:
+        """Goes on with a document whose text has changed: its first refused line is told at once, the others together."""
+        uri = next(iter(self.due), None)
+        if uri is None:
+            return
+        document, told = self.documents[uri], self.due[uri]
+        answers = document.answers
+        if told is None and not document.note:
+            if not answers.is_over and not answers.refused:
+                answers.step()
+            refused = [diagnosing.of_a_fault(document, *it) for it in answers.refused]
+            self.due[uri] = refused
+            self.publish(document, refused)
+        elif not document.note and not answers.is_over:
+            answers.step()
+        else:
+            del self.due[uri]
+            found = diagnosing.diagnostics(document)
+            if found != told:
+                self.publish(document, found)
+            if answers.broken:
+                self.log(answers.broken)
+
+    def publish(self, document: Document, found: list[Fields]) -> None:
+        """Tells what is underlined."""
+        told: Fields = {'uri': document.uri, 'diagnostics': found}
+        version = {'version': document.version} if document.version is not None else {}
+        self.write({'method': 'textDocument/publishDiagnostics', 'params': told | version})
+
+    REQUESTS: dict[str, Callable[[Server, Fields], Any]] = {'initialize': initialize, 'shutdown': shutdown, 'workspace/symbol': workspace_symbols}
+    NOTIFICATIONS: dict[str, Callable[[Server, Fields], None]] = {
+        'initialized': lambda _, __: None,
+        'workspace/didChangeConfiguration': configure,
+        'textDocument/didOpen': open,
+        'textDocument/didChange': change,
+        'textDocument/didClose': close,
+    }

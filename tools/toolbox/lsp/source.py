@@ -1,0 +1,127 @@
+"""What a source says by itself: its names, where each is defined and used, its segments, and the values of its constants."""
+from __future__ import annotations
+
+import re
+from dataclasses import dataclass
+from functools import cached_property
+
+from toolbox.lsp.lines import CONSTANT, DATA, LABEL, Parsed, Token, parsed
+from toolbox.lsp.text import Text
+
+
+@dataclass(frozen=True)
+class Definition:
+    """A name, its kind, and the line that defines it first."""
+
+    kind: str
+    line: int
+    name: Token
+
+
+@dataclass(frozen=True)
+class Span:
+    """A segment: its name, and the lines from SEGMENT to ENDS."""
+
+    name: Token
+    first: int
+    last: int
+
+
+class Source:
+    """A text as the dialect has it."""
+
+    def __init__(self, text: Text) -> None:
+        self.text = text
+        self.lines: list[Parsed] = [parsed(it) for it in text.lines]
+        if text.whole.startswith('\ufeff'):
+            self.lines[0] = parsed(text.lines[0].replace('\ufeff', ' ', 1))
+
+    @cached_property
+    def definitions(self) -> dict[str, Definition]:
+        """Each name in upper case, with what defines it first."""
+        found = dict[str, Definition]()
+        for number, line in enumerate(self.lines):
+            for kind, name in line.definitions:
+                found.setdefault(name.key, Definition(kind, number, name))
+        return found
+
+    @cached_property
+    def places(self) -> dict[str, list[tuple[int, Token]]]:
+        """Where each name stands, by the name in upper case."""
+        found = dict[str, list[tuple[int, Token]]]()
+        for number, line in enumerate(self.lines):
+            for it in line.names:
+                found.setdefault(it.key, []).append((number, it))
+        return found
+
+    @cached_property
+    def spans(self) -> list[Span]:
+        """The segments in their order."""
+        found, opened = list[Span](), None
+        for number, line in enumerate(self.lines):
+            if line.defined and line.does('SEGMENT'):
+                opened = (line.defined[1], number)
+            elif line.does('ENDS') and opened:
+                found.append(Span(*opened, number))
+                opened = None
+        return found + ([Span(*opened, len(self.lines) - 1)] if opened else [])
+
+    def span_of(self, line: int) -> Span | None:
+        """The segment that a line is in."""
+        return next((it for it in self.spans if it.first <= line <= it.last), None)
+
+    def named(self, line: int, column: int) -> Token | None:
+        """The name at a place, if it is one that the source defines."""
+        found = self.lines[line].at(column)
+        return found if found and found.kind == 'name' and found.key in self.definitions else None
+
+    def is_data(self, line: int) -> bool:
+        """Whether a label's line, or the next one that does something, places data."""
+        for it in self.lines[line:]:
+            if it.statement:
+                return it.does(*DATA)
+        return False
+
+    @cached_property
+    def constants(self) -> dict[str, int]:
+        """The values of EQU and SEGMENT names, as far as these are made of numbers and earlier ones."""
+        found = dict[str, int]()
+        for line in self.lines:
+            if line.defined and line.defined[1].key not in found:
+                kind, name = line.defined
+                value = value_of(line.operands if kind == CONSTANT else line.operands[2:], found)
+                if value is not None:
+                    found[name.key] = value
+        return found
+
+    def value(self, tokens: tuple[Token, ...]) -> int | None:
+        """A constant expression's value, or None."""
+        return value_of(tokens, self.constants)
+
+    def labels(self) -> list[Definition]:
+        """The labels in their order."""
+        return [it for it in self.definitions.values() if it.kind == LABEL]
+
+
+def number_in(token: Token) -> int | None:
+    """A number or a character as a number."""
+    if token.kind == 'text':
+        return ord(token.text[1]) if re.fullmatch(r"'[^']'", token.text) else None
+    for pattern, base in ((r'(\d[0-9A-F]*)H', 16), (r'([01]+)B', 2), (r'(\d+)', 10)):
+        if found := re.fullmatch(pattern, token.key):
+            return int(found[1], base)
+    return None
+
+
+def value_of(tokens: tuple[Token, ...], names: dict[str, int]) -> int | None:
+    """The value of terms joined by + and -, perhaps after a -; None where a term is no number and none of these names."""
+    total, sign, is_wanted = 0, 1, True
+    for at, it in enumerate(tokens):
+        if it.text in ('+', '-') and (not is_wanted or at == 0 and it.text == '-'):
+            sign, is_wanted = (1 if it.text == '+' else -1), True
+            continue
+        term = names.get(it.key) if it.kind == 'name' else number_in(it) if it.kind in ('number', 'text') else None
+        if term is None or not is_wanted:
+            return None
+        total, is_wanted = total + sign * term, False
+    return None if is_wanted else total
