@@ -29,7 +29,7 @@ def hover(document: Document, asked: Fields) -> Fields | None:
 def told_of(document: Document, line: int, it: Token) -> list[str]:
     """The paragraphs for a token."""
     if it.kind == 'mnemonic':
-        return of_a_mnemonic(document, line, it) + of_a_port(document, line)
+        return of_a_mnemonic(document, line, it) + of_a_port(document, line) + forms_told(it)
     definition = document.source.definitions.get(it.key) if it.kind == 'name' else None
     if definition and definition.kind == LABEL:
         return of_a_label(document, definition)
@@ -39,7 +39,7 @@ def told_of(document: Document, line: int, it: Token) -> list[str]:
 
 
 def of_a_mnemonic(document: Document, line: int, it: Token) -> list[str]:
-    """The line's bytes and clocks, the flags, and the mnemonic's forms."""
+    """What it does, the line's bytes and clocks, and the flags."""
     forms = forms_of(it.text)
     told = [f'**{it.key}** {forms[0].does}'] if forms else []
     row = document.answers.rows.get(line)
@@ -48,10 +48,13 @@ def of_a_mnemonic(document: Document, line: int, it: Token) -> list[str]:
         told.append(f'`{row}`{partly(document)}')
         told.append(f'Clocks by C1: {cost_of(found, False)}  \nClocks by C2: {cost_of(found, True)}')
         told.append(f'Flags that change: {found.row.flags or "none"}')
-    if forms:
-        rows = [f'|{row.names[0] if it.key not in row.names else it.key} {row.operands}|{row.octets}|{row.clocks}|' for row in forms]
-        told.append('\n'.join(['|Form|Bytes|Clocks|', '|-|-|-|', *rows]))
     return told
+
+
+def forms_told(it: Token) -> list[str]:
+    """The mnemonic's forms, as a table."""
+    rows = [f'|{it.key if it.key in row.names else row.names[0]} {row.operands}|{row.octets}|{row.clocks}|' for row in forms_of(it.text)]
+    return ['\n'.join(['|Form|Bytes|Clocks|', '|-|-|-|', *rows])] if rows else []
 
 
 def partly(document: Document) -> str:

@@ -1,0 +1,120 @@
+"""Editors with the settings that docs/editors.md shows: the real ones, where they are installed, and VS Code's extension with a stand-in."""
+from __future__ import annotations
+
+import os
+import re
+import subprocess
+import unittest
+
+from tests.support import TOP, ToolCase, is_there
+
+SOURCE = """SEGMENT MAIN AT 50h
+start:  MOV AL,34h
+        OUT 43h,AL
+        INC ticks
+        JMP start
+ticks:  DB 5
+ENDS
+"""
+RENAMED = SOURCE.replace('start', 'begin')
+SECONDS = 300
+EMACS = """
+(setq eglot-connect-timeout 200 eglot-sync-connect t eglot-confirm-server-initiated-edits nil)
+(defun until (test) (let ((count 0)) (while (and (not (funcall test)) (< (cl-incf count) 2000)) (accept-process-output nil 0.1))))
+(find-file "b.asm")
+(asm-mode)
+(apply #'eglot (eglot--guess-contact))
+(find-file "a.asm")
+(asm-mode)
+(eglot--maybe-activate-editing-mode)
+(flymake-start)
+(until (lambda () (flymake-diagnostics)))
+(dolist (it (flymake-diagnostics)) (princ (format "%d %s\\n" (line-number-at-pos (flymake-diagnostic-beg it)) (flymake-diagnostic-text it))))
+(goto-char (point-min))
+(search-forward "OUT")
+(let (told) (eglot-hover-eldoc-function (lambda (text &rest _) (setq told text))) (until (lambda () told)) (princ (substring-no-properties told)))
+(goto-char (point-min))
+(search-forward "start" nil nil 2)
+(backward-char 2)
+(eglot-rename "begin")
+(princ "\\nhere\\n")
+(princ (buffer-substring-no-properties (point-min) (point-max)))
+(princ "there\\n")
+(princ (with-current-buffer "b.asm" (buffer-substring-no-properties (point-min) (point-max))))
+"""
+NEOVIM = """
+vim.o.hidden = true
+vim.cmd('filetype on')
+vim.cmd('edit b.asm')
+vim.cmd('edit a.asm')
+vim.wait(200000, function() return #vim.diagnostic.get(0) > 0 end)
+local told = {}
+for _, it in ipairs(vim.diagnostic.get(0)) do table.insert(told, (it.lnum + 1) .. ' ' .. it.message) end
+vim.api.nvim_win_set_cursor(0, { 3, 9 })
+for _, it in pairs(vim.lsp.buf_request_sync(0, 'textDocument/hover', vim.lsp.util.make_position_params(), 200000)) do
+  table.insert(told, it.result.contents.value)
+end
+vim.api.nvim_win_set_cursor(0, { 5, 13 })
+vim.lsp.buf.rename('begin')
+vim.wait(200000, function() return vim.fn.getline(2):find('begin') ~= nil end)
+table.insert(told, 'here\\n' .. table.concat(vim.api.nvim_buf_get_lines(0, 0, -1, false), '\\n') .. '\\nthere')
+table.insert(told, table.concat(vim.api.nvim_buf_get_lines(vim.fn.bufnr('b.asm'), 0, -1, false), '\\n') .. '\\n')
+vim.fn.writefile(vim.split(table.concat(told, '\\n'), '\\n'), 'told')
+"""
+
+
+def settings(language: str) -> str:
+    """What the page shows for a language of settings."""
+    with open(f'{TOP}/docs/editors.md', encoding='utf-8') as file:
+        found = re.search(rf'^```{language}\n(.*?)^```', file.read(), re.M | re.S)
+    assert found, language
+    return found[1].replace('/path/to/zebludor', TOP)
+
+
+class Real(ToolCase):
+    """A mistake underlined, a hover read, a label renamed while another file has it too."""
+
+    def setUp(self) -> None:
+        super().setUp()
+        for name in ('a.asm', 'b.asm'):
+            self.file(name, SOURCE)
+
+    def check(self, told: str) -> None:
+        """What an editor wrote of all three."""
+        before, _, after = told.partition('\nhere\n')
+        self.assertRegex(before, r'\A4 (pcboard \[5\]: )?memory stands in brackets, with its size: INC BYTE \[ticks\]\n', told)
+        self.assertRegex(before, r'Clocks by C1: +10')
+        self.assertIn('counter 0, both bytes, mode 2', before)
+        self.assertEqual(after, f'{RENAMED}there\n{SOURCE}', told)
+
+    def run_editor(self, words: list[str]) -> str:
+        """What an editor prints."""
+        home = {'HOME': self.room, 'XDG_CONFIG_HOME': self.room, 'XDG_DATA_HOME': self.room, 'XDG_CACHE_HOME': self.room}
+        done = subprocess.run(
+            words, cwd=self.room, stdin=subprocess.DEVNULL, capture_output=True, text=True, check=False, timeout=SECONDS, env=os.environ | home
+        )
+        self.assertEqual(done.returncode, 0, done.stderr)
+        return done.stdout
+
+    def test_emacs(self) -> None:
+        has = is_there('emacs', 'the language server in Emacs', 'emacs-nox')
+        if has and subprocess.run(['emacs', '--batch', '--eval', "(progn (package-initialize) (require 'eglot))"], capture_output=True, check=False).returncode:
+            print('not run: the language server in Emacs; apt install elpa-eglot')
+        elif has:
+            script = self.file('it.el', f'(package-initialize)\n{settings("elisp")}(remove-hook \'asm-mode-hook \'eglot-ensure)\n{EMACS}')
+            self.check(self.run_editor(['emacs', '--batch', '-l', script]))
+
+    def test_neovim(self) -> None:
+        if is_there('nvim', 'the language server in Neovim', 'neovim'):
+            self.file('settings.lua', settings('lua'))
+            self.run_editor(['nvim', '--headless', '-u', 'settings.lua', '-c', f'luafile {self.file("it.lua", NEOVIM)}', '-c', 'qa!'])
+            with open(f'{self.room}/told', encoding='utf-8') as file:
+                self.check(file.read().removesuffix('\n'))
+
+    def test_ten_lines(self) -> None:
+        for language in ('elisp', 'lua', 'toml', 'json'):
+            self.assertLessEqual(len(settings(language).splitlines()), 10, language)
+
+
+if __name__ == '__main__':
+    unittest.main()
