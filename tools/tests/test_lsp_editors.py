@@ -1,12 +1,17 @@
 """Editors with the settings that docs/editors.md shows: the real ones, where they are installed, and VS Code's extension with a stand-in."""
 from __future__ import annotations
 
+import dataclasses
+import json
 import os
 import re
 import subprocess
 import unittest
 
 from tests.support import TOP, ToolCase, is_there
+
+from toolbox.lsp.documents import Settings
+from toolbox.lsp.doubts import NAMES
 
 SOURCE = """SEGMENT MAIN AT 50h
 start:  MOV AL,34h
@@ -114,6 +119,48 @@ class Real(ToolCase):
     def test_ten_lines(self) -> None:
         for language in ('elisp', 'lua', 'toml', 'json'):
             self.assertLessEqual(len(settings(language).splitlines()), 10, language)
+
+
+class Extension(ToolCase):
+    """VS Code's client, in a session that node plays with a stand-in for VS Code."""
+
+    def test_a_session(self) -> None:
+        if not is_there('node', "VS Code's extension", 'nodejs'):
+            return
+        done = subprocess.run(
+            ['node', f'{TOP}/tools/tests/vscode.js', f'{TOP}/editors/vscode/extension.js'],
+            cwd=self.room,
+            capture_output=True,
+            text=True,
+            check=False,
+            timeout=SECONDS,
+        )
+        self.assertEqual((done.returncode, done.stderr), (0, ''))
+        told = json.loads(done.stdout)
+        mistake = [3, 0, 5, 'memory stands in brackets, with its size: INC BYTE [ticks]']
+        self.assertEqual((told['first'], told['languages'], told['others']), ([mistake], ['zebludor'], False))
+        self.assertIn('counter 0, both bytes, mode 2', told['hover'])
+        self.assertTrue(told['nothing'])
+        self.assertIn(['43h', 11], told['completion'])  # CompletionItemKind.Value
+        self.assertEqual(told['definition']['range'][0], {'line': 1, 'character': 0})
+        self.assertEqual(told['references'], [1, 4])
+        self.assertEqual(told['prepared'], [{'line': 4, 'character': 12}, {'line': 4, 'character': 17}])
+        self.assertEqual([(it['range'][0]['line'], it['newText']) for it in told['rename']['file:///a.asm']], [(1, 'begin'), (4, 'begin')])
+        self.assertEqual(told['refused'], 'mov is a word of the dialect, and no name')
+        self.assertEqual(told['symbols'], [['MAIN', 2, ['start', 'ticks']]])  # SymbolKind.Namespace
+        self.assertEqual([it[0] for it in told['actions']], ['Write INC BYTE [ticks]', 'Write INC WORD [ticks]'])
+        self.assertEqual(told['hints'], ['0050:0000 B034 4', '0050:0002 E643 10', '0050:0004 E9F9FF 15', '0050:0007 05'])
+        self.assertEqual((told['formatting'], told['mended']), ([], [[], 1]))
+        self.assertEqual(told['shown'], ['zebludor: the language server has ended'])
+        self.assertEqual([it[0] for it in told['anew']], [3])
+
+    def test_its_settings_are_the_servers(self) -> None:
+        with open(f'{TOP}/editors/vscode/package.json', encoding='utf-8') as file:
+            found = json.load(file)
+        self.assertTrue(os.path.exists(f'{TOP}/editors/vscode/{found["main"]}'))
+        names = found['contributes']['configuration']['properties']
+        self.assertEqual(names['zebludor.off']['items']['enum'], list(NAMES))
+        self.assertEqual(set(names), {f'zebludor.{it.name}' for it in dataclasses.fields(Settings)})
 
 
 if __name__ == '__main__':

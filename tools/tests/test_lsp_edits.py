@@ -35,7 +35,7 @@ def source(dice: random.Random) -> str:
             text = dice.choice(STATEMENTS).replace('{}', dice.choice((*names, 'SIZE')) if dice.random() < 0.5 else dice.choice(names))
             text = text.replace('SEG SIZE', 'SEG main').replace('SEG main', '5')
             lines.append(spaces() + text + dice.choice(COMMENTS).replace('{}', dice.choice(names)))
-    return dice.choice(('\n', '\r\n')).join([*lines, 'ENDS'])
+    return dice.choice(('\n', '\r\n')).join([*lines, ' NOP', 'ENDS'])
 
 
 def applied(text: str, edits: list[Fields]) -> str:
