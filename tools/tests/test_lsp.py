@@ -8,6 +8,8 @@ import subprocess
 import sys
 import time
 import unittest
+import unittest.mock
+from typing import Any
 
 from tests.lsp_client import IT, Fields, Here, There, span
 from tests.support import EXAMPLES, TOOLS, ToolCase, children
@@ -47,7 +49,7 @@ class Life(ToolCase):
     def begin(self, begins: bool = True) -> There:
         """A server that is ended with the test."""
         there = There(self.room, begins)
-        self.addCleanup(lambda: there.process.poll() is None and there.process.kill())
+        self.addCleanup(there.process.kill)
         return there
 
     def left(self) -> list[str]:
@@ -114,7 +116,8 @@ class Life(ToolCase):
         self.assertEqual(there.error('textDocument/hover')['code'], -32602)
         self.assertEqual(there.error('textDocument/hover', textDocument={'uri': IT}, position=5)['code'], -32803)
         there.open('NOP')
-        for position in (5, None, {}, {'line': -1, 'character': 0}, {'line': 'a', 'character': 0}, {'line': 1 << 40, 'character': 0}):
+        positions: tuple[Any, ...] = (5, None, {}, {'line': -1, 'character': 0}, {'line': 'a', 'character': 0}, {'line': 1 << 40, 'character': 0})
+        for position in positions:
             self.assertEqual(there.error('textDocument/hover', textDocument={'uri': IT}, position=position)['code'], -32602, position)
         there.tell('textDocument/nonsense')
         there.tell('textDocument/didChange', textDocument={'uri': 'file:///other'}, contentChanges=[])
@@ -152,13 +155,8 @@ class Life(ToolCase):
         self.assertEqual(here.found[IT], [])
 
     def test_a_program_that_is_not_there(self) -> None:
-        there = There.__new__(There)
-        before = os.environ.get('PCBOARD')
-        os.environ['PCBOARD'] = f'{self.room}/none'
-        try:
+        with unittest.mock.patch.dict(os.environ, PCBOARD=f'{self.room}/none'):
             there = self.begin()
-        finally:
-            os.environ.pop('PCBOARD') if before is None else os.environ.update(PCBOARD=before)
         there.open(TICKS)
         told = [there.read() for _ in range(2)]
         self.assertIn("isn't there", ' '.join(it['params'].get('message', '') for it in told))
@@ -264,6 +262,7 @@ class Underlined(ToolCase):
         self.assertEqual(sorted(found), sorted([*wanted, (8, 'no-vector'), (9, 'comment-not-ascii'), (0, 'no-reset')]))
         for name in {name for _, name in found}:
             here.tell('workspace/didChangeConfiguration', settings={'zebludor': {'off': [name]}})
+            here.tell('workspace/didChangeConfiguration', settings={})
             self.assertEqual([it['code'] for it in here.found[IT]], [it for _, it in found if it != name])
         quiet = lines.replace('AL,x\n', 'AL,x-x\n').replace('BL,x+1', 'BL,[x+1]').replace(' [x]', ' ES:[x]').replace('0F000h\nMOV S', '50h\nMOV S')
         here = Here()
@@ -462,7 +461,7 @@ class Asked(ToolCase):
         data, line, column, found = self.here.of('semanticTokens/full')['data'], 0, 0, dict[tuple[int, int], tuple[int, int, int]]()
         for at in range(0, len(data), 5):
             line, column = line + data[at], data[at + 1] + (column if data[at] == 0 else 0)
-            found[line, column] = tuple(data[at + 2 : at + 5])
+            found[line, column] = (data[at + 2], data[at + 3], data[at + 4])
         types = ['comment', 'string', 'number', 'keyword', 'macro', 'modifier', 'operator', 'property', 'function', 'variable', 'enumMember', 'namespace']
         for place, length, kind, defines in (
             ((0, 0), 9, 'comment', 0),

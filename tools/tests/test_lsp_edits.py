@@ -12,13 +12,25 @@ from tests.support import EXAMPLES, TOP, ToolCase
 
 from toolbox.listing import ADDRESS_COLUMNS
 from toolbox.lsp.answers import plain
+from toolbox.lsp.lines import parsed
 from toolbox.lsp.text import Text
 from toolbox.program import given_text
 
 # Others by hand: SEED=5 EDITS=1000 SOURCES=1000 python3 -m unittest tests.test_lsp_edits
 SEED, EDITS, SOURCES = (int(os.environ.get(name, default)) for name, default in (('SEED', '1'), ('EDITS', '25'), ('SOURCES', '50')))
 NAMES = ('alpha', 'Beta_2', 'gamma', '_d', 'Epsilon', 'zeta9', 'a_name_of_thirty_one_characters')
-STATEMENTS = ('MOV AX,{}', 'mov  bx , {}+2', 'CALL {}', "DB 'a;{}' , 5", 'DW {},SEG {}', 'JMP {}', 'INC WORD [{}]', 'REP  MOVSB', 'es: LODSB', 'ADD AL,[BX+{}]')
+STATEMENTS: tuple[str, ...] = (
+    'MOV AX,{}',
+    'mov  bx , {}+2',
+    'CALL {}',
+    "DB 'a;{}' , 5",
+    'DW {},SEG {}',
+    'JMP {}',
+    'INC WORD [{}]',
+    'REP  MOVSB',
+    'es: LODSB',
+    'ADD AL,[BX+{}]',
+)
 STATEMENTS += ('DB 3 DUP(1, 2)', "CMP AL,';'", 'NOP', 'OUT 20h,AL', '')
 COMMENTS = ('', '; {}', ";it's {}", '\t ; grün', ' ;')
 
@@ -26,7 +38,10 @@ COMMENTS = ('', '; {}', ";it's {}", '\t ; grün', ' ;')
 def source(dice: random.Random) -> str:
     """A source that is accepted, written untidily."""
     names = dice.sample(NAMES, dice.randint(1, len(NAMES)))
-    spaces = lambda: dice.choice(('', ' ', '\t', '     ', ' ' * 40))  # pylint: disable=unnecessary-lambda-assignment
+
+    def spaces() -> str:
+        return dice.choice(('', ' ', '\t', '     ', ' ' * 40))
+
     lines = [f'{spaces()}size{spaces()} equ {dice.randint(0, 255)}{spaces()}', f'{spaces()}SEGMENT{spaces()} main AT 50h; here']
     for name in names:
         label = ''.join(dice.choice((it.lower, it.upper))() for it in name)
@@ -77,8 +92,8 @@ class Kept(ToolCase):
             self.assertEqual(bytes_of(after), bytes_of(text), (SEED, text))
             here.open(after)
             self.assertEqual(here.of('formatting', options={}), [], (SEED, text))
-            kept = [[it.text for line in Text.of(whole).lines for it in tokens(line) if it.kind in ('comment', 'text')] for whole in (text, after)]
-            self.assertEqual(*kept, (SEED, text))
+            kept = [[it.text for line in Text.of(whole).lines for it in parsed(line).tokens if it.kind in ('comment', 'text')] for whole in (text, after)]
+            self.assertEqual(kept[0], kept[1], (SEED, text))
 
     def test_renaming(self) -> None:
         here = Here()
@@ -90,13 +105,6 @@ class Kept(ToolCase):
                 edits += here.at('rename', position['line'], position['character'], newName=f'other_{at}')['changes'][IT]
             self.assertEqual(bytes_of(applied(text, edits)), bytes_of(text), (SEED, text))
             self.assertNotEqual(bytes_of(text), '')
-
-
-def tokens(line: str) -> Any:
-    """A line's tokens."""
-    from toolbox.lsp.lines import parsed
-
-    return parsed(line).tokens
 
 
 class AtRandom(ToolCase):

@@ -58,15 +58,15 @@ class Instruction:
 
 def table(page: str, head: str) -> list[list[str]]:
     """The cells of a page's table whose first line begins so."""
-    rows = page.partition(f'\n{head}')[2].partition('\n\n')[0].splitlines()[2:]
-    return [it.strip('|').split('|') if it.count('|') < 3 else it[1:-1].split('|') for it in rows]
+    lines = page.partition(f'\n{head}')[2].partition('\n\n')[0].splitlines()[2:]
+    return [it[1:-1].split('|') for it in lines]
 
 
-def shared(alternatives: str, count: int) -> list[str]:
-    """So many alternatives; one that stands alone is that of all."""
-    found = re.split(r'; ', alternatives)
-    found = found if len(found) == count else alternatives.split(', ')
-    return found if len(found) == count else [alternatives] * count
+def parted(cell: str, count: int) -> list[str]:
+    """A cell's alternatives, so many; one that stands alone is that of all."""
+    found = cell.split('; ')
+    found = found if len(found) == count else cell.split(', ')
+    return found if len(found) == count else [cell] * count
 
 
 def expanded(row: Row, forms: list[list[str]], k: str) -> list[Row]:
@@ -120,7 +120,7 @@ def alternatives(row: Row) -> list[Row]:
     own = not row.operands and count > 1
     return [
         replace(row, names=(row.names[at],) if own else row.names, operands=given[at % len(given)], octets=octets)
-        for at, octets in enumerate(shared(row.octets, count) if count > 1 else [row.octets])
+        for at, octets in enumerate(parted(row.octets, count) if count > 1 else [row.octets])
     ]
 
 

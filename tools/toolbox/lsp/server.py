@@ -11,7 +11,7 @@ from toolbox.command import Sorry
 from toolbox.framing import Broken, Read
 from toolbox.lsp import calls, colours, completing, diagnosing, hovering, layout, naming, outline
 from toolbox.lsp.asked import CANCELLED, FAILED, INTERNAL, INVALID, NO_METHOD, NOT_BEGUN, PARSE, Unfit, want
-from toolbox.lsp.documents import Document, Settings
+from toolbox.lsp.documents import OWN, Document, Settings
 from toolbox.lsp.text import Fields
 
 OF_A_DOCUMENT: dict[str, Callable[[Document, Fields], Any]] = {
@@ -141,12 +141,20 @@ class Server:
             result = self.answer(message['method'], message.get('params') or {}, is_request)
             if is_request:
                 self.write({'id': number, 'result': result})
-        except (Unfit, Sorry) as sorry:
-            unfit = sorry if isinstance(sorry, Unfit) else Unfit(str(sorry), FAILED)
-            self.refuse(number, unfit) if is_request else self.log(str(unfit))
+        except Unfit as unfit:
+            self.fail(unfit, number, is_request)
+        except Sorry as sorry:
+            self.fail(Unfit(str(sorry), FAILED), number, is_request)
         except (TypeError, ValueError, KeyError, IndexError, AttributeError, RecursionError, OverflowError) as error:
             told = f"{message['method']} can't be answered: {type(error).__name__}: {error}"
-            self.refuse(number, Unfit(told, INTERNAL)) if is_request else self.log(told)
+            self.fail(Unfit(told, INTERNAL), number, is_request)
+
+    def fail(self, unfit: Unfit, number: Any, is_request: bool) -> None:
+        """Tells why a message does nothing: as the answer if it wants one, else in the client's log."""
+        if is_request:
+            self.refuse(number, unfit)
+        else:
+            self.log(str(unfit))
 
     def log(self, text: str) -> None:
         """Tells the client's log, once."""
@@ -203,8 +211,11 @@ class Server:
         self.due.clear()
 
     def configure(self, asked: Fields) -> None:
-        """Other settings."""
-        self.settings = Settings.of(asked.get('settings'))
+        """Other settings, if there are some of this server's."""
+        given = asked.get('settings')
+        if not isinstance(given, dict) or not isinstance(given.get(OWN), dict):
+            return
+        self.settings = Settings.of(given)
         for it in self.documents.values():
             it.set(self.settings)
             self.due[it.uri] = None

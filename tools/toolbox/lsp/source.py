@@ -2,7 +2,7 @@
 from __future__ import annotations
 
 import re
-from dataclasses import dataclass
+from dataclasses import dataclass, replace
 from functools import cached_property
 
 from toolbox.lsp.lines import CONSTANT, DATA, LABEL, Parsed, Token, parsed
@@ -57,14 +57,15 @@ class Source:
     @cached_property
     def spans(self) -> list[Span]:
         """The segments in their order."""
-        found, opened = list[Span](), None
+        found, is_open = list[Span](), False
         for number, line in enumerate(self.lines):
             if line.defined and line.does('SEGMENT'):
-                opened = (line.defined[1], number)
-            elif line.does('ENDS') and opened:
-                found.append(Span(*opened, number))
-                opened = None
-        return found + ([Span(*opened, len(self.lines) - 1)] if opened else [])
+                found.append(Span(line.defined[1], number, len(self.lines) - 1))
+                is_open = True
+            elif line.does('ENDS') and is_open:
+                found[-1] = replace(found[-1], last=number)
+                is_open = False
+        return found
 
     def span_of(self, line: int) -> Span | None:
         """The segment that a line is in."""
