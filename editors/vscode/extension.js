@@ -219,7 +219,7 @@ function providers() {
   const text = (it) => new vscode.Hover(new vscode.MarkdownString(it.contents.value), rangeOf(it.range));
   return [
     languages.registerHoverProvider(LANGUAGE, { provideHover: each('hover', text) }),
-    languages.registerCompletionItemProvider(LANGUAGE, { provideCompletionItems: each('completion', (it) => it.items.map(completionOf)) }, ' ', '[', ','),
+    languages.registerCompletionItemProvider(LANGUAGE, { provideCompletionItems: each('completion', (it) => it.items.map(completionOf)) }, '[', ','),
     languages.registerDefinitionProvider(LANGUAGE, { provideDefinition: each('definition', locationOf) }),
     languages.registerReferenceProvider(LANGUAGE, {
       provideReferences: (document, position, context, token) =>
@@ -242,7 +242,8 @@ function providers() {
         client.ask('textDocument/formatting', document, { options }, token, (it) => it.map(editOf)),
     }),
     languages.registerInlayHintsProvider(LANGUAGE, {
-      provideInlayHints: (document, range, token) => client.quietly('textDocument/inlayHint', document, { range: spanOf(range) }, token, (it) => it.map(hintOf)),
+      provideInlayHints: (document, range, token) =>
+        client.quietly('textDocument/inlayHint', document, { range: spanOf(range) }, token, (it) => it.map(hintOf)),
     }),
   ];
 }

@@ -347,6 +347,8 @@ class Places(ToolCase):
             '\ud800',
             '\0',
             ' ' * 100_000,
+            "DB '\u00e9'" + ',1' * 50_000,
+            "DB '" + '\U0001f600' * 50_000 + "'" + ',1' * 10_000,
         ):
             here.open(text)
             for method in ('documentSymbol', 'foldingRange', 'semanticTokens/full', 'formatting'):

@@ -32,7 +32,8 @@ def semantic_tokens(document: Document, _: Fields) -> Fields:
             kind = type_of(document, it)
             if kind is None:
                 continue
-            column = document.text.position(number, it.start)['character']
-            data += [number - line_before, column - (column_before if number == line_before else 0), units(it.text), TYPES.index(kind), int(it in own)]
+            column, end = (units(document.text.lines[number], at) for at in (it.start, it.end))
+            before = column_before if number == line_before else 0
+            data += [number - line_before, column - before, end - column, TYPES.index(kind), int(it in own)]
             line_before, column_before = number, column
     return {'data': data}

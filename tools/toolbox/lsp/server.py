@@ -38,7 +38,7 @@ CAPABILITIES: Fields = {
     'positionEncoding': 'utf-16',
     'textDocumentSync': {'openClose': True, 'change': 2},
     'codeActionProvider': {'codeActionKinds': ['quickfix']},
-    'completionProvider': {'triggerCharacters': [' ', '[', ',']},
+    'completionProvider': {'triggerCharacters': ['[', ',']},
     'definitionProvider': True,
     'documentHighlightProvider': True,
     'documentSymbolProvider': True,

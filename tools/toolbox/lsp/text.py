@@ -1,8 +1,9 @@
 """A document as the protocol has it: lines that end with LF, CR LF or CR, and places in them that count UTF-16 units."""
 from __future__ import annotations
 
+import functools
 import re
-from bisect import bisect_right
+from bisect import bisect_left, bisect_right
 from dataclasses import dataclass
 from typing import Any
 
@@ -13,22 +14,27 @@ Fields = dict[str, Any]
 Place = tuple[int, int]  # a line and a column in characters, both from 0
 
 
-def units(text: str) -> int:
-    """How many UTF-16 units a text takes."""
-    return len(text) if text.isascii() else len(text) + sum(it > '\uffff' for it in text)
+@functools.lru_cache(maxsize=1 << 12)
+def wide(line: str) -> list[int]:
+    """The columns of a line's characters that take two UTF-16 units."""
+    return [] if line.isascii() else [at for at, it in enumerate(line) if it > '\uffff']
+
+
+def units(line: str, column: int) -> int:
+    """The column in UTF-16 units of one in characters."""
+    return column if line.isascii() else column + bisect_left(wide(line), column)
 
 
 def characters(line: str, column: int) -> int:
     """The column in characters of one in UTF-16 units; one past the end, or inside a character, is the next one before."""
-    if line.isascii():
-        return min(column, len(line))
-    at = 0
-    for it in line:
-        column -= units(it)
-        if column < 0:
+    before = 0
+    for at in wide(line):
+        if column <= at + before:
             break
-        at += 1
-    return at
+        if column == at + before + 1:
+            return at
+        before += 1
+    return min(column - before, len(line))
 
 
 @dataclass(frozen=True)
@@ -55,7 +61,7 @@ class Text:
 
     def position(self, line: int, column: int) -> Fields:
         """A place as the protocol has it."""
-        return {'line': line, 'character': units(self.lines[line][:column])}
+        return {'line': line, 'character': units(self.lines[line], column)}
 
     def range(self, line: int, first: int, last: int) -> Fields:
         """A stretch of a line."""
