@@ -109,6 +109,7 @@ class There(Talk):
             stderr=subprocess.PIPE,
             cwd=room,
             env=os.environ | {'TMPDIR': f'{room}/tmp'},
+            start_new_session=True,
         )
         assert self.process.stdout
         self.reader, self.count, self.others = Reader(self.process.stdout.fileno()), 0, list[Fields]()

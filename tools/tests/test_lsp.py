@@ -1,6 +1,7 @@
 """tools/lsp by its protocol: its life, what it underlines and when, and each of its requests."""
 from __future__ import annotations
 
+import contextlib
 import json
 import os
 import signal
@@ -12,7 +13,7 @@ import unittest.mock
 from typing import Any
 
 from tests.lsp_client import IT, Fields, Here, There, span
-from tests.support import EXAMPLES, TOOLS, ToolCase, children
+from tests.support import EXAMPLES, TOOLS, ToolCase
 
 from toolbox.lsp.answers import used
 
@@ -99,11 +100,12 @@ class Life(ToolCase):
         there = self.begin()
         there.open('SEGMENT A AT 0\n' + ' FROB\n' * 3000)
         there.underlined()
+        self.assertIn(there.process.pid, members(there.process.pid))
         self.assertEqual(there.end(), 1)
         until = time.monotonic() + 60
-        while any('lsp' in it for it in map(command_of, children(os.getpid()))) and time.monotonic() < until:
+        while members(there.process.pid) and time.monotonic() < until:
             time.sleep(0.05)
-        self.assertEqual([it for it in map(command_of, children(os.getpid())) if 'lsp' in it], [])
+        self.assertEqual(members(there.process.pid), [])
         self.assertEqual(self.left(), [])
 
     def test_what_is_broken_is_refused(self) -> None:
@@ -164,13 +166,15 @@ class Life(ToolCase):
         there.end()
 
 
-def command_of(process: int) -> str:
-    """The words of a process."""
-    try:
-        with open(f'/proc/{process}/cmdline', encoding='utf-8', errors='replace') as file:
-            return file.read()
-    except OSError:
-        return ''
+def members(session: int) -> list[int]:
+    """The processes of a session, without those that have ended."""
+    found = list[int]()
+    for name in filter(str.isdecimal, os.listdir('/proc')):
+        with contextlib.suppress(OSError), open(f'/proc/{name}/stat', encoding='utf-8') as file:
+            state, *fields = file.read().rpartition(')')[2].split()
+            if int(fields[2]) == session and state != 'Z':
+                found.append(int(name))
+    return found
 
 
 class Underlined(ToolCase):
