@@ -16,6 +16,7 @@ from toolbox.desk_board import Board
 from toolbox.desk_drafts import Drafts
 from toolbox.desk_files import Given, Kept, difference
 from toolbox.desk_http import Refused
+from toolbox.desk_language import Language
 from toolbox.desk_pages import examples, files_of, grammar, page_of
 from toolbox.desk_work import Fields
 from toolbox.faults import fault_in
@@ -64,7 +65,7 @@ class Desk:
     def __init__(self, room: str, given: Given, drafts: Drafts) -> None:
         self.room, self.given, self.drafts = room, given, drafts
         self.idle_seconds, self.least_idle = float(IDLE_SECONDS), LEAST_IDLE
-        self.files = Kept(given)
+        self.files, self.language = Kept(given), Language()
         self._lock, self._boards = threading.Lock(), dict[str, Board | None]()
 
     def close(self) -> None:
@@ -163,6 +164,14 @@ class Desk:
     def _page(self, fields: Fields) -> Fields:
         """A page of docs/."""
         return {'html': page_of(want(fields, 'name', str))}
+
+    def _language(self, fields: Fields) -> Fields:
+        """What the editor asks of its text."""
+        source, what = want(fields, 'source', str), want(fields, 'what', str)
+        line, column = numbers([want(fields, 'line', int, 0), want(fields, 'column', int, 0)], 0, LONGEST_SOURCE)
+        if len(source) > LONGEST_SOURCE or what not in ('hover', 'completion', 'refused'):
+            raise Refused(400, 'hover, completion or refused is wanted, of a source')
+        return self.language.answer(what, source, line, column)
 
     def _open(self, fields: Fields) -> Fields:
         """A board of a source and a run file, at clock 0; or why it is refused."""
@@ -342,6 +351,7 @@ class Desk:
         'hello': _hello,
         'example': _example,
         'page': _page,
+        'language': _language,
         'open': _open,
         'close': _close,
         'keep': _keep,

@@ -3,6 +3,7 @@ import {$, LAST, number, say} from './asking.js';
 import {act, acts, assemble, go_to, leave, move, put_stops, run_or_pause, stops, toggle_stop} from './board.js';
 import {open_find} from './editor.js';
 import {first} from './files.js';
+import './language.js';
 import {save_now, send_last_words, touched} from './saving.js';
 import {draw_screen, draw_screen_keys, fit} from './screen.js';
 $('assemble').onclick = () => acts(assemble);

@@ -46,7 +46,7 @@ def of_a_mnemonic(document: Document, line: int, it: Token) -> list[str]:
     found = instruction_of(document.answers.octets(line)) if row else None
     if row and found:
         told.append(f'`{row}`{partly(document)}')
-        told.append(f'Clocks by C1: {cost_of(found, False)}  \nClocks by C2: {cost_of(found, True)}')
+        told += [f'Clocks by {name}: {cost_of(found, is_second)}' for name, is_second in (('C1', False), ('C2', True))]
         told.append(f'Flags that change: {found.row.flags or "none"}')
     return told
 

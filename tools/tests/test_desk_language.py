@@ -1,0 +1,72 @@
+"""What the desk's editor tells of its text: by the desk's own question, and in Chromium, where it is installed."""
+from __future__ import annotations
+
+import unittest
+
+from tests.browser import CONTROL, path
+from tests.support import ToolCase
+from tests.test_desk_page import Page
+
+from toolbox.command import Sorry
+from toolbox.desk_language import Language
+
+SOURCE = 'SEGMENT MAIN AT 50h\nstart:  MOV AL,34h\n        OUT 43h,AL\nENDS\n'
+
+
+class Questions(unittest.TestCase):
+    """Without a page."""
+
+    def test_each(self) -> None:
+        language = Language()
+        self.assertEqual(language.answer('refused', SOURCE, 0, 0), {'refused': []})
+        wrong = SOURCE.replace('MOV', 'MVO')
+        self.assertEqual(language.answer('refused', wrong, 0, 0), {'refused': [{'line': 2, 'text': 'is MOV meant?'}]})
+        told = language.answer('hover', SOURCE, 2, 9)['html']
+        for text in ('<code>0050:0002 E643</code>', '<p>Clocks by C1: 10</p>', 'counter 0, both bytes, mode 2', '<td>OUT DX,AL</td>'):
+            self.assertIn(text, told)
+        self.assertEqual(language.answer('hover', SOURCE, 3, 9), {'html': ''})
+        self.assertIn('43h', [it['label'] for it in language.answer('completion', SOURCE, 2, 12)['items']])
+        self.assertNotIn('<b>', language.answer('hover', SOURCE.replace('43h', "'<b>'"), 2, 15)['html'])
+        with self.assertRaises(Sorry):
+            language.answer('hover', SOURCE, 1 << 40, 0)
+
+
+class InTheBrowser(ToolCase):
+    """On the page."""
+
+    def test_underlined_told_and_completed(self) -> None:
+        if path() is None:
+            print("not run: the words of tools/desk in a browser, since Chromium isn't installed")
+            return
+        page = Page(self.room)
+        self.addCleanup(page.close)
+        page.open()
+        browser = page.browser
+        page.write(SOURCE.replace('MOV', 'MVO'))
+        browser.until("document.querySelector('#ink .refused')?.textContent.trim()==='start:  MVO AL,34h'")
+        self.assertTrue(browser.run("$('refusals').hidden"))  # which stand there after Assemble
+        page.write(SOURCE)
+        browser.until("document.querySelector('#ink .refused')===null")
+        browser.run("$('source').setSelectionRange(52,52);0")
+        browser.press('F1')
+        browser.until("!$('meaning').hidden")
+        self.assertIn('counter 0, both bytes, mode 2', browser.run("$('meaning').textContent"))
+        browser.press('Escape')
+        self.assertTrue(browser.run("$('meaning').hidden"))
+        browser.run("[...document.querySelectorAll('#ink .constant-numeric')].find(it=>it.textContent==='34h').id='there';0")
+        x, y = browser.middle('#there')
+        browser.call('Input.dispatchMouseEvent', type='mouseMoved', x=x, y=y)
+        browser.until("!$('meaning').hidden")
+        self.assertIn('is 34h, 52', browser.run("$('meaning').textContent"))
+        page.write('SEGMENT MAIN AT 50h\nst')
+        browser.press('Space', CONTROL)
+        browser.until("!$('choices').hidden")
+        self.assertEqual(browser.run("[...$('choices').children].map(it=>it.dataset.label)")[:3], ['stc', 'std', 'sti'])
+        browser.press('ArrowDown')
+        browser.press('Enter')
+        self.assertEqual(browser.run("[$('source').value,$('choices').hidden]"), ['SEGMENT MAIN AT 50h\nstd', True])
+        self.assertEqual([it for it in browser.told if it.get('method') in ('Runtime.exceptionThrown', 'Log.entryAdded')], [])
+
+
+if __name__ == '__main__':
+    unittest.main()

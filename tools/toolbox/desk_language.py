@@ -1,0 +1,44 @@
+"""What the language server's modules tell the desk's editor of its text: refused lines, a word's meaning, and what completes one."""
+from __future__ import annotations
+
+import threading
+
+from toolbox.command import Sorry
+from toolbox.desk_pages import as_html
+from toolbox.desk_work import Fields
+from toolbox.lsp.asked import Unfit
+from toolbox.lsp.completing import completion
+from toolbox.lsp.diagnosing import of_a_fault
+from toolbox.lsp.documents import OWN, Document, Settings
+from toolbox.lsp.hovering import hover
+
+
+class Language:
+    """The text that was asked about last, and what the program said of it."""
+
+    def __init__(self) -> None:
+        self._lock = threading.Lock()
+        self._document: Document | None = None
+
+    def _of(self, source: str) -> Document:
+        """The document of a text."""
+        if self._document is None or self._document.text.whole != source:
+            self._document = Document('desk', source, None, Settings(dialect=OWN), lambda: None)
+        return self._document
+
+    def answer(self, what: str, source: str, line: int, column: int) -> Fields:
+        """The answer to one of three questions, of a place that is counted as the protocol does."""
+        place: Fields = {'position': {'line': line, 'character': column}}
+        with self._lock:
+            document = self._of(source)
+            try:
+                if what == 'hover':
+                    found = hover(document, place)
+                    return {'html': as_html(found['contents']['value']) if found else ''}
+                if what == 'completion':
+                    return {'items': sorted(completion(document, place)['items'], key=lambda it: str(it['sortText']))}
+            except Unfit as unfit:
+                raise Sorry(str(unfit)) from None
+            document.answers.finish()
+            them = [of_a_fault(document, *it) for it in document.answers.refused]
+            return {'refused': [{'line': it['range']['start']['line'] + 1, 'text': it['message']} for it in them]}
