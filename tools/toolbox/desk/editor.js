@@ -10,9 +10,10 @@ export let lineHigh = height();
 matchMedia('(pointer: coarse)').addEventListener('change', () => { lineHigh = height(); draw_paper(); });
 export let assembled = '', refused = [];
 export function note_assembled(text) { assembled = text; stale(); }
-/* Lines that are underlined as you type. */
-let live = [];
-export function note_live(them) { live = them; draw_paper(); }
+/* Lines that are underlined as you type, with what is wrong; those of an older text aren't. */
+let judged = '', live = [];
+export function note_live(text, them) { judged = text; live = them; draw_paper(); }
+export function live_lines() { return $('source').value === judged ? live : []; }
 export function tell_refused(them) { refused = them; draw_refusals(); }
 export function stale() {
   const is = board !== null && $('source').value !== assembled;
@@ -33,7 +34,7 @@ export function draw_paper(isFollowed = false) {
   const top = source.scrollTop, texts = source.value.split('\n'), first = Math.floor(top / lineHigh), last = Math.min(texts.length, first + Math.ceil(high / lineHigh) + 1);
   const bad = new Set(refused.map(it => it.line));
   draw_gutter(first, last, top, now, bad);
-  draw_ink(texts, first, last, top, new Set([...bad, ...live]));
+  draw_ink(texts, first, last, top, new Set([...bad, ...live_lines().map(it => it.line)]));
 }
 /* A mark behind a line, which says more than its colour where the board has halted. */
 function kind_of(line, now) { return line === now ? view.state.startsWith('halted') ? 'halted' : 'now' : ''; }

@@ -1,6 +1,6 @@
 /* What the language server tells of the source: lines that are refused as you type, what a word means, and what completes one. */
 import {$, ask} from './asking.js';
-import {lineHigh, note_live} from './editor.js';
+import {lineHigh, live_lines, note_live} from './editor.js';
 import {isHex} from './files.js';
 const PAUSE = 400, LINGER = 500, MOST_LONG = 200000, LEFT = 6, TAB = 8, MOST_CHOICES = 200;
 const source = $('source'), meaning = $('meaning'), choices = $('choices');
@@ -16,17 +16,14 @@ async function asked(what, line = 0, column = 0) {
   }
 }
 /* Lines that are refused are underlined when the typing pauses. */
-let live = [], pausing = 0;
+let pausing = 0;
 async function judge() {
-  const answer = await asked('refused');
-  if (!answer) return;
-  live = answer.refused;
-  note_live(live.map(it => it.line));
+  const text = source.value, answer = await asked('refused');
+  if (answer) note_live(text, answer.refused);
 }
 source.addEventListener('input', () => {
   clearTimeout(pausing);
   hide();
-  if (live.length) { live = []; note_live([]); }
   pausing = setTimeout(judge, PAUSE);
   if (!choices.hidden) choose();
 });
@@ -61,7 +58,7 @@ function put(box, line, column) {
 let resting = 0, asking = 0;
 function hide() { clearTimeout(resting); asking += 1; meaning.hidden = true; }
 async function tell(line, column) {
-  const mine = ++asking, answer = await asked('hover', line, column), bad = live.find(it => it.line === line + 1);
+  const mine = ++asking, answer = await asked('hover', line, column), bad = live_lines().find(it => it.line === line + 1);
   if (mine !== asking || !(answer && answer.html || bad)) return;
   meaning.innerHTML = answer ? answer.html : '';
   if (bad) { const why = document.createElement('p'); why.className = 'why'; why.textContent = bad.text; meaning.prepend(why); }
