@@ -83,7 +83,7 @@ class Here(Talk):
             if self.server.waiting:
                 self.server.take(self.server.waiting.popleft())
             else:
-                self.server.judge()
+                self.server.judge_on(next(iter(self.server.due)))
         for it in self.sent:
             if it.get('method') == 'textDocument/publishDiagnostics':
                 self.found[it['params']['uri']] = it['params']['diagnostics']

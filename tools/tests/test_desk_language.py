@@ -1,4 +1,4 @@
-"""What the desk's editor tells of its text: by the desk's own question, and in Chromium, where it is installed."""
+"""What the desk's editor tells of its text: by the desk's own question, and in Chromium, if it is installed."""
 from __future__ import annotations
 
 import unittest

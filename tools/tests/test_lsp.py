@@ -156,6 +156,21 @@ class Life(ToolCase):
         self.assertEqual([it.get('error', {}).get('code') for it in told], [None, -32803])
         self.assertEqual(here.found[IT], [])
 
+    def test_what_goes_wrong_within_is_told(self) -> None:
+        """A mistake of the server's own is an error for an answer, or stands in the log, and never its end."""
+        here = Here()
+        here.open(TICKS)
+        with unittest.mock.patch('toolbox.lsp.layout.laid_out', side_effect=StopIteration):
+            self.assertEqual(here.error('textDocument/formatting', textDocument={'uri': IT}, options={})['code'], -32603)
+        here.messages.put({'method': 'textDocument/didChange', 'params': {'textDocument': {'uri': IT}, 'contentChanges': [{'text': ' FROB'}]}})
+        here.server.gather(0)
+        here.server.take(here.server.waiting.popleft())
+        with unittest.mock.patch('toolbox.lsp.diagnosing.what_to_do', side_effect=OSError):
+            here.server.judge(IT)
+        self.assertIn("can't be judged", here.sent[-1]['params']['message'])
+        here.open(TICKS)
+        self.assertEqual(here.found[IT], [])
+
     def test_a_program_that_is_not_there(self) -> None:
         with unittest.mock.patch.dict(os.environ, PCBOARD=f'{self.room}/none'):
             there = self.begin()
@@ -211,19 +226,19 @@ class Underlined(ToolCase):
         server.gather(0)
         server.take(server.waiting.popleft())
         here.sent.clear()
-        server.judge()
+        server.judge(IT)
         self.assertLess(used() - begun, 0.6)
         self.assertEqual(places(here.sent[0]['params']['diagnostics'])[0][0], 4000)
 
     def test_what_has_changed_is_not_told(self) -> None:
-        """The lines behind the first are dropped with their text."""
+        """The lines after the first are dropped with their text."""
         here = Here()
         bad: Fields = {'textDocument': {'uri': IT, 'version': 1, 'text': 'SEGMENT A AT 0\n' + ' FROB\n' * 50}}
         here.messages.put({'method': 'textDocument/didOpen', 'params': bad})
         here.server.gather(0)
         here.server.take(here.server.waiting.popleft())
-        here.server.judge()
-        here.server.judge()
+        here.server.judge(IT)
+        here.server.judge(IT)
         told = here.send({'method': 'textDocument/didChange', 'params': {'textDocument': {'uri': IT, 'version': 2}, 'contentChanges': [{'text': ' NOP'}]}})
         self.assertEqual([(it['params']['version'], len(it['params']['diagnostics'])) for it in told], [(2, 1)] * len(told))
 
@@ -419,6 +434,7 @@ class Asked(ToolCase):
             ('        MOV A', ('AX', 'AL', 'ticks', 'SIZE', 'WORD', 'SEG'), ('MOV', '43h')),
             ('        MOV AX,[', ('BX', 'SI', 'ticks', 'SIZE'), ('AX', 'CL')),
             ('        OUT ', ('43h', '20h', '61h'), ('3B8h',)),
+            ('        OUT 4', ('43h',), ('3B8h',)),
             ('        IN AL,', ('60h',), ('3B8h',)),
             ('        MOV DX,', ('3B8h', '3BAh'), ('43h',)),
             ('        DB ', ('ticks', 'DUP'), ('MOV',)),

@@ -141,13 +141,13 @@ class Clocks(ToolCase):
         self.assertEqual([it for it in rows() if f'{it}' not in covered and it.names != ('HLT',)], [])
 
     def mnemonic(self, line: str) -> int:
-        """Where the mnemonic stands, behind the prefixes."""
+        """Where the mnemonic stands, after the prefixes."""
         found = re.match(r'(?:(?:[CDES]S:|LOCK|REP\w*) +)*', line)
         return len(found[0]) if found else 0
 
     def expected(self, text: str, count: int, falls: bool) -> int:
         """The sum that hover's text makes, with its bounds and parts held against it."""
-        if taken := re.fullmatch(r'(\d+) if it jumps or enters, else (\d+)', text):
+        if taken := re.fullmatch(r'(\d+) if it (?:jumps|enters), else (\d+)', text):
             return int(taken[1 + falls])
         found = re.fullmatch(r'(\d+)(?: \+ (\d+) × (CL|elements), (\d+) to ([\d,]+))?(?: \((.*)\))?(?:; (\d+) more if it fails)?', text)
         assert found, text

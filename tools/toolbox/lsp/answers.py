@@ -51,7 +51,7 @@ class Answers:
         self._more, self._spent = refused_in(self.copy), 0.0
 
     def step(self) -> None:
-        """Looks for one more refused line. A hundred behind the first are the most, and a second is the longest."""
+        """Looks for one more refused line. A hundred after the first are the most, and a second is the longest."""
         begun = used()
         try:
             told = next(self._more, self)

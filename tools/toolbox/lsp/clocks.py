@@ -21,11 +21,11 @@ FIXED |= {'MOVSW': 2, 'CMPSW': 2, 'STOSW': 1, 'LODSW': 1, 'SCASW': 1}
 @dataclass(frozen=True)
 class Cost:
     """The clocks of an instruction: parts that are always there, each with its reason; and what data decide: a number and what it is counted
-    by, or what it is where it doesn't jump, or what a failed division adds."""
+    by; or what it must do for them to be these, and what it costs otherwise; or what a failed division adds."""
 
     parts: tuple[tuple[int, str], ...]
     each: tuple[int, str] | None = None
-    otherwise: int | None = None
+    otherwise: tuple[str, int] | None = None
     failed: int | None = None
 
     @property
@@ -37,12 +37,12 @@ class Cost:
     def short(self) -> str:
         """The sum alone."""
         if self.otherwise is not None:
-            return f'{self.fixed}/{self.otherwise}'
+            return f'{self.fixed}/{self.otherwise[1]}'
         return f'{self.fixed}+{self.each[0]}×{self.each[1]}' if self.each else f'{self.fixed}'
 
     def __str__(self) -> str:
         if self.otherwise is not None:
-            return f'{self.fixed} if it jumps or enters, else {self.otherwise}'
+            return f'{self.fixed} if it {self.otherwise[0]}, else {self.otherwise[1]}'
         told = f'{self.fixed}'
         if self.each:
             times, by = self.each
@@ -95,8 +95,9 @@ def cost_of(it: Instruction, is_second: bool) -> Cost:
     data = [(WORD * words, f'{words} word{"s" * (words > 1)} of data')] if words else []
     other = re.search(r'else (\d+)', text)
     if other:
-        more = ENTRY * WORD if is_second and it.row.names == ('INTO',) else 0
-        return Cost((*before, *parts, *([(more, f'{ENTRY} words of data')] if more else [])), otherwise=int(other[1]) + sum(n for n, _ in before))
+        enters = it.row.names == ('INTO',)
+        data = [(ENTRY * WORD, f'{ENTRY} words of data')] if is_second and enters else []
+        return Cost((*before, *parts, *data), otherwise=('enters' if enters else 'jumps', int(other[1]) + sum(n for n, _ in before)))
     each = (SHIFT, 'CL') if '×CL' in text else None
     failed = FAILED + (ENTRY * WORD if is_second else 0) if it.row.names[0] in ('DIV', 'IDIV') else None
     return Cost((*before, *parts, *data), each, failed=failed)

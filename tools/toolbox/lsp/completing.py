@@ -73,7 +73,7 @@ def completion(document: Document, asked: Fields) -> Fields:
     before = parsed(document.text.lines[line][:column])
     last = before.tokens[-1] if before.tokens else None
     items = list[Fields]()
-    if last is None or last.kind not in ('comment', 'text', 'number'):
+    if last is None or last.kind not in ('comment', 'text'):
         is_begun = last is not None and last.end == column and last.kind != 'sign'
         at_statement = before.statement is None or is_begun and before.statement == last and not before.operands
         letter = last.text[0] if last and is_begun else ''

@@ -126,7 +126,7 @@ def alternatives(row: Row) -> list[Row]:
 
 @functools.cache
 def by_opcode() -> dict[tuple[int, int | None], Row]:
-    """The rows by opcode, and by the digit of the second byte where that names one."""
+    """The rows by opcode, and by the digit of the second byte if that names one."""
     found = dict[tuple[int, int | None], Row]()
     for row in rows():
         told = BYTES.match(row.octets)

@@ -10,13 +10,13 @@ from toolbox.lsp.text import Fields
 STATEMENT, COMMENT = 8, 32
 
 
-def behind(text: str, column: int) -> str:
-    """A text up to a column, or with one space where it is longer."""
+def padded(text: str, column: int) -> str:
+    """A text up to a column, or with one space if it is longer."""
     return text + ' ' * max(column - len(text), 1)
 
 
 def statement_of(line: str, it: Parsed) -> str:
-    """The statement, with one space behind its mnemonic and prefixes."""
+    """The statement, with one space after its mnemonic and prefixes."""
     first = it.prefixes[0] if it.prefixes else it.statement
     code = [token for token in it.tokens if token.kind != 'comment' and first and token.start >= first.start]
     if not code or it.statement is None:
@@ -36,12 +36,12 @@ def laid_out(line: str, it: Parsed) -> str:
         head = f'{head} {it.defined[1].text}'.lstrip()
     elif it.does('SEGMENT', 'ENDS') and not it.label:
         return with_comment(statement, it)
-    return with_comment(behind(head, STATEMENT) + statement if statement else head, it)
+    return with_comment(padded(head, STATEMENT) + statement if statement else head, it)
 
 
 def with_comment(code: str, it: Parsed) -> str:
     """The code with the line's comment."""
-    return behind(code, COMMENT) + it.comment.text if it.comment else code.rstrip()
+    return padded(code, COMMENT) + it.comment.text if it.comment else code.rstrip()
 
 
 def edits(document: Document, first: int, last: int) -> list[Fields]:

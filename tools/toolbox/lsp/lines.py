@@ -22,7 +22,7 @@ class Token:
 
     @property
     def end(self) -> int:
-        """The column behind it."""
+        """The column after it."""
         return self.start + len(self.text)
 
     @property
@@ -33,7 +33,7 @@ class Token:
 
 @dataclass(frozen=True)
 class Parsed:
-    """A line: its tokens; what it defines, with the name; its statement, the token that says what it does, and those behind it."""
+    """A line: its tokens; what it defines, with the name; its statement, the token that says what it does, and those after it."""
 
     tokens: tuple[Token, ...] = ()
     label: Token | None = None

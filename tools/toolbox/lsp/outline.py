@@ -77,7 +77,7 @@ def sources_below(folders: Iterable[str]) -> Iterator[str]:
 
 
 def read(path: str) -> Source | None:
-    """A file's source, or None where it can't be read or is too long."""
+    """A file's source, or None if it can't be read or is too long."""
     try:
         with open(path, 'rb') as file:
             octets = file.read(LONGEST_FILE + 1)

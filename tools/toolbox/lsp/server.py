@@ -10,7 +10,7 @@ from typing import Any, Callable
 from toolbox.command import Sorry
 from toolbox.framing import Broken, Read
 from toolbox.lsp import calls, colours, completing, diagnosing, hovering, layout, naming, outline
-from toolbox.lsp.asked import CANCELLED, FAILED, INTERNAL, INVALID, NO_METHOD, NOT_BEGUN, PARSE, Unfit, want
+from toolbox.lsp.asked import CANCELLED, FAILED, INTERNAL, INVALID, MOST, NO_METHOD, NOT_BEGUN, PARSE, Unfit, want
 from toolbox.lsp.documents import OWN, Document, Settings
 from toolbox.lsp.text import Fields
 
@@ -79,8 +79,8 @@ class Server:
                 self.gather(PATIENCE if not self.due else 0)
                 if self.waiting:
                     self.take(self.waiting.popleft())
-                else:
-                    self.judge()
+                elif self.due:
+                    self.judge(next(iter(self.due)))
         return 0 if self.is_shut else 1
 
     def gather(self, seconds: float) -> None:
@@ -99,13 +99,13 @@ class Server:
                 pass
 
     def keep(self, message: Read) -> None:
-        """Puts a message behind the others; one that calls off another is done with at once."""
+        """Puts a message after the others; one that calls off another is done with at once."""
         if message is None:
             raise Left
         if isinstance(message, dict) and message.get('method') == '$/cancelRequest':
             number = message['params'].get('id') if isinstance(message.get('params'), dict) else None
             for it in self.waiting:
-                if isinstance(it, dict) and 'method' in it and it.get('id') == number is not None:
+                if isinstance(it, dict) and 'method' in it and number is not None and it.get('id') == number:
                     it['method'] = '$/cancelled'
         else:
             self.waiting.append(message)
@@ -145,7 +145,9 @@ class Server:
             self.fail(unfit, number, is_request)
         except Sorry as sorry:
             self.fail(Unfit(str(sorry), FAILED), number, is_request)
-        except (TypeError, ValueError, KeyError, IndexError, AttributeError, RecursionError, OverflowError) as error:
+        except (Left, BrokenPipeError):
+            raise
+        except Exception as error:  # pylint: disable=broad-exception-caught
             told = f"{message['method']} can't be answered: {type(error).__name__}: {error}"
             self.fail(Unfit(told, INTERNAL), number, is_request)
 
@@ -198,7 +200,7 @@ class Server:
             raise Unfit('initialize comes once', INVALID)
         self.is_begun = True
         client = asked.get('processId')
-        self.client = client if isinstance(client, int) and client > 0 else 0
+        self.client = client if isinstance(client, int) and 0 < client <= MOST else 0
         given = asked.get('workspaceFolders')
         roots = [it.get('uri') for it in given] if isinstance(given, list) else [asked.get('rootUri')]
         self.folders = [path for it in roots if isinstance(it, str) and (path := outline.path_of(it))]
@@ -251,11 +253,18 @@ class Server:
         """The names in all sources."""
         return outline.workspace_symbols(self.documents.values(), self.folders, want(asked, 'query', str, ''))
 
-    def judge(self) -> None:
-        """Goes on with a document whose text has changed: its first refused line is told at once, the others together."""
-        uri = next(iter(self.due), None)
-        if uri is None:
-            return
+    def judge(self, uri: str) -> None:
+        """Goes on with a document whose text has changed. A text that can't be judged isn't the end of the server."""
+        try:
+            self.judge_on(uri)
+        except (Left, BrokenPipeError):
+            raise
+        except Exception as error:  # pylint: disable=broad-exception-caught
+            self.due.pop(uri, None)
+            self.log(f"{uri} can't be judged: {type(error).__name__}: {error}")
+
+    def judge_on(self, uri: str) -> None:
+        """A piece of that: the first refused line is told at once, the others together."""
         document, told = self.documents[uri], self.due[uri]
         answers = document.answers
         if told is None and not document.note:

@@ -115,7 +115,7 @@ def number_in(token: Token) -> int | None:
 
 
 def value_of(tokens: tuple[Token, ...], names: dict[str, int]) -> int | None:
-    """The value of terms joined by + and -, perhaps after a -; None where a term is no number and none of these names."""
+    """The value of terms joined by + and -, perhaps after a -; None if a term is no number and none of these names."""
     total, sign, is_wanted = 0, 1, True
     for at, it in enumerate(tokens):
         if it.text in ('+', '-') and (not is_wanted or at == 0 and it.text == '-'):

@@ -37,7 +37,7 @@ def touches(first: str, register: str) -> bool:
 
 
 def held(source: Source, line: int, register: str) -> int | None:
-    """The constant that a register holds before a line, or None where that isn't known."""
+    """The constant that a register holds before a line, or None if that isn't known."""
     for at in above(source, line):
         it = source.lines[at]
         groups = it.groups()
