@@ -115,6 +115,8 @@ class Life(ToolCase):
             told = there.read()
             self.assertEqual((told['id'], told['error']['code']), (None, code), octets)
         self.assertEqual(there.error('textDocument/nonsense')['code'], -32601)
+        there.send({'jsonrpc': '2.0', 'id': 'p', 'method': 'textDocument/hover', 'params': 5})
+        self.assertEqual(there.answer_to('p')['error']['code'], -32602)
         self.assertEqual(there.error('textDocument/hover')['code'], -32602)
         self.assertEqual(there.error('textDocument/hover', textDocument={'uri': IT}, position=5)['code'], -32803)
         there.open('NOP')

@@ -138,7 +138,7 @@ class Server:
             self.refuse(None, Unfit("a request's id is a number or a string", INVALID))
             return
         try:
-            result = self.answer(message['method'], message.get('params') or {}, is_request)
+            result = self.answer(message['method'], want(message, 'params', dict, {}), is_request)
             if is_request:
                 self.write({'id': number, 'result': result})
         except Unfit as unfit:
