@@ -1,6 +1,7 @@
 """What edits leave as it was: answers are those of a fresh server after any edits, and renaming and formatting keep the bytes."""
 from __future__ import annotations
 
+import functools
 import glob
 import os
 import random
@@ -62,6 +63,7 @@ def applied(text: str, edits: list[Fields]) -> str:
     return text
 
 
+@functools.cache
 def bytes_of(text: str) -> str:
     """Where a text's bytes are, by its listing, and by Intel HEX if that has some that the listing hasn't."""
     rows = [it[:ADDRESS_COLUMNS] for it in given_text(['asm', '--list'], plain(text)).out.split('\n')]
