@@ -11,7 +11,7 @@ from tests.lsp_client import IT, Here
 from tests.support import ToolCase
 
 from toolbox.lsp.instructions import Row, instruction_of, rows
-from toolbox.program import Files, Session
+from toolbox.program import CLOCKS_OF_A_TRAIL, Files, Session
 
 # Shapes of memory, and where they are by the registers that are set before each line.
 SHAPES = {'[1000h]': 0x1000, '[BX]': 0x1101, '[DI]': 0x1300, '[BX+SI]': 0x1141, '[BP+DI]': 0x2500, '[BP]': 0x1200, '[SI+4]': 0x44}
@@ -31,7 +31,6 @@ OPERANDS = {
     '[n]': '[1000h]',
 }
 ALL_SIX, STRINGS = 0x8D5, ('MOVS', 'CMPS', 'STOS', 'LODS', 'SCAS')
-TRACED = re.compile(r' *(\d+) .*\| (\d+): ')
 # What leaves all registers as they are for the next of its kind.
 PLAIN = re.compile(r'(ADD|ADC|SUB|SBB|AND|OR|XOR|CMP|TEST|MOV|INC|DEC|NEG|NOT|XCHG|RO.|RC.|SH.|SA.) (BYTE |WORD )?(\[|ES:|DX,|DL,)')
 TARGETS = ('rel8', 'rel16', 'SHORT rel8', 's:o')
@@ -114,13 +113,19 @@ class Clocks(ToolCase):
         lines += ['HLT', 'back: IRET', 'ready:', *BEFORE, 'ENDS', 'SEGMENT RESET AT 0FFFFh', 'JMP FAR start', 'ENDS']
         self.text = '\n'.join(lines)
 
-    def run_by(self, table: str) -> dict[int, tuple[int, bool]]:
-        """By each line's number the clocks of its instruction, and whether the next one ran after it."""
+    def run_by(self, table: str) -> dict[str, tuple[int, str]]:
+        """By each instruction's address its clocks, those of all iterations of a repeat, and the address of the next one that ran."""
         source = self.file('it.asm', self.text)
         fields = {'version': 2, 'ram': 640, 'sw1': 0, 'sw2': 0, 'budget': 1_000_000, 'keys': [], 'timer': '8253', 'clocks': table}
-        told = self.tool('trace', source, self.file('it.json', json.dumps(fields)))[0]
-        them = [(int(it[1]), int(it[2])) for it in map(TRACED.match, told.splitlines()) if it]
-        return {line: (then - clock, following == line + 1) for (clock, line), (then, following) in zip(them, them[1:])}
+        them = [['-1', '', '']]
+        with Session(Files(source, self.file('it.json', json.dumps(fields)))) as session:
+            while 'HLT' not in them[-1][2]:
+                session.go(CLOCKS_OF_A_TRAIL)
+                rows = [it.split(None, 2) for it in session.many('trail')]
+                new = next((at for at, it in enumerate(rows) if int(it[0]) > int(them[-1][0])), len(rows))
+                them += rows[new:]
+        starts = [(int(clock), far) for at, (clock, far, _) in enumerate(them) if far != them[at - 1][1]]
+        return {far: (then - clock, following) for (clock, far), (then, following) in zip(starts, starts[1:])}
 
     def test_of_each_row(self) -> None:
         server, covered = Here(), set[str]()
@@ -134,7 +139,9 @@ class Clocks(ToolCase):
             assert found
             covered.add(f'{found.row}')
             for table, run in runs.items():
-                clocks, falls = run[case.number]
+                row, after = (server.server.documents[IT].answers.rows[case.number + it] for it in (-1, 0))
+                clocks, following = run[f'{row}'.split()[0]]
+                falls = following == f'{after}'.split()[0]
                 text = re.search(rf'Clocks by {table}: (.*)', told)
                 assert text, told
                 self.assertEqual(self.expected(text[1].strip(), case.count, falls), clocks, (line, table, text[1]))

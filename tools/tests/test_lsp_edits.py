@@ -18,7 +18,7 @@ from toolbox.lsp.text import Text
 from toolbox.program import given_text
 
 # Others by hand: SEED=5 EDITS=1000 SOURCES=1000 python3 -m unittest tests.test_lsp_edits
-SEED, EDITS, SOURCES = (int(os.environ.get(name, default)) for name, default in (('SEED', '1'), ('EDITS', '25'), ('SOURCES', '50')))
+SEED, EDITS, SOURCES = (int(os.environ.get(name, default)) for name, default in (('SEED', '1'), ('EDITS', '25'), ('SOURCES', '25')))
 NAMES = ('alpha', 'Beta_2', 'gamma', '_d', 'Epsilon', 'zeta9', 'a_name_of_thirty_one_characters')
 STATEMENTS: tuple[str, ...] = (
     'MOV AX,{}',
