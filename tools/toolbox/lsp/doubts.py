@@ -9,9 +9,9 @@ from toolbox.lsp.lines import LABEL, Token
 from toolbox.lsp.source import Source
 from toolbox.lsp.straight import held, register_in
 from toolbox.lsp.text import Fields, Text
+from toolbox.nowhere import WRITERS
 
 BYTE_REGISTERS = ('AL', 'AH', 'BL', 'BH', 'CL', 'CH', 'DL', 'DH')
-WRITERS = tuple('MOV ADD ADC SUB SBB AND OR XOR INC DEC NEG NOT XCHG POP'.split())
 STORES = ('STOSB', 'STOSW', 'MOVSB', 'MOVSW')
 ROM, RESET, OF_THE_SERVICES = 0xF000, 0xFFFF0, range(0x10, 0x22)
 
