@@ -20,7 +20,7 @@ def type_of(document: Document, it: Token) -> str | None:
         return None
     if definition.kind in (CONSTANT, SEGMENT):
         return 'enumMember' if definition.kind == CONSTANT else 'namespace'
-    return 'variable' if document.source.is_data(definition.line) else 'function'
+    return 'variable' if document.source.is_data[definition.line] else 'function'
 
 
 def semantic_tokens(document: Document, _: Fields) -> Fields:

@@ -18,7 +18,7 @@ MOST_FILES, LONGEST_FILE, MOST_FOUND = 500, 1 << 20, 1000
 def symbol_kind(source: Source, it: Definition) -> int:
     """What the protocol calls a name."""
     if it.kind == LABEL:
-        return VARIABLE if source.is_data(it.line) else FUNCTION
+        return VARIABLE if source.is_data[it.line] else FUNCTION
     return NAMESPACE if it.kind == SEGMENT else CONSTANT_SYMBOL
 
 

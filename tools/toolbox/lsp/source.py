@@ -76,12 +76,14 @@ class Source:
         found = self.lines[line].at(column)
         return found if found and found.kind == 'name' and found.key in self.definitions else None
 
-    def is_data(self, line: int) -> bool:
-        """Whether a label's line, or the next one that does something, places data."""
-        for it in self.lines[line:]:
-            if it.statement:
-                return it.does(*DATA)
-        return False
+    @cached_property
+    def is_data(self) -> list[bool]:
+        """Of each line whether it, or else the next one that does something, places data."""
+        found, last = list[bool](), False
+        for it in reversed(self.lines):
+            last = it.does(*DATA) if it.statement else last
+            found.append(last)
+        return found[::-1]
 
     @cached_property
     def constants(self) -> dict[str, int]:
