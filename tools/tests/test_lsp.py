@@ -293,6 +293,16 @@ class Underlined(ToolCase):
             here.open(lines.replace('INT 60h', f'{sets}\nINT 60h'))
             self.assertNotIn('no-vector', [it['code'] for it in here.found[IT]], sets)
 
+    def test_warnings_of_a_line_alone(self) -> None:
+        """They stand where what they are about does, and say what why --lines says."""
+        here, lines = Here(), 'SEGMENT MAIN AT 50h\nx: INT 21\nREP MOV AX,BX\n CMP AL,X+1\nENDS\n'
+        here.open(lines)
+        self.assertEqual([it['code'] for it in here.found[IT]], ['decimal-interrupt', 'rep-without-string', 'offset-in-byte'])
+        self.assertEqual(places(here.found[IT]), [(1, 7, 9), (2, 0, 3), (3, 8, 9)])
+        source = self.file('it.asm', lines)
+        told = [f'{source}:{it["range"]["start"]["line"] + 1}: warning: {it["message"]}' for it in here.found[IT]]
+        self.assertEqual(self.tool('why', '--lines', source)[0].splitlines(), told)
+
     def test_no_warning_of_what_is_right(self) -> None:
         here = Here()
         for folder in (EXAMPLES, f'{EXAMPLES}/books', f'{os.path.dirname(EXAMPLES)}/services'):

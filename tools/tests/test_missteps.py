@@ -162,7 +162,9 @@ class Missteps(ToolCase):
 
     def test_lines_that_are_hardly_meant(self) -> None:
         lines = ['here: MOV AL,here', ' INT 21', ' INT 13', ' INT 33', ' REP MOV AX,BX', ' REP ES: MOVSB', ' REPE CMPSB', ' MOV AX,here', ' INT 21h ; INT 21']
-        self.assertEqual([number for number, _ in doubts(lines)], [1, 2, 3, 5])
+        lines += [" CMP Al , 'a'-1+HERE - 2 ; it", ' MOV AL,here-here', ' MOV AL,[here+1]', ' MOV AL,BL', ' ADD AL,other']
+        told = ['offset-in-byte', 'decimal-interrupt', 'decimal-interrupt', 'rep-without-string', 'offset-in-byte']
+        self.assertEqual([(it.line, it.name) for it in doubts(lines)], list(zip((0, 1, 2, 4, 9), told)))
         source = self.file('it.asm', 'SEGMENT MAIN AT 50h\nhere: INT 21\n MOV AL,#5\n MOV AL,here\nENDS\n')
         out = self.tool('why', '--lines', source, status=1)[0].splitlines()
         self.assertEqual([it.split(' ')[0:2] for it in out], [[f'{source}:3:', 'error:'], [f'{source}:2:', 'warning:'], [f'{source}:4:', 'warning:']])

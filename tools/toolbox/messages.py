@@ -46,4 +46,4 @@ def judged(is_after: bool) -> str:
 def warnings(path: str, refused: set[int]) -> Iterator[tuple[int, str]]:
     """Each line of a source that the program takes, these being refused, and that is hardly meant."""
     lines = [it.rstrip('\r') for it in read_text(path).split('\n')]
-    return ((number, told) for number, told in doubts(lines) if number not in refused)
+    return ((it.line + 1, it.text) for it in doubts(lines) if it.line + 1 not in refused)

@@ -6,7 +6,7 @@ import re
 from itertools import takewhile
 from typing import Iterator
 
-from toolbox.doubts import label_as_byte
+from toolbox.doubts import name_in_byte
 from toolbox.listing import Line, code_of, physical
 from toolbox.places import Event, line_at
 from toolbox.program import Session
@@ -184,11 +184,12 @@ def of_labels_as_bytes(it: Run) -> list[str]:
     """A label whose offset a byte register took."""
     for event in it.moments:
         line = line_at(it.listing, event) if event.entry is None else None
-        name = label_as_byte(line.text, it.listing.labels) if line else None
-        if name:
+        name = name_in_byte(line.text) if line else None
+        at = it.listing.label_of(name[1]) if name else None
+        if name and at:
             return [
-                f'clock {event.clock}: {it.place(event)} takes {name} for a number, its offset {it.listing.labels[name][1]:02X}h',
-                f'hint: the byte at {name} is [{name}]',
+                f'clock {event.clock}: {it.place(event)} takes {name[1]} for a number, its offset {at[1]:02X}h',
+                f'hint: the byte at {name[1]} is [{name[1]}]',
             ]
     return []
 

@@ -34,7 +34,7 @@ a return with nothing on the stack           since MOV SP with a number, after w
 a return before which no CALL stands         RET or RETF of the source led to a place of it that has no label, and no CALL or INT before it
 DS is 0, as at power-on                      it is; no line has MOV DS, POP DS or LDS; by DS an address was reached where the program has no
                                              byte, and in another segment a label has its offset
-a label taken for a number                   MOV of one to a byte register has run
+a label taken for a number                   an instruction has run with a byte register and one, or one plus or minus numbers, as operands
 words read from bytes                        an instruction read a word at the first byte of a line of DB with three numbers or more, and one two
                                              bytes or more behind the last line of DB below it, but no further than these lines are long
 a scan code taken for a sign                 within 40 events behind IN AL,60h, which read a key's code, SUB AL,'0' found it in AL, less than
@@ -58,7 +58,7 @@ import re
 from itertools import takewhile
 
 from toolbox.chips import chip_lines, facts, probe
-from toolbox.doubts import of_a_call
+from toolbox.doubts import decimal_call, of_a_call
 from toolbox.later import later
 from toolbox.leaving import is_left
 from toolbox.listing import Listing, code_of, listing_of, physical
@@ -200,11 +200,9 @@ def of_address_zero(it: Run) -> list[str]:
         'INTO': f'{place} enters interrupt 4',
     }.get(name.removeprefix('I') if name == 'IDIV' else name, f'{place} enters interrupt {kind:02X}')
     line = line_at(it.listing, last) if last.entry is None else None
-    hint = (
-        line
-        and of_a_call(line.text)
-        or SERVICES.get(kind, f'the address of a handler goes there: SEGMENT VECTORS AT 0, ORG {4 * kind:X}h, DW own,SEG own, ENDS')
-    )
+    number = decimal_call(line.text) if line else None
+    an_own = f'the address of a handler goes there: SEGMENT VECTORS AT 0, ORG {4 * kind:X}h, DW own,SEG own, ENDS'
+    hint = of_a_call(number[1]) if number else SERVICES.get(kind, an_own)
     return [f'clock {clock}: {said}; its vector, at {4 * kind:05X}h, is 0000:0000', f'hint: {hint}']
 
 

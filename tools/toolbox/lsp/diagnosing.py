@@ -37,7 +37,7 @@ def diagnostics(document: Document) -> list[Fields]:
     found = [of_a_fault(document, *it) for it in document.answers.refused]
     if document.answers.is_over and document.answers.is_whole:
         found += [
-            {'range': it.range_in(document.text), 'severity': WARNING, 'code': it.name, 'source': 'zebludor', 'message': it.text}
+            {'range': document.text.range(it.line, it.first, it.last), 'severity': WARNING, 'code': it.name, 'source': 'zebludor', 'message': it.text}
             for it in doubts_of(document.source, document.answers)
             if it.name not in document.settings.off
         ]

@@ -1,34 +1,18 @@
-"""What the program accepts and is hardly meant. Each has a name, by which it is turned off."""
+"""What the program accepts and is hardly meant: what a line shows by itself, and what the source and the program's answers show."""
 from __future__ import annotations
 
-from dataclasses import dataclass
 from typing import Callable, Iterator
 
+from toolbox import doubts
+from toolbox.doubts import Doubt
 from toolbox.lsp.answers import Answers
 from toolbox.lsp.lines import LABEL, Token
 from toolbox.lsp.source import Source
 from toolbox.lsp.straight import held, register_in
-from toolbox.lsp.text import Fields, Text
-from toolbox.nowhere import WRITERS
+from toolbox.walk import WRITERS
 
-BYTE_REGISTERS = ('AL', 'AH', 'BL', 'BH', 'CL', 'CH', 'DL', 'DH')
 STORES = ('STOSB', 'STOSW', 'MOVSB', 'MOVSW')
 ROM, RESET, OF_THE_SERVICES = 0xF000, 0xFFFF0, range(0x10, 0x22)
-
-
-@dataclass(frozen=True)
-class Doubt:
-    """A warning: its name, its place, and what it says."""
-
-    name: str
-    line: int
-    first: int
-    last: int
-    text: str
-
-    def range_in(self, text: Text) -> Fields:
-        """Its place as the protocol has it."""
-        return text.range(self.line, self.first, self.last)
 
 
 def lone_label(source: Source, tokens: tuple[Token, ...]) -> Token | None:
@@ -40,13 +24,9 @@ def lone_label(source: Source, tokens: tuple[Token, ...]) -> Token | None:
     return names[0] if found and found.kind == LABEL else None
 
 
-def offsets_in_bytes(source: Source, _: Answers) -> Iterator[Doubt]:
-    """A label's offset in a byte register."""
-    for number, line in enumerate(source.lines):
-        groups = line.groups()
-        if len(groups) == 2 and register_in(groups[0]) in BYTE_REGISTERS and (name := lone_label(source, groups[1])):
-            text = f"{groups[0][0].key} takes {name.text}'s offset, not what is stored there: [{name.text}] is that byte"
-            yield Doubt('offset-in-byte', number, name.start, name.end, text)
+def of_lines(source: Source, _: Answers) -> Iterator[Doubt]:
+    """What a line shows by itself."""
+    return doubts.doubts(source.text.lines)
 
 
 def in_rom(source: Source, label: Token) -> bool:
@@ -123,8 +103,8 @@ def foreign_comments(source: Source, _: Answers) -> Iterator[Doubt]:
             yield Doubt('comment-not-ascii', number, line.comment.start, line.comment.end, text)
 
 
-DOUBTS: tuple[Callable[[Source, Answers], Iterator[Doubt]], ...] = (offsets_in_bytes, variables_in_rom, no_vectors, no_reset, foreign_comments)
-NAMES = ('offset-in-byte', 'variable-in-rom', 'no-vector', 'no-reset', 'comment-not-ascii')
+DOUBTS: tuple[Callable[[Source, Answers], Iterator[Doubt]], ...] = (of_lines, variables_in_rom, no_vectors, no_reset, foreign_comments)
+NAMES = (*doubts.NAMES, 'variable-in-rom', 'no-vector', 'no-reset', 'comment-not-ascii')
 
 
 def doubts_of(source: Source, answers: Answers) -> list[Doubt]:
