@@ -106,14 +106,14 @@ def until(holds: Callable[[], Any]) -> bool:
     return bool(found)
 
 
-def is_at_work(process: int, name: str = 'pcboard', seconds: float = 0.1) -> bool:
-    """Waits until a program of this name, which a process has started, has worked for so long from now on."""
+def is_at_work(process: int) -> bool:
+    """Waits until pcboard or pcprobe, which a process has started, has worked for a tenth of a second from now on."""
 
     def spent() -> float:
-        return max((processor_seconds(it) for it in children(process) if name_of(it) == name), default=0)
+        return max((processor_seconds(it) for it in children(process) if name_of(it) in ('pcboard', 'pcprobe')), default=0)
 
     begun = spent()
-    return until(lambda: spent() - begun > seconds)
+    return until(lambda: spent() - begun > 0.1)
 
 
 def name_of(process: int) -> str:
