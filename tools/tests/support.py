@@ -74,28 +74,40 @@ def main_of(name: str) -> Callable[[list[str]], int]:
     return module.main  # type: ignore[no-any-return]
 
 
+def state_of(process: int | str) -> list[str]:
+    """What the kernel tells of a process, from its state on: then its parent, group and session; of one that is gone nothing."""
+    try:
+        with open(f'/proc/{process}/stat', encoding='utf-8') as file:
+            return file.read().rpartition(')')[2].split()
+    except OSError:
+        return []
+
+
+def is_running(process: int) -> bool:
+    """Whether a process is there, and hasn't ended."""
+    return state_of(process)[:1] not in ([], ['Z'])
+
+
+def running(of: int, at: int) -> list[int]:
+    """The processes that haven't ended and have this number at a place of what is told of them."""
+    told = ((int(name), state_of(name)) for name in os.listdir('/proc') if name.isdecimal())
+    return [process for process, it in told if it and it[0] != 'Z' and int(it[at]) == of]
+
+
 def children(of: int) -> list[int]:
     """The processes that a process has started, and those that these have."""
-    found = list[int]()
-    for name in os.listdir('/proc'):
-        if name.isdecimal():
-            try:
-                with open(f'/proc/{name}/stat', encoding='utf-8') as file:
-                    fields = file.read().rpartition(')')[2].split()
-            except OSError:
-                continue
-            if int(fields[1]) == of and fields[0] != 'Z':
-                found += [int(name), *children(int(name))]
-    return found
+    own = running(of, 1)
+    return own + [it for one in own for it in children(one)]
+
+
+def members(session: int) -> list[int]:
+    """The processes of a session."""
+    return running(session, 3)
 
 
 def processor_seconds(of: int) -> float:
     """The processor time that a process has used, without its children's; of one that has ended meanwhile none."""
-    try:
-        with open(f'/proc/{of}/stat', encoding='utf-8') as file:
-            return sum(map(int, file.read().rpartition(')')[2].split()[11:13])) / os.sysconf('SC_CLK_TCK')
-    except OSError:
-        return 0.0
+    return sum(map(int, state_of(of)[11:13])) / os.sysconf('SC_CLK_TCK')
 
 
 def until(holds: Callable[[], Any]) -> bool:

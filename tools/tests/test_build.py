@@ -11,7 +11,7 @@ import subprocess
 import unittest
 
 from tests.repository import Repository
-from tests.support import SECONDS, TOP, until
+from tests.support import SECONDS, TOP, is_running, until
 from toolbox import building, sources
 from toolbox.crates import Crates
 
@@ -21,15 +21,6 @@ def kit_of_readme() -> tuple[str, str]:
     with open(f'{TOP}/README.md', encoding='utf-8') as page:
         kit, logic = re.findall(r'^(rattle-kit-\S+) logic ([0-9a-f]+)$', page.read(), re.M)[0]
     return kit, logic
-
-
-def is_running(process: int) -> bool:
-    """Whether a process is there, and hasn't ended."""
-    try:
-        with open(f'/proc/{process}/stat', encoding='ascii') as told:
-            return told.read().rpartition(')')[2].split()[0] != 'Z'
-    except (FileNotFoundError, ProcessLookupError):
-        return False
 
 
 class Version(unittest.TestCase):

@@ -20,7 +20,7 @@ import unittest.mock
 from typing import Any
 from unittest import mock
 
-from tests.support import EXAMPLES, SECONDS, TOOLS, TOP, ToolCase, children, example, processor_seconds, until
+from tests.support import EXAMPLES, SECONDS, TOOLS, TOP, ToolCase, children, example, is_running, processor_seconds, until
 
 from toolbox import desk_board, desk_http, desk_words, desk_work
 from toolbox.chips import chip_lines, lines_in, probe
@@ -113,15 +113,6 @@ def contrast(one: str, other: str) -> float:
 
     low, high = sorted((luminance(one), luminance(other)))
     return (high + 0.05) / (low + 0.05)
-
-
-def state_of(process: int) -> str:
-    """A process's state, as one letter; of one that is gone Z."""
-    try:
-        with open(f'/proc/{process}/stat', encoding='utf-8') as file:
-            return file.read().rpartition(')')[2].split()[0]
-    except OSError:
-        return 'Z'
 
 
 class Client:
@@ -989,7 +980,7 @@ class Begun(ToolCase):
         process.send_signal(number)
         _, err = process.communicate(timeout=SECONDS)
         self.assertNotIn('Traceback', err)
-        self.assertTrue(until(lambda: all(state_of(it) == 'Z' for it in started)))
+        self.assertTrue(until(lambda: not any(map(is_running, started))))
         self.assertEqual([it for it in os.listdir(self.room) if it.startswith('desk')], [])
 
 
@@ -1019,7 +1010,7 @@ class Started(Begun):
         process.kill()
         process.communicate(timeout=SECONDS)
         asking.join(SECONDS)
-        self.assertTrue(until(lambda: all(state_of(it) == 'Z' for it in started)))
+        self.assertTrue(until(lambda: not any(map(is_running, started))))
         left = [it for it in os.listdir(self.room) if it.startswith('desk')]
         self.assertEqual(len(left), 1)
         process, client = self.begin()

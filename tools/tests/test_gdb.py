@@ -202,8 +202,7 @@ class Served(ToolCase):
 
     def board_of(self) -> int:
         """The board's process."""
-        with open(f'/proc/{self.tool_process.pid}/task/{self.tool_process.pid}/children', encoding='ascii') as file:
-            return int(file.read().split()[0])
+        return children(self.tool_process.pid)[0]
 
     def test_forth_and_back(self) -> None:
         client = self.client(*example('ticks'))

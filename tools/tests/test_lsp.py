@@ -1,19 +1,17 @@
 """tools/lsp by its protocol: its life, what it underlines and when, and each of its requests."""
 from __future__ import annotations
 
-import contextlib
 import json
 import os
 import signal
 import subprocess
 import sys
-import time
 import unittest
 import unittest.mock
 from typing import Any
 
 from tests.lsp_client import IT, Fields, Here, There, span
-from tests.support import EXAMPLES, TOOLS, ToolCase
+from tests.support import EXAMPLES, TOOLS, ToolCase, members, until
 
 from toolbox.lsp.answers import used
 
@@ -102,10 +100,7 @@ class Life(ToolCase):
         there.underlined()
         self.assertIn(there.process.pid, members(there.process.pid))
         self.assertEqual(there.end(), 1)
-        until = time.monotonic() + 60
-        while members(there.process.pid) and time.monotonic() < until:
-            time.sleep(0.05)
-        self.assertEqual(members(there.process.pid), [])
+        self.assertTrue(until(lambda: not members(there.process.pid)))
         self.assertEqual(self.left(), [])
 
     def test_what_is_broken_is_refused(self) -> None:
@@ -181,17 +176,6 @@ class Life(ToolCase):
         self.assertIn("isn't there", ' '.join(it['params'].get('message', '') for it in told))
         self.assertEqual(there.at('definition', 6, 14)['range']['start']['line'], 11)
         there.end()
-
-
-def members(session: int) -> list[int]:
-    """The processes of a session, without those that have ended."""
-    found = list[int]()
-    for name in filter(str.isdecimal, os.listdir('/proc')):
-        with contextlib.suppress(OSError), open(f'/proc/{name}/stat', encoding='utf-8') as file:
-            state, *fields = file.read().rpartition(')')[2].split()
-            if int(fields[2]) == session and state != 'Z':
-                found.append(int(name))
-    return found
 
 
 class Underlined(ToolCase):
