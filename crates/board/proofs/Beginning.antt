@@ -3,22 +3,18 @@ use Rattle.std.proofs.Common.{◌≡◌, ℕ, ◌+◌, ◌-◌, ◌<◌, ◌≤�
 use Rattle.std.specs.Prelude.{◌⊎◌}
 use Rattle.cached_chips.proofs.Quiet.{level_stays}
 use Rattle.board_types.specs.Lines.{from_bool}
-use Rattle.board_types.specs.declared.keys.StampedKey.{StampedKey}
 use Rattle.execute_meaning.specs.Meaning.{StepResult}
 use Rattle.wiring.specs.Chips.{ChipsState}
 use Rattle.wiring.specs.Speaker.{is_speaker_high_after}
-use Rattle.wiring.specs.Wires as wires
-use Rattle.wiring.specs.Wires.{after_arrivals}
-use Rattle.wiring.proofs.Clocks.{clock_of_arrivals, clock_of_clocked, clock_of_keys_settled}
 use Rattle.board_plain.specs.declared.act.Act.{Act}
 use Rattle.board_plain.specs.Board.{BoardState}
 use Rattle.board.specs.Alone.{PassesOver}
 use Rattle.board.specs.Leap.{ActsQuietly}
-use Rattle.board_plain.specs.Plain.{Plain, after_act, after_clock, change_next, chips_after_clock, clock_of, codes_at, next_act, speaker_level}
+use Rattle.board_plain.specs.Plain.{Plain, after_act, after_clock, change_next, chips_after_clock, clock_of, next_act, speaker_level}
 use Rattle.board_plain.specs.Trail.{last, trail_next}
 use Rattle.board.specs.Turns.{IsActOn, IsLeapOn}
 use Rattle.board_plain.specs.Work.{work_next}
-use Rattle.board_plain.proofs.Clocks.{clock_of_act}
+use Rattle.board_plain.proofs.Clocks.{clock_goes_by}
 use Rattle.board_plain.proofs.Foreseen.{foreseen}
 use Rattle.board.proofs.Ticking.{nothing_listed}
 use Rattle.board.proofs.Works.{acts_now}
@@ -31,20 +27,6 @@ same_level s quietly =
     ∙ ap from_bool (
     ap (is_speaker_high_after s.chips) quietly.act.silent
     ∙ sym (level_stays s.chips (s.chips.clock + 1) (omega arith) quietly.quiet))
-
--- a clock goes by
-chips_go_on : (c : ChipsState) (keys : List StampedKey) → (chips_after_clock c keys).clock ≡ c.clock + 1
-unfolding chips_after_clock
-chips_go_on c keys =
-    clock_of_keys_settled (after_arrivals (wires.after_clock c) (codes_at keys (c.clock + 1)))
-    ∙ clock_of_arrivals (wires.after_clock c) (codes_at keys (c.clock + 1))
-    ∙ clock_of_clocked c
-
-pub clock_goes_by : (s : Plain) → clock_of (after_clock s) ≡ clock_of s + 1
-unfolding clock_of after_clock
-clock_goes_by s =
-    chips_go_on (after_act s.clocks s.cpu s.busy s.chips (next_act s)).bus s.keys
-    ∙ ap (λ n. n + 1) (clock_of_act s.clocks s.cpu s.busy s.chips (next_act s))
 
 -- the board's first clock of a step, with what it lists, and the others that are leapt over
 

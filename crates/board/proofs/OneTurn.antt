@@ -13,12 +13,12 @@ use Rattle.decode.specs.declared.decoding.Decoding.TheVariants.{Found, NoRow}
 use Rattle.decode.specs.Decoding.{size_of, IsDecoded}
 use Rattle.decode.specs.Fields.{is_found}
 use Rattle.board.proofs.Entries.{found_size}
+use Rattle.board_plain.proofs.Clocks.{clock_goes_by}
 use Rattle.board_plain.proofs.Runs.{ran_none}
 use Rattle.board.specs.declared.one_turn.Begun.{Begun}
 use Rattle.board.specs.OneTurn.{begun_of, HaveSameWires, IsOneTurn}
 use Rattle.board.specs.Turns.{IsLeapOn, IsTickOn, IsTurnOn}
 use Rattle.board.specs.Alone.{WiresStay, WiresStayThen}
-use Rattle.board.proofs.Beginning.{clock_goes_by}
 use Rattle.board.proofs.Ticking.{first_clock, first_seen, first_unseen, ran_more}
 use Rattle.board.proofs.Turns.{before_rest, leap_runs, ran_leap}
 

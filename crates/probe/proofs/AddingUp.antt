@@ -12,15 +12,10 @@ use Rattle.std.specs.declared.cmp.Ordering.TheVariants.{Less, Equal, Greater}
 use Rattle.board.specs.declared.one_turn.Begun.{Begun}
 use Rattle.board.specs.OneTurn.{begun_in, begun_of}
 use Rattle.board_plain.specs.declared.trail.TrailEvent.{TrailEvent}
-use Rattle.board_plain.proofs.Clocks.{clock_of_act}
-use Rattle.board_plain.specs.Plain.{Plain, after_act, after_clock, after_clocks, chips_after_clock, clock_of, codes_at, next_act}
+use Rattle.board_plain.proofs.Clocks.{clocks_go_by}
+use Rattle.board_plain.specs.Plain.{Plain, after_clock, after_clocks, clock_of, next_act}
 use Rattle.board_plain.specs.Trail.{entry_at, event_of, trail_in, trail_next}
 use Rattle.board_types.proofs.Iterate.{gathered_more, gathered_zero, iterate_more, iterate_zero}
-use Rattle.board_types.specs.declared.keys.StampedKey.{StampedKey}
-use Rattle.wiring.proofs.Clocks.{clock_of_arrivals, clock_of_clocked, clock_of_keys_settled}
-use Rattle.wiring.specs.Chips.{ChipsState}
-use Rattle.wiring.specs.Wires as wires
-use Rattle.wiring.specs.Wires.{after_arrivals}
 use Rattle.probe.specs.Counts.{clocks_from, is_number, next_clock, numbers_of, place_of, place_unless, type_of, with_number}
 use Rattle.probe.specs.Laws.{clocks_of_lines, CountsAddUp}
 use Rattle.probe.specs.Tallied.{has}
@@ -146,26 +141,6 @@ rise_later from (b ∷ bs) end rise = (rise.0, rise_later b.clock bs end rise.1)
 rise_more : (from : ℕ) (bs : List Begun) (b : Begun) (end : ℕ) → b.clock ≡ end → Rise from bs end → Rise from (bs ++ b ∷ []) (end + 1)
 rise_more from [] b end is rise = (omega (arith, is, rise), omega (arith, is))
 rise_more from (a ∷ bs) b end is rise = (rise.0, rise_more a.clock bs b end is rise.1)
-
-chips_go_on : (c : ChipsState) (keys : List StampedKey) → (chips_after_clock c keys).clock ≡ c.clock + 1
-unfolding chips_after_clock
-chips_go_on c keys =
-    clock_of_keys_settled (after_arrivals (wires.after_clock c) (codes_at keys (c.clock + 1)))
-    ∙ clock_of_arrivals (wires.after_clock c) (codes_at keys (c.clock + 1))
-    ∙ clock_of_clocked c
-
-clock_goes_by : (s : Plain) → clock_of (after_clock s) ≡ clock_of s + 1
-unfolding clock_of after_clock
-clock_goes_by s =
-    chips_go_on (after_act s.clocks s.cpu s.busy s.chips (next_act s)).bus s.keys
-    ∙ ap (λ n. n + 1) (clock_of_act s.clocks s.cpu s.busy s.chips (next_act s))
-
-clocks_go_by : (n : ℕ) (s : Plain) → clock_of (after_clocks s n) ≡ clock_of s + n
-clocks_go_by zero s = ap clock_of (iterate_zero after_clock s) ∙ omega arith
-clocks_go_by (suc n) s =
-    let more : suc n ≡ n + 1 = omega arith in
-    ap (λ k. clock_of (after_clocks s k)) more ∙ ap clock_of (iterate_more after_clock n s) ∙ clock_goes_by (after_clocks s n)
-    ∙ ap (λ k. k + 1) (clocks_go_by n s) ∙ omega arith
 
 rise_by : (from : ℕ) (bs : List Begun) (t : Plain) (event : Option TrailEvent) → Rise from bs (clock_of t) → Rise from (bs ++ map begun_of (entry_at t event)) (clock_of t + 1)
 rise_by from bs t None rise = subst (λ xs. Rise from xs (clock_of t + 1)) (sym (append-nil bs)) (rise_later from bs (clock_of t) rise)
