@@ -1,0 +1,18 @@
+//! What the processor does over its bus.
+
+/// What the processor does over its bus, but for reading memory.
+#[derive(Clone, Copy, Debug, PartialEq, Eq)]
+pub enum Access {
+    /// A byte is written to a physical address, whether the address takes it or not.
+    Write(u32, u8),
+    /// A port is read, and gives a byte.
+    In(u16, u8),
+    /// A byte is written to a port.
+    Out(u16, u8),
+}
+
+impl Default for Access {
+    fn default() -> Access {
+        Access::Write(0, 0)
+    }
+}

@@ -1,0 +1,4 @@
+mod Parts
+pub mod Told
+pub mod Keyed
+pub mod KeyToCome
