@@ -365,12 +365,13 @@ impl<A: Allocator> Board<A> {
     {
         self.engine.look_ahead();
         let boundary = self.engine.boundary();
-        self.turn_by(boundary, true, within, end)
+        self.turn_by::<Engine>(boundary, true, within, end)
     }
 
-    /// A turn from this case of a boundary. Where it may not leap over edges of the timer, no wire changes but in its first clock.
+    /// A turn from this case of a boundary. If it may not leap over edges of the timer, no wire changes but in its first
+    /// clock. `L` is a tag alone: each caller has a copy of its own, which LLVM takes in.
     #[inline(always)]
-    pub(crate) fn turn_by(
+    pub(crate) fn turn_by<L>(
         &mut self,
         boundary: Boundary,
         over_edges: bool,

@@ -89,7 +89,7 @@ impl<A: Allocator> Board<A> {
         let boundary = self.engine.boundary();
         let begun = self.engine.begins(boundary);
         let to = end.get();
-        self.turn_by(boundary, false, to, to)?;
+        self.turn_by::<Begun>(boundary, false, to, to)?;
         Ok(begun)
     }
 }
