@@ -53,7 +53,7 @@ pub record SameBytes (s t : ChipsState) : Type 0 where
 same_then : (s t u : ChipsState) → SameBytes s t → SameBytes t u → SameBytes s u
 same_then s t u first second = record { memory = first.memory ∙ second.memory; text = first.text ∙ second.text }
 
-same_byte : (s t : ChipsState) (address : ℕ) → SameBytes s t → byte_at s address ≡ byte_at t address
+pub same_byte : (s t : ChipsState) (address : ℕ) → SameBytes s t → byte_at s address ≡ byte_at t address
 unfolding byte_at mda.text_byte
 same_byte s t address same =
     ap (λ (bytes : List ℕ). if is_text_address address then slice_index bytes (address - 0xB0000)
@@ -87,12 +87,12 @@ bytes_after_write s (Parallel n) byte = record { memory = refl; text = refl }
 bytes_after_write s (Adapter n) byte = record { memory = refl; text = (is_memory s.mda).port_writes n byte }
 bytes_after_write s Nothing byte = record { memory = refl; text = refl }
 
-bytes_after_input : (s : ChipsState) (port : ℕ) → SameBytes (after_input s port) s
+pub bytes_after_input : (s : ChipsState) (port : ℕ) → SameBytes (after_input s port) s
 unfolding after_input
 bytes_after_input s port =
     same_then _ _ s (bytes_after_settling (after_port_read s (port_at port))) (bytes_after_read s (port_at port))
 
-bytes_after_output : (s : ChipsState) (port byte : ℕ) → SameBytes (after_output s port byte) s
+pub bytes_after_output : (s : ChipsState) (port byte : ℕ) → SameBytes (after_output s port byte) s
 unfolding after_output
 bytes_after_output s port byte =
     same_then _ _ s (bytes_after_settling (after_port_write s (port_at port) byte))
