@@ -4,6 +4,7 @@ pub mod InAl
 pub mod Order
 pub mod Runs
 pub mod Powers
+mod Places
 pub mod Turns
 pub mod Rotations
 pub mod Unsigned

@@ -13,6 +13,7 @@ use Rattle.execute_machine.specs.declared.width.Width.TheVariants.{Byte, Word}
 use Rattle.execute_machine.specs.Widths.{size_of, half_size}
 use Rattle.execute_arith.specs.declared.single.Shifted.{Shifted}
 use Rattle.execute_arith.specs.Single.{after_single, after_left, after_right}
+use Rattle.execute_arith.specs.Places.{lack}
 use Rattle.execute_arith.specs.Shifts.{after_shifts}
 use Rattle.execute_arith.specs.ShiftLaws.{ShlMultiplies, ShrDivides, SarDivides, IsFloor, signed}
 use Rattle.execute_arith.proofs.Runs.{Simulates, run_seen, kept_by_run}
@@ -70,11 +71,8 @@ record IsHigh (width : Width) (s : Shifted) : Type 0 where
   above : half_size width ≤ s.value
   fits : s.value < size_of width
 
-lack : Width → ℕ → ℕ
-lack width v = size_of width - suc v
-
 high_once : (width : Width) → Simulates (after_single Sar width) half (λ s. lack width s.value) (IsHigh width)
-unfolding after_single after_right half lack
+unfolding after_single after_right half
 high_once Byte = record { seen = λ s high. grind (arith, nat_tests); kept = λ s high. record { above = grind (arith, nat_tests); fits = grind (arith, nat_tests) } }
 high_once Word = record { seen = λ s high. grind (arith, nat_tests); kept = λ s high. record { above = grind (arith, nat_tests); fits = grind (arith, nat_tests) } }
 
@@ -83,7 +81,6 @@ signed_low Byte v low = grind (arith, nat_tests, ints)
 signed_low Word v low = grind (arith, nat_tests, ints)
 
 signed_high : (width : Width) (v : ℕ) → half_size width ≤ v → v < size_of width → signed width v ≡ negsuc (lack width v)
-unfolding lack
 signed_high Byte v above fits = grind (arith, nat_tests, ints)
 signed_high Word v above fits = grind (arith, nat_tests, ints)
 
@@ -102,15 +99,29 @@ seen_as : (a b : ℤ) (m : ℕ) (x y : ℤ) → x ≡ a → y ≡ b → IsFloor 
 seen_as a b m x y xa yb f =
     record { rest = f.rest; below = f.below; sum = xa ∙ f.sum ∙ ap (λ (z : ℤ). pos m *ℤ z +ℤ pos f.rest) (sym yb) }
 
+pub sar_low_value : (width : Width) (s : Shifted) (n : ℕ) → s.value < half_size width → (after_shifts Sar width s n).value ≡ s.value / 2 ^ n
+unfolding after_shifts Low
+sar_low_value width s n low = run_seen (after_single Sar width) half (λ (t : Shifted). t.value) (Low width) (low_once width) n s low ∙ halves n s.value
+
 sar_low : (width : Width) (s : Shifted) (n : ℕ) → s.value < half_size width → IsFloor (signed width s.value) (2 ^ n) (signed width (after_shifts Sar width s n).value)
 unfolding after_shifts Low
 sar_low width s n low =
     let step = after_single Sar width in
-    let e : (iterate step n s).value ≡ s.value / 2 ^ n =
-    run_seen step half (λ (t : Shifted). t.value) (Low width) (low_once width) n s low ∙ halves n s.value in
+    let e : (iterate step n s).value ≡ s.value / 2 ^ n = sar_low_value width s n low in
     let still : (iterate step n s).value < half_size width = kept_by_run step half (λ (t : Shifted). t.value) (Low width) (low_once width) n s low in
     seen_as (pos s.value) (pos (s.value / 2 ^ n)) (2 ^ n) (signed width s.value) (signed width (iterate step n s).value)
     (signed_low width s.value low) (signed_low width (iterate step n s).value still ∙ ap pos e) (floor_low s.value (2 ^ n) (pow_pos n))
+
+pub sar_high_value : (width : Width) (s : Shifted) (n : ℕ) → half_size width ≤ s.value → s.value < size_of width → (after_shifts Sar width s n).value ≡ lack width (lack width s.value / 2 ^ n)
+unfolding after_shifts
+sar_high_value width s n above fits =
+    let view : Shifted → ℕ = λ t. lack width t.value in
+    let high : IsHigh width s = record { above = above; fits = fits } in
+    let step = after_single Sar width in
+    let still : IsHigh width (iterate step n s) = kept_by_run step half view (IsHigh width) (high_once width) n s high in
+    let below : (iterate step n s).value < size_of width = still.fits in
+    let twice : lack width (lack width (iterate step n s).value) ≡ (iterate step n s).value = omega (arith, below) in
+    sym twice ∙ ap (lack width) (run_seen step half view (IsHigh width) (high_once width) n s high ∙ halves n (lack width s.value))
 
 sar_high : (width : Width) (s : Shifted) (n : ℕ) → half_size width ≤ s.value → s.value < size_of width → IsFloor (signed width s.value) (2 ^ n) (signed width (after_shifts Sar width s n).value)
 unfolding after_shifts

@@ -1,5 +1,6 @@
 pub mod Meaning
 pub mod Single
+pub mod Places
 pub mod Shifts
 pub mod Numbers
 pub mod Products

@@ -1,7 +1,8 @@
 //! One shift by one place, and several in turn.
-ghost use Rattle.std.specs.Prelude.{◌≡◌, ◌<◌};
+ghost use Rattle.std.specs.Prelude.{◌≡◌, ◌<◌, ◌≤◌, ◌*◌, ◌/◌, ◌%◌, ◌^◌};
 ghost use Rattle.execute_machine.specs.Widths.{is_negative, size_of};
 ghost use Rattle.execute_arith.specs.Single.{after_left, after_right, after_right_rotation, after_single, left_value, right_value, second_bit};
+ghost use Rattle.execute_arith.specs.Places.{signed_right};
 ghost use Rattle.execute_arith.specs.Shifts.{after_shifts};
 
 use execute_machine::width::Width;
@@ -102,9 +103,67 @@ fn single(operation: Shift, width: Width, operand: Shifted) -> Shifted
     }
 }
 
-/// So many places.
-#[tactic(auto, unfolding(crate::specs::Shifts::after_shifts), using(board_types::proofs::Iterate::iterate_steps))]
+/// What shifts of a value to the left by so many places leave of it.
+#[tactic(auto, using(crate::proofs::Places::none_left))]
+fn left_by(width: Width, value: u16, places: u16) -> u16
+    requires { value < size_of width }
+    ensures value { result ≡ value * 2 ^ places % size_of width }
+    ensures bound { result < size_of width }
+{
+    if places > 15 {
+        return 0;
+    }
+    ((u32::from(value) << places) % width.size()) as u16
+}
+
+/// And to the right, if zeros enter.
+#[tactic(auto, using(crate::proofs::Places::none_right))]
+fn right_by(value: u16, places: u16) -> u16
+    ensures value { result ≡ value / 2 ^ places }
+    ensures bound { result ≤ value }
+{
+    if places > 15 {
+        return 0;
+    }
+    value >> places
+}
+
+/// And to the right, if what enters is the top bit.
+fn signed_right_by(width: Width, value: u16, places: u16) -> u16
+    requires { value < size_of width }
+    ensures value { result ≡ signed_right width value places }
+    ensures bound { result < size_of width }
+{
+    if width.is_negative(value) {
+        let top = (width.size() - 1) as u16;
+        top - right_by(top - value, places)
+    } else {
+        right_by(value, places)
+    }
+}
+
+/// So many places: of a shift all but the last in one go, of which no bit is told.
+#[tactic(auto, using(crate::proofs::Places::none_at_all, crate::proofs::Places::one_more_left, crate::proofs::Places::one_more_right, crate::proofs::Places::one_more_signed))]
 pub fn shift_by(operation: Shift, width: Width, operand: Shifted, count: u16) -> Shifted
+    requires { operand.value < size_of width }
+    ensures { result ≡ after_shifts operation width operand count }
+{
+    if count == 0 {
+        return operand;
+    }
+    let before = count - 1;
+    let value = match operation {
+        Shift::Shl => left_by(width, operand.value, before),
+        Shift::Shr => right_by(operand.value, before),
+        Shift::Sar => signed_right_by(width, operand.value, before),
+        _ => return rotate_by(operation, width, operand, count),
+    };
+    single(operation, width, Shifted { value, ..operand })
+}
+
+/// So many places, one after the other.
+#[tactic(auto, unfolding(crate::specs::Shifts::after_shifts), using(board_types::proofs::Iterate::iterate_steps))]
+fn rotate_by(operation: Shift, width: Width, operand: Shifted, count: u16) -> Shifted
     requires { operand.value < size_of width }
     ensures { result ≡ after_shifts operation width operand count }
 {

@@ -1,0 +1,14 @@
+-- What a shift by several places leaves of a value.
+-- For proofs alone: no public contract rests on it.
+use Rattle.std.specs.Prelude.{ℕ, suc, ◌-◌, ◌/◌, ◌^◌, if◌then◌else◌}
+use Rattle.execute_machine.specs.declared.width.Width.{Width}
+use Rattle.execute_machine.specs.Widths.{size_of, is_negative}
+
+-- what it lacks to -1
+abbrev pub lack : Width → ℕ → ℕ
+lack width value = size_of width - suc value
+
+-- to the right, the top bit entering
+abbrev pub signed_right : Width → ℕ → ℕ → ℕ
+signed_right width value places =
+    if is_negative width value then lack width (lack width value / 2 ^ places) else value / 2 ^ places
