@@ -7,6 +7,7 @@ pub mod Powers
 mod Places
 pub mod Turns
 pub mod Rotations
+pub mod Calculated
 pub mod Unsigned
 pub mod Signs
 pub mod Signed

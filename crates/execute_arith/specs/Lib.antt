@@ -4,6 +4,7 @@ pub mod Places
 pub mod Shifts
 pub mod Numbers
 pub mod Products
+pub mod Calculated
 pub mod Laws
 pub mod ShiftLaws
 pub mod ProductLaws

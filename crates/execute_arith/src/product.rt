@@ -1,9 +1,10 @@
 //! What multiplication and division do.
-ghost use Rattle.std.specs.Prelude.{◌≡◌, ◌<◌, ◌*◌, IfSome, is_none};
+ghost use Rattle.std.specs.Prelude.{◌≡◌, ◌<◌, ◌*◌, false, if◌then◌else◌, IfSome, None, Some};
+ghost use Rattle.execute_arith.specs.Calculated.{calculated, divided};
 ghost use Rattle.execute_machine.specs.Locations.{machine};
 ghost use Rattle.execute_machine.specs.Widths.{size_of};
 ghost use Rattle.execute_arith.specs.Numbers.{double_half};
-ghost use Rattle.execute_arith.specs.Products.{accumulator, after_division, after_operation, after_product, dividend_of, has_fault, has_no_quotient, with_division, with_product, with_product_value};
+ghost use Rattle.execute_arith.specs.Products.{accumulator, after_operation, after_product, dividend_of, has_fault, has_no_quotient, with_division, with_product, with_product_value};
 
 use crate::numbers::{
     Division, FullProduct, divide_signed, divide_unsigned, signed_product, unsigned_product,
@@ -80,33 +81,56 @@ fn set_division(registers: &mut Registers, width: Width, division: Division)
     }
 }
 
-/// Takes the quotient and the remainder, or enters interrupt 0 where there is none. Answers whether it was entered.
-#[tactic(auto, unfolding(crate::specs::Products::after_division))]
-fn finish_division<B: Bus>(
-    bus: &mut B,
-    registers: &mut Registers,
-    width: Width,
-    division: Option<Division>,
-) -> bool
+/// Takes the quotient and the remainder, if there are any; answers whether there are.
+fn take_division(registers: &mut Registers, width: Width, division: Option<Division>) -> bool
     requires quotient { IfSome division (λ d. d.quotient < size_of width) }
     requires remainder { IfSome division (λ d. d.remainder < size_of width) }
-    ensures machine { machine registers.new (B.state bus.new)
-        ≡ after_division B.meaning (machine registers.old (B.state bus.old)) width division }
-    ensures fault { result ≡ is_none division }
+    ensures made { (if result then Some registers.new else None) ≡ divided registers.old width division }
+    ensures left { result ≡ false → registers.new ≡ registers.old }
 {
     match division {
-        None => {
-            enter(bus, registers, 0);
-            true
-        }
+        None => false,
         Some(division) => {
             set_division(registers, width, division);
-            false
+            true
         }
     }
 }
 
-#[tactic(auto, unfolding(crate::specs::Products::after_operation, crate::specs::Products::has_no_quotient))]
+/// Multiplies or divides AL, AX or DX:AX by an operand. A division without a quotient that fits does nothing, and the answer
+/// is whether it isn't one.
+#[tactic(auto, unfolding(crate::specs::Calculated::calculated))]
+pub fn calculate_product(
+    registers: &mut Registers,
+    operation: Product,
+    width: Width,
+    operand: u16,
+) -> bool
+    requires { operand < size_of width }
+    ensures made { (if result then Some registers.new else None) ≡ calculated registers.old operation width operand }
+    ensures left { result ≡ false → registers.new ≡ registers.old }
+{
+    let factor = accumulator(registers, width);
+    let dividend = dividend_of(registers, width);
+    match operation {
+        Product::Mul => {
+            set_product(registers, width, unsigned_product(width, factor, operand));
+            true
+        }
+        Product::Imul => {
+            set_product(registers, width, signed_product(width, factor, operand));
+            true
+        }
+        Product::Div => {
+            take_division(registers, width, divide_unsigned(width, dividend, operand))
+        }
+        Product::Idiv => {
+            take_division(registers, width, divide_signed(width, dividend, operand))
+        }
+    }
+}
+
+/// A division without a quotient enters interrupt 0; answers whether it is one.
 fn perform_operation<B: Bus>(
     bus: &mut B,
     registers: &mut Registers,
@@ -119,34 +143,11 @@ fn perform_operation<B: Bus>(
         ≡ after_operation B.meaning (machine registers.old (B.state bus.old)) operation width operand }
     ensures fault { result ≡ has_no_quotient registers.old operation width operand }
 {
-    let factor = accumulator(registers, width);
-    let dividend = dividend_of(registers, width);
-    match operation {
-        Product::Mul => {
-            set_product(registers, width, unsigned_product(width, factor, operand));
-            false
-        }
-        Product::Imul => {
-            set_product(registers, width, signed_product(width, factor, operand));
-            false
-        }
-        Product::Div => {
-            finish_division(
-                bus,
-                registers,
-                width,
-                divide_unsigned(width, dividend, operand),
-            )
-        }
-        Product::Idiv => {
-            finish_division(
-                bus,
-                registers,
-                width,
-                divide_signed(width, dividend, operand),
-            )
-        }
+    if calculate_product(registers, operation, width, operand) {
+        return false;
     }
+    enter(bus, registers, 0);
+    true
 }
 
 /// Multiplies or divides AL, AX or DX:AX by the first operand. A division without a quotient that fits enters interrupt
