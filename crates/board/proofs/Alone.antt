@@ -6,7 +6,7 @@ use Rattle.board_types.specs.Lines.{from_bool}
 use Rattle.execute_meaning.specs.Boundaries.{boundary_of}
 use Rattle.execute_meaning.specs.declared.boundary.Boundary.TheVariants as boundaries
 use Rattle.wiring.proofs.Clocks.{clock_of_clocks}
-use Rattle.wiring.proofs.Alone.{low_alone}
+use Rattle.wiring.proofs.Alone.{keyboard_of_clocks, low_alone}
 use Rattle.wiring.proofs.Inhibited.{request_stays}
 use Rattle.wiring.specs.Wires as wires
 use Rattle.wiring.specs.Wires.{is_requested}
@@ -21,6 +21,7 @@ use Rattle.board_plain.proofs.Quiet.{go_on_alone, nothing_by}
 use Rattle.board.specs.Alone.{BeginsNothing, IsAlone, IsUnseen, StaysIdleAnyhow, passed_by}
 use Rattle.board.proofs.Leap.{LooksSame, busy_by, busy_still, bytes_stay, free_still, holding_same, idle_clocks, none_gathered, not_free, nothing_begins}
 use Rattle.board.proofs.Ticking.{no_change}
+use Rattle.board.proofs.Uneventful.{quiet_clock}
 use Rattle.board.proofs.Works.{no_step, none_in_all}
 
 -- the processor does nothing, whatever the timer does
@@ -87,6 +88,14 @@ busy_of_alone : (s : Plain) (n : ℕ) → (passed_by s n).busy ≡ s.busy - n
 unfolding passed_by
 busy_of_alone s n = refl
 
+pub cpu_of_passed : (s : Plain) (n : ℕ) → (passed_by s n).cpu ≡ s.cpu
+unfolding passed_by
+cpu_of_passed s n = refl
+
+pub keyboard_of_passed : (s : Plain) (n : ℕ) → WiresHold s.chips → (passed_by s n).chips.keyboard ≡ s.chips.keyboard
+unfolding passed_by
+keyboard_of_passed s n holds = keyboard_of_clocks s.chips n holds.keys
+
 pub alone_unseen : (s : Plain) (n : ℕ) → WiresHold s.chips → IsAlone s n → IsUnseen s n (passed_by s n)
 alone_unseen s n holds alone = record {
   plain = sym (alone_leaps s n n (omega arith) holds alone);
@@ -99,4 +108,7 @@ alone_unseen s n holds alone = record {
   entries = none_gathered after_clock trail_next n s (λ i before. nothing_begins (after_clocks s i) (does_nothing s n i holds alone before));
   steps = none_in_all after_clock steps_next n s (λ i before. no_step (after_clocks s i) (does_nothing s n i holds alone before));
   conditions = λ stops k before. holding_stays stops s n k before holds alone;
+  quiet = λ k before. quiet_clock s n k before holds alone.no_key (alone_leaps s n k (omega (arith, before)) holds alone) (does_nothing s n k holds alone before);
+  cpu = λ k within. ap (λ (p : Plain). p.cpu) (alone_leaps s n k within holds alone) ∙ cpu_of_passed s k;
+  keyboard = λ k within. ap (λ (p : Plain). p.chips.keyboard) (alone_leaps s n k within holds alone) ∙ keyboard_of_passed s k holds;
 }

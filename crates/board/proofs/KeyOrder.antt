@@ -1,7 +1,9 @@
 -- Keys that arrive one by one: those before a place in the list, and those from it on.
-use Rattle.std.proofs.Common.{◌≡◌, ◌≢◌, ℕ, ◌+◌, ◌-◌, ◌<◌, ◌≤◌, ◌⊎◌, inl, inr, List, [], ◌∷◌, ◌++◌, Option, None, Some, length, take, drop, get_or, max, min, sym, ap, ◌∙◌, subst, arith, append-nil}
+use Rattle.std.proofs.Common.{◌≡◌, ◌≢◌, ℕ, suc, ◌+◌, ◌-◌, ◌<◌, ◌≤◌, ◌⊎◌, inl, inr, List, [], ◌∷◌, ◌++◌, Option, None, Some, length, take, drop, get_or, map, max, min, refl, sym, ap, ◌∙◌, subst, arith, append-nil}
 use Rattle.std.specs.Prelude.{All}
+use Rattle.std.proofs.Math.Seq.{take-add}
 use Rattle.std.proofs.lemmas.Bool.Decides.{eqb_tells}
+use Rattle.std.proofs.lemmas.Grind.{common_steps}
 use Rattle.std.proofs.lemmas.List.Sums.{fold-append}
 use Rattle.std.proofs.lemmas.List.{get_or-drop, get_or-take, get_or_default, length-take, length-drop, take-append-drop}
 use Rattle.board_types.specs.declared.keys.StampedKey.{StampedKey}
@@ -31,12 +33,16 @@ pub past_at : (next clock : ℕ) (keys : List StampedKey) → Awaits next clock 
 past_at next clock keys awaits j d within =
     subst (λ (k : StampedKey). k.stamp < clock) (get_or-take next keys j d within) (awaits.past j d (in_take next j keys within awaits.within))
 
-pub to_come_at : (next clock : ℕ) (keys : List StampedKey) → Awaits next clock keys → (j : ℕ) (d : StampedKey) → next ≤ j → j < length keys → clock ≤ (get_or keys j d).stamp
-to_come_at next clock keys awaits j d from within =
+-- keys from a place in the list on come with a clock or later
+pub later_at : (next clock : ℕ) (keys : List StampedKey) → All (λ k. clock ≤ k.stamp) (drop next keys) → (j : ℕ) (d : StampedKey) → next ≤ j → j < length keys → clock ≤ (get_or keys j d).stamp
+later_at next clock keys later j d from within =
     let place : next + (j - next) ≡ j = omega (arith, from) in
-    subst (λ (k : StampedKey). clock ≤ k.stamp) (get_or-drop next keys (j - next) d ∙ ap (λ i. get_or keys i d) place) (awaits.to_come (j - next) d (in_drop next j keys from within))
+    subst (λ (k : StampedKey). clock ≤ k.stamp) (get_or-drop next keys (j - next) d ∙ ap (λ i. get_or keys i d) place) (later (j - next) d (in_drop next j keys from within))
 
-awaits_from : (next clock : ℕ) (keys : List StampedKey) → next ≤ length keys → ((j : ℕ) (d : StampedKey) → j < next → (get_or keys j d).stamp < clock) → ((j : ℕ) (d : StampedKey) → next ≤ j → j < length keys → clock ≤ (get_or keys j d).stamp) → Awaits next clock keys
+pub to_come_at : (next clock : ℕ) (keys : List StampedKey) → Awaits next clock keys → (j : ℕ) (d : StampedKey) → next ≤ j → j < length keys → clock ≤ (get_or keys j d).stamp
+to_come_at next clock keys awaits = later_at next clock keys awaits.to_come
+
+pub awaits_from : (next clock : ℕ) (keys : List StampedKey) → next ≤ length keys → ((j : ℕ) (d : StampedKey) → j < next → (get_or keys j d).stamp < clock) → ((j : ℕ) (d : StampedKey) → next ≤ j → j < length keys → clock ≤ (get_or keys j d).stamp) → Awaits next clock keys
 awaits_from next clock keys within past to_come = record {
   within = within;
   past = λ j d inside.
@@ -116,6 +122,47 @@ arrived_all next clock keys so_far =
       awaits = awaits_from (length keys) (clock + 1) keys so_far.within so_far.due later;
       codes = none_after (length keys) clock keys later;
     }
+
+-- the keys between those before a clock and those after it are the clock's
+
+all_due : (clock : ℕ) (keys : List StampedKey) → ((i : ℕ) (d : StampedKey) → i < length keys → (get_or keys i d).stamp ≡ clock) → codes_at keys clock ≡ map (λ (k : StampedKey). k.code) keys
+all_due clock [] all = refl
+all_due clock (k ∷ keys) all =
+    let first : k.stamp ≡ clock = all 0 k (omega arith) in
+    let rest : codes_at keys clock ≡ map (λ (k : StampedKey). k.code) keys = all_due clock keys (λ i d within. all (suc i) d (omega (arith, within))) in
+    grind (arith, common_steps)
+
+pub codes_between : (from to clock : ℕ) (keys : List StampedKey) → from ≤ to → Awaits from clock keys → Awaits to (clock + 1) keys → map (λ (k : StampedKey). k.code) (take (to - from) (drop from keys)) ≡ codes_at keys clock
+codes_between from to clock keys order first last =
+    let due : List StampedKey = take (to - from) (drop from keys) in
+    let whole : from + (to - from) ≡ to = omega (arith, order) in
+    let within = last.within in
+    let long : length (drop from keys) ≡ length keys - from = length-drop from keys in
+    let size : length due ≡ to - from = length-take (to - from) (drop from keys) ∙ omega (arith, long, within, order) in
+    let place : (i : ℕ) (d : StampedKey) → i < length due → (get_or due i d).stamp ≡ (get_or keys (from + i) d).stamp =
+    λ i d inside. ap (λ (k : StampedKey). k.stamp) (get_or-take (to - from) (drop from keys) i d (omega (arith, inside, size)) ∙ get_or-drop from keys i d) in
+    let stamps : (i : ℕ) (d : StampedKey) → i < length due → (get_or due i d).stamp ≡ clock =
+    λ i d inside.
+    let here = place i d inside in
+    let late = to_come_at from clock keys first (from + i) d (omega arith) (omega (arith, inside, size, within)) in
+    let soon = past_at to (clock + 1) keys last (from + i) d (omega (arith, inside, size)) in
+    omega (arith, here, late, soon) in
+    sym (
+    none_after to clock keys (to_come_at to (clock + 1) keys last)
+    ∙ ap (λ n. codes_at (take n keys) clock) (sym whole)
+    ∙ ap (λ ks. codes_at ks clock) (take-add from (to - from) keys)
+    ∙ codes_append clock (take from keys) due
+    ∙ ap (λ xs. xs ++ codes_at due clock) (codes_none from clock keys first)
+    ∙ all_due clock due stamps)
+
+-- the keys up to one that comes before a clock do so, too
+pub earlier_than : (index clock : ℕ) (keys : List StampedKey) (d : StampedKey) → IsInOrder keys → index < length keys → (get_or keys index d).stamp < clock → (j : ℕ) (e : StampedKey) → j < index + 1 → (get_or keys j e).stamp < clock
+earlier_than index clock keys d in_order within before j e up_to =
+    let same : (get_or keys index e).stamp ≡ (get_or keys index d).stamp = ap (λ (k : StampedKey). k.stamp) (get_or_default keys index e d within) in
+    elim (eqb_tells j index) [
+      | inl here ↦ let stamp : (get_or keys j e).stamp ≡ (get_or keys index e).stamp = ap (λ i. (get_or keys i e).stamp) here.1 in omega (arith, stamp, same, before)
+      | inr apart ↦ let order = in_order.stamps j index e (omega (arith, up_to, apart.1)) within in omega (arith, order, same, before)
+    ]
 
 -- before clock 0 nothing has arrived
 pub awaits_first : (keys : List StampedKey) → Awaits 0 0 keys

@@ -4,6 +4,7 @@ pub mod KeyOrder
 pub mod Rounds
 pub mod Leap
 pub mod Alone
+pub mod Uneventful
 pub mod Unseen
 pub mod Passing
 pub mod Acting

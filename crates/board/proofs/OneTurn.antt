@@ -1,7 +1,7 @@
 -- A turn is one of those that a caller makes by itself: its entries and its wires.
-use Rattle.std.proofs.Common.{◌≡◌, ℕ, ◌+◌, ◌-◌, ◌<◌, ◌≤◌, inl, inr, true, false, List, [], ◌∷◌, ◌++◌, length, map, Option, None, refl, sym, ap, ◌∙◌, subst, arith, append-nil}
+use Rattle.std.proofs.Common.{◌≡◌, ℕ, ◌+◌, ◌-◌, ◌<◌, ◌≤◌, inl, inr, Bool, true, false, List, [], ◌∷◌, ◌++◌, length, map, Option, None, refl, sym, ap, ◌∙◌, subst, arith, append-nil}
 use Rattle.std.proofs.lemmas.Bool.Decides.{nat_tests}
-use Rattle.std.specs.Prelude.{◌⊎◌, nat_lt, IfSome}
+use Rattle.std.specs.Prelude.{◌⊎◌, nat_lt, IfSome, IsTrue}
 use Rattle.std.specs.Option.{option_to_list}
 use Rattle.board_types.proofs.Iterate.{iterate_add, gathered_add}
 use Rattle.board_plain.specs.Board.{BoardState}
@@ -15,6 +15,7 @@ use Rattle.decode.specs.Fields.{is_found}
 use Rattle.board.proofs.Entries.{found_size}
 use Rattle.board_plain.proofs.Clocks.{clock_goes_by}
 use Rattle.board_plain.proofs.Runs.{ran_none}
+use Rattle.events.specs.Events.{unwired_next}
 use Rattle.board.specs.declared.one_turn.Begun.{Begun}
 use Rattle.board.specs.OneTurn.{begun_of, HaveSameWires, IsOneTurn}
 use Rattle.board.specs.Turns.{IsLeapOn, IsTickOn, IsTurnOn}
@@ -46,8 +47,8 @@ unfolding trail_next
 begins_by s act begun next is = is ∙ ap (λ (a : Act). map begun_of (entry_at s (event_of s.cpu s.chips a))) next
 
 -- a leap
-once_leapt : (end : ℕ) (s u : BoardState) (begun : Option Begun) → length s.trail ≤ 32 → clock_of s.plain < end → IsLeapOn end 1 s u → WiresStayThen s.plain u.plain → option_to_list begun ≡ map begun_of (trail_next s.plain) → IfSome begun (λ b. b.clock ≡ clock_of s.plain) → IsOneTurn end s u begun
-once_leapt end s u begun few before on stay is clock =
+once_leapt : (edges : Bool) (end : ℕ) (s u : BoardState) (begun : Option Begun) → length s.trail ≤ 32 → clock_of s.plain < end → IsLeapOn end 1 s u → (¬ (IsTrue edges) → WiresStayThen s.plain u.plain) → option_to_list begun ≡ map begun_of (trail_next s.plain) → IfSome begun (λ b. b.clock ≡ clock_of s.plain) → IsOneTurn edges end s u begun
+once_leapt edges end s u begun few before on stay is clock =
     let leap = on.leap in
     let within = leap.within in
     let passed = leap.unseen.clock in
@@ -59,12 +60,19 @@ once_leapt end s u begun few before on stay is clock =
       ran = leap_runs end 1 s u on few;
       begins = ap (map begun_of) (leap.unseen.entries ∙ sym none) ∙ sym is;
       clock = clock;
-      wires = λ j some last. stay j some (omega (arith, last, passed));
+      quiet = λ j some before. leap.unseen.quiet j before;
+      cpu =
+          ap (λ (p : Plain). p.cpu) leap.unseen.plain ∙ leap.unseen.cpu leap.clocks (omega arith)
+          ∙ sym (leap.unseen.cpu 1 leap.some) ∙ ap (λ (p : Plain). p.cpu) (first_clock s.plain);
+      keyboard =
+          ap (λ (p : Plain). p.chips.keyboard) leap.unseen.plain ∙ leap.unseen.keyboard leap.clocks (omega arith)
+          ∙ sym (leap.unseen.keyboard 1 leap.some) ∙ ap (λ (p : Plain). p.chips.keyboard) (first_clock s.plain);
+      wires = λ not j some last. stay not j some (omega (arith, last, passed));
     }
 
 -- a clock
-once_ticked : (end : ℕ) (s u : BoardState) (begun : Option Begun) → length s.trail ≤ 32 → clock_of s.plain < end → IsTickOn s u → WiresStayThen s.plain u.plain → option_to_list begun ≡ map begun_of (trail_next s.plain) → IfSome begun (λ b. b.clock ≡ clock_of s.plain) → IsOneTurn end s u begun
-once_ticked end s u begun few before tick stay is clock =
+once_ticked : (edges : Bool) (end : ℕ) (s u : BoardState) (begun : Option Begun) → length s.trail ≤ 32 → clock_of s.plain < end → IsTickOn s u → (¬ (IsTrue edges) → WiresStayThen s.plain u.plain) → option_to_list begun ≡ map begun_of (trail_next s.plain) → IfSome begun (λ b. b.clock ≡ clock_of s.plain) → IsOneTurn edges end s u begun
+once_ticked edges end s u begun few before tick stay is clock =
     let passed = tick.clock in record {
       passed = 1;
       some = omega arith;
@@ -72,14 +80,17 @@ once_ticked end s u begun few before tick stay is clock =
       ran = ran_more 0 s s u (ran_none s few) tick;
       begins = ap (map begun_of) (first_seen trail_next s.plain) ∙ sym is;
       clock = clock;
-      wires = λ j some last. stay j some (omega (arith, last, passed));
+      quiet = λ j some before. absurd (omega (arith, some, before));
+      cpu = ap (λ (p : Plain). p.cpu) tick.plain;
+      keyboard = ap (λ (p : Plain). p.chips.keyboard) tick.plain;
+      wires = λ not j some last. stay not j some (omega (arith, last, passed));
     }
 
--- a clock with a leap behind it
-once_acted : (end : ℕ) (s b u : BoardState) (begun : Option Begun) → length s.trail ≤ 32 → clock_of s.plain < end → IsTickOn s b → (u ≡ b) ⊎ ((1 ≤ b.plain.busy) × IsLeapOn end 0 b u) → WiresStayThen s.plain u.plain → option_to_list begun ≡ map begun_of (trail_next s.plain) → IfSome begun (λ x. x.clock ≡ clock_of s.plain) → IsOneTurn end s u begun
-once_acted end s b u begun few before tick (inl same) stay is clock =
-    once_ticked end s u begun few before (subst (IsTickOn s) (sym same) tick) stay is clock
-once_acted end s b u begun few before tick (inr rest) stay is clock =
+-- a clock with a leap after it
+once_acted : (edges : Bool) (end : ℕ) (s b u : BoardState) (begun : Option Begun) → length s.trail ≤ 32 → clock_of s.plain < end → IsTickOn s b → (u ≡ b) ⊎ ((1 ≤ b.plain.busy) × IsLeapOn end 0 b u) → (¬ (IsTrue edges) → WiresStayThen s.plain u.plain) → option_to_list begun ≡ map begun_of (trail_next s.plain) → IfSome begun (λ x. x.clock ≡ clock_of s.plain) → IsOneTurn edges end s u begun
+once_acted edges end s b u begun few before tick (inl same) stay is clock =
+    once_ticked edges end s u begun few before (subst (IsTickOn s) (sym same) tick) stay is clock
+once_acted edges end s b u begun few before tick (inr rest) stay is clock =
     let leap = rest.1.leap in
     let within = leap.within in
     let first = tick.clock in
@@ -97,14 +108,23 @@ once_acted end s b u begun few before tick (inr rest) stay is clock =
       ran = ran_leap 1 end 0 s b u (ran_more 0 s s b (ran_none s few) tick) rest.1;
       begins = ap (map begun_of) entries ∙ sym is;
       clock = clock;
-      wires = λ j some last. stay j some (omega (arith, last, first, passed));
+      quiet = λ j some before.
+          let whole : 1 + (j - 1) ≡ j = omega (arith, some) in
+          let there : after_clocks s.plain j ≡ after_clocks b.plain (j - 1) =
+          ap (after_clocks s.plain) (sym whole) ∙ iterate_add after_clock 1 (j - 1) s.plain ∙ ap (λ p. after_clocks p (j - 1)) here in
+          ap unwired_next there ∙ leap.unseen.quiet (j - 1) (omega (arith, some, before));
+      cpu = ap (λ (p : Plain). p.cpu) leap.unseen.plain ∙ leap.unseen.cpu leap.clocks (omega arith) ∙ ap (λ (p : Plain). p.cpu) tick.plain;
+      keyboard =
+          ap (λ (p : Plain). p.chips.keyboard) leap.unseen.plain ∙ leap.unseen.keyboard leap.clocks (omega arith)
+          ∙ ap (λ (p : Plain). p.chips.keyboard) tick.plain;
+      wires = λ not j some last. stay not j some (omega (arith, last, first, passed));
     }
 
-pub once_turned : (end : ℕ) (s u : BoardState) (begun : Option Begun) → length s.trail ≤ 32 → clock_of s.plain < end → IsTurnOn end end s u → WiresStayThen s.plain u.plain → option_to_list begun ≡ map begun_of (trail_next s.plain) → IfSome begun (λ b. b.clock ≡ clock_of s.plain) → IsOneTurn end s u begun
-once_turned end s u begun few before (inl leap) stay is clock = once_leapt end s u begun few before leap stay is clock
-once_turned end s u begun few before (inr act) stay is clock = once_acted end s act.begun u begun few before act.first act.rest stay is clock
+pub once_turned : (edges : Bool) (end : ℕ) (s u : BoardState) (begun : Option Begun) → length s.trail ≤ 32 → clock_of s.plain < end → IsTurnOn end end s u → (¬ (IsTrue edges) → WiresStayThen s.plain u.plain) → option_to_list begun ≡ map begun_of (trail_next s.plain) → IfSome begun (λ b. b.clock ≡ clock_of s.plain) → IsOneTurn edges end s u begun
+once_turned edges end s u begun few before (inl leap) stay is clock = once_leapt edges end s u begun few before leap stay is clock
+once_turned edges end s u begun few before (inr act) stay is clock = once_acted edges end s act.begun u begun few before act.first act.rest stay is clock
 
--- the wires behind the first clock
+-- the wires after the first clock
 
 same_then : (s t u : Plain) → HaveSameWires s t → HaveSameWires s u → HaveSameWires t u
 same_then s t u first second = record {
@@ -119,7 +139,7 @@ pub stay_then : (s t : Plain) → clock_of s < clock_of t → WiresStay s t → 
 stay_then s t later stay = λ j some few.
     same_then s (after_clock s) (after_clocks s j) (subst (HaveSameWires s) (first_clock s) (stay 1 (omega (arith, later)))) (stay j few)
 
--- behind the first clock they stay as that leaves them
+-- after the first clock they stay as that leaves them
 pub stay_behind : (s t : Plain) → WiresStay (after_clock s) t → WiresStayThen s t
 stay_behind s t stay = λ j some few.
     let clock = clock_goes_by s in

@@ -15,10 +15,15 @@ use Rattle.board.specs.Arrivals.{HaveArrived, IsNextStamp}
 use Rattle.board.specs.declared.arrivals.Arrived.{Arrived}
 use Rattle.board.specs.Leap.{ComesAfter, MayLeap, StaysIdle, leapt}
 use Rattle.board.specs.OneTurn.{HaveSameWires}
-use Rattle.board.proofs.Alone.{alone_unseen}
+use Rattle.board.proofs.Alone.{alone_unseen, cpu_of_passed, keyboard_of_passed}
 use Rattle.board.proofs.KeyOrder.{have_later, no_key}
-use Rattle.board.proofs.Leap.{board_leaps, clock_of_leap, holding_stays, leapt_by, level_stays, may_leap_for, no_changes, no_entries, out_0_stays, out_2_stays}
+use Rattle.board.proofs.Leap.{board_leaps, clock_of_leap, does_nothing, holding_stays, leapt_by, level_stays, may_leap_for, no_changes, no_entries, out_0_stays, out_2_stays}
+use Rattle.board.proofs.Uneventful.{quiet_clock}
 use Rattle.board.proofs.Works.{busy_of_leap, none_to_step}
+
+leap_passes : (s : Plain) (n k : ℕ) → k ≤ n → WiresHold s.chips → MayLeap s n → after_clocks s k ≡ passed_by s k
+leap_passes s n k within holds may_leap =
+    let less : MayLeap s k = may_leap_for s n k within may_leap in board_leaps k s holds less ∙ leapt_by k s holds less
 
 leapt_unseen : (s : Plain) (n : ℕ) → WiresHold s.chips → MayLeap s n → IsUnseen s n (leapt s n)
 leapt_unseen s n holds may_leap = record {
@@ -29,6 +34,9 @@ leapt_unseen s n holds may_leap = record {
   entries = no_entries s n holds may_leap;
   steps = none_to_step s n holds may_leap;
   conditions = λ stops k before. holding_stays stops s n k before holds may_leap;
+  quiet = λ k before. quiet_clock s n k before holds may_leap.no_key (leap_passes s n k (omega (arith, before)) holds may_leap) (does_nothing s n k holds may_leap before);
+  cpu = λ k within. ap (λ (p : Plain). p.cpu) (leap_passes s n k within holds may_leap) ∙ cpu_of_passed s k;
+  keyboard = λ k within. ap (λ (p : Plain). p.chips.keyboard) (leap_passes s n k within holds may_leap) ∙ keyboard_of_passed s k holds;
 }
 
 pub pass_unseen : (s : Plain) (n : ℕ) → WiresHold s.chips → MayPass s n → IsUnseen s n (passed_by s n)

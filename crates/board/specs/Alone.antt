@@ -18,6 +18,7 @@ use Rattle.board_plain.specs.Plain.{Plain, after_clock, after_clocks, changes_in
 use Rattle.board_plain.specs.Stops.{holding}
 use Rattle.board_plain.specs.Trail.{trail_in}
 use Rattle.board_plain.specs.Work.{steps_in}
+use Rattle.events.specs.Events.{unwired_next}
 use Rattle.board.specs.Leap.{IsTightTo, MayLeap}
 use Rattle.board.specs.OneTurn.{HaveSameWires}
 
@@ -55,7 +56,7 @@ abbrev pub GoUnseen : ChipsState → ℕ → Type 0
 GoUnseen chips to = IsQuiet chips to ⊎ GoesOnAlone chips
 
 -- a board n clocks later, of which nothing is seen: no change of the speaker's level and no entry is listed, no step
--- begins, and no condition changes before the last of them
+-- begins, no condition changes before the last of them, and nothing happens but to the wires; processor and keyboard stay
 pub record IsUnseen (s : Plain) (n : ℕ) (t : Plain) : Type 0 where
   pub plain : t ≡ after_clocks s n
   pub clock : clock_of t ≡ clock_of s + n
@@ -64,6 +65,9 @@ pub record IsUnseen (s : Plain) (n : ℕ) (t : Plain) : Type 0 where
   pub entries : trail_in s n ≡ []
   pub steps : steps_in s n ≡ 0
   pub conditions : (stops : List Condition) (k : ℕ) → k < n → holding stops (after_clocks s k) ≡ holding stops s
+  pub quiet : (k : ℕ) → k < n → unwired_next (after_clocks s k) ≡ []
+  pub cpu : (k : ℕ) → k ≤ n → (after_clocks s k).cpu ≡ s.cpu
+  pub keyboard : (k : ℕ) → k ≤ n → (after_clocks s k).chips.keyboard ≡ s.chips.keyboard
 
 -- a clock, or the last before a stamp where that one is earlier
 abbrev pub last_before : Option ℕ → ℕ → ℕ

@@ -1,6 +1,6 @@
--- One turn of a board: what begins in it, and that the wires stay behind its first clock.
+-- One turn of a board: what begins in it, and what stays after its first clock.
 -- To be believed: the headline rests on it.
-use Rattle.std.specs.Prelude.{ℕ, ◌≡◌, ◌+◌, ◌≤◌, List, map, Option, None, Some, IfSome}
+use Rattle.std.specs.Prelude.{ℕ, ◌≡◌, ◌+◌, ◌<◌, ◌≤◌, Bool, IsTrue, List, [], map, Option, None, Some, IfSome}
 use Rattle.std.specs.Option.{option_to_list}
 use Rattle.board_plain.specs.declared.trail.TrailEntry.{TrailEntry}
 use Rattle.board_plain.specs.declared.trail.TrailEvent.{TrailEvent}
@@ -8,6 +8,7 @@ use Rattle.board_plain.specs.declared.trail.TrailEvent.TheVariants.{Instruction,
 use Rattle.board_plain.specs.Board.{BoardState, Ran}
 use Rattle.board_plain.specs.Plain.{Plain, after_clock, after_clocks, clock_of, speaker_level}
 use Rattle.board_plain.specs.Trail.{trail_in}
+use Rattle.events.specs.Events.{unwired_next}
 use Rattle.board.specs.declared.one_turn.Begun.{Begun}
 
 -- the type of the interrupt that was entered, where one was
@@ -30,12 +31,17 @@ pub record HaveSameWires (s t : Plain) : Type 0 where
   pub out_2 : t.chips.pit.counter_2.out ≡ s.chips.pit.counter_2.out
   pub speaker : speaker_level t ≡ speaker_level s
 
--- some clocks, at most up to the clock `end`; what begins in them does so in the first, and no wire changes but in it
-pub record IsOneTurn (end : ℕ) (old new : BoardState) (begun : Option Begun) : Type 0 where
+-- Some clocks, at most up to the clock `end`. What happens in them does so in the first; unless edges of the timer may be
+-- leapt over, no wire changes but in it either.
+pub record IsOneTurn (edges : Bool) (end : ℕ) (old new : BoardState) (begun : Option Begun) : Type 0 where
   pub passed : ℕ
   pub some : 1 ≤ passed
   pub within : clock_of old.plain + passed ≤ end
   pub ran : Ran passed old new
   pub begins : begun_in old.plain passed ≡ option_to_list begun
   pub clock : IfSome begun (λ b. b.clock ≡ clock_of old.plain)
-  pub wires : (j : ℕ) → 1 ≤ j → j ≤ passed → HaveSameWires (after_clock old.plain) (after_clocks old.plain j)
+  pub quiet : (j : ℕ) → 1 ≤ j → j < passed → unwired_next (after_clocks old.plain j) ≡ []
+  pub cpu : new.plain.cpu ≡ (after_clock old.plain).cpu
+  pub keyboard : new.plain.chips.keyboard ≡ (after_clock old.plain).chips.keyboard
+  pub wires : ¬ (IsTrue edges) → (j : ℕ) → 1 ≤ j → j ≤ passed
+      → HaveSameWires (after_clock old.plain) (after_clocks old.plain j)

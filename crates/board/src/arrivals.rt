@@ -1,5 +1,5 @@
 //! Keys that reach the keyboard at their clocks.
-ghost use Rattle.std.specs.Prelude.{ℕ, ◌≡◌, ◌+◌, ◌<◌, ◌≤◌, ◌^◌, IsTrue};
+ghost use Rattle.std.specs.Prelude.{ℕ, ◌≡◌, ◌+◌, ◌<◌, ◌≤◌, ◌^◌, All, IsTrue, drop, length};
 ghost use Rattle.board_types.specs.Keys.{IsInOrder};
 ghost use Rattle.board.specs.Arrivals.{Awaits, HaveArrived, IsNextStamp};
 ghost use Rattle.wiring.specs.Wires.{after_arrivals};
@@ -117,4 +117,19 @@ fn next_stamp(keys: &[StampedKey], next: usize) -> Option<Clock>
         Some(key) => Some(key.stamp),
         None => None,
     }
+}
+
+/// How many keys are stamped before `clock`: all but the first `count` are known to come with it or later.
+pub(crate) fn count_before(keys: &[StampedKey], count: usize, clock: u64) -> usize
+    requires in_order { IsInOrder keys.now }
+    requires within { count ≤ length keys.now }
+    requires later { All (λ k. clock ≤ k.stamp) (drop count keys.now) }
+    ensures awaits { Awaits result clock keys.now }
+    ensures fewer { result ≤ count }
+{
+    let mut before = count;
+    while before > 0 && keys[before - 1].stamp.get() >= clock {
+        before -= 1;
+    }
+    before
 }

@@ -19,6 +19,7 @@ ghost use Rattle.board.specs.AwaitFree.{IsTurnBetween};
 ghost use Rattle.board.specs.Turns.{AreStepsOn, IsActOn, IsLeapOn, IsTurnOn};
 ghost use Rattle.board_plain.specs.Work.{steps_in, work_in, work_next};
 ghost use Rattle.board_types.specs.Lines.{from_bool};
+ghost use Rattle.events.specs.Accesses.{accesses_next};
 
 use crate::engine::Engine;
 use crate::stop::{Reach, all_await_free};
@@ -39,6 +40,7 @@ use board_types::regs::Regs;
 use board_types::state::State;
 use decode::decoded::Decoded;
 use execute_meaning::boundary::Boundary;
+use execute_noted::notes::{Notes, Unnoted};
 use memory::map::MemoryFault;
 use std::alloc::{AllocError, Allocator, Global};
 use std::marker::Model;
@@ -365,15 +367,17 @@ impl<A: Allocator> Board<A> {
     {
         self.engine.look_ahead();
         let boundary = self.engine.boundary();
-        self.turn_by::<Engine>(boundary, true, within, end)
+        self.turn_by::<Engine, Unnoted>(boundary, &mut Unnoted, true, within, end)
     }
 
-    /// A turn from this case of a boundary. If it may not leap over edges of the timer, no wire changes but in its first
-    /// clock. `L` is a tag alone: each caller has a copy of its own, which LLVM takes in.
+    /// A turn from this case of a boundary, with a note of its first clock's accesses. If it may not leap over edges of the
+    /// timer, no wire changes but in its first clock. `L` is a tag alone: each caller has a copy of its own, which LLVM
+    /// takes in.
     #[inline(always)]
-    pub(crate) fn turn_by<L>(
+    pub(crate) fn turn_by<L, N: Notes>(
         &mut self,
         boundary: Boundary,
+        notes: &mut N,
         over_edges: bool,
         within: u64,
         end: u64,
@@ -384,37 +388,46 @@ impl<A: Allocator> Board<A> {
         requires limit { end ≤ 2 ^ 40 }
         ensures ok { OnOk result (IsTurnOn within end self.old self.new) }
         ensures steady { ¬ (IsTrue over_edges) → OnOk result (WiresStayThen self.old.plain self.new.plain) }
+        ensures noted { OnOk result (N.are notes.new (accesses_next self.old.plain)) }
         ensures err { OnErr result (IsHeldBack self.old self.new) }
         ensures fault { IfErr result (λ fault. fault ≡ BoardFault.Memory) }
     {
         match boundary {
-            Boundary::Nothing => self.pass(over_edges, within, end),
+            Boundary::Nothing => self.pass(notes, over_edges, within, end),
             Boundary::Instruction => {
                 let next = self.engine.instruction();
-                self.act(&next, over_edges, within)
+                self.act(&next, notes, over_edges, within)
             }
-            Boundary::Request => self.act(&Act::Request, over_edges, within),
-            Boundary::SingleStep => self.act(&Act::SingleStep, over_edges, within),
-            Boundary::Iteration => self.act(&Act::Iteration, over_edges, within),
+            Boundary::Request => self.act(&Act::Request, notes, over_edges, within),
+            Boundary::SingleStep => self.act(&Act::SingleStep, notes, over_edges, within),
+            Boundary::Iteration => self.act(&Act::Iteration, notes, over_edges, within),
         }
     }
 
     /// A turn in which the processor does nothing: a leap of time, or where this clock has work, the clock, and the rest of a step.
     #[inline(always)]
-    fn pass(&mut self, over_edges: bool, within: u64, end: u64) -> Result<(), BoardFault>
+    fn pass<N: Notes>(
+        &mut self,
+        notes: &mut N,
+        over_edges: bool,
+        within: u64,
+        end: u64,
+    ) -> Result<(), BoardFault>
         requires idle { acts.Nothing ≡ next_act self.old.plain }
         requires before { clock_of self.old.plain < within }
         requires order { within ≤ end }
         requires limit { end ≤ 2 ^ 40 }
         ensures ok { OnOk result (IsTurnOn within end self.old self.new) }
         ensures steady { ¬ (IsTrue over_edges) → OnOk result (WiresStayThen self.old.plain self.new.plain) }
+        ensures noted { OnOk result (N.are notes.new (accesses_next self.old.plain)) }
         ensures err { OnErr result (IsHeldBack self.old self.new) }
         ensures fault { IfErr result (λ fault. fault ≡ BoardFault.Memory) }
     {
         if self.leap(over_edges, end) {
+            notes.none();
             return Ok(());
         }
-        self.act(&Act::Nothing, over_edges, within)
+        self.act(&Act::Nothing, notes, over_edges, within)
     }
 
     /// A leap of time as a turn. Answers whether there is one: else this clock has work.
@@ -438,7 +451,13 @@ impl<A: Allocator> Board<A> {
     /// What the processor does in this clock, `next`, as a turn, with those of its clocks that end by `within`. The list of changes
     /// grows before anything else changes.
     #[inline(always)]
-    fn act(&mut self, next: &Act, over_edges: bool, within: u64) -> Result<(), BoardFault>
+    fn act<N: Notes>(
+        &mut self,
+        next: &Act,
+        notes: &mut N,
+        over_edges: bool,
+        within: u64,
+    ) -> Result<(), BoardFault>
         requires next { next.now ≡ next_act self.old.plain }
         requires exact { IsExact self.old.plain.cpu self.old.plain.chips next.now }
         requires works { 1 ≤ work_next self.old.plain }
@@ -446,18 +465,19 @@ impl<A: Allocator> Board<A> {
         requires limit { within ≤ 2 ^ 40 }
         ensures ok { OnOk result (IsActOn within self.old self.new) }
         ensures steady { ¬ (IsTrue over_edges) → OnOk result (WiresStayThen self.old.plain self.new.plain) }
+        ensures noted { OnOk result (N.are notes.new (accesses_next self.old.plain)) }
         ensures err { OnErr result (IsHeldBack self.old self.new) }
         ensures fault { IfErr result (λ fault. fault ≡ BoardFault.Memory) }
     {
         let high = self.engine.is_high_next(next);
         self.list_change(high)?;
-        self.make(next, over_edges, within);
+        self.make(next, notes, over_edges, within);
         Ok(())
     }
 
     /// Makes that turn, whose change is listed.
     #[inline(always)]
-    fn make(&mut self, next: &Act, over_edges: bool, within: u64)
+    fn make<N: Notes>(&mut self, next: &Act, notes: &mut N, over_edges: bool, within: u64)
         requires next { next.now ≡ next_act self.old.plain }
         requires exact { IsExact self.old.plain.cpu self.old.plain.chips next.now }
         requires before { clock_of self.old.plain < within }
@@ -465,11 +485,13 @@ impl<A: Allocator> Board<A> {
         ensures passed { PassesOver within (after_clock self.old.plain) self.new.plain }
         ensures steady { ¬ (IsTrue over_edges) → WiresStay (after_clock self.old.plain) self.new.plain }
         ensures trail { self.new.trail ≡ last 32 (self.old.trail ++ trail_next self.old.plain) }
+        ensures noted { N.are notes.new (accesses_next self.old.plain) }
         ensures changes { self.new.changes ≡ self.old.changes }
         ensures room { self.new.room ≡ self.old.room }
         ensures turns { self.new.turns ≡ self.old.turns + 1 }
     {
-        self.engine.act(next, &mut self.trail, over_edges, within);
+        self.engine
+            .act(next, &mut self.trail, notes, over_edges, within);
         self.turns += 1;
     }
 

@@ -1,9 +1,12 @@
 //! What a board's chips hold at its clock, and its processor between two boundaries.
-ghost use Rattle.std.specs.Prelude.{◌≡◌, is_some};
-ghost use Rattle.board_plain.specs.Plain.{speaker_level};
+ghost use Rattle.std.specs.Prelude.{◌≡◌, ◌≤◌, is_some, map};
+ghost use Rattle.board_plain.specs.Plain.{clock_of, codes_at, speaker_level};
+ghost use Rattle.board_types.specs.declared.keys.StampedKey.{StampedKey};
 ghost use Rattle.mda_text.specs.Registers.{registers_of};
 
 use crate::board::Board;
+use board_types::clock::Clock;
+use board_types::keys::StampedKey;
 use board_types::line::Line;
 use execute_meaning::shadow::Shadow;
 use keyboard::keyboard::Keyboard;
@@ -40,6 +43,14 @@ impl<A: Allocator> Board<A> {
         ensures { result.now ≡ self.now.plain.chips.keyboard }
     {
         self.engine.chips.keyboard()
+    }
+
+    /// The keys that came at a clock that is reached, in order.
+    pub fn keys_at(&self, clock: Clock) -> &[StampedKey]
+        requires { clock ≤ clock_of self.now.plain }
+        ensures { map (λ (k : StampedKey). k.code) result.now ≡ codes_at self.now.plain.keys clock }
+    {
+        self.engine.keys_at(clock)
     }
 
     /// The text adapter's registers.

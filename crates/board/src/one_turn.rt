@@ -1,10 +1,11 @@
 //! One turn of a board at a time, with what begins in it.
-ghost use Rattle.std.specs.Prelude.{◌≡◌, ◌<◌, IfOk, IfSome, OnErr, map};
+ghost use Rattle.std.specs.Prelude.{◌≡◌, ◌<◌, IfOk, IfSome, OnErr, OnOk, map};
 ghost use Rattle.std.specs.Option.{option_to_list};
 ghost use Rattle.std.specs.Result.{IfErr};
 ghost use Rattle.decode.specs.Fields.{is_found};
 ghost use Rattle.board_plain.specs.Plain.{act_at, clock_of, decoded_at};
 ghost use Rattle.board_plain.specs.Trail.{entry_at, event_of};
+ghost use Rattle.events.specs.Accesses.{accesses_next};
 ghost use Rattle.board.specs.HeldBack.{IsHeldBack};
 ghost use Rattle.board.specs.OneTurn.{IsOneTurn, begun_of};
 
@@ -14,6 +15,7 @@ use board_plain::fault::BoardFault;
 use board_types::clock::Clock;
 use decode::decode::decode;
 use execute_meaning::boundary::Boundary;
+use execute_noted::notes::Notes;
 use std::alloc::Allocator;
 
 /// What began at a clock: an instruction, or, where it has a type, the entry of an interrupt. Of an entry CS:IP are those
@@ -77,11 +79,18 @@ impl Engine {
 
 impl<A: Allocator> Board<A> {
     /// One turn of a run that ends at the clock `end`: a clock, a leap of time, or a step of an instruction or of a repeat
-    /// with the leap over its other clocks. Answers what begins in it, which only its first clock does, as it alone changes
-    /// a wire. Refused as `Memory` where `run` would be, with nothing changed.
-    pub fn run_turn(&mut self, end: Clock) -> Result<Option<Begun>, BoardFault>
+    /// with the leap over its other clocks. Answers what begins in it, and notes its accesses: all that happens in it happens in
+    /// its first clock, but that `over_edges` lets it leap over edges of the timer, which change wires at other clocks too.
+    /// Refused as `Memory` where `run` would be, with nothing changed.
+    pub fn run_turn<N: Notes>(
+        &mut self,
+        end: Clock,
+        notes: &mut N,
+        over_edges: bool,
+    ) -> Result<Option<Begun>, BoardFault>
         requires { clock_of self.old.plain < end }
-        ensures ok { IfOk result (IsOneTurn end self.old self.new) }
+        ensures ok { IfOk result (IsOneTurn over_edges end self.old self.new) }
+        ensures noted { OnOk result (N.are notes.new (accesses_next self.old.plain)) }
         ensures err { OnErr result (IsHeldBack self.old self.new) }
         ensures fault { IfErr result (λ fault. fault ≡ BoardFault.Memory) }
     {
@@ -89,7 +98,7 @@ impl<A: Allocator> Board<A> {
         let boundary = self.engine.boundary();
         let begun = self.engine.begins(boundary);
         let to = end.get();
-        self.turn_by::<Begun>(boundary, false, to, to)?;
+        self.turn_by::<Begun, N>(boundary, notes, over_edges, to, to)?;
         Ok(begun)
     }
 }

@@ -1,7 +1,7 @@
 -- What happens in a clock of a plain board, in the order of the clock's parts: what begins, the accesses, and the
 -- processor's new state; then the keys and the wires. What the processor does has the clock at which the board stands, as in
 -- the trail; what the chips bring has the clock that is reached, as a key's stamp and the speaker's changes have it.
--- Laws: claims above the definitions, each proved as the contract of a function.
+-- To be believed: the headline rests on it.
 use Rattle.std.specs.Prelude.{ℕ, ◌+◌, Bool, ◌&&◌, if◌then◌else◌, List, [], ◌∷◌, ◌++◌, map, Option, None, Some, slice_get}
 use Rattle.std.specs.Bool.{beq}
 use Rattle.std.specs.List.{flat_map}
@@ -79,14 +79,21 @@ wire_event clock before after wire =
 abbrev pub wire_events : ℕ → Plain → Plain → List Event
 wire_events clock before after = flat_map (wire_event clock before after) all_wires
 
--- what happens in the next clock
-unfoldable pub events_next : Plain → List Event
-events_next s =
+-- the codes whose stamp the next clock reaches
+abbrev pub codes_next : Plain → List ℕ
+codes_next s = codes_at s.keys (clock_of s + 1)
+
+-- what happens in the next clock but to the wires
+unfoldable pub unwired_next : Plain → List Event
+unwired_next s =
     map Began (trail_next s)
     ++ (map (Reached (clock_of s)) (accesses_next s)
     ++ (state_events (clock_of s) (state_of s) (state_of (after_clock s))
-    ++ (key_events (clock_of s + 1) (chips_reached s) (codes_at s.keys (clock_of s + 1))
-    ++ wire_events (clock_of s + 1) s (after_clock s))))
+    ++ key_events (clock_of s + 1) (chips_reached s) (codes_next s)))
+
+-- what happens in the next clock
+unfoldable pub events_next : Plain → List Event
+events_next s = unwired_next s ++ wire_events (clock_of s + 1) s (after_clock s)
 
 -- what happens in n clocks
 abbrev pub events_in : Plain → ℕ → List Event

@@ -1,5 +1,5 @@
 -- A bus that notes what is done over it.
--- Laws: claims above the definitions, each proved as the contract of a function.
+-- To be believed: the headline rests on it.
 use Rattle.std.specs.Prelude.{List, [], ◌∷◌, ◌++◌}
 use Rattle.bus.specs.Bus.{BusMeaning}
 use Rattle.events.specs.declared.access.Access.{Access}

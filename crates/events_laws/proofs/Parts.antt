@@ -15,8 +15,7 @@ use Rattle.events.specs.declared.event.KeyEvent.{KeyEvent}
 use Rattle.events.specs.declared.event.KeyEvent.TheVariants.{Arrives, IsLatched, IsLost}
 use Rattle.events.specs.declared.event.Wire.{Wire}
 use Rattle.events.specs.Accesses.{accesses_next}
-use Rattle.events.specs.Events.{arrival_events, chips_reached, events_in, events_next, latch_events, level_of, settling_events, state_events, wire_event, wire_events}
-use Rattle.events_laws.specs.Told.{codes_next}
+use Rattle.events.specs.Events.{arrival_events, chips_reached, codes_next, events_in, events_next, latch_events, level_of, settling_events, state_events, unwired_next, wire_event, wire_events}
 
 -- the parts of a clock
 
@@ -38,19 +37,19 @@ settled_of s = settling_events (clock_of s + 1) (after_arrivals (chips_reached s
 abbrev pub wired_of : Plain → List Event
 wired_of s = wire_events (clock_of s + 1) s (after_clock s)
 
-by_parts : {A : Type 0} (f : Event → List A) (s : Plain) → flat_map f (events_next s) ≡ flat_map f (began_of s) ++ (flat_map f (reached_of s) ++ (flat_map f (became_of s) ++ ((flat_map f (arrived_of s) ++ flat_map f (settled_of s)) ++ flat_map f (wired_of s))))
-unfolding events_next
+by_parts : {A : Type 0} (f : Event → List A) (s : Plain) → flat_map f (events_next s) ≡ (flat_map f (began_of s) ++ (flat_map f (reached_of s) ++ (flat_map f (became_of s) ++ (flat_map f (arrived_of s) ++ flat_map f (settled_of s))))) ++ flat_map f (wired_of s)
+unfolding events_next unwired_next
 by_parts f s =
-    flat_map-append f (began_of s) (reached_of s ++ (became_of s ++ ((arrived_of s ++ settled_of s) ++ wired_of s)))
-    ∙ ap (λ xs. flat_map f (began_of s) ++ xs) (flat_map-append f (reached_of s) (became_of s ++ ((arrived_of s ++ settled_of s) ++ wired_of s))
-    ∙ ap (λ xs. flat_map f (reached_of s) ++ xs) (flat_map-append f (became_of s) ((arrived_of s ++ settled_of s) ++ wired_of s)
-    ∙ ap (λ xs. flat_map f (became_of s) ++ xs) (flat_map-append f (arrived_of s ++ settled_of s) (wired_of s)
-    ∙ ap (λ xs. xs ++ flat_map f (wired_of s)) (flat_map-append f (arrived_of s) (settled_of s)))))
+    flat_map-append f (began_of s ++ (reached_of s ++ (became_of s ++ (arrived_of s ++ settled_of s)))) (wired_of s)
+    ∙ ap (λ xs. xs ++ flat_map f (wired_of s)) (flat_map-append f (began_of s) (reached_of s ++ (became_of s ++ (arrived_of s ++ settled_of s)))
+    ∙ ap (λ xs. flat_map f (began_of s) ++ xs) (flat_map-append f (reached_of s) (became_of s ++ (arrived_of s ++ settled_of s))
+    ∙ ap (λ xs. flat_map f (reached_of s) ++ xs) (flat_map-append f (became_of s) (arrived_of s ++ settled_of s)
+    ∙ ap (λ xs. flat_map f (became_of s) ++ xs) (flat_map-append f (arrived_of s) (settled_of s)))))
 
 -- all parts, each known
-pub joined : {A : Type 0} (f : Event → List A) (s : Plain) (began reached became arrived settled wired : List A) → flat_map f (began_of s) ≡ began → flat_map f (reached_of s) ≡ reached → flat_map f (became_of s) ≡ became → flat_map f (arrived_of s) ≡ arrived → flat_map f (settled_of s) ≡ settled → flat_map f (wired_of s) ≡ wired → flat_map f (events_next s) ≡ began ++ (reached ++ (became ++ ((arrived ++ settled) ++ wired)))
+pub joined : {A : Type 0} (f : Event → List A) (s : Plain) (began reached became arrived settled wired : List A) → flat_map f (began_of s) ≡ began → flat_map f (reached_of s) ≡ reached → flat_map f (became_of s) ≡ became → flat_map f (arrived_of s) ≡ arrived → flat_map f (settled_of s) ≡ settled → flat_map f (wired_of s) ≡ wired → flat_map f (events_next s) ≡ (began ++ (reached ++ (became ++ (arrived ++ settled)))) ++ wired
 joined f s began reached became arrived settled wired is_began is_reached is_became is_arrived is_settled is_wired =
-    by_parts f s ∙ (λ i. is_began i ++ (is_reached i ++ (is_became i ++ ((is_arrived i ++ is_settled i) ++ is_wired i))))
+    by_parts f s ∙ (λ i. (is_began i ++ (is_reached i ++ (is_became i ++ (is_arrived i ++ is_settled i)))) ++ is_wired i)
 
 -- parts of which it gives nothing
 

@@ -32,10 +32,10 @@ use Rattle.events.specs.declared.event.Event.TheVariants.{Became, Began, Reached
 use Rattle.events.specs.declared.event.Wire.{Wire}
 use Rattle.events.specs.declared.event.Wire.TheVariants.{Out0, Out2, Ir0, Ir1, Int, Speaker}
 use Rattle.events.specs.Accesses.{accesses_next, after_noted}
-use Rattle.events.specs.Events.{all_wires, chips_reached, code_latched, events_next, is_same_state, level_of, wire_event}
+use Rattle.events.specs.Events.{all_wires, chips_reached, code_latched, codes_next, events_next, is_same_state, level_of, wire_event}
 use Rattle.events.specs.Noting.{after_access}
 use Rattle.events.proofs.Noted.{makes_accesses}
-use Rattle.events_laws.specs.Told.{begun_by, byte_after, changed_by, codes_next, MemoryIsWritten, SpeakerIsTold, TrailIsTold, written_by}
+use Rattle.events_laws.specs.Told.{begun_by, byte_after, changed_by, MemoryIsWritten, SpeakerIsTold, TrailIsTold, written_by}
 use Rattle.events_laws.proofs.Parts.{joined, none_arrives, none_if, none_in, none_latched, none_wired, reached_of, told_in, wired_of}
 
 -- whether the processor's state stays, and the code that moves into the latch, in the next clock
@@ -60,7 +60,7 @@ trail_of_clock s =
     (none_arrives begun_by (λ clock what code. refl) (clock_of s + 1) (chips_reached s).keyboard (codes_next s))
     (none_latched begun_by (λ clock code. refl) (clock_of s + 1) (latched_next s))
     (none_wired begun_by (λ clock wire level. refl) (clock_of s + 1) s (after_clock s) all_wires)
-    ∙ append-nil (trail_next s)
+    ∙ append-nil (trail_next s ++ []) ∙ append-nil (trail_next s)
 
 pub trail_is_told : TrailIsTold
 trail_is_told s n = told_in begun_by trail_next trail_of_clock s n
@@ -119,7 +119,7 @@ writes_of_clock s =
     (none_arrives written_by (λ clock what code. refl) (clock_of s + 1) (chips_reached s).keyboard (codes_next s))
     (none_latched written_by (λ clock code. refl) (clock_of s + 1) (latched_next s))
     (none_wired written_by (λ clock wire level. refl) (clock_of s + 1) s (after_clock s) all_wires)
-    ∙ append-nil (written_next s)
+    ∙ append-nil (written_next s ++ []) ∙ append-nil (written_next s)
 
 -- a byte after one access
 

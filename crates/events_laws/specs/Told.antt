@@ -1,6 +1,6 @@
 -- What happens in a plain board's clocks, against memory, the trail, the speaker's list and the keyboard.
 -- Laws: claims above the definitions, each proved as the contract of a function.
-use Rattle.std.specs.Prelude.{ℕ, ◌≡◌, ◌+◌, ◌==◌, Bool, ◌&&◌, if◌then◌else◌, List, [], ◌∷◌, ◌++◌, fold}
+use Rattle.std.specs.Prelude.{ℕ, ◌≡◌, ◌==◌, Bool, ◌&&◌, if◌then◌else◌, List, [], ◌∷◌, ◌++◌, fold}
 use Rattle.std.specs.List.{flat_map}
 use Rattle.board_types.specs.Iterate.{gathered}
 use Rattle.board_types.specs.Lines.{from_bool}
@@ -8,14 +8,14 @@ use Rattle.keyboard.specs.Keyboard.{count_after_loss}
 use Rattle.wiring.specs.Ports.{is_writable}
 use Rattle.board_plain.specs.declared.speaker.SpeakerChange.{SpeakerChange}
 use Rattle.board_plain.specs.declared.trail.TrailEntry.{TrailEntry}
-use Rattle.board_plain.specs.Plain.{Plain, after_clock, after_clocks, byte_of, changes_in, clock_of, codes_at, lost_codes}
+use Rattle.board_plain.specs.Plain.{Plain, after_clock, after_clocks, byte_of, changes_in, lost_codes}
 use Rattle.board_plain.specs.Trail.{trail_in}
 use Rattle.events.specs.declared.access.Access.TheVariants.{Write}
 use Rattle.events.specs.declared.event.Event.{Event}
 use Rattle.events.specs.declared.event.Event.TheVariants.{Began, Keyed, Reached, Wired}
 use Rattle.events.specs.declared.event.KeyEvent.TheVariants.{Arrives, IsLatched, IsLost}
 use Rattle.events.specs.declared.event.Wire.TheVariants.{Speaker}
-use Rattle.events.specs.Events.{events_in}
+use Rattle.events.specs.Events.{codes_next, events_in}
 
 -- a byte that is written: its address, and the byte
 abbrev pub written_by : Event → List (ℕ × ℕ)
@@ -66,10 +66,6 @@ lost_by _ = []
 abbrev pub latched_by : Event → List ℕ
 latched_by (Keyed _ IsLatched code) = code ∷ []
 latched_by _ = []
-
--- the codes whose stamp the next clock reaches
-abbrev pub codes_next : Plain → List ℕ
-codes_next s = codes_at s.keys (clock_of s + 1)
 
 -- each code whose stamp is reached comes, once and in order
 abbrev pub CodesAreTold : Type 0

@@ -11,11 +11,11 @@ abbrev clock_in : StepResult ChipsState → ℕ
 clock_in after = after.bus.clock
 
 pub returns-clause-clock : goal.returns-clause-clock
-returns-clause-clock c = ap clock_in c.enter.ensures ∙ clock_of_enter _ _ _ _ _
+returns-clause-clock g c = ap clock_in c.enter.ensures.done ∙ clock_of_enter _ _ _ _ _
 
 pub returns-clause-entries : goal.returns-clause-entries
 unfolding clock_of
-returns-clause-entries c =
+returns-clause-entries g c =
     c.add.ensures.entries
     ∙ ap (λ e. last 32 (c.args.trail.now ++ e ∷ []))
     (c.entered.ensures

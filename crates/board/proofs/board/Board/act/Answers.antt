@@ -1,6 +1,7 @@
 use Rattle.std.proofs.Common.{◌≡◌, ◌++◌, ◌+◌, ◌≤◌, length, ap, ◌∙◌, subst}
 use Rattle.board_plain.specs.Board.{BoardState}
 use Rattle.board_plain.specs.Plain.{Plain, after_clock, change_next}
+use Rattle.events.specs.Accesses.{accesses_next}
 use Rattle.board.specs.Alone.{WiresStay}
 use Rattle.board.proofs.Beginning.{act_on}
 use Rattle.board.proofs.OneTurn.{stay_behind}
@@ -26,3 +27,9 @@ returns-clause-steady g c = λ not.
     let s : BoardState = c.args.self.now in
     let plain : c.list_change.new.self.plain ≡ s.plain = c.list_change.ensures.plain ∙ c.is_high_next-high.ensures.plain ∙ ap (λ (b : BoardState). b.plain) c.self.view_is in
     stay_behind s.plain c.make.new.self.plain (subst (λ (p : Plain). WiresStay (after_clock p) c.make.new.self.plain) plain (c.make.ensures.steady not))
+
+pub returns-clause-noted : goal.returns-clause-noted
+returns-clause-noted g c =
+    let s : BoardState = c.args.self.now in
+    let plain : c.list_change.new.self.plain ≡ s.plain = c.list_change.ensures.plain ∙ c.is_high_next-high.ensures.plain ∙ ap (λ (b : BoardState). b.plain) c.self.view_is in
+    subst (λ (p : Plain). g.N.Notes.are c.make.new.notes (accesses_next p)) plain c.make.ensures.noted

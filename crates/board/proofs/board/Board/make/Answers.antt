@@ -1,6 +1,7 @@
 use Rattle.std.proofs.Common.{◌<◌, sym, subst, arith}
 use Rattle.board_plain.specs.Board.{BoardState}
 use Rattle.board_plain.specs.Plain.{after_clock, clock_of}
+use Rattle.events.specs.Accesses.{accesses_next}
 use Rattle.board.specs.Alone.{PassesOver, WiresStay}
 use Rattle.board.proofs.Beginning.{GoesOn, goes_over}
 use Rattle.board.proofs.board.Board.make.Goals as goal
@@ -21,3 +22,7 @@ returns-clause-passed g c =
 pub returns-clause-steady : goal.returns-clause-steady
 returns-clause-steady g c = λ not.
     subst (λ (b : BoardState). WiresStay (after_clock b.plain) c.act.new.self) c.self.view_is (c.act.ensures.steady not)
+
+pub returns-clause-noted : goal.returns-clause-noted
+returns-clause-noted g c =
+    subst (λ (b : BoardState). g.N.Notes.are c.act.new.notes (accesses_next b.plain)) c.self.view_is c.act.ensures.noted

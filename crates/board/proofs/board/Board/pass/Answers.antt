@@ -1,13 +1,16 @@
-use Rattle.std.proofs.Common.{◌≡◌, ◌≤◌, inl, sym, subst, arith}
+use Rattle.std.proofs.Common.{◌≡◌, ◌≤◌, List, inl, sym, subst, arith}
 use Rattle.std.specs.Prelude.{OnErr, OnOk}
 use Rattle.board_plain.specs.Board.{BoardState}
 use Rattle.board_plain.specs.declared.act.Act.TheVariants as acts
 use Rattle.board_plain.specs.Plain.{next_act}
 use Rattle.board_plain.specs.Work.{work_next}
+use Rattle.events.specs.Accesses.{accesses_next}
+use Rattle.events.specs.declared.access.Access.{Access}
 use Rattle.board.specs.Alone.{WiresStayThen}
 use Rattle.board.specs.HeldBack.{IsHeldBack}
 use Rattle.board.proofs.OneTurn.{stay_then}
 use Rattle.board.proofs.Turns.{if_act}
+use Rattle.board.proofs.Uneventful.{no_access}
 use Rattle.board.proofs.board.Board.pass.Goals as goal
 
 pub returns-then-leap-clause-ok : goal.returns-then-leap-clause-ok
@@ -39,3 +42,11 @@ returns-clause-steady g c = λ not.
 pub returns-clause-err : goal.returns-clause-err
 returns-clause-err g c =
     subst (λ (b : BoardState). OnErr c.act.result (IsHeldBack b c.act.new.self)) (c.leap.ensures.not_made (λ yes. let no = c.if-leap.false in cc)) c.act.ensures.err
+
+pub returns-then-leap-clause-noted : goal.returns-then-leap-clause-noted
+returns-then-leap-clause-noted g c =
+    subst (λ (accesses : List Access). g.N.Notes.are c.none.new.self accesses) (sym (no_access c.args.self.now.plain (sym c.requires.idle))) c.none.ensures
+
+pub returns-clause-noted : goal.returns-clause-noted
+returns-clause-noted g c =
+    subst (λ (b : BoardState). OnOk c.act.result (g.N.Notes.are c.act.new.notes (accesses_next b.plain))) (c.leap.ensures.not_made (λ yes. let no = c.if-leap.false in cc)) c.act.ensures.noted

@@ -1,6 +1,7 @@
 use Rattle.std.proofs.Common.{◌≡◌, ◌-◌, ◌≤◌, true, false, length, map, ap, ◌∙◌, subst}
 use Rattle.std.specs.Option.{option_to_list}
 use Rattle.std.specs.Prelude.{IfSome}
+use Rattle.events.specs.Accesses.{accesses_next}
 use Rattle.board.specs.OneTurn.{begun_of}
 use Rattle.board.specs.Alone.{WiresStayThen}
 use Rattle.board.specs.Turns.{IsTurnOn}
@@ -20,8 +21,13 @@ returns-clause-ok g c =
     let looked : (record { plain = p; changes = changes.items; room = vec_capacity changes - length changes.items; trail = c.self.inside.trail; turns = c.self.inside.turns }) ≡ s =
     ap (λ (q : Plain). record { plain = q; changes = changes.items; room = vec_capacity changes - length changes.items; trail = c.self.inside.trail; turns = c.self.inside.turns }) c.look_ahead.ensures ∙ c.self.view_is in
     let few : length s.trail ≤ 32 = subst (λ (b : BoardState). length b.trail ≤ 32) c.self.view_is c.self.invariant.1 in
-    once_turned c.args.end s c.turn_by.new.self c.begins-begun.result few c.requires
+    once_turned c.args.over_edges c.args.end s c.turn_by.new.self c.begins-begun.result few c.requires
     (subst (λ n. IsTurnOn n n s c.turn_by.new.self) c.get-to.ensures.value (subst (λ (b : BoardState). IsTurnOn c.get-to.result c.get-to.result b c.turn_by.new.self) looked c.in_ok-turn_by.ensures.ok))
-    (subst (λ (q : Plain). WiresStayThen q c.turn_by.new.self.plain) same (c.in_ok-turn_by.ensures.steady (λ yes. let never : false ≡ true = yes in cc)))
+    (λ not. subst (λ (q : Plain). WiresStayThen q c.turn_by.new.self.plain) same (c.in_ok-turn_by.ensures.steady not))
     (begins_by p (act_at p.cpu p.chips c.boundary-boundary.result) (option_to_list c.begins-begun.result) c.boundary-boundary.ensures c.begins-begun.ensures.begun ∙ ap (λ (q : Plain). map begun_of (trail_next q)) same)
     (subst (λ (q : Plain). IfSome c.begins-begun.result (λ b. b.clock ≡ clock_of q)) same c.begins-begun.ensures.clock)
+
+pub returns-clause-noted : goal.returns-clause-noted
+returns-clause-noted g c =
+    let same : c.look_ahead.new.self ≡ c.args.self.now.plain = c.look_ahead.ensures ∙ ap (λ (b : BoardState). b.plain) c.self.view_is in
+    subst (λ (q : Plain). g.N.Notes.are c.turn_by.new.notes (accesses_next q)) same c.in_ok-turn_by.ensures.noted

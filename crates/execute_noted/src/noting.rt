@@ -1,0 +1,139 @@
+//! A bus that keeps the accesses that are made over it, and what the processor does over one.
+ghost use Rattle.std.specs.Prelude.{◌≡◌, ◌++◌, [], ◌∷◌, if◌then◌else◌};
+ghost use Rattle.execute_meaning.specs.Boundaries.{after_enter};
+ghost use Rattle.execute_meaning.specs.Meaning.{after_again, after_step, step_result};
+ghost use Rattle.execute_noted.specs.Held.{is_full};
+ghost use Rattle.events.specs.Noting.{noting, unnoted};
+
+use crate::notes::Accesses;
+use arrayvec::ArrayVec;
+use board_types::choice::ClockTable;
+use bus::Bus;
+use decode::decoded::Decoded;
+use events::access::Access;
+use execute::cpu::Cpu;
+use execute::step::{again, enter, step};
+use execute_meaning::boundary::Cause;
+use std::mem;
+
+/// A bus, and the accesses that are made over it, up to six.
+#[derive(Drop)]
+struct Noting<'a, B: Bus> {
+    bus: &'a mut B,
+    accesses: Accesses,
+}
+
+impl<'a, B: Bus> Noting<'a, B> {
+    /// The accesses, which are handed out.
+    fn take(&mut self) -> Accesses
+        ensures same { self.new.bus.ghost_name ≡ self.old.bus.ghost_name }
+        ensures bus { self.new.bus.now ≡ self.old.bus.now }
+        ensures accesses { result.items ≡ self.old.accesses.items }
+    {
+        mem::replace(&mut self.accesses, ArrayVec::new())
+    }
+}
+
+/// Keeps one more access, if there is room.
+#[inline(always)]
+fn keep(accesses: &mut Accesses, access: Access)
+    ensures { accesses.new.items
+        ≡ (if is_full accesses.old.items then accesses.old.items else accesses.old.items ++ access ∷ []) }
+{
+    if accesses.is_full() {
+        return;
+    }
+    accesses.push(access);
+}
+
+impl<'a, B: Bus> Bus for Noting<'a, B> {
+    ghost use Rattle.execute_noted.specs.Held.{Held, holding};
+    ghost use Rattle.execute_noted.specs.HeldLaws.{holding_keeps_bytes};
+
+    ghost State = { Held B.State };
+
+    ghost state = { λ n. record {
+      name = n.bus.ghost_name;
+      reached = B.state n.bus.now;
+      accesses = n.accesses.items;
+    } };
+
+    ghost meaning = { holding B.meaning };
+
+    fn read8(&self, addr: u32) -> u8 {
+        self.bus.read8(addr)
+    }
+
+    fn write8(&mut self, addr: u32, value: u8) {
+        self.bus.write8(addr, value);
+        keep(&mut self.accesses, Access::Write(addr, value));
+    }
+
+    fn in8(&mut self, port: u16) -> u8 {
+        let value = self.bus.in8(port);
+        keep(&mut self.accesses, Access::In(port, value));
+        value
+    }
+
+    fn out8(&mut self, port: u16, value: u8) {
+        self.bus.out8(port, value);
+        keep(&mut self.accesses, Access::Out(port, value));
+    }
+
+    ghost keeps_bytes = { holding_keeps_bytes B.meaning B.keeps_bytes };
+}
+
+/// A step, with the clocks that it takes and its accesses.
+pub(crate) fn step_noted<B: Bus>(
+    cpu: &mut Cpu,
+    bus: &mut B,
+    decoded: &Decoded,
+    table: ClockTable,
+) -> (u16, Accesses)
+    ensures done { step_result cpu.new (B.state bus.new) result.0
+        ≡ after_step B.meaning table cpu.old (B.state bus.old) decoded.now }
+    ensures noted { result.1.items
+        ≡ (after_step (noting B.meaning) table cpu.old (unnoted (B.state bus.old)) decoded.now).bus.accesses }
+{
+    let mut noting = Noting {
+        bus,
+        accesses: ArrayVec::new(),
+    };
+    let clocks = step(cpu, &mut noting, decoded, table).0;
+    (clocks, noting.take())
+}
+
+/// The next iteration of a repeat, with the clocks that it takes and its accesses.
+pub(crate) fn again_noted<B: Bus>(cpu: &mut Cpu, bus: &mut B, table: ClockTable) -> (u16, Accesses)
+    ensures done { step_result cpu.new (B.state bus.new) result.0 ≡ after_again B.meaning table cpu.old (B.state bus.old) }
+    ensures noted { result.1.items
+        ≡ (after_again (noting B.meaning) table cpu.old (unnoted (B.state bus.old))).bus.accesses }
+{
+    let mut noting = Noting {
+        bus,
+        accesses: ArrayVec::new(),
+    };
+    let clocks = again(cpu, &mut noting, table).0;
+    (clocks, noting.take())
+}
+
+/// The entry of an interrupt of type `kind`, with the clocks that it takes and its accesses.
+pub(crate) fn enter_noted<B: Bus>(
+    cpu: &mut Cpu,
+    bus: &mut B,
+    kind: u8,
+    cause: Cause,
+    table: ClockTable,
+) -> (u16, Accesses)
+    ensures done { step_result cpu.new (B.state bus.new) result.0
+        ≡ after_enter B.meaning table cpu.old (B.state bus.old) kind cause }
+    ensures noted { result.1.items
+        ≡ (after_enter (noting B.meaning) table cpu.old (unnoted (B.state bus.old)) kind cause).bus.accesses }
+{
+    let mut noting = Noting {
+        bus,
+        accesses: ArrayVec::new(),
+    };
+    let clocks = enter(cpu, &mut noting, kind, cause, table).0;
+    (clocks, noting.take())
+}
