@@ -60,6 +60,8 @@ SECONDS = {
     'execute': 104,
     'cached_chips': 40,
     'board_plain': 25,
+    'events': 20,
+    'execute_noted': 17,
     'board_lines': 17,
     'debugger_meaning': 38,
     'board': 180,

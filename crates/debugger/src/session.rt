@@ -3,6 +3,7 @@ ghost use Rattle.std.specs.Prelude.{◌≡◌, ◌+◌, ◌-◌, ◌<◌, ◌≤
 ghost use Rattle.std.specs.Result.{IfErr};
 ghost use Rattle.std.specs.List.{flat_map};
 ghost use Rattle.board.specs.OneTurn.{IsOneTurn};
+ghost use Rattle.events.specs.Accesses.{accesses_next};
 ghost use Rattle.board_plain.specs.Board.{Ran};
 ghost use Rattle.board_plain.specs.Lasts.{HeldLast, IsLastOf};
 ghost use Rattle.board_plain.specs.Plain.{clock_of, registers_of, screen_of};
@@ -30,6 +31,7 @@ use board_types::clock::Clock;
 use debugger_meaning::answer::Answer;
 use debugger_meaning::command::{Command, read_command};
 use debugger_meaning::fault::DebugFault;
+use execute_noted::notes::Notes;
 use std::alloc::{Allocator, Global};
 use std::marker::Model;
 use std::mem;
@@ -127,19 +129,25 @@ impl<A: Allocator> Session<A> {
         answer
     }
 
-    /// One turn of the board's run to the clock `end`, whatever the stops say, and what begins in it; after some turns a copy
-    /// of the board may be kept. Refused as `Memory`, with nothing changed, where the speaker's level changes and there is no
-    /// memory to list it.
-    pub fn run_turn(&mut self, end: Clock) -> Result<Option<Begun>, DebugFault>
+    /// One turn of the board's run to the clock `end`, whatever the stops say, with what begins in it and a note of its accesses;
+    /// after some turns a copy of the board may be kept. `over_edges` lets it leap over edges of the timer. Refused as `Memory`,
+    /// with nothing changed, where the speaker's level changes and there is no memory to list it.
+    pub fn run_turn<N: Notes>(
+        &mut self,
+        end: Clock,
+        notes: &mut N,
+        over_edges: bool,
+    ) -> Result<Option<Begun>, DebugFault>
         requires { clock_of self.old.board.plain < end }
-        ensures ok { IfOk result (IsOneTurn end self.old.board self.new.board) }
+        ensures ok { IfOk result (IsOneTurn over_edges end self.old.board self.new.board) }
+        ensures noted { OnOk result (N.are notes.new (accesses_next self.old.board.plain)) }
         ensures stops { self.new.stops ≡ self.old.stops }
         ensures first { self.new.first ≡ self.old.first }
         ensures fault { IfErr result (λ fault. fault ≡ DebugFault.Memory (Some (clock_of self.old.board.plain))) }
         ensures err { OnErr result (self.new ≡ self.old) }
     {
         let clock = self.board.clock();
-        match self.board.run_turn(end) {
+        match self.board.run_turn(end, notes, over_edges) {
             Ok(begun) => {
                 if self.board.turns().is_multiple_of(FAR) {
                     self.checkpoints.keep(self.first.clock(), &self.board);

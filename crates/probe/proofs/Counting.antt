@@ -1,5 +1,5 @@
 -- Turns that are counted, one after another.
-use Rattle.std.proofs.Common.{◌≡◌, ℕ, ◌+◌, ◌<◌, ◌≤◌, Bool, true, false, List, [], ◌++◌, length, map, Option, None, Some, Result, Ok, Err, refl, sym, ap, ◌∙◌, subst, arith}
+use Rattle.std.proofs.Common.{◌≡◌, ℕ, ◌+◌, ◌<◌, ◌≤◌, ◌^◌, Bool, true, false, List, [], ◌++◌, length, map, Option, None, Some, Result, Ok, Err, refl, sym, ap, ◌∙◌, subst, arith}
 use Rattle.std.proofs.lemmas.List.{map-append}
 use Rattle.std.specs.Prelude.{IfSome, OnOk}
 use Rattle.std.specs.Option.{option_to_list, SomeIff}
@@ -21,8 +21,9 @@ use Rattle.probe.specs.Making.{RefusesMaking}
 use Rattle.probe.specs.Tallied.{HasNoted, IsBefore}
 
 -- no memory, some of the clocks being made
-pub stands_short : (n k : ℕ) (s t : SessionState) (fault : DebugFault) → k ≤ n → Ran k s.board t.board → t.stops ≡ s.stops → t.first ≡ s.first → fault ≡ Memory (Some (clock_of t.board.plain)) → RefusesMaking n s t fault
-stands_short n k s t fault within ran stops first is = subst (RefusesMaking n s t) (sym is) (record {
+pub stands_short : (n k : ℕ) (s t : SessionState) (fault : DebugFault) → clock_of s.board.plain + n ≤ 2 ^ 40 → k ≤ n → Ran k s.board t.board → t.stops ≡ s.stops → t.first ≡ s.first → fault ≡ Memory (Some (clock_of t.board.plain)) → RefusesMaking n s t fault
+stands_short n k s t fault all within ran stops first is = subst (RefusesMaking n s t) (sym is) (record {
+  within_all = all;
   passed = k;
   within = within;
   stands = record { plain = ran.plain; clock = ran.clock; changes = ran.changes; trail = ran.trail };
@@ -64,10 +65,10 @@ before_later clock later c less before = record {
 }
 
 -- what begins in a turn does so behind what began before
-pub begins_behind : (end clock : ℕ) (s t u : SessionState) (c : Counts) (begun : Option Begun) → IsCounted end s t c → IsOneTurn end t.board u.board begun → IfSome begun (λ b. IsBefore b.clock c)
+pub begins_behind : {edges : Bool} (end clock : ℕ) (s t u : SessionState) (c : Counts) (begun : Option Begun) → IsCounted end s t c → IsOneTurn edges end t.board u.board begun → IfSome begun (λ b. IsBefore b.clock c)
 begins_behind end clock s t u c begun counted turn = if_some begun turn.clock (λ b is. subst (λ n. IsBefore n c) (sym is) counted.before)
 
-pub more_counted : (end : ℕ) (s t u : SessionState) (c d : Counts) (begun : Option Begun) → IsCounted end s t c → IsOneTurn end t.board u.board begun → u.stops ≡ t.stops → u.first ≡ t.first
+pub more_counted : {edges : Bool} (end : ℕ) (s t u : SessionState) (c d : Counts) (begun : Option Begun) → IsCounted end s t c → IsOneTurn edges end t.board u.board begun → u.stops ≡ t.stops → u.first ≡ t.first
     → ((all : List Begun) → HasNoted all c → HasNoted (all ++ option_to_list begun) d)
     → ((clock : ℕ) → IfSome begun (λ b. b.clock < clock) → IsBefore clock c → IsBefore clock d)
     → ((start : ℕ) → IfSome begun (λ b. start ≤ b.clock) → IfSome c.first (λ first. start ≤ first) → IfSome d.first (λ first. start ≤ first))

@@ -17,8 +17,9 @@ pub record Makes (n : ℕ) (text : List ℕ) (old new : SessionState) (answer : 
   pub first : new.first ≡ old.first
   pub shows : IsText text answer
 
--- There is no memory: the board stands some of the n clocks further, and its clock is told.
+-- There is no memory, for clocks that end by the last one: the board stands some of the n clocks further, and its clock is told.
 pub record StandsShort (n : ℕ) (old new : SessionState) (clock : ℕ) : Type 0 where
+  pub within_all : clock_of old.board.plain + n ≤ 2 ^ 40
   pub passed : ℕ
   pub within : passed ≤ n
   pub stands : StandsAt passed (shown_of old.board) new.board

@@ -19,6 +19,7 @@ use board_types::digits::{HexByte, HexWord};
 use debugger::session::Session;
 use debugger_meaning::answer::Answer;
 use debugger_meaning::fault::DebugFault;
+use execute_noted::notes::Unnoted;
 use std::alloc::{AllocError, Global};
 use std::collections::BTreeMap;
 use std::fmt;
@@ -224,7 +225,7 @@ pub(crate) fn tell_counts(
     let end = Clock::new(start.get() + count).unwrap();
     let mut counts = Counts::new(alloc);
     'turns: while session.board().clock() < end {
-        let begun = session.run_turn(end)?;
+        let begun = session.run_turn(end, &mut Unnoted, true)?;
         if counts.note(begun).is_err() {
             return Err(lacking(session));
         }

@@ -13,23 +13,24 @@ use board_types::clock::Clock;
 use debugger::session::Session;
 use debugger_meaning::answer::Answer;
 use debugger_meaning::fault::DebugFault;
+use execute_noted::notes::Unnoted;
 use pic8259::Pic;
 use std::alloc::{AllocError, Global};
 
 /// Whether each of these wires is high.
 #[derive(Clone, Copy)]
 pub(crate) struct Levels {
-    out_0: bool,
-    out_2: bool,
-    ir_0: bool,
-    ir_1: bool,
-    int: bool,
-    speaker: bool,
+    pub(crate) out_0: bool,
+    pub(crate) out_2: bool,
+    pub(crate) ir_0: bool,
+    pub(crate) ir_1: bool,
+    pub(crate) int: bool,
+    pub(crate) speaker: bool,
 }
 
 /// The levels of a board's wires.
 #[tactic(auto, unfolding(crate::specs::Signals::levels_of))]
-fn levels_of(board: &Board) -> Levels
+pub(crate) fn levels_of(board: &Board) -> Levels
     ensures { result ≡ levels_of board.now.plain }
 {
     let timer = board.timer();
@@ -111,7 +112,7 @@ pub(crate) fn tell_signals(
     let mut levels = levels_of(session.board());
     'turns: while session.board().clock() < end {
         let clock = session.board().clock().get() + 1;
-        session.run_turn(end)?;
+        session.run_turn(end, &mut Unnoted, false)?;
         let after = levels_of(session.board());
         if push_changes(alloc, &mut text, clock, levels, after).is_err() {
             return Err(lacking(session));
@@ -125,7 +126,7 @@ pub(crate) fn tell_signals(
 }
 
 /// A text, and behind it the clock that is reached.
-fn with_clock(alloc: Global, text: &str, clock: Clock) -> Result<String, AllocError>
+pub(crate) fn with_clock(alloc: Global, text: &str, clock: Clock) -> Result<String, AllocError>
     ensures { IfOk result (λ whole. string_bytes whole ≡ text.now ++ (codes "clock " ++ (decimal clock ++ codes "\n"))) }
 {
     let clock = clock.get();
