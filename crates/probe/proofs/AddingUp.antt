@@ -1,5 +1,5 @@
 -- The clocks of all counts add up to those that are made.
-use Rattle.std.proofs.Common.{◌≡◌, ℕ, zero, suc, ◌+◌, ◌-◌, ◌<◌, ◌≤◌, ◌==◌, if◌then◌else◌, Bool, true, false, List, [], ◌∷◌, ◌++◌, map, Option, None, Some, refl, sym, ap, ◌∙◌, subst, arith, append-nil}
+use Rattle.std.proofs.Common.{◌≡◌, ℕ, zero, suc, ◌+◌, ◌-◌, ◌≤◌, ◌==◌, if◌then◌else◌, true, false, List, [], ◌∷◌, ◌++◌, map, Option, None, Some, refl, sym, ap, ◌∙◌, subst, arith, append-nil}
 use Rattle.std.proofs.lemmas.Bool.Decides.{nat_tests}
 use Rattle.std.proofs.lemmas.List.{map-append}
 use Rattle.std.proofs.lemmas.List.Sums.{sum_by-cons}
@@ -15,11 +15,11 @@ use Rattle.board_plain.specs.declared.trail.TrailEvent.{TrailEvent}
 use Rattle.board_plain.proofs.Clocks.{clocks_go_by}
 use Rattle.board_plain.specs.Plain.{Plain, after_clock, after_clocks, clock_of, next_act}
 use Rattle.board_plain.specs.Trail.{entry_at, event_of, trail_in, trail_next}
-use Rattle.board_types.proofs.Iterate.{gathered_more, gathered_zero, iterate_more, iterate_zero}
+use Rattle.board_types.proofs.Iterate.{gathered_more, gathered_zero}
 use Rattle.probe.specs.Counts.{clocks_from, is_number, next_clock, numbers_of, place_of, place_unless, type_of, with_number}
 use Rattle.probe.specs.Laws.{clocks_of_lines, CountsAddUp}
 use Rattle.probe.specs.Tallied.{has}
-use Rattle.probe.proofs.Numbers.{above_less, equal_numbers, in_numbers, is_in, less_turned, numbers_rise, AreAbove}
+use Rattle.probe.proofs.Numbers.{above_less, equal_numbers, in_numbers, is_in, numbers_rise, AreAbove}
 use Rattle.probe.proofs.Tallying.{no_clocks}
 
 -- a sum over rising numbers, to which d is added at one of them

@@ -1,3 +1,5 @@
+mod Listing
+mod Telling
 pub mod Registers
 mod Rows
 pub mod AddingUp

@@ -1,6 +1,6 @@
 -- Counts worked out by hand: five beginnings in 100 clocks, of an instruction that runs twice, one that an interrupt comes
 -- behind, and the interrupt.
-use Rattle.std.proofs.Common.{◌≡◌, ℕ, List, [], ◌∷◌, ◌++◌, None, Some, refl, true, false}
+use Rattle.std.proofs.Common.{◌≡◌, List, [], ◌∷◌, ◌++◌, None, Some, refl, true, false}
 use Rattle.std.specs.Prelude.{codes}
 use Rattle.board.specs.declared.one_turn.Begun.{Begun}
 use Rattle.probe.specs.declared.signals.Levels.{Levels}

@@ -1,5 +1,5 @@
 -- Turns whose changes of wires are told: those of the first clock are all.
-use Rattle.std.proofs.Common.{◌≡◌, ℕ, zero, suc, ◌+◌, ◌-◌, ◌<◌, ◌≤◌, Bool, true, false, List, [], ◌++◌, length, refl, sym, ap, ◌∙◌, subst, arith, append-nil}
+use Rattle.std.proofs.Common.{◌≡◌, ℕ, zero, suc, ◌+◌, ◌-◌, ◌<◌, ◌≤◌, Bool, true, false, List, [], ◌++◌, length, refl, sym, ap, ◌∙◌, arith, append-nil}
 use Rattle.std.specs.Prelude.{codes}
 use Rattle.std.specs.Fmt.{decimal}
 use Rattle.board.specs.OneTurn.{HaveSameWires, IsOneTurn}
@@ -7,7 +7,7 @@ use Rattle.board.specs.declared.one_turn.Begun.{Begun}
 use Rattle.board_plain.proofs.Runs.{ran_none, runs_join}
 use Rattle.board_plain.specs.Plain.{Plain, after_clock, after_clocks, clock_of}
 use Rattle.board_types.proofs.Iterate.{gathered_add, gathered_more, gathered_zero, iterate_add, iterate_more, iterate_zero}
-use Rattle.board_types.specs.Iterate.{gathered, iterate}
+use Rattle.board_types.specs.Iterate.{gathered}
 use Rattle.board_types.specs.Lines.{is_high}
 use Rattle.debugger_meaning.specs.Stands.{SessionState}
 use Rattle.pic8259.specs.Levels.{contains}

@@ -7,8 +7,10 @@ use Rattle.debugger_meaning.specs.declared.command.Command.TheVariants.{Break}
 use Rattle.debugger_meaning.specs.Commands.{break_command, is_colon}
 use Rattle.debugger_meaning.specs.Words.{count_of, hex_number, words_of}
 use Rattle.probe.specs.declared.inquiry.Inquiry.{Inquiry}
-use Rattle.probe.specs.declared.inquiry.Inquiry.TheVariants.{Chips, List as Listing, Counts, Signals}
+use Rattle.probe.specs.declared.inquiry.Inquiry.TheVariants.{Chips, List as Listing, Counts, Signals, Events}
 use Rattle.probe.specs.declared.inquiry.Place.{Place}
+use Rattle.probe.specs.declared.kinds.Kind.{Kind}
+use Rattle.probe.specs.Kinds.{kinds_from}
 
 -- a physical address by the segment of its 64 KB
 abbrev pub place_of_address : Option ℕ → Option Place
@@ -40,14 +42,25 @@ run_inquiry name (Some count) =
     if bytes_eq name (codes "counts") then Some (Counts count) else (
     if bytes_eq name (codes "signals") then Some (Signals count) else None)
 
+-- what happens in so many clocks, of some kinds
+abbrev pub events_of : Option ℕ → Option (List Kind) → Option Inquiry
+events_of (Some count) (Some kinds) = Some (Events count (record { items = kinds }))
+events_of (Some count) None = None
+events_of None _ = None
+
+abbrev pub list_in : List ℕ → List ℕ → List ℕ → List (List ℕ) → Option Inquiry
+list_in name first second [] =
+    if bytes_eq name (codes "list") then list_of (place_of first) (count_of second) else None
+list_in name first second (third ∷ rest) = None
+
 -- the inquiry that words are, if they are one
 abbrev pub inquiry_in : List (List ℕ) → Option Inquiry
 inquiry_in [] = None
 inquiry_in (name ∷ []) = if bytes_eq name (codes "chips") then Some Chips else None
 inquiry_in (name ∷ first ∷ []) = run_inquiry name (count_of first)
-inquiry_in (name ∷ first ∷ second ∷ []) =
-    if bytes_eq name (codes "list") then list_of (place_of first) (count_of second) else None
-inquiry_in (name ∷ first ∷ second ∷ third ∷ rest) = None
+inquiry_in (name ∷ first ∷ second ∷ rest) =
+    if bytes_eq name (codes "events") then events_of (count_of first) (kinds_from [] (second ∷ rest))
+    else list_in name first second rest
 
 unfoldable pub inquiry_of : List ℕ → Option Inquiry
 inquiry_of line = inquiry_in (words_of line)

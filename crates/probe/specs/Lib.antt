@@ -10,5 +10,8 @@ pub mod Counted
 pub mod Signals
 pub mod Signalled
 pub mod Inquiry
+pub mod Kinds
+pub mod Listed
+pub mod Told
 pub mod Listing
 pub mod Session

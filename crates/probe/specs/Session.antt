@@ -7,10 +7,11 @@ use Rattle.debugger_meaning.specs.Commands.{command_of}
 use Rattle.debugger_meaning.specs.Session.{AnswersLine, Shows}
 use Rattle.debugger_meaning.specs.Stands.{SessionState}
 use Rattle.probe.specs.declared.inquiry.Inquiry.{Inquiry}
-use Rattle.probe.specs.declared.inquiry.Inquiry.TheVariants.{Chips, List as Listing, Counts, Signals}
+use Rattle.probe.specs.declared.inquiry.Inquiry.TheVariants.{Chips, List as Listing, Counts, Signals, Events}
 use Rattle.probe.specs.Chips.{chips_text}
 use Rattle.probe.specs.Counts.{counts_text}
 use Rattle.probe.specs.Inquiry.{inquiry_of}
+use Rattle.probe.specs.Listed.{events_text}
 use Rattle.probe.specs.Listing.{list_text}
 use Rattle.probe.specs.Making.{AnswersMaking}
 use Rattle.probe.specs.Signals.{signals_text}
@@ -22,6 +23,7 @@ AnswersInquiry (Listing place count) old result new =
     Shows (list_text old.board.plain place.segment place.offset count) result × (new ≡ old)
 AnswersInquiry (Counts n) old result new = AnswersMaking n (counts_text old.board.plain n) old result new
 AnswersInquiry (Signals n) old result new = AnswersMaking n (signals_text old.board.plain n) old result new
+AnswersInquiry (Events n kinds) old result new = AnswersMaking n (events_text kinds.items old.board.plain n) old result new
 
 -- what is no inquiry is answered as the debugger answers it
 abbrev pub AnswersOr : Option Inquiry → List ℕ → SessionState → Result Answer DebugFault → SessionState → Type 0

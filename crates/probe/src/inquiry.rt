@@ -1,8 +1,10 @@
 //! Inquiries, and the reading of a line as one.
-ghost use Rattle.std.specs.Prelude.{◌≡◌};
-ghost use Rattle.debugger_meaning.specs.Words.{count_of};
-ghost use Rattle.probe.specs.Inquiry.{inquiry_of, list_of, place_of, run_inquiry};
+ghost use Rattle.std.specs.Prelude.{◌≡◌, []};
+ghost use Rattle.debugger_meaning.specs.Words.{count_of, words_of};
+ghost use Rattle.probe.specs.Inquiry.{events_of, inquiry_of, list_of, place_of, run_inquiry};
+ghost use Rattle.probe.specs.Kinds.{kinds_from};
 
+use crate::kinds::{Kinds, read_kinds};
 use debugger_meaning::command::{Command, break_command, colon_place};
 use debugger_meaning::word::{count_of, hex_number, next_word};
 
@@ -14,7 +16,7 @@ pub struct Place {
 }
 
 /// What a line inquires of a session's board, beside the debugger's commands.
-#[derive(Clone, Copy, Debug, PartialEq, Eq)]
+#[derive(Drop)]
 pub enum Inquiry {
     /// What the chips hold.
     Chips,
@@ -24,6 +26,8 @@ pub enum Inquiry {
     Counts(u64),
     /// The changes of wires in so many clocks, which are made.
     Signals(u64),
+    /// What happens, of these kinds, in so many clocks, which are made.
+    Events(u64, Kinds),
 }
 
 /// The inquiry that a line is, if it is one. Its words are parted by spaces, and written in lower case; a place is a
@@ -41,13 +45,25 @@ pub fn read_inquiry(line: &str) -> Option<Inquiry>
             None
         };
     };
-    let Some((second, rest)) = next_word(rest) else {
+    let Some((second, more)) = next_word(rest) else {
         return run_inquiry(name, first);
     };
-    if next_word(rest).is_some() || name != b"list".as_slice() {
+    if name == b"events".as_slice() {
+        return events(first, rest);
+    }
+    if next_word(more).is_some() || name != b"list".as_slice() {
         return None;
     }
     list(first, second)
+}
+
+/// What happens, of the kinds that these words name, in so many clocks.
+fn events(count: &[u8], words: &[u8]) -> Option<Inquiry>
+    ensures { result ≡ events_of (count_of count.now) (kinds_from [] (words_of words.now)) }
+{
+    let count = count_of(count)?;
+    let kinds = read_kinds(words)?;
+    Some(Inquiry::Events(count, kinds))
 }
 
 /// An inquiry about clocks that are made.

@@ -7,6 +7,7 @@ ghost use Rattle.debugger_meaning.specs.Session.{Shows};
 
 use crate::chips_text::chips_text;
 use crate::counts::tell_counts;
+use crate::event_lines::tell_events;
 use crate::inquiry::{Inquiry, Place, read_inquiry};
 use crate::list_text::list_text;
 use crate::signals::tell_signals;
@@ -16,7 +17,7 @@ use debugger_meaning::fault::DebugFault;
 use std::alloc::Global;
 
 /// Does what the line commands, and answers: an inquiry by itself, and any other line as the session does. `chips` and
-/// `list` change nothing; `counts` and `signals` make clocks. Where memory is wanted, an inquiry is refused as `Memory`.
+/// `list` change nothing; `counts`, `signals` and `events` make clocks. Where memory is wanted, an inquiry is refused as `Memory`.
 pub fn command(session: &mut Session, alloc: Global, line: &str) -> Result<Answer, DebugFault>
     ensures { AnswersProbe line.now session.old result session.new }
 {
@@ -34,6 +35,7 @@ fn answer(session: &mut Session, alloc: Global, inquiry: Inquiry) -> Result<Answ
         Inquiry::List(place, count) => list(session, alloc, place, count),
         Inquiry::Counts(count) => tell_counts(session, alloc, count),
         Inquiry::Signals(count) => tell_signals(session, alloc, count),
+        Inquiry::Events(count, kinds) => tell_events(session, alloc, count, kinds.as_slice()),
     }
 }
 

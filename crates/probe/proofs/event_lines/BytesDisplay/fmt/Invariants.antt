@@ -1,0 +1,10 @@
+-- The bytes so far are written.
+use Rattle.std.proofs.Common.{take}
+use Rattle.std.specs.List.{flat_map}
+use Rattle.std.specs.Fmt.{HasWritten, IsPlainFormatter}
+use Rattle.board_types.specs.Digits.{hex_byte_text}
+use Rattle.probe.proofs.event_lines.BytesDisplay.fmt.Given as goal
+
+abbrev pub invariant-loop-byte : goal.invariant-loop-byte
+invariant-loop-byte g l =
+    IsPlainFormatter l.initial.f → HasWritten g.W.Write.write_str_gives l.initial.f (flat_map hex_byte_text (take l.byte-index l.byte-items)) l.f

@@ -1,0 +1,763 @@
+//! What happens while clocks are made.
+ghost use Rattle.std.specs.Prelude.{ℕ, ◌≡◌, ◌+◌, ◌-◌, ◌<◌, ◌≤◌, ◌^◌, ◌++◌, [], ◌∷◌, IfOk, OnOk, Some, List, length, map, slice_get};
+ghost use Rattle.std.specs.List.{flat_map, list_any};
+ghost use Rattle.std.specs.Option.{option_to_list};
+ghost use Rattle.std.specs.String.{string_bytes};
+ghost use Rattle.board_types.specs.Digits.{hex_byte_text};
+ghost use Rattle.board_types.specs.declared.keys.StampedKey.{StampedKey};
+ghost use Rattle.board.specs.OneTurn.{begun_of};
+ghost use Rattle.board_plain.specs.Plain.{clock_of, codes_at};
+ghost use Rattle.board_plain.specs.Trail.{last};
+ghost use Rattle.board_plain.specs.declared.trail.TrailEntry.{TrailEntry};
+ghost use Rattle.debugger_meaning.specs.Dump.{address_text};
+ghost use Rattle.events.specs.Events.{is_same_state, state_events};
+ghost use Rattle.events.specs.declared.event.Event.TheVariants.{Began, Became, Keyed, Reached, Wired};
+ghost use Rattle.probe.specs.Listed.{access_text, begun_text, events_text, key_word, listed_lines, lists_access, lists_begun, lists_keys, lists_states, lists_wires, state_word, wire_name};
+ghost use Rattle.probe.specs.Making.{AnswersMaking};
+ghost use Rattle.probe.specs.Told.{arrivals_from, change_events, clock_lines, held_from, key_lines, keys_seen, latched_from, levels_seen, lines_between, lines_seen, lists_beginnings, seen_of, waiting_seen};
+
+use crate::kinds::Kind;
+use crate::making::lacking;
+use crate::shown::digit;
+use crate::signals::{Levels, levels_of, with_clock};
+use board::board::Board;
+use board::one_turn::Begun;
+use board_plain::trail::{TrailEntry, TrailEvent};
+use board_types::clock::Clock;
+use board_types::digits::{HexByte, HexWord};
+use board_types::keys::StampedKey;
+use board_types::state::State;
+use debugger::session::Session;
+use debugger_meaning::answer::Answer;
+use debugger_meaning::fault::DebugFault;
+use events::access::Access;
+use events::event::{KeyEvent, Wire};
+use execute_noted::notes::Accesses;
+use keyboard::keyboard::Keyboard;
+use std::alloc::{AllocError, Global};
+use std::fmt;
+
+/// A physical address, below 100000h, in five hexadecimal digits.
+#[derive(Clone, Copy)]
+struct Address(u32);
+
+impl fmt::Display for Address {
+    ghost output = { λ a. Some (address_text a.0) };
+
+    #[tactic(auto, using(std::proofs::lemmas::Fmt::hex_one_digit))]
+    fn fmt<W: fmt::Write>(&self, f: &mut fmt::Formatter<W>) -> fmt::Result {
+        let bank = (self.0 / 65536 % 16) as u8;
+        let rest = HexWord((self.0 % 65536) as u16);
+        write!(f, "{bank:X}{rest}")
+    }
+}
+
+/// Bytes, two digits each.
+#[derive(Clone, Copy)]
+struct Bytes<'a>(&'a [u8]);
+
+impl fmt::Display for Bytes<'_> {
+    ghost output = { λ b. Some (flat_map hex_byte_text b.0.now) };
+
+    fn fmt<W: fmt::Write>(&self, f: &mut fmt::Formatter<W>) -> fmt::Result {
+        for byte in self.0 {
+            let byte = HexByte(*byte);
+            write!(f, "{byte}")?;
+        }
+        Ok(())
+    }
+}
+
+/// What begins.
+#[derive(Drop)]
+struct BegunText<'a>(&'a TrailEntry);
+
+impl fmt::Display for BegunText<'_> {
+    ghost output = { λ b. Some (begun_text b.0.now b.0.now.event) };
+
+    fn fmt<W: fmt::Write>(&self, f: &mut fmt::Formatter<W>) -> fmt::Result {
+        match &self.0.event {
+            TrailEvent::Instruction { instr: _, bytes } => {
+                let cs = HexWord(self.0.cs);
+                let ip = HexWord(self.0.ip);
+                let bytes = Bytes(bytes.as_slice());
+                write!(f, "start {cs}:{ip} {bytes}")
+            }
+            TrailEvent::Entry(kind) => {
+                let kind = HexByte(*kind);
+                write!(f, "entry {kind}")
+            }
+        }
+    }
+}
+
+/// An access.
+#[derive(Clone, Copy)]
+struct AccessText(Access);
+
+impl fmt::Display for AccessText {
+    ghost output = { λ a. Some (access_text a.0) };
+
+    fn fmt<W: fmt::Write>(&self, f: &mut fmt::Formatter<W>) -> fmt::Result {
+        match self.0 {
+            Access::Write(address, byte) => {
+                let address = Address(address);
+                let byte = HexByte(byte);
+                write!(f, "write {address} {byte}")
+            }
+            Access::In(port, byte) => {
+                let port = HexWord(port);
+                let byte = HexByte(byte);
+                write!(f, "in {port} {byte}")
+            }
+            Access::Out(port, byte) => {
+                let port = HexWord(port);
+                let byte = HexByte(byte);
+                write!(f, "out {port} {byte}")
+            }
+        }
+    }
+}
+
+/// The word of a state that the processor comes to.
+fn state_word(state: State) -> &'static str
+    ensures { result.now ≡ state_word state }
+{
+    match state {
+        State::Running => "woken",
+        State::Halted => "halted",
+        State::Jammed => "jammed",
+    }
+}
+
+/// A wire's name.
+fn wire_name(wire: Wire) -> &'static str
+    ensures { result.now ≡ wire_name wire }
+{
+    match wire {
+        Wire::Out0 => "OUT0",
+        Wire::Out2 => "OUT2",
+        Wire::Ir0 => "IR0",
+        Wire::Ir1 => "IR1",
+        Wire::Int => "INT",
+        Wire::Speaker => "speaker",
+    }
+}
+
+/// Whether one of these kinds lists what begins.
+fn lists_begun(kinds: &[Kind], event: &TrailEvent) -> bool
+    ensures { result ≡ list_any (λ kind. lists_begun kind event.now) kinds.now }
+{
+    kinds.iter().any(|kind| kind_lists_begun(*kind, event))
+}
+
+/// Whether one of these kinds lists an access.
+fn lists_access(kinds: &[Kind], access: Access) -> bool
+    ensures { result ≡ list_any (λ kind. lists_access kind access) kinds.now }
+{
+    kinds.iter().any(|kind| kind_lists_access(*kind, access))
+}
+
+fn kind_lists_begun(kind: Kind, event: &TrailEvent) -> bool
+    ensures { result ≡ lists_begun kind event.now }
+{
+    match (kind, event) {
+        (Kind::Starts, TrailEvent::Instruction { .. }) => true,
+        (Kind::Entries, TrailEvent::Entry(_)) => true,
+        _ => false,
+    }
+}
+
+fn kind_lists_access(kind: Kind, access: Access) -> bool
+    ensures { result ≡ lists_access kind access }
+{
+    match (kind, access) {
+        (Kind::Writes(first, last), Access::Write(address, _)) => first <= address
+            && address <= last,
+        (Kind::Ports(first, last), Access::In(port, _)) => first <= port && port <= last,
+        (Kind::Ports(first, last), Access::Out(port, _)) => first <= port && port <= last,
+        _ => false,
+    }
+}
+
+/// Whether one of these kinds lists states.
+fn lists_states(kinds: &[Kind]) -> bool
+    ensures { result ≡ list_any lists_states kinds.now }
+{
+    kinds.iter().any(|kind| matches!(kind, Kind::States))
+}
+
+/// Whether one of these kinds lists wires.
+fn lists_wires(kinds: &[Kind]) -> bool
+    ensures { result ≡ list_any lists_wires kinds.now }
+{
+    kinds.iter().any(|kind| matches!(kind, Kind::Wires))
+}
+
+/// Whether one of these kinds lists keys.
+fn lists_keys(kinds: &[Kind]) -> bool
+    ensures { result ≡ list_any lists_keys kinds.now }
+{
+    kinds.iter().any(|kind| matches!(kind, Kind::Keys))
+}
+
+/// The word of what becomes of a key's code.
+fn key_word(what: KeyEvent) -> &'static str
+    ensures { result.now ≡ key_word what }
+{
+    match what {
+        KeyEvent::Arrives => "arrives",
+        KeyEvent::IsLost => "lost",
+        KeyEvent::IsLatched => "latched",
+    }
+}
+
+/// Adds the line of what becomes of a key's code, if it is listed.
+#[tactic(auto, using(crate::proofs::Listing::told_listed, crate::proofs::Listing::not_told), unfolding(crate::specs::Listed::event_line))]
+fn push_key(
+    alloc: Global,
+    text: &mut String,
+    kinds: &[Kind],
+    clock: u64,
+    what: KeyEvent,
+    code: u8,
+) -> Result<(), AllocError>
+    ensures { OnOk result (string_bytes text.new
+        ≡ string_bytes text.old ++ listed_lines kinds.now (Keyed clock what code ∷ [])) }
+{
+    if !lists_keys(kinds) {
+        return Ok(());
+    }
+    let code = HexByte(code);
+    let word = key_word(what);
+    let line = format!(in alloc; "{clock} key {code} {word}\n")?;
+    text.push_str(line.as_str())
+}
+
+/// Adds the lines of the codes that arrive while so many wait, and answers how many wait then.
+fn push_arrivals(
+    alloc: Global,
+    text: &mut String,
+    kinds: &[Kind],
+    clock: u64,
+    waiting: usize,
+    keys: &[StampedKey],
+) -> Result<usize, AllocError>
+    requires { waiting ≤ 16 }
+    ensures text { OnOk result (string_bytes text.new ≡ string_bytes text.old
+        ++ listed_lines kinds.now (arrivals_from clock waiting (map (λ (k : StampedKey). k.code) keys.now))) }
+    ensures held { IfOk result (λ held. held ≡ held_from waiting (map (λ (k : StampedKey). k.code) keys.now)) }
+{
+    let mut held = waiting;
+    for key in keys {
+        if held < 16 {
+            push_key(alloc, text, kinds, clock, KeyEvent::Arrives, key.code)?;
+            held += 1;
+        } else {
+            push_key(alloc, text, kinds, clock, KeyEvent::IsLost, key.code)?;
+        }
+    }
+    Ok(held)
+}
+
+/// How many codes wait.
+fn waiting_of(keyboard: &Keyboard) -> usize
+    ensures count { result ≡ length keyboard.now.waiting }
+    ensures few { result ≤ 16 }
+{
+    let mut count = 0;
+    while keyboard.waiting(count).is_some() {
+        count += 1;
+    }
+    count
+}
+
+/// Adds the line of the code that has moved into the latch, if one has and it is listed; before that so many waited.
+fn push_latched(
+    alloc: Global,
+    text: &mut String,
+    kinds: &[Kind],
+    clock: u64,
+    held: usize,
+    keyboard: &Keyboard,
+) -> Result<(), AllocError>
+    ensures { OnOk result (string_bytes text.new
+        ≡ string_bytes text.old ++ listed_lines kinds.now (latched_from clock held keyboard.now)) }
+{
+    if waiting_of(keyboard) + 1 != held {
+        return Ok(());
+    }
+    match keyboard.latch() {
+        Some(code) => push_key(alloc, text, kinds, clock, KeyEvent::IsLatched, code),
+        None => Ok(()),
+    }
+}
+
+/// Adds the lines of what becomes of the keys at a clock before which so many codes waited; at the board's clock the keyboard
+/// still stands as that clock left it.
+#[tactic(auto, unfolding(crate::specs::Told::key_lines))]
+fn push_keys(
+    alloc: Global,
+    text: &mut String,
+    kinds: &[Kind],
+    clock: Clock,
+    waiting: usize,
+    board: &Board,
+) -> Result<(), AllocError>
+    requires room { waiting ≤ 16 }
+    requires reached { clock ≤ clock_of board.now.plain }
+    ensures { OnOk result (string_bytes text.new ≡ string_bytes text.old
+        ++ key_lines kinds.now clock waiting (codes_at board.now.plain.keys clock) board.now.plain.chips.keyboard) }
+{
+    let keys = board.keys_at(clock);
+    let held = push_arrivals(alloc, text, kinds, clock.get(), waiting, keys)?;
+    push_latched(alloc, text, kinds, clock.get(), held, board.keyboard())
+}
+
+/// Adds the line of what begins, if it is listed.
+#[tactic(auto, using(crate::proofs::Listing::told_listed, crate::proofs::Listing::not_told), unfolding(crate::specs::Listed::event_line))]
+fn push_begun(
+    alloc: Global,
+    text: &mut String,
+    kinds: &[Kind],
+    entry: &TrailEntry,
+) -> Result<(), AllocError>
+    ensures { OnOk result (string_bytes text.new
+        ≡ string_bytes text.old ++ listed_lines kinds.now (Began entry.now ∷ [])) }
+{
+    if !lists_begun(kinds, &entry.event) {
+        return Ok(());
+    }
+    let clock = entry.clock.get();
+    let begun = BegunText(entry);
+    let line = format!(in alloc; "{clock} {begun}\n")?;
+    text.push_str(line.as_str())
+}
+
+/// Adds the line of an access in the clock that begins at this one, if it is listed.
+#[tactic(auto, using(crate::proofs::Listing::told_listed, crate::proofs::Listing::not_told), unfolding(crate::specs::Listed::event_line))]
+fn push_access(
+    alloc: Global,
+    text: &mut String,
+    kinds: &[Kind],
+    clock: u64,
+    access: Access,
+) -> Result<(), AllocError>
+    ensures { OnOk result (string_bytes text.new
+        ≡ string_bytes text.old ++ listed_lines kinds.now (Reached clock access ∷ [])) }
+{
+    if !lists_access(kinds, access) {
+        return Ok(());
+    }
+    let access = AccessText(access);
+    let line = format!(in alloc; "{clock} {access}\n")?;
+    text.push_str(line.as_str())
+}
+
+/// Adds the lines of a clock's accesses that are listed.
+#[tactic(auto, using(crate::proofs::Listing::listed_append, crate::proofs::Listing::listed_none))]
+fn push_accesses(
+    alloc: Global,
+    text: &mut String,
+    kinds: &[Kind],
+    clock: u64,
+    accesses: &[Access],
+) -> Result<(), AllocError>
+    ensures { OnOk result (string_bytes text.new
+        ≡ string_bytes text.old ++ listed_lines kinds.now (map (Reached clock) accesses.now)) }
+{
+    for access in accesses {
+        push_access(alloc, text, kinds, clock, *access)?;
+    }
+    Ok(())
+}
+
+/// Adds the line of a state that the processor comes to, if it is listed.
+#[tactic(auto, using(crate::proofs::Listing::told_listed, crate::proofs::Listing::not_told), unfolding(crate::specs::Listed::event_line))]
+fn push_state(
+    alloc: Global,
+    text: &mut String,
+    kinds: &[Kind],
+    clock: u64,
+    state: State,
+) -> Result<(), AllocError>
+    ensures { OnOk result (string_bytes text.new
+        ≡ string_bytes text.old ++ listed_lines kinds.now (Became clock state ∷ [])) }
+{
+    if !lists_states(kinds) {
+        return Ok(());
+    }
+    let word = state_word(state);
+    let line = format!(in alloc; "{clock} {word}\n")?;
+    text.push_str(line.as_str())
+}
+
+/// Adds the line of a wire that comes to another level, if it is listed.
+#[tactic(auto, using(crate::proofs::Listing::told_listed, crate::proofs::Listing::not_told), unfolding(crate::specs::Listed::event_line))]
+fn push_wire(
+    alloc: Global,
+    text: &mut String,
+    kinds: &[Kind],
+    clock: u64,
+    wire: Wire,
+    level: bool,
+) -> Result<(), AllocError>
+    ensures { OnOk result (string_bytes text.new
+        ≡ string_bytes text.old ++ listed_lines kinds.now (Wired clock wire level ∷ [])) }
+{
+    if !lists_wires(kinds) {
+        return Ok(());
+    }
+    let name = wire_name(wire);
+    let level = digit(level);
+    let line = format!(in alloc; "{clock} wire {name} {level}\n")?;
+    text.push_str(line.as_str())
+}
+
+/// Adds the line of a wire, if its level changes and it is listed.
+fn push_change(
+    alloc: Global,
+    text: &mut String,
+    kinds: &[Kind],
+    clock: u64,
+    wire: Wire,
+    before: bool,
+    after: bool,
+) -> Result<(), AllocError>
+    ensures { OnOk result (string_bytes text.new
+        ≡ string_bytes text.old ++ listed_lines kinds.now (change_events clock wire before after)) }
+{
+    if before == after {
+        return Ok(());
+    }
+    push_wire(alloc, text, kinds, clock, wire, after)
+}
+
+/// Adds the lines of the wires that change, if they are listed.
+#[tactic(auto, unfolding(crate::specs::Told::lines_between))]
+fn push_changes(
+    alloc: Global,
+    text: &mut String,
+    kinds: &[Kind],
+    clock: u64,
+    before: Levels,
+    after: Levels,
+) -> Result<(), AllocError>
+    ensures { OnOk result (string_bytes text.new ≡ string_bytes text.old ++ lines_between kinds.now clock before after) }
+{
+    push_change(
+        alloc,
+        text,
+        kinds,
+        clock,
+        Wire::Out0,
+        before.out_0,
+        after.out_0,
+    )?;
+    push_change(
+        alloc,
+        text,
+        kinds,
+        clock,
+        Wire::Out2,
+        before.out_2,
+        after.out_2,
+    )?;
+    push_change(
+        alloc,
+        text,
+        kinds,
+        clock,
+        Wire::Ir0,
+        before.ir_0,
+        after.ir_0,
+    )?;
+    push_change(
+        alloc,
+        text,
+        kinds,
+        clock,
+        Wire::Ir1,
+        before.ir_1,
+        after.ir_1,
+    )?;
+    push_change(alloc, text, kinds, clock, Wire::Int, before.int, after.int)?;
+    push_change(
+        alloc,
+        text,
+        kinds,
+        clock,
+        Wire::Speaker,
+        before.speaker,
+        after.speaker,
+    )
+}
+
+/// Which parts of a board are looked at, since they are listed: its wires, and its keys.
+#[derive(Clone, Copy)]
+pub(crate) struct Asked {
+    wires: bool,
+    keys: bool,
+}
+
+/// What is seen of a board before a turn: its clock, the processor's state, how many codes wait, and the wires; the last two if
+/// they are asked for.
+#[derive(Clone, Copy)]
+pub(crate) struct Seen {
+    clock: u64,
+    state: State,
+    waiting: usize,
+    levels: Option<Levels>,
+}
+
+#[tactic(auto, unfolding(crate::specs::Told::seen_of))]
+fn seen_of(board: &Board, asked: Asked) -> Seen
+    ensures seen { result ≡ seen_of asked board.now.plain }
+    ensures clock { result.clock ≡ clock_of board.now.plain }
+    ensures room { result.waiting ≤ 16 }
+{
+    Seen {
+        clock: board.clock().get(),
+        state: board.state(),
+        waiting: waiting_seen(board, asked.keys),
+        levels: levels_seen(board, asked.wires),
+    }
+}
+
+/// How many codes wait, if that is asked for.
+fn waiting_seen(board: &Board, keys: bool) -> usize
+    ensures waiting { result ≡ waiting_seen keys board.now.plain }
+    ensures room { result ≤ 16 }
+{
+    if keys {
+        waiting_of(board.keyboard())
+    } else {
+        0
+    }
+}
+
+/// The levels of the wires, if they are asked for.
+fn levels_seen(board: &Board, wires: bool) -> Option<Levels>
+    ensures { result ≡ levels_seen wires board.now.plain }
+{
+    if wires { Some(levels_of(board)) } else { None }
+}
+
+/// Whether two states are one.
+fn is_same_state(before: State, after: State) -> bool
+    ensures { result ≡ is_same_state before after }
+{
+    match (before, after) {
+        (State::Running, State::Running) => true,
+        (State::Halted, State::Halted) => true,
+        (State::Jammed, State::Jammed) => true,
+        _ => false,
+    }
+}
+
+/// Adds the line of the processor's state, if it changes and is listed.
+fn push_new_state(
+    alloc: Global,
+    text: &mut String,
+    kinds: &[Kind],
+    clock: u64,
+    before: State,
+    after: State,
+) -> Result<(), AllocError>
+    ensures { OnOk result (string_bytes text.new
+        ≡ string_bytes text.old ++ listed_lines kinds.now (state_events clock before after)) }
+{
+    if is_same_state(before, after) {
+        return Ok(());
+    }
+    push_state(alloc, text, kinds, clock, after)
+}
+
+/// The last entry of a board's trail.
+fn last_entry(board: &Board) -> Option<TrailEntry>
+    requires { length board.now.trail ≤ 32 }
+    ensures { result ≡ slice_get board.now.trail (length board.now.trail - 1) }
+{
+    let mut count = 32;
+    while count > 0 {
+        count -= 1;
+        if let Some(entry) = board.trail(count) {
+            return Some(entry);
+        }
+    }
+    None
+}
+
+/// Adds the line of the trail's last entry, if it is listed.
+fn push_last(
+    alloc: Global,
+    text: &mut String,
+    kinds: &[Kind],
+    board: &Board,
+) -> Result<(), AllocError>
+    requires { length board.now.trail ≤ 32 }
+    ensures { OnOk result ((entry : TrailEntry) → slice_get board.now.trail (length board.now.trail - 1) ≡ Some entry
+        → string_bytes text.new ≡ string_bytes text.old ++ listed_lines kinds.now (Began entry ∷ [])) }
+{
+    match last_entry(board) {
+        Some(entry) => push_begun(alloc, text, kinds, &entry),
+        None => Ok(()),
+    }
+}
+
+/// Whether one of these kinds lists what begins.
+fn lists_beginnings(kinds: &[Kind]) -> bool
+    ensures { result ≡ list_any lists_beginnings kinds.now }
+{
+    kinds
+        .iter()
+        .any(|kind| matches!(kind, Kind::Starts | Kind::Entries))
+}
+
+/// Adds the line of what began last, if something began and is listed.
+fn push_begun_last(
+    alloc: Global,
+    text: &mut String,
+    kinds: &[Kind],
+    begun: Option<Begun>,
+    board: &Board,
+) -> Result<(), AllocError>
+    requires { length board.now.trail ≤ 32 }
+    ensures { OnOk result ((before entries : List TrailEntry) → map begun_of entries ≡ option_to_list begun
+        → board.now.trail ≡ last 32 (before ++ entries)
+        → string_bytes text.new ≡ string_bytes text.old ++ listed_lines kinds.now (map Began entries)) }
+{
+    if !lists_beginnings(kinds) {
+        return Ok(());
+    }
+    match begun {
+        None => Ok(()),
+        Some(_) => push_last(alloc, text, kinds, board),
+    }
+}
+
+/// Adds the lines of the wires, if they are seen.
+fn push_seen(
+    alloc: Global,
+    text: &mut String,
+    kinds: &[Kind],
+    clock: u64,
+    before: Option<Levels>,
+    after: Option<Levels>,
+) -> Result<(), AllocError>
+    ensures { OnOk result (string_bytes text.new ≡ string_bytes text.old ++ lines_seen kinds.now clock before after) }
+{
+    match before {
+        None => Ok(()),
+        Some(before) => match after {
+            None => Ok(()),
+            Some(after) => push_changes(alloc, text, kinds, clock, before, after),
+        },
+    }
+}
+
+/// Adds the lines of the keys, if they are asked for.
+fn push_asked_keys(
+    alloc: Global,
+    text: &mut String,
+    kinds: &[Kind],
+    asked: Asked,
+    before: Seen,
+    board: &Board,
+) -> Result<(), AllocError>
+    requires room { before.waiting ≤ 16 }
+    requires later { before.clock < clock_of board.now.plain }
+    requires limit { before.clock < 2 ^ 40 }
+    ensures { OnOk result (string_bytes text.new ≡ string_bytes text.old
+        ++ keys_seen asked.keys kinds.now (before.clock + 1) before.waiting
+        (codes_at board.now.plain.keys (before.clock + 1)) board.now.plain.chips.keyboard) }
+{
+    if !asked.keys {
+        return Ok(());
+    }
+    let clock = Clock::new(before.clock + 1).unwrap();
+    push_keys(alloc, text, kinds, clock, before.waiting, board)
+}
+
+/// Adds the lines of a turn's first clock. It began at what was seen before; the board stands where the turn ends, and what is
+/// asked for is there as that clock left it.
+#[tactic(auto, unfolding(crate::specs::Told::clock_lines))]
+fn push_turn(
+    alloc: Global,
+    text: &mut String,
+    kinds: &[Kind],
+    asked: Asked,
+    before: Seen,
+    begun: Option<Begun>,
+    accesses: &[Access],
+    board: &Board,
+) -> Result<(), AllocError>
+    requires few { length board.now.trail ≤ 32 }
+    requires room { before.waiting ≤ 16 }
+    requires later { before.clock < clock_of board.now.plain }
+    requires limit { before.clock < 2 ^ 40 }
+    ensures { OnOk result ((earlier entries : List TrailEntry) → map begun_of entries ≡ option_to_list begun
+        → board.now.trail ≡ last 32 (earlier ++ entries)
+        → string_bytes text.new ≡ string_bytes text.old
+        ++ clock_lines kinds.now asked before entries accesses.now board.now.plain) }
+{
+    push_begun_last(alloc, text, kinds, begun, board)?;
+    push_accesses(alloc, text, kinds, before.clock, accesses)?;
+    push_new_state(
+        alloc,
+        text,
+        kinds,
+        before.clock,
+        before.state,
+        board.state(),
+    )?;
+    push_asked_keys(alloc, text, kinds, asked, before, board)?;
+    let levels = levels_seen(board, asked.wires);
+    push_seen(alloc, text, kinds, before.clock + 1, before.levels, levels)
+}
+
+/// Makes `count` clocks, whatever the stops say, and tells what happens in them, of these kinds. Refused as `ClockLimit` past
+/// the last clock, and as `Memory`, with the clock that was reached, if there is none.
+pub(crate) fn tell_events(
+    session: &mut Session,
+    alloc: Global,
+    count: u64,
+    kinds: &[Kind],
+) -> Result<Answer, DebugFault>
+    ensures { AnswersMaking count (events_text kinds.now session.old.board.plain count) session.old result session.new }
+{
+    let start = session.board().clock();
+    if Clock::LAST - start.get() < count {
+        return Err(DebugFault::ClockLimit);
+    }
+    let end = Clock::new(start.get() + count).unwrap();
+    let asked = Asked {
+        wires: lists_wires(kinds),
+        keys: lists_keys(kinds),
+    };
+    let mut text = String::new(alloc);
+    let mut accesses = Accesses::new();
+    'turns: while session.board().clock() < end {
+        let before = seen_of(session.board(), asked);
+        let begun = session.run_turn(end, &mut accesses, !asked.wires)?;
+        let noted = accesses.as_slice();
+        if push_turn(
+            alloc,
+            &mut text,
+            kinds,
+            asked,
+            before,
+            begun,
+            noted,
+            session.board(),
+        )
+        .is_err()
+        {
+            return Err(lacking(session));
+        }
+    }
+    match with_clock(alloc, text.as_str(), end) {
+        Ok(text) => Ok(Answer::Text(text)),
+        Err(_) => Err(lacking(session)),
+    }
+}
