@@ -70,6 +70,7 @@ def main_of(name: str) -> Callable[[list[str]], int]:
     """A tool's own function."""
     loader = importlib.machinery.SourceFileLoader(f'tool_{name}', f'{TOOLS}/{name}')
     module = types.ModuleType(loader.name)
+    module.__file__, sys.modules[loader.name] = loader.path, module
     loader.exec_module(module)
     return module.main  # type: ignore[no-any-return]
 

@@ -524,9 +524,9 @@ class Boards(Served):
 
     def holding(self, files: Files, stop: str, until: int) -> list[int]:
         """The clocks at which a stop comes to hold, by a session that goes on clock by clock."""
-        with Session(files) as session:
-            session.stop(stop)
-            held = [False, *(session.go(1).startswith('stop') for _ in range(until))]
+        told = self.pcboard(*files.words('debug'), given=f'{stop}\n' + 'go 1\n' * until).stdout.splitlines()[1:]
+        held = [False, *(it.startswith('stop') for it in told)]
+        self.assertEqual(len(told), until)
         return [at for at in range(1, until + 1) if held[at] and not held[at - 1]]
 
     def met(self, board: str, until: int) -> list[tuple[int, str]]:
@@ -777,7 +777,8 @@ class Boards(Served):
             if turn % 3 == 0:
                 self.client.ask('close', board=board)
             elif turn % 3 == 1:
-                body = json.dumps({'do': 'run', 'ms': 200, 'board': board}).encode()
+                # Most of them run for an instant, and some as long as a page asks for.
+                body = json.dumps({'do': 'run', 'ms': 200 if turn % 10 == 1 else 20, 'board': board}).encode()
                 head = f'POST {path} HTTP/1.1\r\nHost: {self.client.host}\r\nOrigin: http://{self.client.host}\r\nContent-Type: application/json\r\n'
                 with socket.create_connection(('127.0.0.1', self.client.port)) as line:
                     line.sendall(f'{head}Content-Length: {len(body)}\r\n\r\n'.encode() + body)
@@ -1060,18 +1061,18 @@ class Started(Begun):
         self.ended(process, signal.SIGINT)
 
     def test_words(self) -> None:
-        self.assertIn("can't be read", self.tool('desk', 'none.asm', status=2)[1])
-        self.assertIn('no such folder', self.tool('desk', self.file('a.asm', FOREVER), 'none/a.json', status=2)[1])
-        self.assertIn('is no JSON', self.tool('desk', self.file('a.asm', FOREVER), self.file('a.json', '{'), status=2)[1])
-        self.assertIn('a port is', self.tool('desk', '--port', '70000', status=2)[1])
+        self.assertIn("can't be read", self.called('desk', 'none.asm', status=2)[1])
+        self.assertIn('no such folder', self.called('desk', self.file('a.asm', FOREVER), 'none/a.json', status=2)[1])
+        self.assertIn('is no JSON', self.called('desk', self.file('a.asm', FOREVER), self.file('a.json', '{'), status=2)[1])
+        self.assertIn('a port is', self.called('desk', '--port', '70000', status=2)[1])
         with socket.create_server(('127.0.0.1', 0)) as taken:
             port = str(taken.getsockname()[1])
             self.assertIn(f"port {port} can't be had", self.tool('desk', '--no-open', '--port', port, status=2)[1])
-        self.assertIn('--hex goes with FILE', self.tool('desk', '--hex', status=2)[1])
+        self.assertIn('--hex goes with FILE', self.called('desk', '--hex', status=2)[1])
         for word in ('-', ''):
-            self.assertIn('a file is wanted', self.tool('desk', word, status=2)[1])
-        self.assertIn('goes with Intel HEX', self.tool('desk', '--symbols', 'x', self.file('a.asm', FOREVER), status=2)[1])
-        self.assertIn('no byte at any of its labels', self.tool('desk', '--symbols', self.file('a.sym', 'F000:7 it\n'), self.file('a.hex', ''), status=2)[1])
+            self.assertIn('a file is wanted', self.called('desk', word, status=2)[1])
+        self.assertIn('goes with Intel HEX', self.called('desk', '--symbols', 'x', self.file('a.asm', FOREVER), status=2)[1])
+        self.assertIn('no byte at any of its labels', self.called('desk', '--symbols', self.file('a.sym', 'F000:7 it\n'), self.file('a.hex', ''), status=2)[1])
 
 
 class Pages(unittest.TestCase):

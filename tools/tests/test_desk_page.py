@@ -280,13 +280,13 @@ class OnePage(ToolCase):
         self.assertEqual(set(browser.run(high)), {18})
         browser.call('Emulation.setTouchEmulationEnabled', enabled=True)
         try:
-            browser.until(f"matchMedia('(pointer: coarse)').matches&&Math.min(...{high})===24")
+            browser.until(f"matchMedia('(pointer: coarse)').matches&&lineHigh===24&&Math.min(...{high})===24")
             self.assertEqual(browser.run("$('source').scrollHeight"), 24 * browser.run("$('source').value.split('\\n').length"))
             line = browser.run("Number([...document.querySelectorAll('#gutter span.can')][3].dataset.line)")
             page.click(f'#gutter span[data-line="{line}"]', f'stops.length===1&&stops[0].line==={line}')
         finally:
             browser.call('Emulation.setTouchEmulationEnabled', enabled=False)
-        browser.until(f'Math.max(...{high})===18')
+        browser.until(f'lineHigh===18&&Math.max(...{high})===18')
         self.fine(page)
 
     def test_keys_and_files(self) -> None:
@@ -616,17 +616,17 @@ class OnePage(ToolCase):
         browser = page.browser
         page.write('SEGMENT RESET AT 0FFFFh\nbusy:   INC AX\n        JMP SHORT busy\nENDS\n')
         page.click('#assemble', "assembled.includes('busy')")
-        browser.run("$('to').value='3,000,000,000'")
-        page.click('#go', 'view.clock===3000000000')
+        browser.run("$('to').value='1,200,000,000'")
+        page.click('#go', 'view.clock===1200000000')
         browser.run("$('screen').focus()")
         browser.press('a')
-        browser.until("/^catching up with the key: clock [\\d,]+ of 3,000,000,000; Pause drops the key$/.test($('said').textContent)")
+        browser.until("/^catching up with the key: clock [\\d,]+ of 1,200,000,000; Pause drops the key$/.test($('said').textContent)")
         page.click('#run', "$('said').textContent==='The key was dropped before the run had caught up.'")
-        self.assertEqual(browser.run('[view.clock,view.keys.length]'), [3_000_000_000, 0])
+        self.assertEqual(browser.run('[view.clock,view.keys.length]'), [1_200_000_000, 0])
         browser.run("$('screen').focus()")
         browser.press('a')
-        page.settled("view.keys.length===2&&/^stamped 3,000,002,000; caught up in/.test($('said').textContent)")
-        self.assertEqual(browser.run('view.clock'), 3_000_000_000)
+        page.settled("view.keys.length===2&&/^stamped 1,200,002,000; caught up in/.test($('said').textContent)")
+        self.assertEqual(browser.run('view.clock'), 1_200_000_000)
         self.fine(page)
 
     def test_the_editor(self) -> None:
