@@ -131,6 +131,15 @@ class Runs(ToolCase):
         self.assertIn('came no nowhere in', told[2])
         self.assertRegex(told[6], r'clocks used = 5: came \d+$')
 
+    def test_the_first_instruction_ran(self) -> None:
+        """It began at clock 0, unless the run ends there."""
+        source = self.file('it.asm', 'SEGMENT M AT 0F000h\ngo:     HLT\nENDS\nSEGMENT R AT 0FFFFh\nfirst:  JMP FAR go\nENDS\n')
+        for budget, came in (('100', 'clock 0'), ('0', 'never')):
+            page = self.file('page', f'budget = {budget}\nruns = first\nruns = FFFF:0\nnever runs = first\n')
+            out, _ = self.tool('judge', page, source, status=1)
+            self.assertEqual([it[:3] for it in out.splitlines()[:3]], ['no ', 'no ', 'ok '] if came == 'never' else ['ok ', 'ok ', 'no '])
+            self.assertIn(came, out)
+
     def test_behind_a_halt_nothing_runs_by_itself(self) -> None:
         files = self.program(' STI\n HLT\nbehind: NOP\n HLT', 5000)
         self.assertEqual(self.lines('never runs = behind\nruns = start\n', *files)[-1], '2 met, 0 not')

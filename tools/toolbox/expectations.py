@@ -13,7 +13,7 @@ from toolbox.events import events
 from toolbox.listing import Listing, listing_of
 from toolbox.places import address_of, far_of, number_of
 from toolbox.program import LAST_CLOCK, Files, Session
-from toolbox.report import REGISTERS, ROWS, Report
+from toolbox.report import REGISTERS, ROWS, Report, registers_of
 from toolbox.scancodes import BARE, Stroke, stamped, strokes_of
 from toolbox.services import Served, served_of
 
@@ -240,7 +240,10 @@ def first_start(subject: Subject, segment: int, offset: int) -> int | None:
     end, files = subject.report.clock, subject.ran()
     with Session(files) as session:
         session.stop(f'break {segment:X}:{offset:X}')
-        if not session.go(end).startswith('stop') or session.clock >= end:
+        registers = registers_of(session.many('regs'))
+        # A stop is met at clocks behind the present one, and the first instruction begins at clock 0.
+        is_first = end > 0 and (registers['CS'], registers['IP']) == (segment, offset)
+        if not is_first and (not session.go(end).startswith('stop') or session.clock >= end):
             return None
         clock = session.clock
         session.one('step')
