@@ -91,7 +91,7 @@ class StandIn(ToolCase):
             (['--key', 'EE', '--at', '1..9'], 'no scan code'),
             (['--key', '1E', '--at', '9..9'], 'no clock'),
             (['--key', '1E', '--at', 'soon'], '1000..9000'),
-            (['--key', '1E', '--at', '890..901'], 'never comes'),
+            (['--key', '1E', '--at', '890..902'], 'never comes'),
             (['--key', '1E', '--at', '1..9', '--sample', '9'], 'there are 8 moments'),
             (['--key', '1E', '--at', '1..9', '--symbols', 'x'], 'goes with --hex'),
         ):
@@ -128,6 +128,54 @@ class StandIn(ToolCase):
         out, err = self.tool('moments', *files, '--key', '1E', '--at', '103..107')
         self.assertEqual((out.splitlines()[0], err.count('begins anew')), ('4 of 4 moments tried, 0 failed', 1))
 
+    def test_a_sample_joins_neighbours_alone(self) -> None:
+        """Failing stamps between which others weren't tried are no range."""
+        out, _ = self.tool('moments', *self.begin(), '--key', '1E', '--at', '101..201', '--sample', '40', '--seed', '3', '--all', status=1)
+        tried = {it[0][0] for it in self.listed() if it}
+        self.assertEqual(len(tried), 40)
+        told = set[int]()
+        for line in out.splitlines():
+            if line.startswith('failing '):
+                first, _, last = line.removeprefix('failing ').partition(' to ')
+                told |= set(range(int(first), int(last or first) + 1))
+        self.assertEqual(told, {it for it in tried if it % 10 < 3})
+
+    def test_a_key_at_the_end(self) -> None:
+        """At the budget's own clock a key comes, and behind it none does."""
+        files = self.begin()
+        self.assertIn('1 of 1 moments tried', self.tool('moments', *files, '--key', '1E', '--at', '900', status=1)[0])
+        self.assertIn('a key at clock 901 never comes: the run ends at 900', self.tool('moments', *files, '--key', '1E', '--at', '900..902', status=2)[1])
+
+
+# It takes the key that waits into a byte of memory twice, and throws one away between.
+TWICE = '''SEGMENT M AT 0F000h
+go:     MOV AX,0
+        MOV DS,AX
+        MOV AL,99h
+        OUT 63h,AL
+        MOV AL,40h
+        OUT 61h,AL
+        MOV CX,10
+a:      LOOP a
+        IN AL,60h
+        OR [402h],AL
+        MOV CX,11
+b:      LOOP b
+        MOV AL,0C0h
+        OUT 61h,AL
+        MOV AL,40h
+        OUT 61h,AL
+        MOV CX,8
+c:      LOOP c
+        IN AL,60h
+        OR [402h],AL
+        HLT
+ENDS
+SEGMENT R AT 0FFFFh
+        JMP FAR go
+ENDS
+'''
+
 
 class Board(ToolCase):
     """The worked example of docs/for-firmware.md, at some of its moments."""
@@ -141,6 +189,24 @@ class Board(ToolCase):
         self.tool('judge', f'{TURNS}.page', f'{TURNS}.asm', f'{self.room}/turns.failing.json', status=1)
         out, _ = self.tool('moments', f'{TURNS}.page', f'{EXAMPLES}/moments/mended.asm', *words, '1980..2020')
         self.assertEqual(out, '40 of 40 moments tried, 0 failed\n')
+
+    def test_what_passes_between_two_ranges(self) -> None:
+        """All of four fail, of which the last is of another range: what lies between passes, as a session's dump tells."""
+        source = self.file('it.asm', TWICE)
+        words = (self.file('page', 'budget = 1000\nmemory 402 = 0\n'), source, '--jobs', '1', '--key', '1E', '--at', '100..900')
+        out, _ = self.tool('moments', *words, '--sample', '4', '--seed', '2', status=1)
+        self.assertEqual([it for it in out.splitlines() if it.startswith('failing')], ['failing 157', 'failing 186', 'failing 193', 'failing 469'])
+        for clock, told in ((157, '1E'), (193, '1E'), (211, '1E'), (212, '00'), (300, '00'), (426, '00'), (427, '1E'), (469, '1E')):
+            run = self.file('it.json', f'{{"version":1,"ram":64,"sw1":0,"sw2":0,"budget":1000,"keys":[[{clock},30]]}}')
+            self.assertEqual(self.pcboard('debug', source, run, given='go 1000\ndump 402 1\n').stdout.splitlines()[-1], f'00402: {told}', clock)
+
+    def test_a_key_at_the_budget_comes(self) -> None:
+        """The seventeenth, at the clock at which the run ends, is lost."""
+        keys = str([[0, 30]] * 16)
+        files = self.program('        HLT', 100)
+        run = self.file('it.json', f'{{"version":1,"ram":64,"sw1":0,"sw2":0,"budget":100,"keys":{keys}}}')
+        out, _ = self.tool('moments', self.file('page', 'lost = 0\n'), files[0], run, '--jobs', '1', '--key', '1E', '--at', '100', status=1)
+        self.assertIn('first 100: lost = 0: came 1', out)
 
     def test_labels_of_hex(self) -> None:
         """The label whose word is spoilt in the same moments is told by a listing."""
