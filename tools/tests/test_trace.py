@@ -164,7 +164,7 @@ class Runs(ToolCase):
         with open(path, encoding='utf-8') as file:
             text = file.read()
         self.assertIn(f'#{947 * 210}\n1#\n', text)
-        self.assertIn(f'#{948 * 210}\nb1010110 "\n0#\n1$\nb1000 %\n', text)
+        self.assertIn(f'#{948 * 210}\nb1010110 "\n1$\nb1000 %\n#{949 * 210}\n0#\n', text)
         sound, _ = self.tool('trace', '--vcd', '-', *example('tone'))
         self.assertIn(f'#{74 * 210}\n1&\n', sound)
 
