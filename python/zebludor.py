@@ -383,12 +383,13 @@ class Dialogue:
         return self.rest()
 
     def many(self, command: str) -> list[str]:
-        """The answer of any other command. `go 0` behind it changes nothing, and its answer marks the end."""
+        """The answer of any other command. `go 0` behind it changes nothing, and its answer marks the end: a line of the screen may
+        say what it likes, but has 80 characters."""
         self._send(command + '\ngo 0\n')
         lines: list[str] = []
         while True:
             line = self._line()
-            if re.fullmatch(r'clock \d+', line):
+            if re.fullmatch(r'clock \d{1,13}', line):
                 self.clock, self.is_idle = int(line.split()[1]), True
                 return lines
             lines.append(line)
@@ -462,9 +463,9 @@ class Session:
         return int(words[1]) if words[0] == 'stop' else None
 
     def _many(self, command: str) -> list[str]:
-        """The lines of any other answer."""
+        """The lines of any other answer. A refusal is a line alone."""
         lines = self._dialogue.many(command)
-        fault = fault_in('\n'.join(lines[:1]))
+        fault = fault_in(lines[0]) if len(lines) == 1 else None
         if fault:
             raise fault
         return lines

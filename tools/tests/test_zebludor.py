@@ -15,6 +15,27 @@ from zebludor import Fault, Header, Session, Unfit
 assert toolbox
 
 
+# It copies eighty characters from the label `text` to text memory, and shows them.
+SHOWING = '''SEGMENT M AT 0F000h
+go:     MOV AX,0B000h
+        MOV ES,AX
+        MOV AX,CS
+        MOV DS,AX
+        MOV SI,text
+        MOV DI,0
+        MOV CX,80
+        MOV AH,7
+more:   LODSB
+        STOSW
+        LOOP more
+        MOV DX,3B8h
+        MOV AL,8
+        OUT DX,AL
+        HLT
+'''
+RESET = 'SEGMENT R AT 0FFFFh\n        JMP FAR go\nENDS\n'
+
+
 def read(path: str) -> str:
     """A file's text."""
     with open(path, encoding='utf-8') as file:
@@ -125,6 +146,14 @@ class Runs(ToolCase):
                 self.assertEqual(caught.exception.number, number)
         with self.assertRaisesRegex(Fault, 'fault 4 UnknownName line 2'):
             Session('SEGMENT A AT 0\n FROB\n')
+
+    def test_a_screen_that_looks_like_an_answer(self) -> None:
+        """A refusal, and the end of an answer: on the screen both are text."""
+        for text in ('fault 51 BadCommand', 'clock ' + 74 * '7', 'clock 12'):
+            with Session(f"{SHOWING}text:   DB '{text:80}'\nENDS\n{RESET}") as session:
+                session.go(5000)
+                self.assertEqual([it.rstrip() for it in session.screen()], [text] + 24 * [''])
+                self.assertEqual((session.clock, session.registers()['CX']), (5000, 0))
 
 
 if __name__ == '__main__':
