@@ -130,9 +130,9 @@ class StandIn(ToolCase):
 
     def test_a_sample_joins_neighbours_alone(self) -> None:
         """Failing stamps between which others weren't tried are no range."""
-        out, _ = self.tool('moments', *self.begin(), '--key', '1E', '--at', '101..201', '--sample', '40', '--seed', '3', '--all', status=1)
+        out, _ = self.tool('moments', *self.begin(), '--key', '1E', '--at', '101..201', '--sample', '20', '--seed', '3', '--all', status=1)
         tried = {it[0][0] for it in self.listed() if it}
-        self.assertEqual(len(tried), 40)
+        self.assertEqual(len(tried), 20)
         told = set[int]()
         for line in out.splitlines():
             if line.startswith('failing '):
