@@ -15,7 +15,7 @@ from toolbox.program import Files, Session
 from toolbox.report import registers_of
 from toolbox.returns import ends_with_call, places_on_stack
 from toolbox.runfile import DEFAULTS, text_of
-from toolbox.session_board import break_at
+from toolbox.session_board import Paused, break_at
 
 BUDGET, ROUTINES = 60_000, 5
 HEAD = """SEGMENT MAIN AT 0F000h
@@ -195,6 +195,24 @@ class Out(ToolCase):
         out, _ = self.tool('dbg', machine.files.file, machine.files.run_file, given='to 200\nfinish\n')
         self.assertIn(f'clock {end}', out)
         self.assertLess(spent() - before, 1.5)  # with the start of Python, the assembly and the listing
+
+    def test_it_can_be_paused(self) -> None:
+        """Also if a place to which it may return, or the one behind a call, is met again and again, and no piece of a run ends."""
+        start = 'SEGMENT MAIN AT 0F000h\nstart:  MOV SP,0FFF0h\n{}ENDS\nSEGMENT RESET AT 0FFFFh\n        JMP FAR start\nENDS\n'
+        deep = '        MOV CX,20000\n        CALL deep\n        JMP SHORT start\ndeep:   DEC CX\n        JZ over\nagain:  CALL deep\nover:   RET\n'
+        for body, way in (('again:  MOV SP,0\n        JMP SHORT start\n', 'out'), (deep, 'next')):
+            machine, left = self.machine(start.format(body), 100_000_000), [400]
+            machine.run([break_at(machine.listing.labels['again'])], 1000)
+
+            def poll(left: list[int] = left) -> None:
+                left[0] -= 1
+                if not left[0]:
+                    raise Paused('paused')
+
+            machine.poll = poll
+            with self.assertRaises(Paused):
+                getattr(machine, way)(set())
+            self.assertLess(machine.clock, 5_000_000, way)
 
     def test_what_ends_it_before(self) -> None:
         """A jam, a halt for good and the budget: there, and it is said, by tools/dbg too."""

@@ -91,6 +91,7 @@ class Machine(SessionBoard):
                 break
             self.one('step')
         while not is_there():
+            self.poll()
             met = self.run({*wanted, break_at(target)}, self.budget)
             if met is None or met in wanted and not (met == break_at(target) and is_there()):
                 return met
@@ -134,6 +135,7 @@ class Machine(SessionBoard):
     def _run_out(self, wanted: Collection[str], places: list[str], before: dict[str, int]) -> str | None:
         """Out of the routine by runs to places to which it may return."""
         while self.clock < self.budget:
+            self.poll()
             met = self.run({*wanted, *places}, self.budget)
             if met and self._has_returned(self.trail()[-1], before):
                 self.why = 'returned'
