@@ -177,7 +177,7 @@ class Runs(ToolCase):
         source, run = example('hello')
         self.assertIn("nothing.json can't be opened: No such file", self.tool('why', 'run', source, 'nothing.json', status=3)[1])
         self.assertIn("can't be opened: Is a directory", self.tool('why', 'run', self.room, run, status=3)[1])
-        self.assertIn('2 are wanted', self.tool('why', 'run', source, status=2)[1])
+        self.assertIn('2 are wanted', self.tool('why', 'run', status=2)[1])
 
     def test_tells_the_ram(self) -> None:
         source = self.file('low.asm', 'SEGMENT A AT 0F00h\nDB 1\nSEGMENT B AT 2000h\nDB 1\n'.replace('\nSEGMENT', '\nENDS\nSEGMENT'))
@@ -268,7 +268,7 @@ class Runs(ToolCase):
         self.assertIn('MOV AX,0x10', out)
         self.assertIn('has no line "fault', self.tool('why', 'fault', given='hello', status=2)[1])
         self.assertIn('is none of run', self.tool('why', 'bake', status=2)[1])
-        self.assertIn('tools/why run FILE RUN', self.tool('why', '--help')[0])
+        self.assertIn('tools/why run FILE [RUN]', self.tool('why', '--help')[0])
 
 
 if __name__ == '__main__':

@@ -16,7 +16,7 @@ from toolbox import loading
 from toolbox.command import Sorry
 from toolbox.loading import Loaded, check_ram
 from toolbox.program import Files
-from toolbox.runfile import DEFAULTS, read_run_file, text_of
+from toolbox.runfile import DEFAULTS, read_run_file, text_of, with_run_file
 from toolbox.services import MOST_RAM
 
 BINARIES = ('.com', '.exe', '.bin')
@@ -64,12 +64,9 @@ def guest_of(given: argparse.Namespace, file: str | None = None) -> Guest:
     return found
 
 
-def asked(reader: argparse.ArgumentParser, given: argparse.Namespace) -> tuple[Guest, Files]:
-    """What a command line with FILE and RUN asks for. RUN may be missing where the services fill it in."""
-    guest = guest_of(given)
-    if given.run_file is None and not guest.is_one:
-        reader.error('the following arguments are required: RUN')
-    return guest, Files(given.file, given.run_file or '', given.hex, given.symbols)
+def asked(given: argparse.Namespace) -> tuple[Guest, Files]:
+    """What a command line with FILE and RUN asks for. RUN may be missing."""
+    return guest_of(given), Files(given.file, given.run_file or '', given.hex, given.symbols)
 
 
 def read_bytes(path: str) -> bytes:
@@ -167,10 +164,11 @@ def kept(guest: Guest, run_file: str | None, symbols: str | None, name: str | No
 
 @contextlib.contextmanager
 def prepared(guest: Guest, files: Files, more: dict[str, Any] | None = None) -> Iterator[Files]:
-    """The files that a tool runs: `files` themselves, or what is made of them where they need the services. Then RUN may be missing
-    (empty), and `more` has fields that stand before RUN's."""
+    """The files that a tool runs: `files` themselves, or what is made of them where they need the services; then `more` has fields
+    that stand before RUN's. RUN may be missing (empty)."""
     if not guest.is_one:
-        yield files
+        with with_run_file(files) as found:
+            yield found
         return
     with tempfile.TemporaryDirectory(prefix='zebludor-') as room:
         made = written(guest, fields_for(guest, files.run_file or None, more), room)

@@ -7,6 +7,7 @@ import json
 import os
 import subprocess
 import tempfile
+from dataclasses import replace
 from typing import Any, Iterator
 
 from zebludor import CHOICES, DEFAULTS, FIRST_CHOICES, run_file as text_of
@@ -17,7 +18,19 @@ from toolbox.report import Report, report_of
 
 FIRST_REPORT = 1_000_000  # clocks
 
-__all__ = ['CHOICES', 'DEFAULTS', 'FIRST_CHOICES', 'budget_of', 'chosen', 'read_run_file', 'report_at', 'speaker_changes', 'text_of', 'with_budget']
+__all__ = [
+    'CHOICES',
+    'DEFAULTS',
+    'FIRST_CHOICES',
+    'budget_of',
+    'chosen',
+    'read_run_file',
+    'report_at',
+    'speaker_changes',
+    'text_of',
+    'with_budget',
+    'with_run_file',
+]
 
 
 def read_run_file(path: str) -> dict[str, Any]:
@@ -36,6 +49,19 @@ def chosen(fields: dict[str, Any], choices: dict[str, str]) -> dict[str, Any]:
     if not choices:
         return fields
     return fields | {'version': 2} | FIRST_CHOICES | {name: fields[name] for name in CHOICES if name in fields} | choices
+
+
+@contextlib.contextmanager
+def with_run_file(files: Files) -> Iterator[Files]:
+    """The same files; if no run file is named, with that of tools/runfile."""
+    if files.run_file:
+        yield files
+        return
+    with tempfile.TemporaryDirectory(prefix='zebludor-') as room:
+        path = os.path.join(room, 'run.json')
+        with open(path, 'w', encoding='utf-8') as file:
+            file.write(text_of(DEFAULTS))
+        yield replace(files, run_file=path)
 
 
 @contextlib.contextmanager
