@@ -2,6 +2,7 @@
 import os
 import pty
 import select
+import stat
 import subprocess
 import sys
 import time
@@ -144,6 +145,26 @@ class Sessions(ToolCase):
         self.assertIn('| 51: JMP FAR start', told[9])
         self.assertEqual(told[-1], 'set: no flag')
 
+    def test_a_place_without_a_line(self) -> None:
+        """Its instructions are shown, and the session goes on."""
+        told = self.dbg('first', 'list 0050:0003 2', 'list B000:0 1', 'list start 1', 'list CS:IP 1', 'q', 'regs')
+        no_line = 'no line of the source begins there; these instructions stand in memory:'
+        self.assertEqual([told[0], told[3]], [no_line] * 2)
+        self.assertEqual(
+            [told[it].split() for it in (1, 2)],
+            [['0050:0003', 'start+3', 'D88ED0BC', 'ESC', '001h,WORD', '[BP+0BCD0h]'], ['0050:0007', 'start+7', 'E500', 'IN', 'AX,000h']],
+        )
+        self.assertEqual(told[4].split(), ['B000:0000', '0000', 'ADD', '[BX+SI],AL'])
+        self.assertEqual([it.split()[:2] for it in told[5:]], [['3', '0050:0000'], ['>', '47']])
+
+    def test_without_a_run_file(self) -> None:
+        """It is that of tools/runfile, for dbg, trace, gdb and why."""
+        source, _ = self.program('        HLT')
+        self.assertIn('clock 10000000: ', self.tool('dbg', source, given='go\n')[0])
+        self.assertIn(' 10000000 halted\n', self.tool('trace', source)[0])
+        self.assertIn('clock 10000000\n', self.tool('why', 'run', source)[0])
+        self.assertEqual(self.tool('why', 'debug', source, given='go 30\n')[0], 'clock 30\n')
+
     def test_hex_has_no_lines(self) -> None:
         source, run = example('monitor')
         out, _ = self.tool('dbg', source.replace('.asm', '.hex'), run, '--hex', given='step\nlist\nbreak F600:0000\n')
@@ -181,11 +202,17 @@ class Terminal(ToolCase):
 
     def setUp(self) -> None:
         super().setUp()
+        self.files = self.program('again: JMP SHORT again', 1 << 40)
+        self.begin()
+        self.addCleanup(self.leave)
+
+    def begin(self) -> None:
+        """Starts the debugger."""
         self.pid, self.terminal = pty.fork()
         if not self.pid:
-            os.execve(sys.executable, [sys.executable, '-S', f'{TOOLS}/dbg', *self.program('again: JMP SHORT again')], os.environ | {'TERM': 'dumb'})
+            own = {'TERM': 'dumb', 'XDG_STATE_HOME': f'{self.room}/state'}
+            os.execve(sys.executable, [sys.executable, '-S', f'{TOOLS}/dbg', *self.files], os.environ | own)
         self.shown = ''
-        self.addCleanup(self.leave)
         self.wait_for('dbg> ')
 
     def leave(self) -> None:
@@ -212,15 +239,48 @@ class Terminal(ToolCase):
         return self.wait_for('dbg> ').partition('\n')[2].replace('\r', '')
 
     def test_ends_a_run(self) -> None:
+        """Where it has come to, with its stops, if there are any."""
+        for stops in ('no stops\n', 'stop 1: byte B0000 77\n'):
+            for command, typed in (
+                ('go 1000000000000', b'\x03\x03\x03'),
+                ('to 1000000000000', b'\x03'),
+                ('step 1000000000', b'\x03'),
+                ('until 0:0', b'\x03'),
+                ('finish', b'\x03'),
+            ):
+                self.say('to 1000')
+                os.write(self.terminal, f'{command}\n'.encode())
+                self.assertTrue(is_at_work(self.pid))
+                os.write(self.terminal, typed)
+                self.wait_for('interrupted, ')
+                there = self.wait_for('dbg> ').replace('\r', '')
+                self.assertRegex(there, r'^clock \d+: F000:0000 start \| 3: again: JMP SHORT again\n$')
+                self.assertGreater(int(there.split()[1].strip(':')), 1000, command)
+                self.assertEqual((self.say('where'), self.say('stops')), (there, stops), command)
+            self.say('byte b0000 77')
+
+    def test_ends_a_way_back(self) -> None:
+        """To a stop that never held: the board stays within the run, with its stop."""
+        self.say('to 3000000000')
         self.say('byte b0000 77')
-        before = self.say('to 1000')
-        for command, typed in (('go 1000000000000', b'\x03\x03\x03'), ('to 1000000000000', b'\x03'), ('step 1000000000', b'\x03')):
-            os.write(self.terminal, f'{command}\n'.encode())
-            self.assertTrue(is_at_work(self.pid))
-            os.write(self.terminal, typed)
-            self.wait_for('interrupted: the board is at clock 1000, where it was')
-            self.wait_for('dbg> ')
-            self.assertEqual((self.say('where'), self.say('stops')), (before, 'stop 1: byte B0000 77\n'))
+        os.write(self.terminal, b'last\n')
+        self.assertTrue(is_at_work(self.pid))
+        os.write(self.terminal, b'\x03')
+        self.wait_for('interrupted, ')
+        there = self.wait_for('dbg> ').replace('\r', '')
+        self.assertEqual((self.say('where'), self.say('stops')), (there, 'stop 1: byte B0000 77\n'))
+        self.assertIn('clock 20: ', self.say('to 20'))
+
+    def test_what_was_typed_comes_back(self) -> None:
+        """By the arrow key in the next session, for this user alone."""
+        self.say('dump 12345 1')
+        os.write(self.terminal, b'q\n')
+        self.leave()
+        path = f'{self.room}/state/zebludor/dbg/history'
+        self.assertEqual([stat.S_IMODE(os.stat(it).st_mode) for it in (path, os.path.dirname(path))], [0o600, 0o700])
+        self.begin()
+        os.write(self.terminal, 2 * b'\x1b[A' + b'\n')
+        self.wait_for('12345: ')
 
     def test_drops_a_line(self) -> None:
         before = self.say('to 1000')

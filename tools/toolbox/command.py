@@ -107,6 +107,14 @@ def with_streams() -> None:
             setattr(sys, name, open(number, mode, encoding='utf-8'))  # pylint: disable=consider-using-with
 
 
+def state_folder() -> str:
+    """Where the tools keep what a user has typed: below $XDG_STATE_HOME, or ~/.local/state."""
+    state = os.environ.get('XDG_STATE_HOME', '')
+    if not os.path.isabs(state):
+        state = os.path.join(os.path.expanduser('~'), '.local', 'state')
+    return os.path.join(state, 'zebludor')
+
+
 def read_text(path: str) -> str:
     """A file's text, `-` for standard input. Bytes that aren't UTF-8 stay visible as escapes."""
     try:

@@ -10,7 +10,7 @@ import stat
 import time
 from typing import Any
 
-from toolbox.command import Sorry
+from toolbox.command import Sorry, state_folder
 from toolbox.writing import write_whole
 
 Fields = dict[str, Any]
@@ -18,11 +18,8 @@ MOST_DRAFTS = 50
 
 
 def folder_of_drafts() -> str:
-    """Where a user's drafts lie: below $XDG_STATE_HOME, or ~/.local/state."""
-    state = os.environ.get('XDG_STATE_HOME', '')
-    if not os.path.isabs(state):
-        state = os.path.join(os.path.expanduser('~'), '.local', 'state')
-    return os.path.join(state, 'zebludor', 'desk')
+    """Where a user's drafts lie."""
+    return os.path.join(state_folder(), 'desk')
 
 
 class Drafts:

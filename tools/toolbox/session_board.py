@@ -150,12 +150,17 @@ class SessionBoard:
 
     def begin_anew(self, stops: Iterable[str] = (), clock: int | None = None) -> None:
         """A session at this clock, else at the present one, with these stops alone. They are set there, so that none is met on the
-        way. Until it stands there, the old one stays."""
-        to, them, session = self.clock if clock is None else clock, list(stops), Session(self.files)
+        way. Until it stands there, the old one stays; if the way is ended beyond that one's clock, it is the new one's."""
+        to, them, session, ended = self.clock if clock is None else clock, list(stops), Session(self.files), None
         try:
-            while session.clock < to:
-                self._run_a_piece(session, to)
-                self.poll()
+            try:
+                while session.clock < to:
+                    self._run_a_piece(session, to)
+                    self.poll()
+            except Paused as paused:
+                if isinstance(paused, Left) or session.clock <= self.clock:
+                    raise
+                ended = paused
             for stop in them:
                 refused(session.stop(stop))
         except BaseException:
@@ -163,6 +168,8 @@ class SessionBoard:
             raise
         old, self._session, self._stops = self._session, session, them
         old.close()
+        if ended:
+            raise ended
 
     def want(self, stops: Collection[str]) -> None:
         """Sees to it that the session stops at these. Of the stops that hold at a clock the first is told, so that one which isn't

@@ -9,14 +9,14 @@ from toolbox.program import Files, Session
 
 SHORT_WAIT, POLLED_EACH = 0.5, 0.1  # seconds of a way back
 GIVEN_STILL = 1  # seconds in which a spare session may still come to the clock
-FIRST_PIECE = 1 << 20
+FIRST_PIECE, MOST_PIECE = 1 << 20, 1 << 28  # clocks; the most are half a second's, if the processor is busy
 LEAST_SECONDS, MOST_SECONDS = 0.05, 0.2  # of a run's piece
 S = TypeVar('S', bound=Session)
 
 
 def paced(piece: int, seconds: float) -> int:
     """How many clocks a run's next piece has, after one that took so long."""
-    return piece * 2 if seconds < LEAST_SECONDS else max(1, piece // 2) if seconds > MOST_SECONDS else piece
+    return min(piece * 2, MOST_PIECE) if seconds < LEAST_SECONDS else max(1, piece // 2) if seconds > MOST_SECONDS else piece
 
 
 class Spare:
