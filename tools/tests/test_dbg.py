@@ -165,6 +165,31 @@ class Sessions(ToolCase):
         self.assertIn('clock 10000000\n', self.tool('why', 'run', source)[0])
         self.assertEqual(self.tool('why', 'debug', source, given='go 30\n')[0], 'clock 30\n')
 
+    def test_conditions(self) -> None:
+        """Forth and back; a stop that holds beside one whose condition doesn't is told, whichever was set first."""
+        told = self.dbg(
+            'ticks',
+            'break tick if BYTE ES:[0] = 32h',
+            'byte b0000 31',
+            'go',
+            'clear 2',
+            'go',
+            'last',
+            'break tick if FROB = 1',
+            'break tick if',
+            'break tick',
+            'stops',
+            'go',
+            'last',
+            'last',
+        )
+        first = 'stop 1 (break F600:0058 tick if BYTE ES:[0] = 32h), clock 1797'
+        self.assertEqual(told[:2], ['stop 1: break F600:0058 tick if BYTE ES:[0] = 32h', 'stop 2: byte B0000 31'])
+        self.assertEqual([it.split(': F600')[0] for it in told[2:5:2]], ['stop 2 (byte B0000 31), clock 1010', first])
+        self.assertEqual(told[5:8], ['no stop held at any earlier clock', 'FROB is no register, flag, label or number', 'use: break PLACE [if CONDITION]'])
+        other = 'stop 3 (break F600:0058 tick), clock '
+        self.assertEqual([it.split(': F600')[0] for it in told[-3:]], [f'{other}2197', first, f'{other}1397'])  # of two the least is told
+
     def test_hex_has_no_lines(self) -> None:
         source, run = example('monitor')
         out, _ = self.tool('dbg', source.replace('.asm', '.hex'), run, '--hex', given='step\nlist\nbreak F600:0000\n')

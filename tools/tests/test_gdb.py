@@ -251,6 +251,22 @@ class Served(ToolCase):
             client.ask(f'z0,{0x100 + place:x},1')
         self.assertEqual([client.ask(f'Z0,{0x100 + it:x},1')[:2] for it in range(16)], ['OK'] * 15 + ['E.'])
 
+    def test_conditions(self) -> None:
+        """They come with a breakpoint as bytecode, one of which is to hold; of hits that don't count nothing is told."""
+        client = self.client(*self.program(BUSY, 100_000))
+        self.assertIn('ConditionalBreakpoints+', client.ask('qSupported:swbreak+'))
+        for number in (7, 9):  # its first register's 16 bits are this
+            self.assertEqual(client.ask(f'Z0,f0001,1;X9,2600002a10220{number}1327;X9,2600002a1022ff1327'), 'OK')
+            client.shown = ''
+            self.assertTrue(client.ask('c').startswith('T05'))
+            self.assertEqual((client.registers()[0], client.shown.count('clock')), (number, 1))
+        self.assertTrue(client.ask('c').startswith('T05'))
+        self.assertEqual(client.registers()[0], 0xFF)
+        self.assertTrue(client.ask('bc').startswith('T05'))
+        self.assertEqual(client.registers()[0], 9)
+        for broken in ('X2,27', 'X1,ff', 'X0,', 'Xg,27'):
+            self.assertTrue(client.ask(f'Z0,f0001,1;{broken}').startswith('E'), broken)
+
     def test_nothing_is_written(self) -> None:
         client = self.client(*example('hello'))
         before = client.registers()
@@ -563,6 +579,16 @@ class Gdb(ToolCase):
             self.assertIn('\n'.join(lines), told, steps)
             for wanted in (f'= {registers[8]:#x}\n', f'= {registers[4]:#x}\n', memory[:40], memory[40:]):
                 self.assertIn(wanted, told, steps)
+
+    def test_a_condition(self) -> None:
+        """As gdb hands it over, forth and back."""
+        if not GDB:
+            return
+        told = self.gdb(
+            self.program(BUSY, 100_000), 'break *0xf0001 if $eax == 77', 'continue', 'p $ax', 'condition 1 $eax > 3 && $eax < 9', 'reverse-continue', 'p $ax'
+        )
+        self.assertEqual(re.findall(r'^\$\d+ = (\d+)$', told, re.M), ['77', '8'])
+        self.assertEqual(told.count('clock '), 2)
 
     def test_hex(self) -> None:
         source, run = self.program('        NOP\n        HLT')

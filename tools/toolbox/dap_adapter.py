@@ -9,6 +9,7 @@ import subprocess
 from typing import Any, Callable
 
 from toolbox.command import PYTHON, Sorry
+from toolbox.conditions import Asked, count_of
 from toolbox.dap_board import ENDS, FLAG_BITS, MOST_BREAKPOINTS, Machine
 from toolbox.dap_values import Disassembly, Expression, is_code
 from toolbox.framing import Broken, Read
@@ -18,7 +19,7 @@ from toolbox.program import TOP, Files, copied
 from toolbox.returns import Far
 from toolbox.runfile import DEFAULTS, budget_of, text_of
 from toolbox.scancodes import stamped, strokes_of
-from toolbox.session_board import Gone, Left, Paused, break_at
+from toolbox.session_board import Gone, Left, Paused, SessionBoard, break_at
 
 Fields = dict[str, Any]
 THREAD, REGISTERS, FLAGS, BOARD = 1, 1, 2, 3
@@ -32,6 +33,9 @@ CAPABILITIES = {
     'supportsFunctionBreakpoints': True,
     'supportsTerminateRequest': True,
     'supportsSteppingGranularity': True,
+    'supportsConditionalBreakpoints': True,
+    'supportsHitConditionalBreakpoints': True,
+    'supportsLogPoints': True,
 }
 SHOWING = ('regs', 'screen', 'dump', 'trail')
 READ_ONLY = "the board's answers are those of its source: registers and memory can't be written"
@@ -65,6 +69,7 @@ class Adapter:
         self.machine: Machine | None = None
         self.program, self.line_base, self.is_entry = '', 1, False
         self.breakpoints: dict[str, dict[str, int]] = {'line': {}, 'function': {}, 'instruction': {}}
+        self.asked = {kind: dict[str, Asked]() for kind in self.breakpoints}  # what each asks besides its place
         self.sent, self.count, self.is_running, self.is_over, self.is_paused, self.screen = 0, 0, False, False, False, ''
 
     def serve(self) -> None:
@@ -178,9 +183,14 @@ class Adapter:
             self.screen = screen
             edge = '-' * 80
             self.output(f'screen at clock {self.board().clock}\n{edge}\n{screen}\n{edge}\n', 'stdout')
-        hit = [them[here] for them in self.breakpoints.values() if here in them] if reason.endswith('breakpoint') else []
+        them = [it for it, asked in self.asked.items() if here in asked and self.is_hit(asked[here])] if reason.endswith('breakpoint') else []
+        hit = [self.breakpoints[it][here] for it in them]
         told = {'reason': reason, 'description': text, 'text': text, 'threadId': THREAD, 'allThreadsStopped': True}
         self.event('stopped', told | ({'hitBreakpointIds': hit} if hit else {}))
+
+    def is_hit(self, asked: Asked) -> bool:
+        """Whether the board is where a breakpoint that asks this stops it, as far as its condition goes."""
+        return asked.log is None and (asked.holds is None or asked.holds(self.board()))
 
     def board(self) -> Machine:
         """The board, once there is one."""
@@ -275,18 +285,37 @@ class Adapter:
 
     def set_breakpoints(self, kind: str, asked: list[Any], place_of: Callable[[Any], tuple[Far, Fields]]) -> Fields:
         """Puts these breakpoints for those of a kind, and tells of each where it is, or why it is nowhere."""
-        self.breakpoints[kind], told = {}, list[Fields]()
+        self.breakpoints[kind], self.asked[kind], told = {}, {}, list[Fields]()
         for it in asked:
             self.count += 1
             try:
                 place, more = place_of(it)
+                wants = self.wants(it)
                 if len(self.wanted() | {break_at(place)}) > MOST_BREAKPOINTS:
                     raise Sorry(f'there are {MOST_BREAKPOINTS} breakpoints already, the most that go')
                 number = self.breakpoints[kind].setdefault(break_at(place), self.count)
+                self.asked[kind].setdefault(break_at(place), wants)
                 told.append({'id': number, 'verified': True, 'instructionReference': f'0x{physical(*place):05X}'} | more)
             except Sorry as sorry:
                 told.append({'id': self.count, 'verified': False, 'message': str(sorry)})
+        stops = {stop: [them[stop] for them in self.asked.values() if stop in them] for stop in self.wanted()}
+        self.board().asked = {stop: them for stop, them in stops.items() if all(it.holds or it.count or it.log for it in them)}
         return {'breakpoints': told}
+
+    def wants(self, breakpoint: Any) -> Asked:
+        """What a breakpoint asks besides its place. What can't be evaluated is refused here."""
+        condition, count, log = (field(breakpoint, it, str, '').strip() for it in ('condition', 'hitCondition', 'logMessage'))
+        board, listing = self.board(), self.board().listing
+        parts = re.split(r'\{([^{}]*)\}', log)
+        for text in [*([condition] if condition else []), *parts[1::2]]:
+            Expression(board, listing, text).value()
+
+        def tell(at: SessionBoard) -> None:
+            shown = [Expression(at, listing, it).value().shown() if number % 2 else it for number, it in enumerate(parts)]
+            self.output(''.join([*shown, '\n']), 'stdout')
+
+        holds = (lambda at: Expression(at, listing, condition).holds()) if condition else None
+        return Asked(holds, count_of(count) if count else None, tell if log else None)
 
     def on_setBreakpoints(self, given: Fields) -> Fields:
         path = field(field(given, 'source', dict), 'path', str, '')
@@ -479,7 +508,7 @@ class Adapter:
         text, board = field(given, 'expression', str).strip(), self.board()
         if given.get('context') == 'repl' and text.partition(' ')[0] in SHOWING and '\n' not in text:
             return {'result': '\n'.join(it.rstrip() for it in board.many(text)).rstrip(), 'variablesReference': 0}
-        value = Expression(board, text).value()
+        value = Expression(board, board.listing, text).value()
         at = {} if value.address is None else {'memoryReference': f'0x{value.address:05X}'}
         return {'result': value.shown(), 'variablesReference': 0} | at
 

@@ -85,15 +85,16 @@ class Machine(SessionBoard):
         for _ in range(SHORT_WALK):
             if is_there():
                 return None
-            if (here := break_at(self.place())) in wanted:
+            if (here := break_at(self.place())) in wanted and self.is_met(here, self.clock):
                 return here
             if self.clock >= self.budget or self.is_halted:
                 break
             self.one('step')
+        behind = break_at(target)
         while not is_there():
             self.poll()
-            met = self.run({*wanted, break_at(target)}, self.budget)
-            if met is None or met in wanted and not (met == break_at(target) and is_there()):
+            met = self.run({*wanted, behind}, self.budget, (behind,))
+            if met is None or met != behind or met in wanted and not is_there() and self.is_met(met, self.clock):
                 return met
         return None
 
@@ -123,7 +124,7 @@ class Machine(SessionBoard):
             if self._has_returned(begun, before):
                 self.why = 'returned'
                 return None
-            if (place := break_at(self.place())) in wanted:
+            if (place := break_at(self.place())) in wanted and self.is_met(place, self.clock):
                 self.why = 'stop'
                 return place
             if begun is None and self.clock == here + 1 and self.state() == 'jammed':
@@ -136,11 +137,11 @@ class Machine(SessionBoard):
         """Out of the routine by runs to places to which it may return."""
         while self.clock < self.budget:
             self.poll()
-            met = self.run({*wanted, *places}, self.budget)
+            met = self.run({*wanted, *places}, self.budget, places)
             if met and self._has_returned(self.trail()[-1], before):
                 self.why = 'returned'
                 return None
-            if met in wanted:
+            if met in wanted and (met not in places or self.is_met(met, self.clock)):
                 self.why = 'stop'
                 return met
         self.why = 'far'

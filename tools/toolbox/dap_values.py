@@ -1,16 +1,19 @@
 """What an editor asks about: expressions of registers, labels, numbers and memory, and disassembly from what ran."""
 from __future__ import annotations
 
+import operator
 import re
 from dataclasses import dataclass
+from typing import Callable
 
 from toolbox.command import Sorry
 from toolbox.dap_board import FLAG_BITS, Machine
-from toolbox.listing import Line, code_of, label_in, physical
+from toolbox.listing import Line, Listing, code_of, label_in, physical
 from toolbox.places import far_of
+from toolbox.session_board import SessionBoard
 
 BYTE_REGISTERS = {'AL': ('AX', 0), 'AH': ('AX', 8), 'BL': ('BX', 0), 'BH': ('BX', 8), 'CL': ('CX', 0), 'CH': ('CX', 8), 'DL': ('DX', 0), 'DH': ('DX', 8)}
-TOKEN = re.compile(r"\s*(0x[0-9A-Fa-f]+|[0-9][0-9A-Fa-f]*[Hh]|[01]+[Bb]|\d+|[A-Za-z_]\w*|'[^']'|[-+*:\[\]()])")
+TOKEN = re.compile(r"\s*(0x[0-9A-Fa-f]+|[0-9][0-9A-Fa-f]*[Hh]|[01]+[Bb]|\d+|[A-Za-z_]\w*|'[^']'|&&|\|\||[=!<>]=|<>|[-+*:\[\]()=<>!&])")
 DATA = re.compile(r'(\w+\s*:)?\s*D[BWD]\b', re.I)
 LONGEST_INSTRUCTION = 8
 
@@ -30,6 +33,11 @@ class Value:
         return f'{number:0{2 * self.size + 1}X}h ({number}){sign}'
 
 
+def truth(is_so: bool) -> Value:
+    """What a comparison gives: 1 or 0."""
+    return Value(int(is_so), 1)
+
+
 def number_in(word: str) -> int:
     """A number as the dialect or C writes it."""
     if word.lower().startswith('0x'):
@@ -39,12 +47,24 @@ def number_in(word: str) -> int:
     return int(word[:-1], 2) if word[-1] in 'Bb' else int(word)
 
 
+COMPARISONS: dict[str, Callable[[int, int], bool]] = {
+    '=': operator.eq,
+    '==': operator.eq,
+    '!=': operator.ne,
+    '<>': operator.ne,
+    '<': operator.lt,
+    '<=': operator.le,
+    '>': operator.gt,
+    '>=': operator.ge,
+}
+
+
 class Expression:
     """An expression, read from its beginning on: sums and products of registers, flags, labels, numbers, and memory as
-    BYTE [..], WORD [..], ES:[..]."""
+    BYTE [..], WORD [..], ES:[..]; comparisons of them without signs, as bytes or words; and these joined by AND, OR and NOT."""
 
-    def __init__(self, machine: Machine, text: str) -> None:
-        self.machine, self.text, self.registers = machine, text, machine.registers()
+    def __init__(self, board: SessionBoard, listing: Listing, text: str) -> None:
+        self.board, self.listing, self.text, self.registers = board, listing, text, board.registers()
         self.words, at = list[str](), 0
         while text[at:].strip():
             found = TOKEN.match(text, at)
@@ -57,9 +77,37 @@ class Expression:
 
     def value(self) -> Value:
         """The whole expression's value."""
-        found = self._sum()
+        found = self._either()
         if self.words:
             raise Sorry(f'{self.words[0]} is one word too many')
+        return found
+
+    def holds(self) -> bool:
+        """Whether it is true: not 0."""
+        return self.value().number != 0
+
+    def _either(self) -> Value:
+        found = self._both()
+        while self._take('||', 'OR'):
+            right = self._both()
+            found = truth(bool(found.number or right.number))
+        return found
+
+    def _both(self) -> Value:
+        found = self._comparison()
+        while self._take('&&', 'AND'):
+            right = self._comparison()
+            found = truth(bool(found.number and right.number))
+        return found
+
+    def _comparison(self) -> Value:
+        if self._take('!', 'NOT'):
+            return truth(not self._comparison().number)
+        found = self._sum()
+        if sign := self._take(*COMPARISONS):
+            right = self._sum()
+            most = 1 << 8 * max(found.size, right.size)
+            found = truth(COMPARISONS[sign](found.number % most, right.number % most))
         return found
 
     def _take(self, *wanted: str) -> str:
@@ -75,16 +123,16 @@ class Expression:
 
     def _product(self) -> Value:
         found = self._term()
-        while self._take('*'):
+        while sign := self._take('*', '&'):
             right = self._term()
-            found = Value(found.number * right.number, max(found.size, right.size))
+            found = Value(found.number * right.number if sign == '*' else found.number & right.number, max(found.size, right.size))
         return found
 
     def _term(self) -> Value:
         if self._take('-'):
             return Value(-self._term().number)
         if self._take('('):
-            found = self._sum()
+            found = self._either()
             self._close(')')
             return found
         size = {'BYTE': 1, 'WORD': 2}.get(self._take('BYTE', 'WORD').upper(), 0)
@@ -108,7 +156,7 @@ class Expression:
         self._close(']')
         segment = self.registers['SS' if is_stack else 'DS'] if segment is None else segment % 0x10000
         address = physical(segment, offset)
-        octets = b''.join(self.machine.dump(physical(segment, (offset + it) % 0x10000), 1) for it in range(size))
+        octets = b''.join(self.board.dump(physical(segment, (offset + it) % 0x10000), 1) for it in range(size))
         return Value(int.from_bytes(octets, 'little'), size, address)
 
     def _name(self) -> Value:
@@ -123,12 +171,12 @@ class Expression:
         if upper in FLAG_BITS:
             return Value(self.registers['FL'] >> FLAG_BITS[upper] & 1, 1)
         if upper == 'SEG' and self.words:
-            return Value(far_of(self.machine.listing, self.words.pop(0))[0])
+            return Value(far_of(self.listing, self.words.pop(0))[0])
         if word[:1].isdigit():
             return Value(number_in(word), 2 if number_in(word) < 0x10000 else 4)
         if len(word) == 3 and word[0] == "'":
             return Value(ord(word[1]), 1)
-        label = self.machine.listing.label_of(word)
+        label = self.listing.label_of(word)
         if label is None:
             raise Sorry(f'{word or self.text} is no register, flag, label or number')
         return Value(label[1], 2, physical(*label))

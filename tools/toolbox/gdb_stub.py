@@ -1,14 +1,17 @@
 """Answers to gdb's requests from a board's (gdb's manual, "Remote Protocol", "Packets")."""
 from __future__ import annotations
 
+import functools
 import re
 
 from toolbox.command import Sorry
+from toolbox.conditions import Asked
 from toolbox.gdb_board import MEMORY, Board, Met, far_of_address
+from toolbox.gdb_bytecode import Condition
 from toolbox.gdb_frames import Frames
 from toolbox.gdb_wire import MOST_BYTES, Wire
 from toolbox.listing import Listing, physical
-from toolbox.session_board import MOST_STOPS, Gone, Paused, break_at
+from toolbox.session_board import MOST_STOPS, Gone, Paused, SessionBoard, break_at
 
 # The order of the `g` packet. Those that point into a segment are told as physical addresses, so that gdb finds code and stack.
 NAMES = ('AX', 'CX', 'DX', 'BX', 'SP', 'BP', 'SI', 'DI', 'IP', 'FL', 'CS', 'SS', 'DS', 'ES')
@@ -24,6 +27,14 @@ def word_of(value: int) -> str:
     return value.to_bytes(4, 'little').hex()
 
 
+def condition_of(text: str) -> Condition:
+    """A breakpoint's condition, as `X`, its length, and its bytes."""
+    length, _, digits = text[1:].partition(',')
+    if len(digits) != 2 * int(length, 16):
+        raise Sorry('the condition is broken')
+    return Condition(bytes.fromhex(digits))
+
+
 class Stub:
     """A session with gdb over a wire. The 8086 has no FS and GS. Where a CALL, INT or interrupt has just led to, they tell gdb how
     many bytes that pushed, and to which address it returns: so `next` goes over it. Elsewhere they lead to the same frame, which gdb
@@ -31,7 +42,7 @@ class Stub:
 
     def __init__(self, wire: Wire, board: Board, listing: Listing) -> None:
         self._wire, self._board, self._listing = wire, board, listing
-        self._addresses = set[int]()
+        self._addresses = dict[int, list[Condition]]()  # of breakpoints, with their conditions, one of which is to hold
         self._told = set[int]()
         self._frames = Frames(board.dump)
         self._has_ended, self._last, self._state = False, 'S05', 'running'
@@ -108,7 +119,7 @@ class Stub:
         name = re.split('[:,;]', request, maxsplit=1)[0]
         if name == 'qSupported':
             self._can_name_breaks = 'swbreak+' in request
-            return f'PacketSize={MOST_BYTES // 2:x};ReverseStep+;ReverseContinue+;QStartNoAckMode+;swbreak+'
+            return f'PacketSize={MOST_BYTES // 2:x};ReverseStep+;ReverseContinue+;QStartNoAckMode+;swbreak+;ConditionalBreakpoints+'
         if name == 'qRcmd':
             return self._monitor(request.partition(',')[2])
         return {'QStartNoAckMode': 'OK', 'qAttached': '1', 'qC': 'QC1', 'qfThreadInfo': 'm1', 'qsThreadInfo': 'l'}.get(name, '')
@@ -134,27 +145,42 @@ class Stub:
         return self._board.dump(int(found[1], 16), min(int(found[2], 16), MOST_MEMORY)).hex()
 
     def _breakpoint(self, request: str) -> str:
-        """Puts in a breakpoint or takes it out. One beyond memory is never met."""
-        found = re.fullmatch('([zZ])([01]),([0-9a-f]{1,16}),[0-9a-f]+(;.*)?', request)
+        """Puts in a breakpoint, with its conditions, or takes it out. One beyond memory is never met."""
+        found = re.fullmatch('([zZ])([01]),([0-9a-f]{1,16}),[0-9a-f]+((;X[0-9a-f]+,[0-9a-f]*)*)', request)
         if not found:
             return '' if re.match('[zZ][2-9]', request) else 'E01'
         address = int(found[3], 16)
         if found[1] == 'z':
-            self._addresses.discard(address)
+            self._addresses.pop(address, None)
         elif address < MEMORY:
-            if len(self._addresses | {address}) + len(self._board.named) > MOST_STOPS:
+            if len({*self._addresses, address}) + len(self._board.named) > MOST_STOPS:
                 return f'E.the board has room for {MOST_STOPS} stops'
-            self._addresses.add(address)
+            self._addresses[address] = list(map(condition_of, found[4].split(';')[1:]))
         return 'OK'
+
+    def _holds(self, condition: Condition, board: SessionBoard) -> bool:
+        """Whether a breakpoint's condition does."""
+        registers = board.registers()
+
+        def register(number: int) -> int:
+            if number < len(NAMES):
+                name = NAMES[number]
+                return physical(registers[SEGMENT_OF[name]], registers[name]) if name in SEGMENT_OF else registers[name]
+            return self._registers()[number] if number < 16 else 0
+
+        return condition.holds(register, lambda address, count: board.dump(address, count) if address < MEMORY else b'')
 
     def _breaks(self) -> list[str]:
         """The stops that the breakpoints are. Where it is a guess by which CS one is come to, that is told once."""
         found: list[str] = []
+        self._board.asked = {}
         for address in sorted(self._addresses):
             segment, offset, is_known = far_of_address(self._listing, address, self._board.registers()['CS'])
             if address in self._frames.returns:
                 (segment, offset), is_known = self._frames.returns[address], True
             found.append(break_at((segment, offset)))
+            if conditions := self._addresses[address]:
+                self._board.asked[found[-1]] = [Asked(functools.partial(self._holds, it)) for it in conditions]
             if not is_known and address not in self._told:
                 self._told.add(address)
                 self.tell(f'breakpoint at {address:05x}: where CS:IP is {segment:04X}:{offset:04X}; by another CS it is passed')

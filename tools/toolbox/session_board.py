@@ -3,20 +3,25 @@ clock, and beginnings anew. It decides nothing: each place is that of a session.
 from __future__ import annotations
 
 import time
-from typing import Callable, Collection, Iterable, TypeVar
+from typing import TYPE_CHECKING, Callable, Collection, Iterable, TypeVar
 
 from toolbox.command import Sorry
+from toolbox.listing import physical
 from toolbox.places import Event, event_of, operation_of
 from toolbox.program import CLOCKS_OF_A_TRAIL, Files, Session
 from toolbox.report import registers_of
 from toolbox.returns import Far
 from toolbox.way_back import last_stop, paced
 
+if TYPE_CHECKING:
+    from toolbox.conditions import Asked
+
 MOST_STOPS = 16
 MOST_PASSED = 64  # stops that nobody wants any more, before a session without them is begun
 FIRST_PIECE = 1 << 16
 BEFORE_START = 'fault 54 BeforeStart'
 T = TypeVar('T')
+HLT, ROM = b'\xF4', 0xF0000  # from there on no byte changes
 
 
 class Gone(Sorry):
@@ -58,6 +63,8 @@ class SessionBoard:
     def __init__(self, files: Files, budget: int, poll: Callable[[], None] = lambda: None) -> None:
         self.files, self.budget, self.poll = files, budget, poll
         self._stops, self._piece = list[str](), FIRST_PIECE
+        self.asked: dict[str, list[Asked]] = {}  # what stops ask besides
+        self._halts = dict[int, bool]()  # whether HLT stands at an address of ROM
         # The registers and the trail are asked for once at each clock: what a board holds there is determined.
         self._registers, self._trail = (-1, dict[str, int]()), (-1, list[Event]())
         self._session = Session(files)
@@ -219,21 +226,40 @@ class SessionBoard:
         else:
             self.go_on(clock)
 
-    def run(self, wanted: Collection[str], end: int) -> str | None:
-        """Goes on to one of these stops, at most to this clock, and returns it. In a halt the place behind the HLT is none."""
+    def run(self, wanted: Collection[str], end: int, always: Collection[str] = ()) -> str | None:
+        """Goes on to one of these stops, at most to this clock, and returns it: where what it asks holds, or always. In a halt the
+        place behind the HLT is none."""
         self.want(wanted)
-        passed = 0
+        passed, since = 0, self.clock
         while self.clock < end:
             met = self.go_on(end)
-            if met and place_of(met) and self.is_halted:
+            if met and place_of(met) and self._is_behind_a_halt() and self.is_halted:
                 met = self.leave_halt(wanted, end)
                 self.want(wanted)
             elif met and met not in wanted:
                 passed += 1
                 self._pass(passed, wanted)
             if met and met in wanted:
-                return met
+                if met in always or self.is_met(met, since):
+                    return met
+                self.poll()
         return None
+
+    def is_met(self, stop: str, since: int | None = None) -> bool:
+        """Whether one of those who want a stop, to which the board has come, wants it here. Since a clock it has been met whenever it
+        held; without one the board goes back."""
+        asked = self.asked.get(stop)
+        return asked is None or any([it.is_met(self, stop, since) for it in asked])
+
+    def _is_behind_a_halt(self) -> bool:
+        """Whether HLT stands before CS:IP, as it does if the processor is halted there."""
+        segment, offset = self.place()
+        address = physical(segment, (offset - 1) % 0x10000)
+        if address < ROM:
+            return self.dump(address, 1) == HLT
+        if address not in self._halts:
+            self._halts[address] = self.dump(address, 1) == HLT
+        return self._halts[address]
 
     def _pass(self, passed: int, wanted: Collection[str]) -> None:
         """Passes a stop that nobody wants any more; after many of them there are none."""
@@ -272,10 +298,13 @@ class SessionBoard:
             met = self._stop_in(self._last_stop())
             if met is None:
                 break
-            if place_of(met) and self.is_halted:
+            if place_of(met) and self._is_behind_a_halt() and self.is_halted:
                 self.go_to(self.trail()[-1].clock)
             elif met in wanted:
-                return met
+                if self.is_met(met):
+                    return met
+                self.poll()
+                continue
             passed += 1
             self._pass(passed, wanted)
         self.go_to(0)
