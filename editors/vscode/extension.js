@@ -248,10 +248,19 @@ function providers() {
   ];
 }
 
+// Asks for a clock, and goes there, earlier or later.
+async function goToClock() {
+  const session = vscode.debug.activeDebugSession;
+  const isClock = (text) => (/^[\d,_]+$/.test(text) ? undefined : 'a decimal number');
+  const text = session && (await vscode.window.showInputBox({ prompt: 'The clock to go to, earlier or later', validateInput: isClock }));
+  if (text) await session.customRequest('toClock', { clock: Number(text.replace(/[,_]/g, '')) });
+}
+
 function activate(context) {
   client = new Client();
   const { workspace } = vscode;
   context.subscriptions.push(
+    vscode.commands.registerCommand('zebludor.toClock', goToClock),
     client.underlined,
     workspace.onDidOpenTextDocument((it) => client.follow(it, () => client.open(it))),
     workspace.onDidChangeTextDocument((it) => client.follow(it.document, () => client.change(it))),

@@ -371,6 +371,34 @@ class Sessions(ToolCase):
         self.assertEqual(client.end(), 0)  # one that goes on the way
         self.assertEqual(os.listdir(f'{self.room}/tmp'), [])
 
+    def test_to_a_clock(self) -> None:
+        """By the console and by a request, earlier and later, past breakpoints; a way that lasts is paused where it is."""
+        client = self.client()
+        source, run = example('ticks')
+        client.launch(source, 41, run=run, stopOnEntry=True)
+        client.event('stopped')
+        for clock in (1797, 1000, 0, 1234):
+            if clock % 2:
+                client.ask('toClock', clock=clock)
+            else:
+                client.ask('evaluate', expression=f'to {clock:,}', context='repl')
+            told = client.event('stopped')
+            self.assertEqual((told['reason'], told['text']), ('goto', f'clock {clock}'))
+            self.agrees(client, 'ticks')
+        for bad in (-1, (1 << 40) + 1, 'x'):
+            self.assertTrue(client.refused('toClock', clock=bad))
+        self.assertIn('to is no register', client.refused('evaluate', expression='to the end', context='repl'))
+        busy, long = self.program('again:  JMP SHORT again', 1 << 40)
+        other = self.client()
+        other.launch(busy, run=long, stopOnEntry=True)
+        other.event('stopped')
+        other.ask('toClock', clock=1 << 39)
+        time.sleep(0.2)
+        other.ask('pause', threadId=1)
+        self.assertEqual(other.event('stopped')['reason'], 'pause')
+        self.assertTrue(0 < other.clock() < 1 << 39)
+        self.assertEqual((client.leave(), other.leave()), (0, 0))
+
     def test_seventeen_breakpoints_and_halts(self) -> None:
         client, (source, run) = self.client(), example('ticks')
         told = client.launch(source, *range(8, 31), run=run, stopOnEntry=True)

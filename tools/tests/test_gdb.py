@@ -267,6 +267,26 @@ class Served(ToolCase):
         for broken in ('X2,27', 'X1,ff', 'X0,', 'Xg,27'):
             self.assertTrue(client.ask(f'Z0,f0001,1;{broken}').startswith('E'), broken)
 
+    def test_to_a_clock(self) -> None:
+        """Earlier and later, past breakpoints and stops; an interrupt ends the way where it is."""
+        files = example('ticks')
+        client = self.client(*files)
+        self.assertEqual((client.ask('Z0,f6058,1'), client.monitor('byte B0000 31'), client.monitor('clock')), ('OK', 'stop 1\n', 'clock 0\n'))
+        with Session(Files(*files)) as direct:
+            for clock in (1797, 1000, 0, 1234, 5):
+                direct.go_to(clock)
+                self.assertEqual((client.monitor(f'to {clock}'), client.monitor('clock')), (f'clock {clock}\n',) * 2)
+                self.assertEqual(client.registers()[:14], told_as(direct.many('regs')))
+        for bad in ('to', 'to x', f'to {(1 << 40) + 1}', 'to 1 2'):
+            self.assertIn('a decimal number', client.monitor(bad))
+        self.assertEqual(client.monitor('clock'), 'clock 5\n')
+        busy = self.client(*self.program(BUSY, 1 << 40))
+        busy.socket.sendall(framed('qRcmd,' + b'to 1000000000000'.hex()))
+        self.assertTrue(is_at_work(self.tool_process.pid))
+        busy.socket.sendall(b'\x03')
+        self.assertEqual(busy.packet(), 'OK')
+        self.assertRegex(busy.shown, r'^interrupted, clock [1-9]\d+\n$')
+
     def test_nothing_is_written(self) -> None:
         client = self.client(*example('hello'))
         before = client.registers()

@@ -153,6 +153,19 @@ class Extension(ToolCase):
         self.assertEqual((told['formatting'], told['mended']), ([], [[], 1]))
         self.assertEqual(told['shown'], ['zebludor: the language server has ended'])
         self.assertEqual([it[0] for it in told['anew']], [3])
+        self.assertEqual(told['asked'], [['toClock', {'clock': 1200}]])
+
+    def test_its_commands_and_its_files(self) -> None:
+        """What it names is registered; sources for other assemblers are none of its own, unless a setting says so."""
+        with open(f'{TOP}/editors/vscode/package.json', encoding='utf-8') as file:
+            found = json.load(file)['contributes']
+        with open(f'{TOP}/editors/vscode/extension.js', encoding='utf-8') as file:
+            text = file.read()
+        for it in found['commands']:
+            self.assertIn(f"registerCommand('{it['command']}'", text)
+        self.assertEqual([it['extensions'] for it in found['languages']], [['.zasm']])
+        with open(f'{TOP}/docs/editors.md', encoding='utf-8') as file:
+            self.assertIn('"files.associations": {"*.asm": "zebludor"}', file.read())
 
     def test_its_settings_are_the_servers(self) -> None:
         with open(f'{TOP}/editors/vscode/package.json', encoding='utf-8') as file:

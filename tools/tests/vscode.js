@@ -19,6 +19,8 @@ const shown = [];
 const underlined = new Map();
 const documents = [];
 const waiting = [];
+const commands = {};
+const asked = [];
 const listen = (name) => (what) => { heard[name] = what; return { dispose() {} }; };
 const provide = (name) => (language, what) => { providers[name] = { language, ...what }; return { dispose() {} }; };
 const note = () => waiting.splice(0).forEach((it) => it());
@@ -31,7 +33,9 @@ const stand = {
   CodeActionKind: { QuickFix: 'quickfix' },
   WorkspaceEdit: class { constructor() { this.edits = {}; } set(uri, edits) { this.edits[uri] = edits; } },
   Uri: { parse: (text) => ({ text, toString: () => text, toJSON: () => text }) },
-  window: { showErrorMessage: (text) => { shown.push(text); note(); } },
+  window: { showErrorMessage: (text) => { shown.push(text); note(); }, showInputBox: async () => '1,200' },
+  commands: { registerCommand: (name, what) => { commands[name] = what; return { dispose() {} }; } },
+  debug: { activeDebugSession: { customRequest: async (...given) => { asked.push(given); } } },
   languages: {
     createDiagnosticCollection: () => ({ set: (uri, them) => { underlined.set(`${uri}`, them); note(); }, clear: () => underlined.clear() }),
     registerHoverProvider: provide('hover'), registerCompletionItemProvider: provide('completion'),
@@ -97,6 +101,8 @@ const messages = (it) => (underlined.get(`${it.uri}`) || []).map((one) => [one.r
   heard.change({ document: a, contentChanges: [] });
   await until(() => messages(a).length);
   told.anew = messages(a);
+  await commands['zebludor.toClock']();
+  told.asked = asked;
   await extension.deactivate();
   told.shown = shown;
   console.log(JSON.stringify(told));

@@ -15,7 +15,7 @@ from toolbox.dap_values import Disassembly, Expression, is_code
 from toolbox.framing import Broken, Read
 from toolbox.listing import labels_alone, listing_of, physical
 from toolbox.places import far_of
-from toolbox.program import TOP, Files, copied
+from toolbox.program import LAST_CLOCK, TOP, Files, copied
 from toolbox.returns import Far
 from toolbox.runfile import DEFAULTS, budget_of, text_of
 from toolbox.scancodes import stamped, strokes_of
@@ -504,8 +504,23 @@ class Adapter:
 
     on_setExpression = on_writeMemory = on_setVariable
 
-    def on_evaluate(self, given: Fields) -> Fields:
+    def on_toClock(self, given: Fields) -> tuple[Fields, Callable[[], tuple[str, str]]]:
+        """A request of our own: to a clock, earlier or later, past all breakpoints."""
+        board, clock = self.board(), field(given, 'clock', int)
+        if not 0 <= clock <= LAST_CLOCK:
+            raise Sorry(f'a clock lies from 0 to {LAST_CLOCK}')
+
+        def go() -> tuple[str, str]:
+            board.go_to(clock)
+            return 'goto', f'clock {board.clock}'
+
+        return {}, go
+
+    def on_evaluate(self, given: Fields) -> Fields | tuple[Fields, Callable[[], tuple[str, str]]]:
         text, board = field(given, 'expression', str).strip(), self.board()
+        if given.get('context') == 'repl' and (found := re.fullmatch(r'to\s+([\d,_]+)', text)):
+            body, then = self.on_toClock({'clock': int(re.sub('[,_]', '', found[1]) or -1)})
+            return {'result': f'to clock {found[1]}', 'variablesReference': 0}, then
         if given.get('context') == 'repl' and text.partition(' ')[0] in SHOWING and '\n' not in text:
             return {'result': '\n'.join(it.rstrip() for it in board.many(text)).rstrip(), 'variablesReference': 0}
         value = Expression(board, board.listing, text).value()

@@ -11,6 +11,7 @@ from toolbox.gdb_bytecode import Condition
 from toolbox.gdb_frames import Frames
 from toolbox.gdb_wire import MOST_BYTES, Wire
 from toolbox.listing import Listing, physical
+from toolbox.program import LAST_CLOCK
 from toolbox.session_board import MOST_STOPS, Gone, Paused, SessionBoard, break_at
 
 # The order of the `g` packet. Those that point into a segment are told as physical addresses, so that gdb finds code and stack.
@@ -18,7 +19,7 @@ NAMES = ('AX', 'CX', 'DX', 'BX', 'SP', 'BP', 'SI', 'DI', 'IP', 'FL', 'CS', 'SS',
 SEGMENT_OF = {'SP': 'SS', 'BP': 'SS', 'IP': 'CS'}
 INTERRUPTED, ILLEGAL, TRAP, TIME_IS_UP = 2, 4, 5, 24  # signals, by gdb's own numbers
 MOST_MEMORY = MOST_BYTES // 4
-STOPS, MOVES = ('break', 'byte', 'sound', 'halted'), ('go', 'step', 'back')
+STOPS, MOVES = ('break', 'byte', 'sound', 'halted'), ('to', 'go', 'step', 'back')
 READ_ONLY = "E.the board's answers are those of its source: nothing is written"
 
 
@@ -247,13 +248,15 @@ class Stub:
             return 'E.no command of the debugger'
         words = command.split() or ['']
         if words[0] in ('', 'help') or not command.isprintable():
-            self.tell('commands: ' + ', '.join((*STOPS, *MOVES, 'regs', 'screen', 'dump', 'trail')) + ' (docs/debugger.md)')
+            self.tell('commands: ' + ', '.join((*STOPS, *MOVES, 'clock', 'regs', 'screen', 'dump', 'trail')) + ' (docs/debugger.md)')
         elif words[0] == 'quit':
             self.tell("gdb's own quit ends the session")
         elif words[0] in STOPS:
             self.tell(self._board.name(command))
         elif words[0] in MOVES:
             self.tell(self._moved(words))
+        elif words == ['clock']:
+            self.tell(f'clock {self._board.clock}')
         else:
             self.tell('\n'.join(it.rstrip() for it in self._board.many(command)))
         return 'OK'
@@ -261,6 +264,8 @@ class Stub:
     def _moved(self, words: list[str]) -> str:
         """The answer to a command that moves the board. Breakpoints are gdb's: here they are passed."""
         self._state = 'running'
+        if words[0] == 'to':
+            return self._gone_to(words[1:])
         if words[0] == 'go' and len(words) == 2 and re.fullmatch('[0-9]{1,13}', words[1]):
             return self._answered(self._board.go([], self._board.clock + int(words[1])))
         if words == ['back', 'stop']:
@@ -270,6 +275,16 @@ class Stub:
                 return 'fault 54 BeforeStart'
             return self._answered(met)
         return self._board.answer(' '.join(words))
+
+    def _gone_to(self, words: list[str]) -> str:
+        """The board at a clock, earlier or later, past all stops; or where an interrupt has ended the way."""
+        if len(words) != 1 or not re.fullmatch('[0-9]{1,13}', words[0]) or int(words[0]) > LAST_CLOCK:
+            return f'to CLOCK: a decimal number up to {LAST_CLOCK}'
+        try:
+            self._board.go_to(int(words[0]))
+        except Paused:
+            return f'interrupted, clock {self._board.clock}'
+        return f'clock {self._board.clock}'
 
     def _answered(self, met: Met) -> str:
         """A run's end, as the debugger tells it."""
