@@ -195,6 +195,26 @@ class Served(ToolCase):
         self.addCleanup(client.close)
         return client
 
+    def next_client(self) -> Client:
+        """The one that attaches after one that is gone."""
+        found = list[Client]()
+
+        def is_there() -> bool:
+            try:
+                found.append(Client(self.port))
+            except OSError:
+                return False
+            return True
+
+        self.assertTrue(until(is_there))
+        self.addCleanup(found[0].close)
+        return found[0]
+
+    def leaves(self, client: Client) -> None:
+        """It detaches, which ends the tool."""
+        self.assertEqual(client.ask('D;1'), 'OK')
+        self.assert_nothing_left()
+
     def assert_nothing_left(self, status: int = 0) -> None:
         """That the tool ends, with its board, and leaves no file."""
         self.assertEqual(self.tool_process.wait(SECONDS), status)
@@ -267,6 +287,21 @@ class Served(ToolCase):
         for broken in ('X2,27', 'X1,ff', 'X0,', 'Xg,27'):
             self.assertTrue(client.ask(f'Z0,f0001,1;{broken}').startswith('E'), broken)
 
+    def test_begins_anew(self) -> None:
+        """By `vRun` of the extended protocol, in which neither kill nor detach ends the board; `monitor exit` does."""
+        client = self.client(*example('ticks'))
+        self.assertEqual(client.ask('vRun;'), '')
+        self.assertEqual((client.ask('!'), client.ask('Z0,f6058,1'), client.ask('c')), ('OK', 'OK', 'T05thread:1;'))
+        self.assertEqual((client.ask('vKill;1'), client.ask('vRun;'), client.monitor('clock')), ('OK', 'T05thread:1;', 'clock 0\n'))
+        self.assertEqual((client.ask('c')[:3], client.monitor('clock')), ('T18', 'clock 100000\n'))  # gdb puts its breakpoints in anew
+        client.monitor('to 77')
+        self.assertEqual((client.ask('D;1'), client.ask('vAttach;1'), client.monitor('clock')), ('OK', 'T05thread:1;', 'clock 77\n'))
+        client.close()
+        after = self.next_client()
+        self.assertEqual((after.monitor('clock'), after.ask('?')), ('clock 77\n', 'S05'))
+        after.monitor('exit')
+        self.assert_nothing_left()
+
     def test_to_a_clock(self) -> None:
         """Earlier and later, past breakpoints and stops; an interrupt ends the way where it is."""
         files = example('ticks')
@@ -335,14 +370,16 @@ class Served(ToolCase):
             Client(self.port)
         client.socket.sendall(b'$g')  # half a packet, and gone
         client.close()
-        self.assert_nothing_left()
+        self.leaves(self.next_client())
 
     def test_one_that_goes_in_a_run(self) -> None:
         client = self.client(self.program(BUSY)[0], self.file('long.json', LONG))
         client.socket.sendall(framed('c'))
         self.assertTrue(is_at_work(self.tool_process.pid))
         client.close()
-        self.assert_nothing_left()
+        after = self.next_client()
+        self.assertGreater(int(after.monitor('clock').split()[1]), 0)  # where the run has come to
+        self.leaves(after)
 
     def test_one_that_never_speaks(self) -> None:
         client = self.client(*example('hello'))
@@ -383,7 +420,9 @@ class Served(ToolCase):
         client.socket.sendall(framed('bc'))
         self.assertTrue(until(lambda: len(children(self.tool_process.pid)) == 2))  # the other board is beside it
         client.close()  # one that goes on the way
-        self.assert_nothing_left()
+        after = self.next_client()
+        self.assertEqual(after.monitor('clock'), 'clock 5005\n')
+        self.leaves(after)
 
     def test_an_interrupt_on_a_very_long_way_back(self) -> None:
         """Where the other board is still far from the clock, it stays where it has come to."""
@@ -599,6 +638,15 @@ class Gdb(ToolCase):
             self.assertIn('\n'.join(lines), told, steps)
             for wanted in (f'= {registers[8]:#x}\n', f'= {registers[4]:#x}\n', memory[:40], memory[40:]):
                 self.assertIn(wanted, told, steps)
+
+    def test_run_anew(self) -> None:
+        """What everyone types: from the start to the first breakpoint, also after kill; and an attach after a detach."""
+        if not GDB:
+            return
+        begin = ('break tick', 'continue', 'continue', 'run', 'monitor clock', 'kill', 'run', 'monitor clock', 'stepi', 'detach', 'attach 1')
+        told = self.gdb(example('ticks'), *begin, 'monitor clock', 'checkpoint')
+        self.assertEqual(re.findall(r'^clock (\d+)$', told, re.M), ['1009', '1397', '1009', '1009', '1009', '1009', '1032'])
+        self.assertIn('"monitor to CLOCK" goes there', told)
 
     def test_a_condition(self) -> None:
         """As gdb hands it over, forth and back."""

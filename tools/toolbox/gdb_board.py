@@ -56,6 +56,12 @@ class Board(SessionBoard):
         except Paused:
             return Met('interrupt')
 
+    def recover(self) -> None:
+        """Behind a client that has gone: from a way back that nobody ends any more, the board is begun anew where it was."""
+        self.poll = lambda: None
+        if not self._session.is_idle:
+            self.begin_anew(self.named)
+
     def back_step(self) -> bool:
         """To the last earlier clock at which the processor was free, if there is one."""
         return self.one('back step') != BEFORE_START

@@ -46,7 +46,8 @@ class Stub:
         self._addresses = dict[int, list[Condition]]()  # of breakpoints, with their conditions, one of which is to hold
         self._told = set[int]()
         self._frames = Frames(board.dump)
-        self._has_ended, self._last, self._state = False, 'S05', 'running'
+        self.has_ended, self._last, self._state = False, 'S05', 'running'
+        self._is_extended = False  # gdb may begin anew, and come back to a board that it has left
         self._can_name_breaks = False
         board.poll = self._poll
 
@@ -57,7 +58,7 @@ class Stub:
 
     def serve(self) -> None:
         """Answers until the client goes, or the board has died, which it is told."""
-        while not self._has_ended:
+        while not self.has_ended:
             request = self._wire.receive()
             try:
                 answer = self.answer(request)
@@ -71,7 +72,7 @@ class Stub:
         """The answer where the board gave none. One that has died has no more to say."""
         text = re.sub(r'[^ -~]|[$#}*]', ' ', str(sorry))
         if isinstance(sorry, Gone):
-            self._has_ended = True
+            self.has_ended = True
             if self._is_run(request):
                 self.tell('the board has died: its process was ended from outside')
                 return 'X09'
@@ -111,9 +112,23 @@ class Stub:
         if request == '?':
             return self._last
         if first in ('D', 'k') or request.startswith('vKill'):
-            self._has_ended = True
+            self.has_ended = not self._is_extended
             return 'OK'
+        if request == '!':
+            self._is_extended = True
+            return 'OK'
+        if request.startswith(('vRun;', 'vAttach;')) and self._is_extended:
+            return self._begun(request.startswith('vRun'))
         return ''
+
+    def _begun(self, is_anew: bool) -> str:
+        """The board from its start, or as it stands."""
+        self._state = 'running'
+        if is_anew:
+            self._addresses.clear()
+            self._board.asked = {}
+            self._board.go_to(0)
+        return self._stopped(TRAP)
 
     def _question(self, request: str) -> str:
         """Answers to requests that begin with q."""
@@ -251,6 +266,8 @@ class Stub:
             self.tell('commands: ' + ', '.join((*STOPS, *MOVES, 'clock', 'regs', 'screen', 'dump', 'trail')) + ' (docs/debugger.md)')
         elif words[0] == 'quit':
             self.tell("gdb's own quit ends the session")
+        elif words == ['exit']:
+            self.has_ended = True
         elif words[0] in STOPS:
             self.tell(self._board.name(command))
         elif words[0] in MOVES:
