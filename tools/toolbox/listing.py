@@ -96,12 +96,13 @@ def probed(source: str, names: list[str]) -> dict[str, tuple[int, int]]:
 
 def parts_of(image: dict[int, int]) -> dict[int, bytes]:
     """The parts of memory that these bytes fill, each as long as it goes."""
-    found, first = dict[int, bytes](), -1
+    found, end = dict[int, bytearray](), -1
     for address, octet in sorted(image.items()):
-        if address != first + len(found.get(first, b'')):
-            first = address
-        found[first] = found.get(first, b'') + bytes([octet])
-    return found
+        if address != end:
+            part = found[address] = bytearray()
+        part.append(octet)
+        end = address + 1
+    return {first: bytes(part) for first, part in found.items()}
 
 
 def listing_of(files: Files) -> Listing:

@@ -4,7 +4,6 @@ against the program's bytes."""
 from __future__ import annotations
 
 import re
-from dataclasses import replace
 
 from toolbox.command import Sorry, read_text
 from toolbox.listing import Line, Listing, label_in, line_of, physical
@@ -148,8 +147,10 @@ def finished(found: Listing, image: dict[int, int]) -> Listing:
     """The lines with the program's own bytes, by their addresses too."""
 
     def told(line: Line) -> Line:
-        far = line.address
-        return replace(line, shown=bytes(image.get(physical(far[0], far[1] + it), 0) for it in range(8))) if far else line
+        if line.address is None:
+            return line
+        first = physical(*line.address)
+        return Line(line.number, line.text, line.address, bytes([image.get(it % MEMORY, 0) for it in range(first, first + 8)]))
 
     lines = [told(it) for it in found.lines]
     at = {where: told(it) for where, it in found.at.items()}
