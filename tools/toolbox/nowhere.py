@@ -67,7 +67,7 @@ from toolbox.places import Event, event_of, line_at
 from toolbox.program import LAST_CLOCK, Files, Session
 from toolbox.report import COLUMNS, ROWS, Report
 from toolbox.runfile import read_run_file
-from toolbox.services import SIGNATURE, SIGNED, served_of
+from toolbox.services import left_at
 from toolbox.text_memory import TEXT_MEMORY, shown
 from toolbox.walk import WRITERS, Run, Talker, mnemonic, statement_of
 
@@ -166,9 +166,7 @@ def of_a_blank(report: Report, session: Talker) -> list[str]:
 
 def of_the_services(it: Run) -> list[str]:
     """What the services have noted, if they are in ROM."""
-    if not it.is_repeated or it.session.dump(SIGNED, len(SIGNATURE)) != SIGNATURE:
-        return []
-    found = served_of(it.files, it.report.clock)
+    found = left_at(it.session, it.ram_end)
     return found.told() if found else []
 
 

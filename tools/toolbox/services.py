@@ -12,6 +12,7 @@ from toolbox.listing import Line, label_in, line_of
 from toolbox.program import TOP, Files, Session, answer_of
 from toolbox.runfile import read_run_file
 from toolbox.symbols import image_of
+from toolbox.walk import Talker
 
 LEAST_RAM, MOST_RAM, SPAN = 144, 640, 0x10000
 KEPT = 0xFC00  # so many bytes of what was written; behind them stands the rest
@@ -111,29 +112,23 @@ class Served:
         return found
 
 
-def ram_of(files: Files) -> int:
-    """A run file's RAM in KB, or 0 where it has none."""
-    ram = read_run_file(files.run_file).get('ram')
-    return ram if isinstance(ram, int) else 0
-
-
 def served_of(files: Files, clock: int) -> Served | None:
     """What the services left at a clock, or None where they aren't in the program, or haven't begun."""
-    ram = ram_of(files)
-    if not LEAST_RAM <= ram <= MOST_RAM:
-        return None
+    ram = read_run_file(files.run_file).get('ram')
     with Session(files) as session:
-        if session.dump(SIGNED, len(SIGNATURE)) != SIGNATURE:
-            return None
         session.stop(f'break {OVER[0]:X}:{OVER[1]:X}')
         ended = session.clock if session.go(clock).startswith('stop') else None
         if ended is not None:
             session.go(min(CLOCKS_OF_AN_END, clock - ended))
-        return read(session, 1024 * ram - SPAN, ended)
+        return left_at(session, 1024 * ram if isinstance(ram, int) else 0, ended)
 
 
-def read(session: Session, base: int, ended: int | None) -> Served | None:
-    """What stands in the services' RAM, which begins at `base`."""
+def left_at(session: Talker, ram_end: int, ended: int | None = None) -> Served | None:
+    """What the services left where a session stands, of a program that ended at a clock, or None where they aren't in ROM, or haven't
+    begun."""
+    base = ram_end - SPAN
+    if not 1024 * LEAST_RAM <= ram_end <= 1024 * MOST_RAM or session.dump(SIGNED, len(SIGNATURE)) != SIGNATURE:
+        return None
     state = session.dump(base + KEPT, 0x16)
     mark, phase, how, code, written, notes, number, *place, lost = struct.unpack('<HHBBIHHHHHH', state)
     if mark != MARK:
