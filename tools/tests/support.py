@@ -4,6 +4,7 @@ from __future__ import annotations
 import contextlib
 import functools
 import importlib.machinery
+import importlib.util
 import io
 import os
 import re
@@ -13,9 +14,9 @@ import subprocess
 import sys
 import tempfile
 import time
-import types
 import unittest
 from typing import Any, Callable
+from unittest import mock
 
 TOOLS = os.path.dirname(os.path.dirname(os.path.realpath(__file__)))
 TOP = os.path.dirname(TOOLS)
@@ -69,7 +70,7 @@ def example(name: str) -> tuple[str, str]:
 def main_of(name: str) -> Callable[[list[str]], int]:
     """A tool's own function."""
     loader = importlib.machinery.SourceFileLoader(f'tool_{name}', f'{TOOLS}/{name}')
-    module = types.ModuleType(loader.name)
+    module = importlib.util.module_from_spec(importlib.machinery.ModuleSpec(loader.name, loader, origin=loader.path))
     module.__file__, sys.modules[loader.name] = loader.path, module
     loader.exec_module(module)
     return module.main  # type: ignore[no-any-return]
@@ -111,11 +112,11 @@ def processor_seconds(of: int) -> float:
     return sum(map(int, state_of(of)[11:13])) / os.sysconf('SC_CLK_TCK')
 
 
-def until(holds: Callable[[], Any]) -> bool:
+def until(holds: Callable[[], Any], pause: float = 0.01) -> bool:
     """Waits until something holds, and tells whether it does at last."""
     end = time.monotonic() + SECONDS
     while not (found := holds()) and time.monotonic() < end:
-        time.sleep(0.01)
+        time.sleep(pause)
     return bool(found)
 
 
@@ -126,7 +127,7 @@ def is_at_work(process: int) -> bool:
         return max((processor_seconds(it) for it in children(process) if name_of(it) in ('pcboard', 'pcprobe')), default=0)
 
     begun = spent()
-    return until(lambda: spent() - begun > 0.1)
+    return until(lambda: spent() - begun > 0.1, 0.05)  # each look is at all processes
 
 
 def name_of(process: int) -> str:
@@ -179,20 +180,22 @@ class ToolCase(unittest.TestCase):
         self.assertNotIn('Traceback', ran.stderr)
         return ran.stdout, but_progress(ran.stderr)
 
-    def called(self, name: str, *words: str, status: int = 0) -> tuple[str, str]:
+    def called(self, name: str, *words: str, given: str = '', status: int = 0) -> tuple[str, str]:
         """As `tool`, in this process: a start of Python less for each of many calls."""
+        from toolbox import comments
         from toolbox.command import Sorry, refuse, status_of
 
-        out, err, argv = io.StringIO(), io.StringIO(), sys.argv
-        sys.argv = [f'{TOOLS}/{name}', *words]
+        out, err, held = io.StringIO(), io.StringIO(), (sys.argv, sys.stdin)
+        sys.argv, sys.stdin = [f'{TOOLS}/{name}', *words], io.TextIOWrapper(io.BytesIO(given.encode()))
+        anew = mock.patch.multiple(comments, _copies={}, _told=set())
         try:
-            with contextlib.redirect_stdout(out), contextlib.redirect_stderr(err), contextlib.chdir(self.room):
+            with contextlib.redirect_stdout(out), contextlib.redirect_stderr(err), contextlib.chdir(self.room), anew:
                 try:
                     came = status_of(main_of(name))
                 except Sorry as sorry:
                     came = refuse(str(sorry))
         finally:
-            sys.argv = argv
+            sys.argv, sys.stdin = held
         self.assertEqual(came, status, err.getvalue() or out.getvalue())
         return out.getvalue(), but_progress(err.getvalue())
 

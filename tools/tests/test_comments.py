@@ -54,7 +54,7 @@ class Tools(ToolCase):
 
     def told_once(self, name: str, *words: str, status: int = 0, given: str = '') -> str:
         """What a tool prints, which says once that a copy is handed on."""
-        out, err = self.tool(name, *words, status=status, given=given)
+        out, err = self.called(name, *words, status=status, given=given)
         self.assertEqual(err.count(TOLD), 1, err)
         return out + err
 
@@ -64,7 +64,7 @@ class Tools(ToolCase):
         self.assertIn('AX=0001', self.told_once('why', 'run', self.source, self.run_file))
         self.assertIn('no lines refused', self.told_once('why', '--all', self.source))
         self.assertIn('2 met, 0 not', self.told_once('judge', page, self.source))
-        self.assertIn('\t2\tok\tok', self.tool('judge', '--class', page, self.source)[0])
+        self.assertIn('\t2\tok\tok', self.called('judge', '--class', page, self.source)[0])
         self.assertIn('| 3: HLT', self.told_once('trace', self.source, self.run_file))
 
     def test_the_user_s_own_text_is_shown(self) -> None:
@@ -77,7 +77,7 @@ class Tools(ToolCase):
     def test_what_is_no_comment_is_refused(self) -> None:
         for line in ("DB ';é'", "DB 'x;é", 'é: NOP'):
             path = self.file('bad.asm', LINES.replace(' HLT', line))
-            _, err = self.tool('try', path, status=1)
+            _, err = self.called('try', path, status=1)
             self.assertIn('fault', err)
             self.assertIn('line 3', err)
 
@@ -95,7 +95,7 @@ class Tools(ToolCase):
 
     def test_moments_gives_out_the_copy(self) -> None:
         page = self.file('it.page', 'budget = 100\nAX = 2\n')
-        out, _ = self.tool('moments', page, self.source, '--key', '1E', '--at', '10..11', status=1)
+        out, _ = self.called('moments', page, self.source, '--key', '1E', '--at', '10..11', status=1)
         self.assertIn('it.failing.asm is the copy of', out)
         ran = self.pcboard('run', f'{self.room}/it.failing.asm', f'{self.room}/it.failing.json')
         self.assertIn('AX=0001', ran.stdout)

@@ -50,8 +50,8 @@ class Guests(ToolCase):
         out, err = self.tool('try', self.binary('it.com', HELLO))
         self.assertRegex(out, r'^Hello\n\(ended by INT 20h, at clock [\d,]+\)\n\Z')
         self.assertEqual(err, '')
-        self.assertEqual(self.tool('try', self.binary('IT.COM', HELLO))[0], out)
-        self.assertEqual(self.tool('try', '--com', self.binary('other', HELLO))[0], out)
+        self.assertEqual(self.called('try', self.binary('IT.COM', HELLO))[0], out)
+        self.assertEqual(self.called('try', '--com', self.binary('other', HELLO))[0], out)
 
     def test_exe(self) -> None:
         """Its relocation adds the paragraph 0110h to the 2 at 0000:0001, so DS is that of the text."""
@@ -120,9 +120,9 @@ class Guests(ToolCase):
         self.called('try', return_lines, '--output', 'out')
         with open(f'{self.room}/out', 'rb') as file:
             self.assertEqual(file.read(), text[:-1] * 30)
-        # MOV BX,1; MOV CX,FC01h; MOV DX,8000h; MOV AH,40h; INT 21h; INT 20h
-        much = self.binary('much.com', bytes.fromhex('BB0100B901FCBA0080B440CD21CD20'))
-        _, err = self.called('try', much, '--output', 'much.out', '--budget', '400,000,000', status=2)
+        # MOV AL,13; MOV DI,200h; MOV CX,FC01h; PUSH CX; REP STOSB; POP CX; MOV DX,200h; MOV BX,1; MOV AH,40h; INT 21h; INT 20h
+        much = self.binary('much.com', bytes.fromhex('B00DBF0002B901FC51F3AA59BA0002BB0100B440CD21CD20'))
+        _, err = self.called('try', much, '--output', 'much.out', '--budget', '66,000,000', status=2)
         self.assertIn('64,513 bytes, and the services keep the first 64,512', err)
         self.assertFalse(os.path.exists(f'{self.room}/much.out'))
         self.assertIn("can't be written", self.called('try', return_lines, '--output', 'no/out', status=2)[1])
@@ -132,21 +132,21 @@ class Guests(ToolCase):
     def test_keep(self) -> None:
         """What is kept gives the same screen by pcboard alone, and the tools know it again."""
         path = self.binary('it.com', HELLO)
-        out, _ = self.tool('try', path, '--keep', 'kept')
+        out, _ = self.called('try', path, '--keep', 'kept')
         ran = self.pcboard('run', '--hex', f'{self.room}/kept.hex', f'{self.room}/kept.json')
         self.assertEqual(ran.stdout.split('screen\n')[1].split('\n')[0].rstrip(), 'Hello')
         page = self.file('it.page', 'exit = 0\noutput = Hello\n')
         self.assertIn('2 met, 0 not', self.called('judge', page, 'kept.hex', 'kept.json', '--hex')[0])
         self.assertIn('Hello', out)
-        self.assertIn("can't be written", self.tool('try', path, '--keep', 'no/kept', status=2)[1])
+        self.assertIn("can't be written", self.called('try', path, '--keep', 'no/kept', status=2)[1])
 
     def test_what_is_not_served_is_told(self) -> None:
         # MOV AH,3Dh; INT 21h; INT 20h
-        out, err = self.tool('try', self.binary('open.com', bytes.fromhex('B43DCD21CD20')), '--keep', 'kept')
+        out, err = self.called('try', self.binary('open.com', bytes.fromhex('B43DCD21CD20')), '--keep', 'kept')
         told = "why: INT 21h function 3Dh, called at 0100:0102, isn't among the services (docs/services.md)\n"
         self.assertEqual((out.split(' at clock')[0], err), ('(ended by INT 20h,', told))
-        self.assertEqual(self.tool('why', 'run', '--hex', 'kept.hex', 'kept.json')[1], told)
-        lost = self.tool('try', self.binary('wait.com', bytes.fromhex('EBFE')), '--keys', 'x' * 20)[1]
+        self.assertEqual(self.called('why', 'run', '--hex', 'kept.hex', 'kept.json')[1], told)
+        lost = self.called('try', self.binary('wait.com', bytes.fromhex('EBFE')), '--keys', 'x' * 20)[1]
         self.assertIn("5 keys were lost: the keyboard's buffer, which holds 15, was full", lost)
 
     def test_judge(self) -> None:
@@ -180,12 +180,12 @@ class Guests(ToolCase):
         self.assertIn('ends within its header', rows[2][2])
 
     def test_dbg(self) -> None:
-        out, _ = self.tool('dbg', self.binary('it.exe', exe()), given='break start\ngo\nbreak bios_over\ngo\nscreen\n')
+        out, _ = self.called('dbg', self.binary('it.exe', exe()), given='break start\ngo\nbreak bios_over\ngo\nscreen\n')
         self.assertIn('0110:0000 start', out)
         self.assertIn('FE00:0006 bios_over', out)
         self.assertIn('Exe', out)
-        self.assertIn('RUN', self.tool('dbg', example('hello')[0], status=2)[1])
-        self.assertIn('is empty', self.tool('dbg', self.binary('e.com', b''), status=2)[1])
+        self.assertIn('RUN', self.called('dbg', example('hello')[0], status=2)[1])
+        self.assertIn('is empty', self.called('dbg', self.binary('e.com', b''), status=2)[1])
 
     def test_gdb_serves(self) -> None:
         path = self.binary('it.exe', exe())
@@ -193,11 +193,11 @@ class Guests(ToolCase):
             assert process.stdout
             self.assertIn('gdb -x', process.stdout.readline())
             process.terminate()
-        self.assertIn('is empty', self.tool('gdb', '--serve', '0', self.binary('e.com', b''), status=2)[1])
+        self.assertIn('is empty', self.called('gdb', '--serve', '0', self.binary('e.com', b''), status=2)[1])
 
     def test_desk_keeps_the_image(self) -> None:
         path = self.binary('it.exe', exe())
-        self.assertIn('--keep NAME', self.tool('desk', '--no-open', path, status=2)[1])
+        self.assertIn('--keep NAME', self.called('desk', '--no-open', path, status=2)[1])
         words = [sys.executable, '-S', f'{TOOLS}/desk', '--no-open', path, '--keep', f'{self.room}/kept']
         with subprocess.Popen(words, stdout=subprocess.PIPE, text=True) as process:
             assert process.stdout
@@ -207,9 +207,9 @@ class Guests(ToolCase):
             self.assertEqual(image_of(file.read())[0x1100], MODULE[0])
         seen = self.called('try', path)[0].split('\n')[0]
         self.assertIn(f'\n{seen:80}\n', self.pcboard('run', '--hex', f'{self.room}/kept.hex', f'{self.room}/kept.json').stdout)
-        self.assertIn('is there already', self.tool('desk', '--no-open', path, '--keep', 'kept', status=2)[1])
+        self.assertIn('is there already', self.called('desk', '--no-open', path, '--keep', 'kept', status=2)[1])
         for other in (['--keep', 'x'], ['--services'], [example('hello')[0], '--keep', 'x']):
-            self.assertIn('go with a program with services', self.tool('desk', '--no-open', *other, status=2)[1])
+            self.assertIn('go with a program with services', self.called('desk', '--no-open', *other, status=2)[1])
 
     def test_run_files(self) -> None:
         path = self.binary('it.com', HELLO)
@@ -217,7 +217,7 @@ class Guests(ToolCase):
         self.assertIn('the services want 144 to 640 KB of RAM', self.called('try', path, '--run', small, status=2)[1])
         enough = self.file('enough.json', '{"version":1,"ram":144,"sw1":0,"sw2":0,"budget":1000000,"keys":[]}')
         self.assertEqual(self.called('try', path, '--run', enough)[0].split('\n')[0], 'Hello')
-        self.assertIn('Hello', self.tool('dbg', path, enough, given='go\nscreen\n')[0])
+        self.assertIn('Hello', self.called('dbg', path, enough, given='go\nscreen\n')[0])
 
     def test_bad_bytes(self) -> None:
         self.assertIn('65,281 bytes, and a .COM program has at most 65,280', self.refused(b'\x90' * 65281, 'big.com'))
@@ -317,9 +317,9 @@ class Compiled(ToolCase):
         path = self.file('it.asm', 'nop\n')
         with mock.patch.dict(os.environ, {'PATH': self.room, 'PCBOARD': program.path()}):
             for name in ('nasm', 'bcc'):
-                self.assertIn(f"{name} isn't there; install it (Debian: apt-get install {name}", self.tool('try', f'--{name}', path, status=2)[1])
+                self.assertIn(f"{name} isn't there; install it (Debian: apt-get install {name}", self.called('try', f'--{name}', path, status=2)[1])
             os.chmod(self.file('bcc', '#!/bin/sh\necho "ld86: cannot open input file crt0.o" >&2\nexit 1\n'), 0o755)
-            self.assertIn('install it (Debian: apt-get install bcc elks-libc)', self.tool('try', '--bcc', path, status=2)[1])
+            self.assertIn('install it (Debian: apt-get install bcc elks-libc)', self.called('try', '--bcc', path, status=2)[1])
 
 
 if __name__ == '__main__':

@@ -1,11 +1,13 @@
 """tools/judge, over stored reports and the built program."""
+import os
 import re
 import signal
 import subprocess
 import sys
 import unittest
+from unittest import mock
 
-from tests.support import SECONDS, STORED, TOOLS, ToolCase, but_progress, example, is_at_work
+from tests.support import SECONDS, STORED, TOOLS, ToolCase, but_progress, example, is_at_work, is_running
 
 TYPED = """# A program that prints HELLO isn't enough.
 run = small letters
@@ -27,7 +29,7 @@ class Reports(ToolCase):
 
     def judge(self, page: str, report: str, status: int) -> list[str]:
         """The lines of a page's judgement."""
-        return self.tool('judge', self.file('page', page), f'{STORED}/{report}.report', status=status)[0].splitlines()
+        return self.called('judge', self.file('page', page), f'{STORED}/{report}.report', status=status)[0].splitlines()
 
     def test_all_met(self) -> None:
         page = (
@@ -74,23 +76,23 @@ class Reports(ToolCase):
             ('speaker at 5 = 2\n', '0 and 1'),
             ('memory 0 = 1\n', 'has no memory'),
         ):
-            told = self.tool('judge', self.file('page', page), f'{STORED}/hello.report', status=2)[1]
+            told = self.called('judge', self.file('page', page), f'{STORED}/hello.report', status=2)[1]
             self.assertIn(wanted, told)
-        self.assertIn('is no report', self.tool('judge', self.file('page', 'lost = 0'), self.file('r', 'x'), status=2)[1])
+        self.assertIn('is no report', self.called('judge', self.file('page', 'lost = 0'), self.file('r', 'x'), status=2)[1])
 
     def test_same(self) -> None:
         hello, tone = f'{STORED}/hello.report', f'{STORED}/tone.report'
-        out, _ = self.tool('judge', '--same', 'screen,speaker,tune,state,lost,clock,registers,AX,ZF', hello, hello)
+        out, _ = self.called('judge', '--same', 'screen,speaker,tune,state,lost,clock,registers,AX,ZF', hello, hello)
         self.assertEqual(out.splitlines()[-1], '9 met, 0 not')
-        out, _ = self.tool('judge', '--same', 'screen,speaker,AX', hello, tone, status=1)
+        out, _ = self.called('judge', '--same', 'screen,speaker,AX', hello, tone, status=1)
         self.assertEqual(out.splitlines()[:2], ["no  same screen: line 1: 'HI' and ''", 'no  same speaker: change 1: none and (74, 1)'])
-        self.assertIn('nothing to compare', self.tool('judge', '--same', 'taste', hello, tone, status=2)[1])
+        self.assertIn('nothing to compare', self.called('judge', '--same', 'taste', hello, tone, status=2)[1])
 
     def test_a_later_tune_is_the_same(self) -> None:
         with open(f'{STORED}/tone.report', encoding='utf-8') as file:
             text = file.read()
         path = self.file('later', re.sub(r'^(\d+) ([01])$', lambda it: f'{int(it[1]) + 100} {it[2]}', text, flags=re.M))
-        out, _ = self.tool('judge', '--same', 'tune,speaker', f'{STORED}/tone.report', path, status=1)
+        out, _ = self.called('judge', '--same', 'tune,speaker', f'{STORED}/tone.report', path, status=1)
         self.assertEqual(out.splitlines()[0], 'ok  same tune')
 
 
@@ -99,30 +101,30 @@ class Runs(ToolCase):
 
     def test_memory(self) -> None:
         page = self.file('page', "memory b0000 = 31 07 20\nmemory START = B8 00 00\nmemory start+3 = 8E D0\nmemory 0 = 1\nAX = 0738\n")
-        out, _ = self.tool('judge', page, *example('fibonacci'), status=1)
+        out, _ = self.called('judge', page, *example('fibonacci'), status=1)
         self.assertEqual(out.splitlines()[3:], ['no  memory 0 = 1: came 00', 'ok  AX = 0738', '4 met, 1 not'])
 
     def test_keeps_the_clock_table(self) -> None:
         page = self.file('page', "line 1 = HI\nstate = running\nmemory b0000 = 48 07 49 07\n")
-        self.tool('judge', page, *self.hello_by_c2(72))
-        out, _ = self.tool('judge', page, *self.hello_by_c2(71), status=1)
+        self.called('judge', page, *self.hello_by_c2(72))
+        out, _ = self.called('judge', page, *self.hello_by_c2(71), status=1)
         self.assertEqual(out.splitlines()[0], "no  line 1 = HI: came ''")
 
     def test_a_text_in_memory(self) -> None:
         page = self.file('page', "memory codes+10 = 'QWERTYUIOP'\nmemory codes = 'x'\n")
-        out, _ = self.tool('judge', page, *example('keys'), status=1)
+        out, _ = self.called('judge', page, *example('keys'), status=1)
         self.assertEqual(out.splitlines()[:2], ["ok  memory codes+10 = 'QWERTYUIOP'", "no  memory codes = 'x': came '.'"])
 
     def test_hex_and_refusals(self) -> None:
         source, run = example('monitor')
         page = self.file('page', 'lost = 0\n')
-        self.tool('judge', '--hex', page, source.replace('.asm', '.hex'), run)
-        self.assertIn('no  lost = 0: refused: fault 21', self.tool('judge', '--hex', page, source, run, status=1)[0])
-        self.assertIn('--same', self.tool('judge', '--help')[0])
+        self.called('judge', '--hex', page, source.replace('.asm', '.hex'), run)
+        self.assertIn('no  lost = 0: refused: fault 21', self.called('judge', '--hex', page, source, run, status=1)[0])
+        self.assertIn('--same', self.called('judge', '--help')[0])
 
     def lines(self, page: str, *words: str, status: int = 0) -> list[str]:
         """The lines of a page's judgement."""
-        return self.tool('judge', self.file('page', page), *words, status=status)[0].splitlines()
+        return self.called('judge', self.file('page', page), *words, status=status)[0].splitlines()
 
     def test_what_ran_and_when(self) -> None:
         page = 'runs = start\nruns = digit+3\nnever runs = nowhere\nruns = nowhere\nhalted before = 20000\nclocks used = 1 to 99,999\nclocks used = 5\nhalted before = 5\nruns = :2\nnever runs = start\n'
@@ -168,7 +170,7 @@ class Runs(ToolCase):
         good, _ = example('keys')
         bad = self.file('bad.asm', 'SEGMENT A AT 0\n FROB\tX\n')
         page = self.file('page', TYPED)
-        out, _ = self.tool('judge', '--class', page, bad, good, 'nothing.asm', '--seconds', str(SECONDS), status=1)
+        out, _ = self.called('judge', '--class', page, bad, good, 'nothing.asm', '--seconds', str(SECONDS), status=1)
         rows = [it.split('\t') for it in out.splitlines()]
         self.assertEqual({len(it) for it in rows}, {8})
         self.assertEqual([it[0] for it in rows], ['file', bad, good, 'nothing.asm'])
@@ -178,18 +180,23 @@ class Runs(ToolCase):
         self.assertIn("can't be read", rows[3][7])
         endless = self.file('endless.asm', 'SEGMENT A AT 0FFFFh\nnothing: INC AX\n JMP nothing\n')
         page = self.file('page', TYPED.replace('50,000', '1,099,511,627,776'))
-        row = self.tool('judge', '--class', page, endless, '--seconds', '2', status=1)[0].splitlines()[1].split('\t')
-        self.assertEqual((row[0], row[7]), (endless, 'took more than 2 s, and was ended'))
-        self.assertIn('no expectation', self.tool('judge', '--class', self.file('page', 'AX 5\n'), good, status=2)[1])
+        row = self.called('judge', '--class', page, endless, '--seconds', '1', status=1)[0].splitlines()[1].split('\t')
+        self.assertEqual((row[0], row[7]), (endless, 'took more than 1 s, and was ended'))
+        self.assertIn('no expectation', self.called('judge', '--class', self.file('page', 'AX 5\n'), good, status=2)[1])
         page = self.file('page', 'plain keys = hello\nshows = HELLO\n')
-        self.assertEqual(self.tool('judge', '--class', page, good, good)[0].splitlines()[2], f'{good}\t1\tok\t')
+        self.assertEqual(self.called('judge', '--class', page, good, good)[0].splitlines()[2], f'{good}\t1\tok\t')
 
     def test_a_class_with_endless_programs(self) -> None:
-        """Each is ended, and the others are gone on with."""
+        """Each is ended, with its process, and the others are gone on with."""
         endless = self.file('endless.asm', 'SEGMENT A AT 0FFFFh\nnothing: INC AX\n JMP nothing\n')
-        page = self.file('page', 'budget = 1,099,511,627,776\nlost = 0\n')
-        out, _ = self.tool('judge', '--class', page, *[endless] * 9, '--seconds', '1', status=1)
-        self.assertEqual(out.splitlines()[1:], [f'{endless}\t0\tno\ttook more than 1 s, and was ended'] * 9)
+        page = self.file('page', 'lost = 0\n')
+        slow = self.file('slow', '#!/bin/sh\necho $$ >>"$0.begun"\nexec sleep 6000\n')
+        os.chmod(slow, 0o755)
+        with mock.patch.dict(os.environ, {'PCBOARD': slow}):
+            out, _ = self.called('judge', '--class', page, *[endless] * 9, '--seconds', '3', status=1)
+        self.assertEqual(out.splitlines()[1:], [f'{endless}\t0\tno\ttook more than 3 s, and was ended'] * 9)
+        with open(f'{slow}.begun', encoding='ascii') as file:
+            self.assertEqual([it for it in file.read().split() if is_running(int(it))], [])
 
     def test_an_interrupt_leaves_no_traceback(self) -> None:
         endless = self.file('endless.asm', 'SEGMENT A AT 0FFFFh\nnothing: INC AX\n JMP nothing\n')

@@ -166,13 +166,13 @@ class Missteps(ToolCase):
         told = ['offset-in-byte', 'decimal-interrupt', 'decimal-interrupt', 'rep-without-string', 'offset-in-byte']
         self.assertEqual([(it.line, it.name) for it in doubts(lines)], list(zip((0, 1, 2, 4, 9), told)))
         source = self.file('it.asm', 'SEGMENT MAIN AT 50h\nhere: INT 21\n MOV AL,#5\n MOV AL,here\nENDS\n')
-        out = self.tool('why', '--lines', source, status=1)[0].splitlines()
+        out = self.called('why', '--lines', source, status=1)[0].splitlines()
         self.assertEqual([it.split(' ')[0:2] for it in out], [[f'{source}:3:', 'error:'], [f'{source}:2:', 'warning:'], [f'{source}:4:', 'warning:']])
         self.assertIn('INT 21h', out[1])
         self.assertIn('[here]', out[2])
         right = self.file('right.asm', 'SEGMENT MAIN AT 50h\nhere: INT 21\nENDS\n')
-        self.assertIn(':2: warning: 21 is decimal', self.tool('why', '--lines', right)[0])
-        self.assertIn('line 2: 21 is decimal', self.tool('why', '--all', right)[0])
+        self.assertIn(':2: warning: 21 is decimal', self.called('why', '--lines', right)[0])
+        self.assertIn('line 2: 21 is decimal', self.called('why', '--all', right)[0])
 
     def test_no_line_of_the_examples_is_doubted(self) -> None:
         for path in glob.glob(f'{EXAMPLES}/**/*.asm', recursive=True):

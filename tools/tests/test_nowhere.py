@@ -107,7 +107,7 @@ class Nowhere(ToolCase):
         source, run = self.program(' INT 21h')
         text = self.file('it.hex', self.pcboard('asm', source).stdout)
         self.assertIn('at 00084h, is 0000:0000', '\n'.join(self.told(Files(text, run, True))))
-        self.assertIn('F000:0000 (INT 021h) enters interrupt 21; its vector', self.tool('why', 'run', text, run, '--hex')[1])
+        self.assertIn('F000:0000 (INT 021h) enters interrupt 21; its vector', self.called('why', 'run', text, run, '--hex')[1])
 
     def test_where_it_went_astray(self) -> None:
         told = self.told(Files(*self.program(CODE_IN_RAM + 'MOV CX,100\nover: LOOP over\n MOV BX,CX', 9000)))

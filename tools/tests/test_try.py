@@ -20,6 +20,18 @@ print(subprocess.run(sys.argv[1:], stdout=subprocess.PIPE, stderr=subprocess.DEV
 used = resource.getrusage(resource.RUSAGE_CHILDREN)
 print(used.ru_utime, used.ru_maxrss, file=sys.stderr)
 """
+# Asks tools for their help, one behind the other, with a zero between.
+HELPS = """import runpy, sys
+folder, *names = sys.argv[1:]
+sys.path.insert(0, folder)
+for name in names:
+    print(end='' if name == names[0] else chr(0))
+    sys.argv = [f'{folder}/{name}', '--help']
+    try:
+        runpy.run_path(sys.argv[0], run_name='__main__')
+    except SystemExit as ended:
+        assert not ended.code, name
+"""
 # A timer's tick wakes it once, and shows 1; then it halts for good.
 WOKEN = """SEGMENT MAIN AT 0F000h
 start:  MOV AL,14h
@@ -64,47 +76,47 @@ class Tries(ToolCase):
         self.assertEqual((out, err), ('(halted for good at clock 294, the screen is blank, 12 changes of the speaker)\n', ''))
 
     def test_types(self) -> None:
-        out, _ = self.tool('try', example('keys')[0], '--plain', '--keys', 'hello')
+        out, _ = self.called('try', example('keys')[0], '--plain', '--keys', 'hello')
         self.assertEqual(out.splitlines()[0], 'HELLO')
-        out, _ = self.tool('try', example('keys')[0], '--plain', '--keys', 'x' * 60)
+        out, _ = self.called('try', example('keys')[0], '--plain', '--keys', 'x' * 60)
         self.assertEqual(out.splitlines(), ['X' * 60, '(waits for an interrupt after 10,000,000 clocks)'])
 
     def test_hex_by_its_name(self) -> None:
         source, _ = example('monitor')
-        out, err = self.tool('try', source.replace('.asm', '.hex'))
+        out, err = self.called('try', source.replace('.asm', '.hex'))
         self.assertEqual((out, err), ('>\n(still running after 10,000,000 clocks; --budget lets it run on)\n', ''))
 
     def test_writes_the_run_file(self) -> None:
         source, _ = example('hello')
-        out, _ = self.tool('try', source, '--budget', '1,234', '--keys', 'a', '--write', 'it.json')
+        out, _ = self.called('try', source, '--budget', '1,234', '--keys', 'a', '--write', 'it.json')
         self.assertEqual(out, 'HI\n(halted for good at clock 72)\n')
         with open(f'{self.room}/it.json', encoding='utf-8') as file:
             self.assertEqual(json.load(file), {'version': 1, 'ram': 64, 'sw1': 0, 'sw2': 0, 'budget': 1234, 'keys': [[2000, 30], [2500, 158]]})
-        self.tool('try', source, '--run', 'it.json', '--write', 'other.json', '--budget', '99')
+        self.called('try', source, '--run', 'it.json', '--write', 'other.json', '--budget', '99')
         with open(f'{self.room}/other.json', encoding='utf-8') as file:
             self.assertEqual(json.load(file)['keys'], [[2000, 30], [2500, 158]])
 
     def test_tells_why(self) -> None:
         source, _ = self.program(' MOV AX,0x10')
-        out, err = self.tool('try', source, status=1)
+        out, err = self.called('try', source, status=1)
         self.assertEqual(out, '')
         self.assertIn('0x10', err)
-        self.assertIn('enters interrupt 21', self.tool('try', self.program(' INT 21h')[0])[1])
+        self.assertIn('enters interrupt 21', self.called('try', self.program(' INT 21h')[0])[1])
 
     def test_how_it_ended(self) -> None:
         """For good with interrupts off, whatever woke it before; else an interrupt is awaited; and what still runs may go on."""
         later = self.program(' STI\n HLT\n CLI\nlast: HLT')[0]
-        self.assertIn('(waits for an interrupt after 10,000,000 clocks', self.tool('try', later)[0])
+        self.assertIn('(waits for an interrupt after 10,000,000 clocks', self.called('try', later)[0])
         woken = self.file('woken.asm', WOKEN)
-        self.assertIn('1\n(halted for good at clock ', self.tool('try', woken)[0])
-        self.assertIn('(still running after 300 clocks; --budget lets it run on', self.tool('try', self.program('over: JMP over')[0], '--budget', '300')[0])
-        self.assertIn('(jammed, at 10,000,000 clocks', self.tool('try', self.file('jam.asm', 'SEGMENT A AT 0FFFFh\n DB 0Fh\nENDS\n'))[0])
+        self.assertIn('1\n(halted for good at clock ', self.called('try', woken)[0])
+        self.assertIn('(still running after 300 clocks; --budget lets it run on', self.called('try', self.program('over: JMP over')[0], '--budget', '300')[0])
+        self.assertIn('(jammed, at 10,000,000 clocks', self.called('try', self.file('jam.asm', 'SEGMENT A AT 0FFFFh\n DB 0Fh\nENDS\n'))[0])
 
     def test_the_screen_of_an_end_by_dos(self) -> None:
         """A program without services that ends by INT 20h runs on from 0000:0000; what it showed before is what counts."""
         spoils = ' MOV AX,0B000h\n MOV ES,AX\n MOV DX,3B8h\n MOV AL,8\n OUT DX,AL\n MOV WORD ES:[0],0741h\n MOV AX,ES\n MOV DS,AX\n XOR BX,BX\n XOR SI,SI\n MOV AL,1\n INT 2{}h'
         for end in (0, 1):
-            out, err = self.tool('try', self.program(spoils.format(end))[0])
+            out, err = self.called('try', self.program(spoils.format(end))[0])
             self.assertRegex(out, r'^A\n\(the screen of clock \d+; what ran then is none of the program\)\n\Z')
             self.assertIn(f'enters interrupt 2{end}', err)
 
@@ -121,12 +133,12 @@ class Tries(ToolCase):
 
     def test_refusals(self) -> None:
         source, _ = example('hello')
-        self.assertIn("nothing.asm can't be opened", self.tool('try', 'nothing.asm', status=3)[1])
-        self.assertIn('x is none', self.tool('try', source, '--budget', 'x', status=2)[1])
-        self.assertIn('0 to 1,099', self.tool('try', source, '--budget', '-1', status=2)[1])
-        self.assertIn('{nokey}', self.tool('try', source, '--keys', '{nokey}', status=2)[1])
-        self.assertIn("can't be written", self.tool('try', source, '--write', 'no/it.json', status=2)[1])
-        self.assertIn('--write', self.tool('try', '--help')[0])
+        self.assertIn("nothing.asm can't be opened", self.called('try', 'nothing.asm', status=3)[1])
+        self.assertIn('x is none', self.called('try', source, '--budget', 'x', status=2)[1])
+        self.assertIn('0 to 1,099', self.called('try', source, '--budget', '-1', status=2)[1])
+        self.assertIn('{nokey}', self.called('try', source, '--keys', '{nokey}', status=2)[1])
+        self.assertIn("can't be written", self.called('try', source, '--write', 'no/it.json', status=2)[1])
+        self.assertIn('--write', self.called('try', '--help')[0])
 
     def test_tells_how_far_it_is(self) -> None:
         with contextlib.redirect_stderr(io.StringIO()) as err, waiting('at work', 0.2) as say:
@@ -137,9 +149,10 @@ class Tries(ToolCase):
         self.assertEqual(err.getvalue(), '')
 
     def test_help_wants_no_program(self) -> None:
-        for name in ('try', 'why', 'judge', 'picture', 'trace'):
-            ran = subprocess.run([sys.executable, '-S', f'{TOOLS}/{name}', '--help'], env={'PCBOARD': '/nowhere'}, capture_output=True, text=True, check=True)
-            self.assertIn(f'tools/{name}', ran.stdout)
+        names = ('try', 'why', 'judge', 'picture', 'trace')
+        ran = subprocess.run([sys.executable, '-S', '-c', HELPS, TOOLS, *names], env={'PCBOARD': '/nowhere'}, stdout=subprocess.PIPE, text=True, check=True)
+        for name, told in zip(names, ran.stdout.split('\0'), strict=True):
+            self.assertIn(f'usage: tools/{name}' if name != 'why' else 'tools/why run FILE RUN', told)
 
     def test_an_interrupt_leaves_no_traceback(self) -> None:
         source, _ = self.program('over: JMP over')

@@ -130,7 +130,7 @@ class Runs(ToolCase):
 
     def test_keeps_what_the_program_prints(self) -> None:
         files = example('hello')
-        self.assertEqual(self.tool('why', 'run', *files), (self.pcboard('run', *files).stdout, ''))
+        self.assertEqual(self.called('why', 'run', *files), (self.pcboard('run', *files).stdout, ''))
         self.assertEqual(self.tool('why', 'asm', files[0])[0], self.pcboard('asm', files[0]).stdout)
 
     def test_tells_the_field(self) -> None:
@@ -149,10 +149,10 @@ class Runs(ToolCase):
             ({'sw1': 1.5}, 'a point'),
         ):
             bad = self.file('bad.json', json.dumps(good | change))
-            self.assertIn(wanted, self.tool('why', 'run', source, bad, status=1)[1])
+            self.assertIn(wanted, self.called('why', 'run', source, bad, status=1)[1])
         del good['sw1']
-        self.assertIn('"sw1" is missing', self.tool('why', 'run', source, self.file('bad.json', json.dumps(good)), status=1)[1])
-        self.assertIn('line 1, column', self.tool('why', 'run', source, self.file('bad.json', '{"ram":64,}'), status=1)[1])
+        self.assertIn('"sw1" is missing', self.called('why', 'run', source, self.file('bad.json', json.dumps(good)), status=1)[1])
+        self.assertIn('line 1, column', self.called('why', 'run', source, self.file('bad.json', '{"ram":64,}'), status=1)[1])
 
     def test_tells_a_field_by_its_version(self) -> None:
         source, run = example('hello')
@@ -166,45 +166,45 @@ class Runs(ToolCase):
             ({'version': 3}, '"version" is 3, and has to be 1 or 2'),
         ):
             bad = self.file('bad.json', json.dumps(good | change))
-            self.assertIn(wanted, self.tool('why', 'run', source, bad, status=1)[1])
+            self.assertIn(wanted, self.called('why', 'run', source, bad, status=1)[1])
         del good['version']
         bad = self.file('bad.json', json.dumps(good | {'timer': '8254', 'clocks': 'C2'}))
-        told = self.tool('why', 'run', source, bad, status=1)[1]
+        told = self.called('why', 'run', source, bad, status=1)[1]
         self.assertIn('"version" is missing; "version":2 would do', told)
         self.assertNotIn('is unknown', told)
 
     def test_tells_the_file(self) -> None:
         source, run = example('hello')
-        self.assertIn("nothing.json can't be opened: No such file", self.tool('why', 'run', source, 'nothing.json', status=3)[1])
-        self.assertIn("can't be opened: Is a directory", self.tool('why', 'run', self.room, run, status=3)[1])
-        self.assertIn('2 are wanted', self.tool('why', 'run', status=2)[1])
+        self.assertIn("nothing.json can't be opened: No such file", self.called('why', 'run', source, 'nothing.json', status=3)[1])
+        self.assertIn("can't be opened: Is a directory", self.called('why', 'run', self.room, run, status=3)[1])
+        self.assertIn('2 are wanted', self.called('why', 'run', status=2)[1])
 
     def test_tells_the_ram(self) -> None:
         source = self.file('low.asm', 'SEGMENT A AT 0F00h\nDB 1\nSEGMENT B AT 2000h\nDB 1\n'.replace('\nSEGMENT', '\nENDS\nSEGMENT'))
-        told = self.tool('why', 'run', source, example('hello')[1], status=1)[1]
+        told = self.called('why', 'run', source, example('hello')[1], status=1)[1]
         self.assertIn('a byte at 20000h: "ram":144 holds it', told)
 
     def test_tells_the_record(self) -> None:
         text = self.file('bad.hex', ':0100000001FF\n:00000001FF\n')
-        told = self.tool('why', 'run', text, example('hello')[1], '--hex', status=1)[1]
+        told = self.called('why', 'run', text, example('hello')[1], '--hex', status=1)[1]
         self.assertIn('the last byte should be FE and is FF', told)
-        self.assertIn('say --hex', self.tool('why', 'run', text, example('hello')[1], status=1)[1])
-        self.assertIn('the source comes first', self.tool('why', 'run', *reversed(example('hello')), status=1)[1])
+        self.assertIn('say --hex', self.called('why', 'run', text, example('hello')[1], status=1)[1])
+        self.assertIn('the source comes first', self.called('why', 'run', *reversed(example('hello')), status=1)[1])
 
     def test_tells_a_jam_and_a_blank_screen(self) -> None:
         run = example('hello')[1]
         source = self.file('no_reset.asm', 'SEGMENT A AT 0\nNOP\n')
-        told = self.tool('why', 'run', source, run)[1]
+        told = self.called('why', 'run', source, run)[1]
         self.assertIn('FFFF:0000 has FF FF', told)
         self.assertIn("no far jump stands there", told)
         files = self.program(' NOP\n DB 0Fh', 100)
-        self.assertIn('F000:0001 has 0F', self.tool('why', 'run', *files)[1])
+        self.assertIn('F000:0001 has 0F', self.called('why', 'run', *files)[1])
         files = self.program(' MOV AX,0B000h\n MOV ES,AX\n MOV WORD ES:[0],0741h\n HLT', 200)
-        self.assertIn('written to port 3B8h', self.tool('why', 'run', *files)[1])
+        self.assertIn('written to port 3B8h', self.called('why', 'run', *files)[1])
         files = self.program(" MOV AX,0B000h\n MOV ES,AX\n MOV BYTE ES:[4],'A'\n HLT", 200)
-        self.assertIn("text memory has 'A' at B0004h with the attribute 00h, which shows nothing", self.tool('why', 'run', *files)[1])
+        self.assertIn("text memory has 'A' at B0004h with the attribute 00h, which shows nothing", self.called('why', 'run', *files)[1])
         files = self.program(" MOV AX,0B000h\n MOV ES,AX\n MOV BYTE ES:[4],' '\n HLT", 200)
-        self.assertEqual(self.tool('why', 'run', *files)[1], '')
+        self.assertEqual(self.called('why', 'run', *files)[1], '')
         binary = self.file('binary.asm', '\x1b[2J\x00' + 'x' * 400 + '\n')
         told = self.tool('why', 'asm', binary, status=1)[1]
         self.assertIn('    1 | \\x1b[2J\\x00xxx', told)
@@ -213,7 +213,7 @@ class Runs(ToolCase):
     def every(self, lines: str, status: int = 1) -> list[int]:
         """The line numbers that --all tells."""
         text = f'SEGMENT MAIN AT 0F000h\nstart: NOP\n{lines}\nENDS\n'
-        out, _ = self.tool('why', '--all', self.file('it.asm', text), status=status)
+        out, _ = self.called('why', '--all', self.file('it.asm', text), status=status)
         return [int(it) for it in re.findall(r'it\.asm, line (\d+):', out)]
 
     def test_tells_every_refused_line(self) -> None:
@@ -232,14 +232,14 @@ class Runs(ToolCase):
     def test_all_ends_soon_and_refuses_else(self) -> None:
         told = self.every('\n'.join(f'n{it}: FROB {it}' for it in range(60)))
         self.assertEqual(told, list(range(3, 63)))
-        self.assertIn("nothing.asm can't be opened", self.tool('why', '--all', 'nothing.asm', status=3)[1])
-        self.assertIn('--all FILE', self.tool('why', '--all', status=2)[1])
-        self.assertIn('1,048,576', self.tool('why', '--all', self.file('long.asm', ';' * 1048577), status=1)[0])
+        self.assertIn("nothing.asm can't be opened", self.called('why', '--all', 'nothing.asm', status=3)[1])
+        self.assertIn('--all FILE', self.called('why', '--all', status=2)[1])
+        self.assertIn('1,048,576', self.called('why', '--all', self.file('long.asm', ';' * 1048577), status=1)[0])
 
     def test_tells_lines_as_compilers_do(self) -> None:
         text = 'SEGMENT MAIN AT 0F000h\nstart: NOP\n MOV AX,0x10\n FROB\nstart: HLT\n DB 256\nENDS\n'
         path = self.file('my source.asm', text)
-        out, err = self.tool('why', '--lines', path, status=1)
+        out, err = self.called('why', '--lines', path, status=1)
         told = [re.fullmatch(r'(.+):(\d+): error: (\w+): (.+)', it) for it in out.splitlines()]
         self.assertEqual(
             [it and (it[1], it[2], it[3]) for it in told],
@@ -248,27 +248,27 @@ class Runs(ToolCase):
         self.assertIn('hexadecimal numbers end with h', out)
         self.assertIn('the name is defined twice, first in line 2\n', out)
         self.assertEqual(err, '')
-        self.assertEqual(self.tool('why', '--lines', example('hello')[0]), ('', ''))
-        self.assertIn("nothing.asm can't be opened", self.tool('why', '--lines', 'nothing.asm', status=3)[1])
-        self.assertIn('--lines FILE', self.tool('why', '--lines', status=2)[1])
+        self.assertEqual(self.called('why', '--lines', example('hello')[0]), ('', ''))
+        self.assertIn("nothing.asm can't be opened", self.called('why', '--lines', 'nothing.asm', status=3)[1])
+        self.assertIn('--lines FILE', self.called('why', '--lines', status=2)[1])
         long = self.file('long.asm', ';' * 1048577)
-        self.assertEqual(self.tool('why', '--lines', long, status=1)[0], f'{long}:1: error: SourceTooLong: the source has more than 1,048,576 bytes\n')
+        self.assertEqual(self.called('why', '--lines', long, status=1)[0], f'{long}:1: error: SourceTooLong: the source has more than 1,048,576 bytes\n')
 
     def test_lines_are_those_of_all(self) -> None:
         """Of the lines of the hints, and of what no line has for its own."""
         lines = [line for number, line, _ in HINTS if number not in (7, 8, 11)]
         path = self.file('many.asm', 'SEGMENT MAIN AT 0F000h\nstart: NOP\n' + '\n'.join(lines) + '\nENDS\n')
-        all_lines = re.findall(r'asm, line (\d+):.*\(fault \d+, (\w+)\)', self.tool('why', '--all', path, status=1)[0])
+        all_lines = re.findall(r'asm, line (\d+):.*\(fault \d+, (\w+)\)', self.called('why', '--all', path, status=1)[0])
         self.assertGreater(len(all_lines), 40)
-        self.assertEqual(re.findall(r'^.*\.asm:(\d+): error: (\w+): ', self.tool('why', '--lines', path, status=1)[0], re.M), all_lines)
+        self.assertEqual(re.findall(r'^.*\.asm:(\d+): error: (\w+): ', self.called('why', '--lines', path, status=1)[0], re.M), all_lines)
 
     def test_reads_a_fault_and_refuses_else(self) -> None:
         source, _ = self.program(' MOV AX,0x10')
-        out, _ = self.tool('why', 'fault', source, given='fault 3 BadLine line 3\n')
+        out, _ = self.called('why', 'fault', source, given='fault 3 BadLine line 3\n')
         self.assertIn('MOV AX,0x10', out)
-        self.assertIn('has no line "fault', self.tool('why', 'fault', given='hello', status=2)[1])
-        self.assertIn('is none of run', self.tool('why', 'bake', status=2)[1])
-        self.assertIn('tools/why run FILE [RUN]', self.tool('why', '--help')[0])
+        self.assertIn('has no line "fault', self.called('why', 'fault', given='hello', status=2)[1])
+        self.assertIn('is none of run', self.called('why', 'bake', status=2)[1])
+        self.assertIn('tools/why run FILE [RUN]', self.called('why', '--help')[0])
 
 
 if __name__ == '__main__':
