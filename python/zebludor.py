@@ -240,6 +240,16 @@ def _answer(words: list[str]) -> str:
     return done.out
 
 
+def is_hex_name(path: str | os.PathLike) -> bool:
+    """Whether a file's name says that it is Intel HEX: it ends in .hex, in letters of either case."""
+    return os.fspath(path).lower().endswith('.hex')
+
+
+def _hex_words(source: Source, is_hex: bool) -> list[str]:
+    """The word that says so to the program, of a path by its name too."""
+    return ['--hex'] * (is_hex or not isinstance(source, (str, bytes)) and is_hex_name(source))
+
+
 @contextlib.contextmanager
 def _files(source: Source, fields: dict[str, Any] | None = None) -> Iterator[list[str]]:
     """The names of files with a source's text and a run file's fields; a path stays what it is."""
@@ -259,10 +269,10 @@ def _files(source: Source, fields: dict[str, Any] | None = None) -> Iterator[lis
 
 
 def run(source: Source, *, is_hex: bool = False, **fields: Any) -> Report:
-    """Runs a source, or Intel HEX: a text, or a path to one. The fields are a run file's: `keys`, pairs of a clock and a scan
+    """Runs a source, or Intel HEX (a path that ends in .hex, or is_hex): a text, or a path to one. The fields are a run file's: `keys`, pairs of a clock and a scan
     code; `budget`, `ram`, `sw1`, `sw2`, `timer`, `clocks`; what isn't said is as tools/runfile has it."""
     with _files(source, _fields(fields)) as names:
-        return read_report(_answer(['run', *['--hex'] * is_hex, *names]))
+        return read_report(_answer(['run', *_hex_words(source, is_hex), *names]))
 
 
 def assemble(source: Source) -> str:
@@ -431,7 +441,7 @@ class Session:
 
     def __init__(self, source: Source, *, is_hex: bool = False, **fields: Any) -> None:
         with _files(source, _fields(fields)) as names:
-            self._dialogue = Dialogue(['debug', *['--hex'] * is_hex, *names])
+            self._dialogue = Dialogue(['debug', *_hex_words(source, is_hex), *names])
             try:
                 self._dialogue.many('regs')  # behind its answer the files are read, and may go
             except BaseException:

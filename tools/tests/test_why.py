@@ -188,7 +188,7 @@ class Runs(ToolCase):
         text = self.file('bad.hex', ':0100000001FF\n:00000001FF\n')
         told = self.called('why', 'run', text, example('hello')[1], '--hex', status=1)[1]
         self.assertIn('the last byte should be FE and is FF', told)
-        self.assertIn('say --hex', self.called('why', 'run', text, example('hello')[1], status=1)[1])
+        self.assertIn('say --hex', self.called('why', 'run', self.file('bad', ':0100000001FF\n'), example('hello')[1], status=1)[1])
         self.assertIn('the source comes first', self.called('why', 'run', *reversed(example('hello')), status=1)[1])
 
     def test_tells_a_jam_and_a_blank_screen(self) -> None:

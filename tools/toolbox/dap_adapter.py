@@ -15,7 +15,11 @@ from toolbox.dap_values import Disassembly, Expression, is_code
 from toolbox.framing import Broken, Read
 from toolbox.listing import labels_alone, listing_of, physical
 from toolbox.places import far_of
+<<<<<<< HEAD
 from toolbox.program import LAST_CLOCK, TOP, Files, copied
+=======
+from toolbox.program import TOP, Files, copied, is_hex_name
+>>>>>>> 0bd5e08e (tools: Intel HEX by its name everywhere, --hex where the name doesn't say)
 from toolbox.returns import Far
 from toolbox.runfile import DEFAULTS, budget_of, text_of
 from toolbox.scancodes import stamped, strokes_of
@@ -208,7 +212,7 @@ class Adapter:
         if self.machine:
             raise Sorry('a board is launched already')
         self.program = os.path.realpath(field(given, 'program', str))
-        is_hex = field(given, 'hex', bool, self.program.lower().endswith('.hex'))
+        is_hex = field(given, 'hex', bool, is_hex_name(self.program))
         self.is_entry = field(given, 'stopOnEntry', bool, False)
         run_file = self.run_file(given)
         symbols = field(given, 'symbols', str, '')

@@ -15,7 +15,7 @@ from typing import Any, Iterator
 from toolbox import loading
 from toolbox.command import Sorry
 from toolbox.loading import Loaded, check_ram
-from toolbox.program import Files
+from toolbox.program import Files, is_hex_name
 from toolbox.runfile import DEFAULTS, read_run_file, text_of, with_run_file
 from toolbox.services import MOST_RAM
 
@@ -66,7 +66,7 @@ def guest_of(given: argparse.Namespace, file: str | None = None) -> Guest:
 
 def asked(given: argparse.Namespace) -> tuple[Guest, Files]:
     """What a command line with FILE and RUN asks for. RUN may be missing."""
-    return guest_of(given), Files(given.file, given.run_file or '', given.hex, given.symbols)
+    return guest_of(given), Files(given.file, given.run_file or '', given.hex or is_hex_name(given.file), given.symbols)
 
 
 def read_bytes(path: str) -> bytes:

@@ -9,12 +9,12 @@ from dataclasses import dataclass, replace
 from typing import Any, NoReturn
 
 import zebludor
-from zebludor import LAST_CLOCK, TOP, Ran, Unfit
+from zebludor import LAST_CLOCK, TOP, Ran, Unfit, is_hex_name
 
 from toolbox.command import Sorry
 from toolbox.comments import handed
 
-__all__ = ['CLOCKS_OF_A_TRAIL', 'LAST_CLOCK', 'TOP', 'Files', 'Ran', 'Session', 'answer_of', 'copied', 'given_text', 'path', 'refusal', 'run']
+__all__ = ['CLOCKS_OF_A_TRAIL', 'LAST_CLOCK', 'TOP', 'Files', 'Ran', 'Session', 'answer_of', 'copied', 'given_text', 'is_hex_name', 'path', 'refusal', 'run']
 # An instruction takes two clocks or more, so no more than 31 begin in so many clocks, and the trail of 32 has them all.
 CLOCKS_OF_A_TRAIL = 60
 
