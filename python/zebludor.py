@@ -221,10 +221,39 @@ def taken() -> str:
     return f'{TOP}/{name[1]}'
 
 
-def ran(words: list[str], given: bytes = b'') -> Ran:
-    """Runs the program to its end."""
-    done = subprocess.run([program(), *words], input=given, capture_output=True, check=False)
-    return Ran(done.returncode, done.stdout.decode('utf-8', 'replace'), done.stderr.decode('utf-8', 'replace'))
+def limit_memory(megabytes: int) -> None:
+    """From now on each process of the program that begins here takes so much memory at most: one that wants more refuses, with a
+    fault named Memory."""
+    _limits[:] = [megabytes]
+
+
+_limits: list[int] = []
+
+
+def limited(words: list[str]) -> list[str]:
+    """The words that start a process, which is under that limit."""
+    return ['/bin/sh', '-c', f'ulimit -v {1024 * _limits[0]} 2>/dev/null; exec "$0" "$@"', *words] if _limits else words
+
+
+def ran(words: list[str], given: bytes = b'', most: int | None = None) -> Ran:
+    """Runs the program to its end. An answer of more than `most` bytes isn't read, which is told as Unfit."""
+    with tempfile.TemporaryFile() as err:
+        process = subprocess.Popen(limited([program(), *words]), stdin=subprocess.PIPE, stdout=subprocess.PIPE, stderr=err)
+        assert process.stdin and process.stdout
+        try:
+            with contextlib.suppress(BrokenPipeError), process.stdin as to:
+                to.write(given)  # it answers once it has read all, so neither side waits for the other
+            with process.stdout as out:
+                octets = out.read() if most is None else out.read(most + 1)
+            if most is not None and len(octets) > most:
+                raise Unfit(f'the answer has more than {most:,} bytes')
+        except BaseException:
+            process.kill()
+            raise
+        finally:
+            process.wait()
+        err.seek(0)
+        return Ran(process.returncode, octets.decode('utf-8', 'replace'), err.read().decode('utf-8', 'replace'))
 
 
 def _refuse(status: int, err: str) -> NoReturn:
@@ -337,7 +366,7 @@ class Dialogue:
 
     def started(self, words: list[str], **how: Any) -> subprocess.Popen[bytes]:
         """The session's process, begun; `how` is as for subprocess.Popen."""
-        return subprocess.Popen(words, **how)
+        return subprocess.Popen(limited(words), **how)
 
     def close(self) -> None:
         """Ends the session's process, also in the midst of a run: it has nothing to keep."""

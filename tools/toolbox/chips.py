@@ -6,6 +6,8 @@ import os
 import subprocess
 from dataclasses import dataclass
 
+import zebludor
+
 from toolbox.command import Sorry
 from toolbox.crates import Crates
 from toolbox.program import TOP, Files, refusal
@@ -50,7 +52,7 @@ def lines_in(answer: str, clock: int) -> list[str]:
 def chip_lines(files: Files, clock: int) -> list[str]:
     """What the chips hold at a clock, a line for each chip and counter."""
     words, given = question(files, clock)
-    done = subprocess.run(words, input=given, capture_output=True, check=False)
+    done = subprocess.run(zebludor.limited(words), input=given, capture_output=True, check=False)
     if done.returncode:
         raise Sorry(refusal(done.returncode, done.stderr.decode('utf-8', 'replace')))
     return lines_in(done.stdout.decode('utf-8', 'replace'), clock)

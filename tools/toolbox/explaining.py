@@ -262,6 +262,8 @@ def after_run(words: list[str], status: int, err: str) -> list[str]:
     """The explanation of a run that ended with this status."""
     given = [it for it in words[1:] if it not in ('--hex', '--list', '--')]
     fault = fault_in(err)
+    if status < 0:
+        return [program.refusal(status, err)]
     if status == 3:
         return of_an_opening(given)
     if status == 2:

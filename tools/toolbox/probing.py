@@ -5,6 +5,8 @@ import itertools
 import subprocess
 from typing import Iterator, NoReturn, TypeVar
 
+import zebludor
+
 from toolbox.command import Sorry
 from toolbox.places import Event, event_of
 from toolbox.program import Files, refusal
@@ -22,7 +24,7 @@ class Probe:
 
     def __init__(self, name: str, files: Files) -> None:
         self._process = subprocess.Popen(
-            [name, *files.words('')[1:]], stdin=subprocess.PIPE, stdout=subprocess.PIPE, stderr=subprocess.PIPE, text=True, start_new_session=True
+            zebludor.limited([name, *files.words('')[1:]]), stdin=subprocess.PIPE, stdout=subprocess.PIPE, stderr=subprocess.PIPE, text=True, start_new_session=True
         )  # the terminal's interrupt doesn't reach it
         self._owed = 0
 

@@ -3,20 +3,22 @@ from __future__ import annotations
 
 import select
 import shutil
+import signal
 import subprocess
 import threading
 from dataclasses import dataclass, replace
 from typing import Any, NoReturn
 
 import zebludor
-from zebludor import LAST_CLOCK, TOP, Ran, Unfit, is_hex_name
+from zebludor import LAST_CLOCK, TOP, Ran, Unfit, is_hex_name, limit_memory
 
 from toolbox.command import Sorry
 from toolbox.comments import handed
 
-__all__ = ['CLOCKS_OF_A_TRAIL', 'LAST_CLOCK', 'TOP', 'Files', 'Ran', 'Session', 'answer_of', 'copied', 'given_text', 'is_hex_name', 'path', 'refusal', 'run']
+__all__ = ['CLOCKS_OF_A_TRAIL', 'LAST_CLOCK', 'TOP', 'Files', 'Ran', 'Session', 'answer_of', 'copied', 'given_text', 'is_hex_name', 'limit_memory', 'path', 'refusal', 'run']
 # An instruction takes two clocks or more, so no more than 31 begin in so many clocks, and the trail of 32 has them all.
 CLOCKS_OF_A_TRAIL = 60
+MOST_READ = 1 << 26  # bytes of an answer
 
 
 def path() -> str:
@@ -30,7 +32,10 @@ def path() -> str:
 def run(words: list[str], given: bytes = b'') -> Ran:
     """Runs the program to its end."""
     path()
-    return zebludor.ran(words, given)
+    try:
+        return zebludor.ran(words, given, MOST_READ)
+    except Unfit as unfit:
+        raise Sorry(f'{unfit}; the speaker changes often there, so a smaller budget has less') from None
 
 
 def given_text(words: list[str], text: str) -> Ran:
@@ -71,6 +76,8 @@ def answer_of(words: list[str]) -> str:
 
 def refusal(status: int, err: str) -> str:
     """A sentence for a run that printed no answer."""
+    if status < 0:
+        return f'the program was ended by signal {-status} ({signal.strsignal(-status)})'
     told = err.strip() or ("a file couldn't be opened, read or written" if status == 3 else f'status {status}')
     return f'the program refuses: {told} (tools/why tells more)'
 
@@ -88,7 +95,7 @@ class Session(zebludor.Dialogue):
             return super().started(words, **how)
         from toolbox.starting import started  # which a copy of the launcher's own modules doesn't have
 
-        return started(words, **how)
+        return started(zebludor.limited(words), **how)
 
     def __enter__(self) -> Session:
         return self
