@@ -152,7 +152,7 @@ class Tries(ToolCase):
         names = ('try', 'why', 'judge', 'picture', 'trace')
         ran = subprocess.run([sys.executable, '-S', '-c', HELPS, TOOLS, *names], env={'PCBOARD': '/nowhere'}, stdout=subprocess.PIPE, text=True, check=True)
         for name, told in zip(names, ran.stdout.split('\0'), strict=True):
-            self.assertIn(f'usage: tools/{name}' if name != 'why' else 'tools/why run FILE RUN', told)
+            self.assertIn(f'usage: tools/{name}' if name != 'why' else 'tools/why run FILE [RUN]', told)
 
     def test_an_interrupt_leaves_no_traceback(self) -> None:
         source, _ = self.program('over: JMP over')

@@ -15,11 +15,7 @@ from toolbox.dap_values import Disassembly, Expression, is_code
 from toolbox.framing import Broken, Read
 from toolbox.listing import labels_alone, listing_of, physical
 from toolbox.places import far_of
-<<<<<<< HEAD
-from toolbox.program import LAST_CLOCK, TOP, Files, copied
-=======
-from toolbox.program import TOP, Files, copied, is_hex_name
->>>>>>> 0bd5e08e (tools: Intel HEX by its name everywhere, --hex where the name doesn't say)
+from toolbox.program import LAST_CLOCK, TOP, Files, copied, is_hex_name
 from toolbox.returns import Far
 from toolbox.runfile import DEFAULTS, budget_of, text_of
 from toolbox.scancodes import stamped, strokes_of
