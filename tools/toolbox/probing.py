@@ -24,7 +24,12 @@ class Probe:
 
     def __init__(self, name: str, files: Files) -> None:
         self._process = subprocess.Popen(
-            zebludor.limited([name, *files.words('')[1:]]), stdin=subprocess.PIPE, stdout=subprocess.PIPE, stderr=subprocess.PIPE, text=True, start_new_session=True
+            zebludor.limited([name, *files.words('')[1:]]),
+            stdin=subprocess.PIPE,
+            stdout=subprocess.PIPE,
+            stderr=subprocess.PIPE,
+            text=True,
+            start_new_session=True,
         )  # the terminal's interrupt doesn't reach it
         self._owed = 0
 

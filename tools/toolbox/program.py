@@ -15,7 +15,22 @@ from zebludor import LAST_CLOCK, TOP, Ran, Unfit, is_hex_name, limit_memory
 from toolbox.command import Sorry
 from toolbox.comments import handed
 
-__all__ = ['CLOCKS_OF_A_TRAIL', 'LAST_CLOCK', 'TOP', 'Files', 'Ran', 'Session', 'answer_of', 'copied', 'given_text', 'is_hex_name', 'limit_memory', 'path', 'refusal', 'run']
+__all__ = [
+    'CLOCKS_OF_A_TRAIL',
+    'LAST_CLOCK',
+    'TOP',
+    'Files',
+    'Ran',
+    'Session',
+    'answer_of',
+    'copied',
+    'given_text',
+    'is_hex_name',
+    'limit_memory',
+    'path',
+    'refusal',
+    'run',
+]
 # An instruction takes two clocks or more, so no more than 31 begin in so many clocks, and the trail of 32 has them all.
 CLOCKS_OF_A_TRAIL = 60
 MOST_READ = 1 << 26  # bytes of an answer
