@@ -5,8 +5,9 @@
     print(report.registers['AX'], report.screen[0])
 
     with zebludor.Session(source) as session:
-        session.stop_at(0xF000, 0x1B)
+        session.stop_at('done')
         session.go(1000)
+        print(session.word('count'))
 
 Runs, sessions and the assembler are the built program's, which PCBOARD names, else the one that the launcher
 of the repository takes that this file stands in. Pit, Pic and Ppi are the chips by themselves: timer, interrupt controller and parallel port. They are calls of
@@ -20,6 +21,7 @@ import json
 import os
 import re
 import subprocess
+import sys
 import tempfile
 from dataclasses import dataclass
 from typing import IO, TYPE_CHECKING, Any, Iterator, NamedTuple, NoReturn, Sequence
@@ -269,6 +271,18 @@ def _answer(words: list[str]) -> str:
     return done.out
 
 
+def _version() -> str:
+    """The version of the repository, or of the release, that this file stands in."""
+    try:
+        with open(f'{TOP}/VERSION', encoding='ascii') as file:
+            return file.read().strip()
+    except OSError:
+        return 'unknown'
+
+
+__version__ = _version()
+
+
 def is_hex_name(path: str | os.PathLike) -> bool:
     """Whether a file's name says that it is Intel HEX: it ends in .hex, in letters of either case."""
     return os.fspath(path).lower().endswith('.hex')
@@ -463,12 +477,66 @@ class Dialogue:
         return found
 
 
+class Places:
+    """Where the labels and the lines of a source stand, as the tools beside this file know it; of Intel HEX the labels and lines of a
+    file of symbols, as --symbols takes it. A place that there isn't is Unfit."""
+
+    def __init__(self, source: Source, *, is_hex: bool = False, symbols: str | os.PathLike | None = None) -> None:
+        self._source, self._is_hex = source, bool(_hex_words(source, is_hex))
+        self._symbols = None if symbols is None else os.fspath(symbols)
+
+    def place(self, text: str) -> tuple[int, int]:
+        """Segment and offset of a label, label+N (hexadecimal), :LINE or SEGMENT:OFFSET."""
+        return self._told('far_of', text)
+
+    def address(self, text: str) -> int:
+        """A physical address: of such a place, or up to five hexadecimal digits."""
+        return self._told('address_of', text)
+
+    def line(self, number: int) -> tuple[int, int]:
+        """Segment and offset of the first byte that a line places, or the next one that places some."""
+        return self.place(f':{number}')
+
+    @property
+    def labels(self) -> dict[str, tuple[int, int]]:
+        """All labels, with segment and offset."""
+        return dict(self._listing.labels)
+
+    @functools.cached_property
+    def _tools(self) -> Any:
+        """The tools' modules, which stand in the folder beside this file's."""
+        if f'{TOP}/tools' not in sys.path:
+            sys.path.append(f'{TOP}/tools')
+        try:
+            from toolbox import command, listing as listings, places, program as programs
+        except ImportError as error:
+            raise Unfit(f"labels and lines want the tools, and {TOP}/tools hasn't them: {error}") from None
+        return command, listings, places, programs
+
+    @functools.cached_property
+    def _listing(self) -> Any:
+        command, listings, _, programs = self._tools
+        with _files(self._source) as names:
+            try:
+                return listings.listing_of(programs.Files(names[-1], '', self._is_hex, self._symbols))
+            except command.Sorry as sorry:
+                raise Unfit(str(sorry)) from None
+
+    def _told(self, of: str, text: str) -> Any:
+        command, _, places, _ = self._tools
+        try:
+            return getattr(places, of)(self._listing, text)
+        except command.Sorry as sorry:
+            raise Unfit(str(sorry)) from None
+
+
 class Session:
     """A session of the debugger, as a context manager: a board at clock 0 that goes forth and back. Stops are numbered from 1,
     and stay for the whole session; what goes to a stop answers the number of the one that holds, or None. Its commands are
-    those of docs/debugger.md; a refused one is raised as Fault."""
+    those of docs/debugger.md; a refused one is raised as Fault. `source` tells where labels and lines stand."""
 
-    def __init__(self, source: Source, *, is_hex: bool = False, **fields: Any) -> None:
+    def __init__(self, source: Source, *, is_hex: bool = False, symbols: str | os.PathLike | None = None, **fields: Any) -> None:
+        self.source = Places(source, is_hex=is_hex, symbols=symbols)
         with _files(source, _fields(fields)) as names:
             self._dialogue = Dialogue(['debug', *_hex_words(source, is_hex), *names])
             try:
@@ -514,13 +582,17 @@ class Session:
         assert number
         return number
 
-    def stop_at(self, segment: int, offset: int) -> int:
-        """A stop: the processor is free at this CS:IP (`break`)."""
-        return self._stop(f'break {segment:X}:{offset:X}')
+    def stop_at(self, place: str | int, offset: int | None = None) -> int:
+        """A stop: the processor is free at this CS:IP (`break`): a label or another place of `source`, or segment and offset."""
+        segment, at = self.source.place(place) if isinstance(place, str) else (place, offset or 0)
+        return self._stop(f'break {segment:X}:{at:X}')
 
-    def stop_at_byte(self, address: int, value: int) -> int:
-        """A stop: the byte at a physical address has a value (`byte`)."""
-        return self._stop(f'byte {address:X} {value:X}')
+    def stop_at_byte(self, place: str | int, value: int) -> int:
+        """A stop: the byte at a label or at a physical address has a value (`byte`)."""
+        return self._stop(f'byte {self._address(place):X} {value:X}')
+
+    def _address(self, place: str | int) -> int:
+        return self.source.address(place) if isinstance(place, str) else place
 
     def stop_at_sound(self) -> int:
         """A stop: the speaker is high (`sound`)."""
@@ -561,6 +633,14 @@ class Session:
     def dump(self, address: int, count: int) -> bytes:
         """Bytes from a physical address on, as many as there are below 100000h."""
         return self._dialogue.dump(address, count)
+
+    def byte(self, place: str | int) -> int:
+        """The byte at a label, at another place of `source`, or at a physical address."""
+        return self.dump(self._address(place), 1)[0]
+
+    def word(self, place: str | int) -> int:
+        """The word there."""
+        return int.from_bytes(self.dump(self._address(place), 2), 'little')
 
     def trail(self) -> list[Event]:
         """The last 32 instruction starts and interrupt entries, the oldest first."""

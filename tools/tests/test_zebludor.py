@@ -1,6 +1,7 @@
 """python/zebludor.py: the header's layouts, stored reports, and runs, sessions and the assembler over the built program."""
 import ctypes
 import os
+import pathlib
 import re
 import subprocess
 import sys
@@ -123,6 +124,27 @@ class Runs(ToolCase):
         told = done.stdout.splitlines()
         self.assertEqual((done.stderr, told[:3], len(told)), ('', ['H halted 63040', '1 2138', 'MOV AH,007h'], 14))
         self.assertEqual((told[3], told[13]), ('1800 tkttKtttttt', '2800 ttkttKttttt'))
+
+    def test_labels_and_lines(self) -> None:
+        """Of a path and of a text; of Intel HEX by its symbols."""
+        path = pathlib.Path(example('ticks')[0])
+        number = 1 + next(n for n, it in enumerate(read(str(path)).split('\n')) if it.startswith('tick:'))
+        self.assertEqual(zebludor.__version__, read(f'{TOP}/VERSION').strip())
+        for source in (path, read(str(path))):
+            with Session(source) as session:
+                self.assertEqual(session.source.labels['tick'], (0xF600, 0x58))
+                self.assertEqual((session.source.line(number), session.source.place('tick+5')), ((0xF600, 0x58), (0xF600, 0x5D)))
+                self.assertEqual((session.stop_at('tick'), session.go(2000), session.registers()['IP']), (1, 1, 0x58))
+                self.assertEqual((session.word('tick'), session.byte('tick+1'), session.word(0xF6058)), (0xFE26, 0xFE, 0xFE26))
+                for refused in (lambda it=session: it.stop_at('tock'), lambda it=session: it.word('tock'), lambda it=session: it.source.line(9999)):
+                    self.assertRaises(Unfit, refused)
+        text, symbols = self.file('it.hex', zebludor.assemble(path)), self.file('it.lst', zebludor.listing(path))
+        with Session(pathlib.Path(text), symbols=symbols) as session:
+            self.assertEqual((session.stop_at('tick'), session.go(2000), session.registers()['IP']), (1, 1, 0x58))
+        with Session(pathlib.Path(text)) as session:
+            self.assertRaises(Unfit, session.stop_at, 'tick')
+        with self.assertRaises(Unfit):
+            _ = zebludor.Places('SEGMENT A AT 0\n FROB\n').labels
 
     def test_a_session_forth_and_back(self) -> None:
         """That of docs/debugger.md."""
