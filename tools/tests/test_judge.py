@@ -43,7 +43,7 @@ class Reports(ToolCase):
             told,
             [
                 "no  line 1 = HO: came 'HI'",
-                "no  shows = XY: came a screen with 1 lines, the first 'HI'",
+                "no  shows = XY: came 'HI'",
                 'no  AX = 0709: came 0708',
                 'no  al = 9: came 08',
                 'no  IF = 1: came 0',
@@ -181,7 +181,7 @@ class Runs(ToolCase):
         endless = self.file('endless.asm', 'SEGMENT A AT 0FFFFh\nnothing: INC AX\n JMP nothing\n')
         page = self.file('page', TYPED.replace('50,000', '1,099,511,627,776'))
         row = self.called('judge', '--class', page, endless, '--seconds', '1', status=1)[0].splitlines()[1].split('\t')
-        self.assertEqual((row[0], row[7]), (endless, 'took more than 1 s, and was ended'))
+        self.assertEqual((row[0], row[7]), (endless, 'over 1 s, and was ended'))
         self.assertIn('no expectation', self.called('judge', '--class', self.file('page', 'AX 5\n'), good, status=2)[1])
         page = self.file('page', 'plain keys = hello\nshows = HELLO\n')
         self.assertEqual(self.called('judge', '--class', page, good, good)[0].splitlines()[2], f'{good}\t1\tok\t')
@@ -194,7 +194,7 @@ class Runs(ToolCase):
         os.chmod(slow, 0o755)
         with mock.patch.dict(os.environ, {'PCBOARD': slow}):
             out, _ = self.called('judge', '--class', page, *[endless] * 9, '--seconds', '3', status=1)
-        self.assertEqual(out.splitlines()[1:], [f'{endless}\t0\tno\ttook more than 3 s, and was ended'] * 9)
+        self.assertEqual(out.splitlines()[1:], [f'{endless}\t0\tno\tover 3 s, and was ended'] * 9)
         with open(f'{slow}.begun', encoding='ascii') as file:
             self.assertEqual([it for it in file.read().split() if is_running(int(it))], [])
 

@@ -2,16 +2,26 @@
 from __future__ import annotations
 
 import argparse
+import contextlib
 import json
 import os
+import signal
 import subprocess
+import sys
 from concurrent.futures import ThreadPoolExecutor
 from dataclasses import dataclass, field
+from itertools import zip_longest
+from typing import Any, Iterator
 
-from toolbox.command import PYTHON, waiting
+from toolbox import feedback
+from toolbox.command import PYTHON, waiting, write_text
+from toolbox.expectations import Outcome, Planned
+from toolbox.marks import Row, as_csv, as_junit, cell, line_of, tell_copies
 from toolbox.program import path as program_path
+from toolbox.starting import started
 
 HIDDEN = argparse.SUPPRESS
+MEMORY = 256  # megabytes that a run may take, where nothing is said
 JUDGE = os.path.join(os.path.dirname(os.path.dirname(os.path.realpath(__file__))), 'judge')
 
 
@@ -20,56 +30,118 @@ class Class:
     """What all rows have in common, and the processes that are at work."""
 
     page: str
-    said: list[str]
-    run_file: str | None
-    words: list[str]
-    seconds: int
-    at_work: set[subprocess.Popen[str]] = field(default_factory=set)
+    planned: list[Planned]
+    given: argparse.Namespace
+    at_work: set[subprocess.Popen[Any]] = field(default_factory=set)
+    is_over: bool = False
 
-    def row(self, file: str) -> list[str]:
-        """A file's row: how many are met, each outcome, and why there is none."""
-        words = [PYTHON, '-S', JUDGE, '--json', *self.words, '--', self.page, file, *([self.run_file] if self.run_file else [])]
-        process = subprocess.Popen(words, stdin=subprocess.DEVNULL, stdout=subprocess.PIPE, stderr=subprocess.PIPE, text=True, errors='replace')
+    @property
+    def outcomes(self) -> list[Outcome]:
+        """What is expected, as of a file that never ran."""
+        return [Outcome(one.said(it.title), '', one.weight, False) for it in self.planned for one in it.expectations]
+
+    def row(self, file: str, folder: str | None) -> Row:
+        """A file's row. Its judge hears no Control-C, so that what is done stays done, and is ended with this process."""
+        given = self.given
+        words = [*words_of(given), *([f'--feedback={folder}'] if folder else [])]
+        words = [PYTHON, '-S', JUDGE, '--json', *words, '--', self.page, file, *([given.run] if given.run else [])]
+        streams: dict[str, Any] = {'stdin': subprocess.DEVNULL, 'stdout': subprocess.PIPE, 'stderr': subprocess.PIPE}
+        process = started(words, **streams, text=True, errors='replace', start_new_session=True)
         self.at_work.add(process)
+        if self.is_over:
+            end(process)
         try:
-            out, err = process.communicate(timeout=self.seconds)
-            told = json.loads(out) if process.returncode == 0 else {'why': err.strip() or f'status {process.returncode}'}
+            out, err = process.communicate(timeout=given.seconds)
+            told = json.loads(out) if process.returncode == 0 else {'why': why_not(process.returncode, err)}
         except subprocess.TimeoutExpired:
-            process.terminate()
+            end(process)
             process.communicate()
-            told = {'why': f'took more than {self.seconds} s, and was ended'}
+            told = {'why': f'over {given.seconds} s, and was ended'}
         finally:
             self.at_work.discard(process)
-        outcomes = told.get('outcomes', [[it, ''] for it in self.said])
-        cells = ['ok' if but is None else f'no: {but}' if but else 'no' for _, but in outcomes]
-        return [file, str(cells.count('ok')), *cells, told.get('why', '')]
+        if self.is_over and process.returncode:
+            raise BrokenOff
+        row = Row(file, [Outcome(*it) for it in told['outcomes']] if 'outcomes' in told else self.outcomes, told.get('why', ''), told.get('image', ''))
+        if folder:
+            feedback.close(folder, row, words_of(given))
+        return row
+
+    def stop(self) -> None:
+        """Ends what is at work, and what begins from now on."""
+        self.is_over = True
+        for process in list(self.at_work):
+            end(process)
 
 
-def cell(text: str) -> str:
-    """A text as one cell."""
-    return ' '.join(text.split())
+class BrokenOff(Exception):
+    """A file's judge was ended, since no more rows are wanted."""
+
+
+def end(process: subprocess.Popen[Any]) -> None:
+    """Ends a file's judge, which leads a group, and then what it may have left there."""
+    with contextlib.suppress(ProcessLookupError, ChildProcessError):
+        os.killpg(process.pid, signal.SIGTERM)
+        os.waitid(os.P_PID, process.pid, os.WEXITED | os.WNOWAIT)  # its number stays its own
+        os.killpg(process.pid, signal.SIGKILL)
+
+
+def why_not(status: int, err: str) -> str:
+    """Why a file's judge gave no row."""
+    if status < 0:
+        return f'ended by signal {-status} ({signal.strsignal(-status)})'
+    return (err.strip().splitlines() or [f'status {status}'])[-1]
 
 
 def words_of(given: argparse.Namespace) -> list[str]:
     """The words that each file's judge is given too."""
     words = [f'--{it}' for it in ('hex', 'services', 'com') if getattr(given, it)]
-    return words + ([f'--args={given.args}'] if given.args is not None else [])
+    return words + ([f'--args={given.args}'] if given.args is not None else []) + [f'--memory={given.memory or MEMORY}']
 
 
-def table(page: str, said: list[str], files: list[str], run_file: str | None, words: list[str], seconds: int) -> int:
-    """Prints a row for each file as it is ready, in the order of the files, and returns the exit status."""
+def rows_of(them: Class, files: list[str], folders: list[str]) -> Iterator[Row]:
+    """Each file's row as it is ready, in the order of the files. Once that is broken off, the others that are done come, and what is
+    at work is ended."""
+    pool = ThreadPoolExecutor(os.cpu_count() or 1)
+    waited = [pool.submit(them.row, it, folder) for it, folder in zip_longest(files, folders)]
+    try:
+        while waited:
+            row = waited[0].result()
+            del waited[0]
+            yield row
+    except KeyboardInterrupt:
+        them.stop()
+        pool.shutdown(cancel_futures=True)
+        yield from [it.result() for it in waited if not it.cancelled() and not it.exception()]
+        raise
+    finally:
+        them.stop()
+        pool.shutdown(wait=False, cancel_futures=True)
+
+
+def table(page: str, planned: list[Planned], files: list[str], given: argparse.Namespace) -> int:
+    """Prints a row for each file, writes what else is asked for, and returns the exit status."""
     program_path()
-    them = Class(page, said, run_file, words, seconds)
-    print('\t'.join(map(cell, ['file', 'met', *said, 'why not'])), flush=True)
-    is_met, pool = True, ThreadPoolExecutor(os.cpu_count() or 1)
-    with waiting(f'judge: {len(files)} files') as say:
-        try:
-            for number, row in enumerate(pool.map(them.row, files), 1):
-                print('\t'.join(map(cell, row)), flush=True)
-                is_met = is_met and row[1] == str(len(said))
-                say(f'{number} done')
-        finally:
-            pool.shutdown(wait=False, cancel_futures=True)
-            for process in list(them.at_work):
-                process.terminate()
-    return 0 if is_met else 1
+    them, folders = Class(page, planned, given), feedback.folders_of(files, given.feedback) if given.feedback else []
+    said, rows = [it.said for it in them.outcomes], list[Row]()
+    has_marks = any(it.weight > 1 for it in them.outcomes)
+    is_shown = '-' not in (given.csv, given.junit)
+    show(['file', 'met', *said, 'why not', *(['mark', 'of'] if has_marks else [])], is_shown)
+    try:
+        with waiting(f'judge: {len(files)} files') as say:
+            for row in rows_of(them, files, folders):
+                rows.append(row)
+                show([row.file, str(row.met), *row.cells, row.why, *([str(row.mark), str(row.of)] if has_marks else [])], is_shown)
+                say(f'{len(rows)} done')
+    finally:
+        for group in tell_copies(rows):
+            print(f'judge: the same bytes: {", ".join(map(cell, group))}', file=sys.stderr)
+        for path, text in ((given.csv, as_csv(said, rows)), (given.junit, as_junit(page, rows))):
+            if path:
+                write_text(path, text)
+    return 0 if all(it.met == len(said) for it in rows) else 1
+
+
+def show(cells: list[str], is_shown: bool) -> None:
+    """Prints a line of the table, unless standard output has another one."""
+    if is_shown:
+        print(line_of(cells), flush=True)

@@ -90,10 +90,12 @@ class Subject:
 
 @dataclass(frozen=True)
 class Outcome:
-    """An expectation, and what came in its place, if it wasn't met."""
+    """An expectation, and what came in its place, if it wasn't met; what it counts, and whether anything ran."""
 
     said: str
     but: str | None
+    weight: int = 1
+    has_run: bool = True
 
 
 def plain(text: str) -> str:
@@ -135,7 +137,9 @@ def judge_shows(subject: Subject, _: str, wanted: str) -> str | None:
     if any(plain(wanted) in it for it in subject.report.screen):
         return None
     filled = [it.rstrip() for it in subject.report.screen if it.strip()]
-    return f'a screen with {len(filled)} lines, the first {filled[0]!r}' if filled else 'a blank screen'
+    if not filled:
+        return 'a blank screen'
+    return repr(filled[0]) if len(filled) == 1 else f'a screen with {len(filled)} lines, the first {filled[0]!r}'
 
 
 def judge_word(subject: Subject, name: str, wanted: str) -> str | None:
@@ -292,12 +296,16 @@ class Expectation:
     wanted: str
     judge: Callable[[Subject, str, str], 'str | None']
     where: str
+    weight: int = 1
+
+    def said(self, title: str = '') -> str:
+        """What is expected, of the run with this name."""
+        return f'{title}{title and ": "}{self.name} = {self.wanted}'
 
     def outcome(self, subject: Subject | str, title: str = '') -> Outcome:
         """What a run came to, or a refusal in its place."""
-        said = f'{title}{title and ": "}{self.name} = {self.wanted}'
         if isinstance(subject, str):
-            return Outcome(said, subject)
+            return Outcome(self.said(title), subject, self.weight, False)
         as_said = self.name.upper() if self.judge is judge_number else self.name.lower() if self.judge is not judge_memory else self.name
         try:
             came = self.judge(subject, as_said, self.wanted)
@@ -305,25 +313,31 @@ class Expectation:
             came = str(sorry)
         except Sorry as sorry:
             raise Sorry(f'{self.where}: {sorry}') from None
-        return Outcome(said, None if came is None else f'came {came}')
+        return Outcome(self.said(title), None if came is None else f'came {came}', self.weight, has_run(subject.report))
+
+
+def has_run(report: Report) -> bool:
+    """Whether any instruction ran: the processor hasn't jammed at the first one."""
+    return report.state != 'jammed' or (report.registers['CS'], report.registers['IP']) != (0xFFFF, 0)
 
 
 @dataclass
 class Planned:
-    """A run that a page asks for: its name, its run file's fields, what is typed, and what is expected of it."""
+    """A run that a page asks for: its name, its run file's fields, what is typed, what is expected of it, and whether it is a secret."""
 
     title: str = ''
     fields: dict[str, Any] = field(default_factory=dict)
     strokes: list[Stroke] | None = None
+    is_hidden: bool = False
     expectations: list[Expectation] = field(default_factory=list)
 
 
-def expectation_of(name: str, wanted: str, where: str, line: str) -> Expectation:
+def expectation_of(name: str, wanted: str, where: str, line: str, weight: int = 1) -> Expectation:
     """A line of a page that is an expectation, whose words any run could be held against."""
     judge = next((it for form, it in JUDGES if re.fullmatch(form, name, re.I)), None)
     if not wanted or judge is None:
         raise Sorry(f'{where} is no expectation: {line.strip()} (tools/judge --help)')
-    found = Expectation(name, wanted, judge, where)
+    found = Expectation(name, wanted, judge, where, weight)
     place = name.split()[1] if judge is judge_memory else wanted if judge is judge_runs else None
     if place and not re.fullmatch(PLACE, place):
         raise Sorry(f'{where}: {place} is no label, no hexadecimal address, no SEGMENT:OFFSET and no :LINE')
@@ -359,28 +373,50 @@ def field_of(name: str, text: str, where: str) -> Any:
         raise Sorry(f'{where}: {error if isinstance(error, Sorry) else f"{text} is no number"}') from None
 
 
+WEIGHT, MOST_WEIGHT = re.compile(r'\s*\[([^\]]*)\](.*)'), 999
+
+
+def weight_of(text: str, where: str) -> int:
+    """What an expectation counts, as a page says it in brackets before it."""
+    if not re.fullmatch('[0-9]{1,3}', text.strip()) or not int(text):
+        raise Sorry(f'{where}: [{text}] is no weight: a whole number from 1 to {MOST_WEIGHT}, as in [2]')
+    return int(text)
+
+
 def page_of(path: str) -> list[Planned]:
     """A page's runs; one without a line `run` has one."""
     runs = [Planned()]
     for number, line in enumerate(read_text(path).splitlines(), 1):
-        where = f'{path}, line {number}'
-        name, _, wanted = (it.strip() for it in line.partition('='))
-        name = ' '.join(name.split())
-        if not line.strip() or line.lstrip().startswith('#'):
-            continue
-        if name.lower() == 'run' and wanted:
-            runs.append(Planned(wanted))
-        elif name.lower() in FIELDS and wanted:
-            if runs[-1].expectations:
-                raise Sorry(f'{where}: {name} stands before what is expected; another run begins with run = ITS NAME')
-            value = field_of(name.lower(), wanted, where)
-            if FIELDS[name.lower()] == 'keys':
-                runs[-1].strokes, value = value, stamped(value, *BARE)
-            runs[-1].fields[FIELDS[name.lower()]] = value
-        else:
-            runs[-1].expectations.append(expectation_of(name, wanted, where, line))
-    runs = runs if runs[0].fields or runs[0].expectations or len(runs) == 1 else runs[1:]
+        if line.strip() and not line.lstrip().startswith('#'):
+            read_line(runs, line, f'{path}, line {number}')
+    runs = runs if runs[0].fields or runs[0].is_hidden or runs[0].expectations or len(runs) == 1 else runs[1:]
     empty = next((it for it in runs if not it.expectations), None)
     if empty:
         raise Sorry(f'{path} has no expectations' + (f' of the run {empty.title}' if empty.title else ''))
     return runs
+
+
+def read_line(runs: list[Planned], line: str, where: str) -> None:
+    """Adds to the runs what a line says."""
+    weighed = WEIGHT.match(line)
+    weight = weight_of(weighed[1], where) if weighed else 1
+    name, _, wanted = (it.strip() for it in (weighed[2] if weighed else line).partition('='))
+    name, word = ' '.join(name.split()), ' '.join(name.split()).lower()
+    is_head = word in (*FIELDS, 'hidden', 'run') and wanted != ''
+    if is_head and weighed:
+        raise Sorry(f'{where}: a weight stands before an expectation, and {name} is none')
+    if word == 'run' and wanted:
+        runs.append(Planned(wanted))
+    elif is_head and runs[-1].expectations:
+        raise Sorry(f'{where}: {name} stands before what is expected; another run begins with run = ITS NAME')
+    elif word == 'hidden' and wanted:
+        if wanted.lower() != 'yes':
+            raise Sorry(f'{where}: hidden = yes keeps a run a secret, and without the line it is none')
+        runs[-1].is_hidden = True
+    elif is_head:
+        value = field_of(word, wanted, where)
+        if FIELDS[word] == 'keys':
+            runs[-1].strokes, value = value, stamped(value, *BARE)
+        runs[-1].fields[FIELDS[word]] = value
+    else:
+        runs[-1].expectations.append(expectation_of(name, wanted, where, line, weight))

@@ -2,20 +2,26 @@
 from __future__ import annotations
 
 import contextlib
+import hashlib
 import os
+import shutil
 import tempfile
 from typing import Any, Iterator
 
 from toolbox import guests
 from toolbox.command import Sorry
+from toolbox.comments import handed
 from toolbox.expectations import Outcome, Planned, Subject
 from toolbox.faults import fault_in
-from toolbox.guests import Guest, prepared, read_bytes
+from toolbox.feedback import Feedback
+from toolbox.guests import BINARIES, Guest, ending, prepared, read_bytes
+from toolbox.listing import parts_of
 from toolbox.program import LAST_CLOCK, Files, refusal, run
 from toolbox.report import report_of
 from toolbox.runfile import DEFAULTS, read_run_file, text_of
 from toolbox.scancodes import stamped
 from toolbox.services import TYPING
+from toolbox.symbols import image_of
 
 
 def fields_of(planned: Planned, run_file: str | None, usual: dict[str, Any] = DEFAULTS) -> dict[str, Any]:
@@ -77,11 +83,47 @@ def outcomes_of(planned: Planned, subject: Subject | str) -> Iterator[Outcome]:
             subject.session.close()
 
 
-def judge_file(page: list[Planned], guest: Guest, run_file: str | None, is_hex: bool, symbols: str | None = None) -> list[Outcome]:
-    """All that a page expects of a file."""
+def judge_file(
+    page: list[Planned], guest: Guest, run_file: str | None, is_hex: bool, symbols: str | None = None, told: Feedback | None = None
+) -> list[Outcome]:
+    """All that a page expects of a file; a student is told of it, where `told` is given."""
     read_bytes(guest.file)
     found: list[Outcome] = []
-    for planned in page:
+    for number, planned in enumerate(page, 1):
         with files_of(planned, guest, run_file, is_hex, symbols) as files:
-            found += outcomes_of(planned, subject_of(files))
+            if told:
+                told.begins(number, planned, files)
+            subject = subject_of(files)
+            outcomes = list(outcomes_of(planned, subject))
+            if told:
+                told.ends(number, planned, files, subject, outcomes)
+            found += outcomes
     return found
+
+
+def sum_of(guest: Guest, is_hex: bool) -> str:
+    """A sum of a program's bytes at their addresses, whatever its text is like: empty if it has none, or is refused."""
+    octets = read_bytes(guest.file)
+    if is_hex or not (guest.is_com or guest.compiler or ending(guest.file) in BINARIES):
+        ran = None if is_hex else run(['asm', '--', handed(guest.file)])
+        octets = repr(parts_of(image_of(octets.decode('ascii', 'replace') if ran is None else ran.out))).encode()
+        octets = b'' if octets == b'{}' else octets
+    return hashlib.sha256(octets).hexdigest() if octets else ''
+
+
+def keep(page: list[Planned], guest: Guest, run_file: str | None, is_hex: bool, name: str) -> None:
+    """Keeps the run file of each run, and of a program with services its image. None is written over."""
+    for number, planned in enumerate(page, 1):
+        with files_of(planned, guest, run_file, is_hex) as files:
+            stem = name if len(page) == 1 else f'{name}-{number}'
+            for path, end in ((files.run_file, 'json'), *([(files.file, 'hex')] if guest.is_one else [])):
+                keep_one(path, f'{stem}.{end}')
+
+
+def keep_one(path: str, to: str) -> None:
+    """Copies a file to where none is."""
+    try:
+        with open(path, 'rb') as file, open(to, 'xb') as new:
+            shutil.copyfileobj(file, new)
+    except OSError as error:
+        raise Sorry(f"{to} can't be written: {error.strerror}") from None

@@ -1,0 +1,263 @@
+"""tools/judge --class with strangers' files: marks, tables, what each student is told, and limits."""
+from __future__ import annotations
+
+import csv
+import io
+import os
+import re
+import shutil
+import signal
+import subprocess
+import sys
+import unittest
+from unittest import mock
+from xml.etree import ElementTree
+
+from tests.support import SECONDS, TOOLS, ToolCase, example, is_running, until
+
+from toolbox.command import Sorry
+from toolbox.expectations import Outcome, page_of
+from toolbox.feedback import folders_of, plain_name
+from toolbox.marks import Row, as_csv, as_junit, line_of, tell_copies, visible
+
+# A secret run behind a plain one, over the example that echoes keys.
+PAGE = """[2] shows = HELLO
+lost = 0
+run = another word
+plain keys = zebra
+hidden = yes
+[3] shows = ZEBRA
+"""
+ECHO = f'plain keys = hello\n{PAGE}'
+# A change of the speaker each four clocks, without end.
+FLOOD = (
+    'SEGMENT MAIN AT 50h\nstart: MOV AL,99h\n OUT 63h,AL\n MOV AL,96h\n OUT 43h,AL\n MOV AL,2\n OUT 42h,AL\n MOV AL,3\n OUT 61h,AL\n HLT\nENDS\n'
+    'SEGMENT RESET AT 0FFFFh\n JMP FAR start\nENDS\n'
+)
+# Names and texts that break what isn't written with care.
+ODD = ['=1+1', '+x', '-x', '@x', 'a,b', 'a"b', "a'b", 'a\nb', 'a\r\tb', '\x00\x1b[2J', 'b\udce9d', '<&>]]>', '\u2028', '\ufffe', 'Größe', '']
+SEEN = ["'=1+1", "'+x", "'-x", "'@x", 'a,b', 'a"b', "a'b", r'a\nb', r'a\r\tb', r'\x00\x1b[2J', r'b\xe9d', '<&>]]>', r'\u2028', r'\ufffe', 'Größe', '']
+
+
+class Texts(ToolCase):
+    """Rows alone, and pages."""
+
+    def rows(self) -> list[Row]:
+        """A row with each odd text in every place."""
+        return [Row(it, [Outcome(it, None, 2), Outcome(it, it or 'x')], '', it, []) for it in ODD]
+
+    def test_csv_is_read_back(self) -> None:
+        rows = self.rows()
+        tell_copies(rows + [Row('other', [], '', 'a,b')])
+        head, *found = csv.reader(io.StringIO(as_csv(ODD[:2], rows), newline=''))
+        self.assertEqual(head, ['file', 'mark', 'of', 'met', *SEEN[:2], 'why not', 'same bytes as'])
+        self.assertEqual([it[0] for it in found], SEEN)
+        self.assertEqual([it[1:5] for it in found], [['2', '3', '1', 'ok']] * len(ODD))
+        self.assertEqual([it[5] for it in found], [f'no: {it.lstrip(chr(39)) if it[:1] == chr(39) else it}' for it in SEEN[:-1]] + ['no: x'])
+        self.assertEqual([it[7] for it in found], ['other' if it == 'a,b' else '' for it in ODD])
+
+    def test_junit_is_read_back(self) -> None:
+        rows = [*self.rows(), Row('late', [Outcome('x', '', 1, False)], 'over 60 s, and was ended')]
+        root = ElementTree.fromstring(as_junit('p\x01', rows).encode())
+        self.assertEqual(root.get('name'), r'p\x01')
+        names = [visible(it) for it in ODD]
+        self.assertEqual([it.get('name') for it in root][:-1], names)
+        for suite, name in zip(root, names):
+            self.assertEqual([suite.get(it) for it in ('tests', 'failures', 'errors')], ['2', '1', '0'])
+            self.assertEqual([it.get('name') for it in suite.iter('testcase')], [name, name])
+            self.assertEqual([it.get('message') for it in suite.iter('failure')], [name or 'x'])
+            self.assertEqual({it.get('name'): it.get('value') for it in suite.iter('property')}, {'mark': '2', 'of': '3'})
+        self.assertEqual([root[-1].get(it) for it in ('tests', 'failures', 'errors')], ['1', '0', '1'])
+        self.assertEqual([it.get('message') for it in root[-1].iter('error')], ['over 60 s, and was ended'])
+
+    def test_a_line_of_the_table_is_one(self) -> None:
+        self.assertEqual(line_of(['a\nb\tc', '=x', 'b\udce9']), "a b c\t'=x\tb\\xe9")
+
+    def test_marks(self) -> None:
+        row = Row('x', [Outcome('a', None, 5), Outcome('b', 'came 1', 3), Outcome('c', None, 2, False)])
+        self.assertEqual((row.met, row.mark, row.of), (2, 5, 10))
+
+    def test_pages(self) -> None:
+        first, second = page_of(self.file('page', ECHO))
+        self.assertEqual([it.weight for it in (*first.expectations, *second.expectations)], [2, 1, 3])
+        self.assertEqual((first.is_hidden, second.is_hidden), (False, True))
+        for line, told in (
+            ('[0] lost = 0', r'page, line 2: \[0\] is no weight'),
+            ('[x] lost = 0', 'is no weight'),
+            ('[-1] lost = 0', 'is no weight'),
+            ('[1.5] lost = 0', 'is no weight'),
+            ('[] lost = 0', 'is no weight'),
+            ('[1000] lost = 0', 'is no weight'),
+            ('[²] lost = 0', 'is no weight'),
+            ('[2 lost = 0', 'is no expectation'),
+            ('[2] run = x', 'a weight stands before an expectation, and run is none'),
+            ('[2] keys = x', 'and keys is none'),
+            ('hidden = no', 'hidden = yes'),
+            ('lost = 0\nhidden = yes', 'hidden stands before what is expected'),
+            ('hidden = yes\nrun = x\nlost = 0', 'has no expectations'),
+        ):
+            with self.assertRaisesRegex(Sorry, told, msg=line):
+                page_of(self.file('page', f'# a page\n{line}\n'))
+
+    def test_folders_of_one_name_stay_apart(self) -> None:
+        names = ['a/sum.asm', 'b/sum.asm', 'b/SUM.com', 'b/sum.hex', 'sum-2.asm', 'x/b-sum.asm', '..', "c/o'k $(x).asm", 'd/.asm', '-x.asm']
+        found = [os.path.basename(it) for it in folders_of([f'/{it}' for it in names], f'{self.room}/new')]
+        self.assertEqual(len({it.lower() for it in found}), len(names))
+        self.assertEqual(found[:2], ['sum', 'b-sum'])
+        self.assertTrue(all(re.fullmatch(r'[\w.][\w.-]*', it) and not it.startswith('.') for it in found), found)
+        self.assertEqual(plain_name('x/it b.asm'), 'it_b.asm')
+        self.file('new/theirs', '')
+        with self.assertRaisesRegex(Sorry, 'has files already'):
+            folders_of(['x'], f'{self.room}/new')
+        with self.assertRaisesRegex(Sorry, "can't be a folder"):
+            folders_of(['x'], f'{self.room}/new/theirs')
+
+
+class Strangers(ToolCase):
+    """Over the built program, each of these files in a process of its own."""
+
+    def class_of(self) -> dict[str, str]:
+        """A class's files by their names: right, right with another text, wrong, refused, empty, a link, another right one."""
+        for folder in ('a', 'b'):
+            os.mkdir(f'{self.room}/{folder}')
+        with open(example('keys')[0], encoding='utf-8') as file:
+            right = file.read()
+        self.assertIn("QWERTYUIOP", right)
+        self.file('a/it.asm', right)
+        self.file('b/it.asm', right.replace('MOV', 'mov') + '; Größe\n')
+        self.file("=w,r\n'.asm", right.replace('QWERTY', 'QWARTY'))
+        self.file('refused.asm', ' MOV AX,0x10\n')
+        self.file('empty.asm', '')
+        os.symlink('/etc/passwd', f'{self.room}/link.asm')
+        return {'right': 'a/it.asm', 'same': 'b/it.asm', 'wrong': "=w,r\n'.asm", 'refused': 'refused.asm', 'empty': 'empty.asm', 'link': 'link.asm'}
+
+    def told(self, name: str) -> str:
+        """A text for a student."""
+        with open(f'{self.room}/told/{name}/feedback.txt', encoding='utf-8') as file:
+            return file.read()
+
+    def test_a_class(self) -> None:
+        """Rows, marks and texts by one command; each text's commands repeat what it tells."""
+        files, page = self.class_of(), self.file('page', ECHO)
+        words = ['--csv', 'it.csv', '--junit', 'it.xml', '--feedback', 'told']
+        out, err = self.called('judge', '--class', page, *files.values(), *words, status=1)
+        self.assertEqual(err, 'judge: the same bytes: a/it.asm, b/it.asm\n')
+        rows = [it.split('\t') for it in out.splitlines()]
+        self.assertEqual([it[-2:] for it in rows], [['mark', 'of'], ['6', '6'], ['6', '6'], ['1', '6'], ['0', '6'], ['0', '6'], ['0', '6']])
+        self.assertEqual((rows[3][0], rows[5][1]), ("'=w,r '.asm", '1'))  # nothing ran, so that no key was lost counts nothing
+        with open(f'{self.room}/it.csv', encoding='utf-8', newline='') as file:
+            table = list(csv.DictReader(file))
+        self.assertEqual([(it['mark'], it['of']) for it in table], [tuple(it[-2:]) for it in rows[1:]])
+        self.assertEqual(len(ElementTree.parse(f'{self.room}/it.xml').getroot()), 6)
+        self.assertEqual(sorted(os.listdir(f'{self.room}/told')), ['_w_r_n_', 'b-it', 'empty', 'it', 'link', 'refused'])
+        self.assertIn('Mark: 6 of 6', self.told('b-it'))
+        self.assertEqual(sorted(os.listdir(f'{self.room}/told/it')), ['feedback.txt', 'it.asm'])
+        wrong, refused = self.told('_w_r_n_'), self.told('refused')
+        self.assertRegex(wrong, "no  shows = HELLO: came 'HALLO'\n(?s:.*)A hidden run: not met\n(?s:.*)Mark: 1 of 6")
+        self.assertIn('hexadecimal numbers end with h', refused)
+        self.assertIn('no far jump stands there', self.told('empty'))
+        self.assertNotIn('root', self.told('link'))
+        self.assertEqual(os.listdir(f'{self.room}/told/link'), ['feedback.txt'])
+        for text in map(self.told, os.listdir(f'{self.room}/told')):
+            self.assertNotRegex(text, f'(?i)zebra|{self.room}|{TOOLS}|/tmp')
+        self.repeats(wrong, r"no  shows = HELLO: came 'HALLO'\n(?s:.*)1 met, 1 not")
+        self.assertIn('(fault 3, BadLine)', self.called('why', '--all', 'told/refused/refused.asm', status=1)[0])
+        self.assertIn('has files already', self.called('judge', '--class', page, 'empty.asm', '--feedback', 'told', status=2)[1])
+
+    def repeats(self, text: str, wanted: str) -> None:
+        """Types the commands of a text in a folder where the student's has been copied."""
+        there = f'{self.room}/home'
+        shutil.copytree(f'{self.room}/told', there)
+        judge, show = (it.split() for it in re.findall(r'^  tools/(judge .*|try .*)$', text, re.M))
+        room, self.room = self.room, there
+        self.assertRegex(self.called(*judge, status=1)[0], wanted)
+        self.assertEqual(self.called(*show)[0].splitlines()[0], 'HALLO')
+        self.room = room
+
+    def test_what_only_a_page_shows_to_its_teacher(self) -> None:
+        page = self.file('page', ECHO.replace('plain keys = hello\n', 'hidden = yes\nplain keys = hello\n'))
+        self.called('judge', '--class', page, self.program(' HLT')[0], '--feedback', 'told', status=1)
+        self.assertEqual(sorted(os.listdir(f'{self.room}/told/it')), ['feedback.txt', 'it.asm'])
+        self.assertEqual(self.told('it').count('A hidden run: not met'), 2)
+        self.assertNotRegex(self.told('it'), '(?i)hello|zebra|another word|why|tools')
+
+    def test_keeps_a_page_s_keys(self) -> None:
+        page, source = self.file('page', ECHO), example('keys')[0]
+        self.called('judge', page, source, '--keep', 'it')
+        for number, wanted in ((1, 'HELLO'), (2, 'ZEBRA')):
+            self.assertEqual(self.called('try', source, '--run', f'it-{number}.json')[0].splitlines()[0], wanted)
+        self.assertIn("it-1.json can't be written: File exists", self.called('judge', page, source, '--keep', 'it', status=2)[1])
+
+    def test_a_flood_ends_within_its_limits(self) -> None:
+        """In 256 MB, with a row that says so, and the command of its text too."""
+        page = self.file('page', 'budget = 100,000,000\nstate = halted\n')
+        flood = self.file('flood.asm', FLOOD)
+        ran = subprocess.run(
+            [sys.executable, '-c', MEASURED, sys.executable, '-S', f'{TOOLS}/judge', '--class', page, flood, '--feedback', f'{self.room}/told'],
+            capture_output=True,
+            text=True,
+            check=True,
+        )
+        self.assertIn('\t0\tno: refused: fault 41 Memory\t', ran.stdout)
+        seconds, kilobytes = map(float, ran.stderr.split())
+        self.assertLess(seconds, 10)
+        self.assertLess(kilobytes, 256 * 1024)
+        self.assertRegex(self.told('flood'), r'judge flood/1\.page flood/flood\.asm flood/1\.json --memory=256\n')
+        for words, told in (('--memory=1', '--memory takes 16 to'), ('--seconds=0', '--seconds takes 1 to'), ('--keep=x', 'goes with one FILE')):
+            self.assertIn(told, self.called('judge', '--class', page, flood, words, status=2)[1])
+
+    def test_an_answer_that_is_too_long_is_no_report(self) -> None:
+        flood = self.file('flood.asm', FLOOD)
+        with mock.patch('toolbox.program.MOST_READ', 1 << 20):
+            self.assertIn('more than 1,048,576 bytes', self.called('try', flood, '--budget', '1000000', status=2)[1])
+
+    def test_runs_that_a_signal_ends(self) -> None:
+        page, it = self.file('page', 'lost = 0\n'), self.file('it.asm', FLOOD)
+        killed = self.file('killed', '#!/bin/sh\nkill -9 $$\n')
+        os.chmod(killed, 0o755)
+        with mock.patch.dict(os.environ, {'PCBOARD': killed}):
+            row = self.called('judge', '--class', page, it, status=1)[0].splitlines()[1]
+        self.assertEqual(row.split('\t')[1:], ['0', 'no', 'the program was ended by signal 9 (Killed)'])
+
+    def test_control_c_keeps_the_rows_done(self) -> None:
+        """Also those behind one that isn't done; and no process is left."""
+        slow = self.file('slow', '#!/bin/sh\necho $$ >>"$0.begun"\ncase "$*" in *slow.asm*) exec sleep 6000;; esac\nexec cat "$0.report"\n')
+        os.chmod(slow, 0o755)
+        self.file('slow.report', self.pcboard('run', *example('hello')).stdout)
+        page = self.file('page', 'shows = HI\n')
+        files = [self.file(f'{it}.asm', 'x') for it in ('one', 'slow', 'three')]
+        with subprocess.Popen(
+            [sys.executable, '-S', f'{TOOLS}/judge', '--class', page, *files, '--csv', f'{self.room}/it.csv', '--feedback', f'{self.room}/told'],
+            env=os.environ | {'PCBOARD': slow},
+            stdout=subprocess.PIPE,
+            stderr=subprocess.DEVNULL,
+            text=True,
+            start_new_session=True,
+        ) as process:
+            for name in ('one', 'three'):
+                self.assertTrue(until(lambda of=name: os.path.exists(f'{self.room}/told/{of}/feedback.txt') and 'Mark' in self.told(of)))
+            self.assertTrue(until(lambda: os.path.exists(f'{self.room}/told/slow/1.json')))
+            os.killpg(process.pid, signal.SIGINT)  # as a terminal does
+            out, _ = process.communicate(timeout=SECONDS)
+        self.assertEqual(process.returncode, 130)
+        self.assertEqual([os.path.basename(it.split('\t')[0]) for it in out.splitlines()], ['file', 'one.asm', 'three.asm'])
+        with open(f'{self.room}/it.csv', encoding='utf-8', newline='') as file:
+            self.assertEqual([it['met'] for it in csv.DictReader(file)], ['1', '1'])
+        with open(f'{slow}.begun', encoding='ascii') as file:
+            self.assertTrue(until(lambda begun=file.read().split(): not any(is_running(int(it)) for it in begun)))
+
+    def test_no_other_assembler_is_called(self) -> None:
+        for word in ('--nasm', '--bcc'):
+            self.assertIn('unrecognized arguments', self.called('judge', '--class', word, 'page', 'it.asm', status=2)[1])
+
+
+# Runs a command, and tells the processor time and the most memory that it took.
+MEASURED = """import resource, subprocess, sys
+print(subprocess.run(sys.argv[1:], stdout=subprocess.PIPE, stderr=subprocess.DEVNULL, text=True).stdout)
+used = resource.getrusage(resource.RUSAGE_CHILDREN)
+print(used.ru_utime + used.ru_stime, used.ru_maxrss, file=sys.stderr)
+"""
+
+
+if __name__ == '__main__':
+    unittest.main()

@@ -1,0 +1,154 @@
+"""What a student is told of a submission: a folder with a text, the file itself, and run file and page of each run that failed, so that
+one command repeats it. Of a run that the page hides it is told alone whether all was met."""
+from __future__ import annotations
+
+import contextlib
+import os
+import re
+import shlex
+import shutil
+import tempfile
+from typing import Iterator
+
+from toolbox.command import Sorry
+from toolbox.expectations import Outcome, Planned, Subject
+from toolbox.explaining import explained, of_a_report
+from toolbox.faults import Fault, fault_in
+from toolbox.guests import Guest
+from toolbox.marks import Row, visible
+from toolbox.program import TOP, Files
+
+TEXT = 'feedback.txt'
+HEAD = "Type the commands below in Zebludor's folder, with this folder copied into it."
+LINK = 'The submission is a link, which is not followed: neither the file nor lines of it are here.'
+
+
+def folders_of(files: list[str], into: str) -> list[str]:
+    """A folder for each file, in one that is new or empty: files of one name are told apart by the folder they stand in."""
+    try:
+        os.makedirs(into, exist_ok=True)
+        if os.listdir(into):
+            raise Sorry(f'{into} has files already, and none is written over: --feedback takes a folder that is empty or not there')
+    except OSError as error:
+        raise Sorry(f"{into} can't be a folder: {error.strerror}") from None
+    taken, found = set[str](), list[str]()
+    for file in files:
+        stem = os.path.splitext(plain_name(file))[0]
+        above = plain_name(os.path.dirname(os.path.abspath(file)))
+        name = next(it for it in names_from(stem, above) if it.lower() not in taken)
+        taken.add(name.lower())
+        found.append(os.path.join(into, name))
+    return found
+
+
+def names_from(stem: str, above: str) -> Iterator[str]:
+    """Names for a folder, as short as they can be."""
+    yield stem
+    yield f'{above}-{stem}'
+    number = 2
+    while True:
+        yield f'{above}-{stem}-{number}'
+        number += 1
+
+
+def plain_name(path: str) -> str:
+    """A file's own name in letters and digits, which no shell takes for more than a name."""
+    found = re.sub(r'[^\w.]', '_', visible(os.path.basename(path)))
+    return re.sub(r'^[.]+', '_', found) or '_'
+
+
+class Feedback:
+    """A submission's folder, which is filled while the submission is judged: what ends its judge leaves what was told up to there."""
+
+    def __init__(self, folder: str, guest: Guest, words: list[str], is_hex: bool) -> None:
+        self.folder, self.guest, self.words, self.is_hex = folder, guest, words, is_hex
+        self.name, self.is_link = plain_name(guest.file), os.path.islink(guest.file)
+        self._known = set[tuple[str, ...]]()
+        tell(folder, [self.name, '', LINK if self.is_link else HEAD, ''])
+
+    def tell(self, lines: list[str]) -> None:
+        """Adds lines to the text."""
+        tell(self.folder, [scrubbed(it, self.guest.file) for it in lines])
+
+    def path(self, name: str) -> str:
+        """A file of the folder."""
+        return os.path.join(self.folder, name)
+
+    def begins(self, number: int, planned: Planned, files: Files) -> None:
+        """Before a run: its files. A submission that is a link may lead to any file of the teacher's, so it isn't followed."""
+        if number == 1 and not self.is_link:
+            shutil.copyfile(self.guest.file, self.path(self.name))
+        if planned.is_hidden or self.is_link:
+            return
+        shutil.copyfile(files.run_file, self.path(f'{number}.json'))
+        with open(self.path(f'{number}.page'), 'w', encoding='utf-8', errors='surrogateescape') as file:
+            file.writelines(f'{it.said()}\n' for it in planned.expectations)
+
+    def ends(self, number: int, planned: Planned, files: Files, subject: Subject | str, outcomes: list[Outcome]) -> None:
+        """Behind a run: what was expected and what came; and of one that failed how it is repeated, and why it went wrong."""
+        is_met, fault = all(it.but is None for it in outcomes), fault_in(subject.removeprefix('refused: ')) if isinstance(subject, str) else None
+        is_refused = fault is not None and fault.kind.of == 'source'
+        if planned.is_hidden:
+            self.tell([f'A hidden run: {"met" if is_met else "not met"}'])
+        else:
+            self.tell([f'{planned.title or "The run"}:'])
+            self.tell([f'  ok  {it.said()}' if came.but is None else f'  no  {it.said()}: {came.but}' for it, came in zip(planned.expectations, outcomes)])
+            words = [it for it in self.words if not it.startswith('--memory') or fault and fault.kind.name == 'Memory']
+            self.tell([] if is_met or is_refused else commands(self.folder, self.name, words, number))
+        if is_met or is_refused:
+            drop(self.folder, number)
+        if not is_met and not self.is_link and (is_refused or not planned.is_hidden):
+            self.explain(files, subject, fault)
+        self.tell([''])
+
+    def explain(self, files: Files, subject: Subject | str, fault: Fault | None) -> None:
+        """What tools/why tells, once."""
+        told = of_a_report(subject.report, files, 'judge') if isinstance(subject, Subject) else []
+        if fault:
+            told = explained(fault, self.guest.file, files.run_file, self.is_hex)
+            told += [f'tools/why --all {os.path.basename(self.folder)}/{self.name} tells every refused line'] if fault.kind.of == 'source' else []
+        if told and tuple(told) not in self._known:
+            self._known.add(tuple(told))
+            self.tell([f'  {it}' for it in told])
+
+
+def commands(folder: str, name: str, words: list[str], number: int) -> list[str]:
+    """The commands that repeat a run, and show it, if its files are there."""
+    if not os.path.exists(os.path.join(folder, f'{number}.json')):
+        return []
+    under = os.path.basename(folder)
+    file, more = f'{under}/{name}', ''.join(f' {shlex.quote(it)}' for it in words)
+    plain = ''.join(f' {shlex.quote(it)}' for it in words if not it.startswith('--memory'))
+    return [f'  tools/judge {under}/{number}.page {file} {under}/{number}.json{more}', f'  tools/try {file} --run {under}/{number}.json{plain}']
+
+
+def drop(folder: str, number: int) -> None:
+    """Removes a run's files."""
+    for ending in ('json', 'page'):
+        with contextlib.suppress(FileNotFoundError):
+            os.remove(os.path.join(folder, f'{number}.{ending}'))
+
+
+def scrubbed(line: str, file: str) -> str:
+    """A line without paths of this machine, and with all signs visible."""
+    for path in (file, os.path.realpath(file)):
+        line = line.replace(path, plain_name(file))
+    them = {TOP, os.getcwd(), os.path.expanduser('~'), tempfile.gettempdir()}
+    for place in sorted((it for it in them if len(it) > 1), key=len, reverse=True):
+        line = line.replace(f'{place}/', '').replace(place, '')
+    return visible(line)
+
+
+def tell(folder: str, lines: list[str]) -> None:
+    """Adds lines to a folder's text, which is there then."""
+    os.makedirs(folder, exist_ok=True)
+    with open(os.path.join(folder, TEXT), 'a', encoding='utf-8') as file:
+        file.writelines(f'{it}\n' for it in lines)
+
+
+def close(folder: str, row: Row, words: list[str]) -> None:
+    """The text's end: why the file's judge was ended, with the run at which that was, and the mark."""
+    if row.why:
+        at = max((int(it[:-5]) for it in os.listdir(folder) if re.fullmatch('[0-9]+[.]json', it)), default=0) if os.path.isdir(folder) else 0
+        tell(folder, [f'Not judged: {scrubbed(row.why, row.file)}', *commands(folder, plain_name(row.file), words, at), ''])
+    tell(folder, [f'Mark: {row.mark} of {row.of}'])
