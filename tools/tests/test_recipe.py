@@ -1,0 +1,83 @@
+"""examples/class: the lines of its workflow, typed in a clone by an ordinary user with nothing in the environment, and in a bare system."""
+from __future__ import annotations
+
+import os
+import re
+import shutil
+import subprocess
+import unittest
+from typing import Any
+from xml.etree import ElementTree
+
+from tests.support import EXAMPLES, TOP, ToolCase, example, is_there
+
+NOBODY = 65534
+BARE = ['--variant=minbase', '--include=git,python3', 'stable']
+
+
+def lines_of(path: str) -> list[str]:
+    """What a workflow runs."""
+    with open(path, encoding='utf-8') as file:
+        return re.findall(r'^ +- run: (.+)$', file.read(), re.M)
+
+
+class Recipe(ToolCase):
+    """A class's repository, and one that Zebludor is fetched from: this one, as it was committed last."""
+
+    def setUp(self) -> None:
+        super().setUp()
+        os.chmod(self.room, 0o755)
+        self.lines = lines_of(f'{EXAMPLES}/class/judge.yml')
+        self.home = f'{self.room}/home'
+        os.mkdir(self.home)
+
+    def fill(self, folder: str) -> str:
+        """Fills a folder as a class's repository, beside the one to fetch from, and returns the commit that is fetched."""
+        os.makedirs(f'{folder}/class')
+        for path in (f'{EXAMPLES}/class/echo.page', example('keys')[0]):
+            shutil.copy(path, f'{folder}/class')
+        words = ['git', 'clone', '-q', '--bare', '--depth', '1', f'file://{os.path.realpath(TOP)}', f'{folder}/zebludor.git']
+        subprocess.run(words, check=True, capture_output=True)
+        told = subprocess.run(['git', '-C', f'{folder}/zebludor.git', 'rev-parse', 'HEAD'], check=True, capture_output=True, text=True)
+        return told.stdout.strip()
+
+    def typed(self, folder: str, commit: str, before: tuple[str, ...] = (), there: str | None = None, **how: Any) -> str:
+        """Types the lines in the class's repository, and returns what the last one prints; `there` is the folder's own name for it."""
+        there = folder if there is None else there
+        environment = {'HOME': there or '/', 'PATH': '/usr/bin:/bin', 'ZEBLUDOR': f'file://{there}/zebludor.git', 'VERSION': commit}
+        for line in self.lines:
+            words = [*before, '/bin/sh', '-e', '-c', f'cd {there}/class; {line}']
+            ran = subprocess.run(words, env=environment, stdin=subprocess.DEVNULL, capture_output=True, text=True, check=False, **how)
+            self.assertEqual(ran.returncode, 0, f'{line}\n{ran.stdout}{ran.stderr}')
+        return ran.stdout
+
+    def is_judged(self, folder: str, out: str) -> None:
+        """The submission has its row, and the report is there."""
+        self.assertEqual(out.splitlines()[1].split('\t')[:2], ['./keys.asm', '3'])
+        self.assertEqual(out.splitlines()[1].split('\t')[-2:], ['6', '6'])
+        suite = ElementTree.parse(f'{folder}/class/report.xml').getroot()[0]
+        self.assertEqual((suite.get('tests'), suite.get('failures'), suite.get('errors')), ('3', '0', '0'))
+
+    def test_as_an_ordinary_user(self) -> None:
+        self.assertEqual(len(self.lines), 2)
+        if not os.path.isdir(f'{TOP}/.git'):
+            print('not run: the workflow of examples/class; it fetches from a clone')
+            return
+        commit, how = self.fill(self.home), dict[str, Any]()
+        if os.geteuid() == 0:
+            subprocess.run(['chown', '-R', f'{NOBODY}:{NOBODY}', self.home], check=True)
+            how = {'user': NOBODY, 'group': NOBODY, 'extra_groups': []}
+        self.is_judged(self.home, self.typed(self.home, commit, **how))
+
+    def test_in_a_bare_system(self) -> None:
+        if not is_there('debootstrap', 'the workflow of examples/class in a bare system', 'debootstrap'):
+            return
+        if os.geteuid() != 0 or not os.path.isdir(f'{TOP}/.git'):
+            print('not run: the workflow of examples/class in a bare system; it wants root, and a clone')
+            return
+        subprocess.run(['debootstrap', *BARE, self.home], check=True, capture_output=True)
+        self.is_judged(self.home, self.typed(self.home, self.fill(self.home), ('chroot', self.home), ''))
+
+
+if __name__ == '__main__':
+    unittest.main()
