@@ -30,6 +30,12 @@ signal.signal(signal.SIGHUP, signal.SIG_DFL)
 # Whatever ends at all has ended in so many seconds, however busy the machine is; then a wait is given up.
 SECONDS = 300
 RESET = "ENDS\nSEGMENT RESET AT 0FFFFh\n        JMP FAR start\nENDS\n"
+# Runs a command, and tells the processor time and the most memory that it took.
+MEASURED = """import resource, subprocess, sys
+print(subprocess.run(sys.argv[1:], stdout=subprocess.PIPE, stderr=subprocess.DEVNULL, text=True).stdout)
+used = resource.getrusage(resource.RUSAGE_CHILDREN)
+print(used.ru_utime + used.ru_stime, used.ru_maxrss, file=sys.stderr)
+"""
 # A board whose way back lasts longer than any test.
 SLOW = """#!/usr/bin/env python3
 import sys, time

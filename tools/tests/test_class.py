@@ -5,6 +5,7 @@ import csv
 import io
 import os
 import re
+import shlex
 import shutil
 import signal
 import subprocess
@@ -13,11 +14,11 @@ import unittest
 from unittest import mock
 from xml.etree import ElementTree
 
-from tests.support import SECONDS, TOOLS, ToolCase, example, is_running, until
+from tests.support import MEASURED, SECONDS, TOOLS, ToolCase, example, is_running, until
 
 from toolbox.command import Sorry
 from toolbox.expectations import Outcome, page_of
-from toolbox.feedback import folders_of, plain_name
+from toolbox.feedback import close, folders_of, plain_name
 from toolbox.marks import Row, as_csv, as_junit, line_of, tell_copies, visible
 
 # A secret run behind a plain one, over the example that echoes keys.
@@ -111,6 +112,19 @@ class Texts(ToolCase):
             folders_of(['x'], f'{self.room}/new')
         with self.assertRaisesRegex(Sorry, "can't be a folder"):
             folders_of(['x'], f'{self.room}/new/theirs')
+
+    def test_what_was_ended_is_told(self) -> None:
+        """With the run at which that was, whose files are there."""
+        folder = f'{self.room}/it'
+        os.mkdir(folder)
+        for name in ('1.json', '12.json', 'x.json', '12.page'):
+            self.file(f'it/{name}', '')
+        close(folder, Row(f'{self.room}/odd name.asm', [Outcome('x', '', 4, False)], f'over 60 s, {self.room}/odd name.asm'), ['--args=a b'])
+        with open(f'{folder}/feedback.txt', encoding='utf-8') as file:
+            told = file.read().splitlines()
+        self.assertEqual(told[0], 'Not judged: over 60 s, odd_name.asm')
+        self.assertEqual(shlex.split(told[1]), ['tools/judge', 'it/12.page', 'it/odd_name.asm', 'it/12.json', '--args=a b'])
+        self.assertEqual(told[-1], 'Mark: 0 of 4')
 
 
 class Strangers(ToolCase):
@@ -216,8 +230,10 @@ class Strangers(ToolCase):
         killed = self.file('killed', '#!/bin/sh\nkill -9 $$\n')
         os.chmod(killed, 0o755)
         with mock.patch.dict(os.environ, {'PCBOARD': killed}):
-            row = self.called('judge', '--class', page, it, status=1)[0].splitlines()[1]
-        self.assertEqual(row.split('\t')[1:], ['0', 'no', 'the program was ended by signal 9 (Killed)'])
+            out, _ = self.called('judge', '--class', page, it, '--csv', '-', status=1)
+        (row,) = csv.DictReader(io.StringIO(out, newline=''))
+        self.assertEqual((row['mark'], row['lost = 0'], row['why not']), ('0', 'no', 'the program was ended by signal 9 (Killed)'))
+        self.assertIn('are two files', self.called('judge', '--class', page, it, '--csv', '-', '--junit', '-', status=2)[1])
 
     def test_control_c_keeps_the_rows_done(self) -> None:
         """Also those behind one that isn't done; and no process is left."""
@@ -249,14 +265,6 @@ class Strangers(ToolCase):
     def test_no_other_assembler_is_called(self) -> None:
         for word in ('--nasm', '--bcc'):
             self.assertIn('unrecognized arguments', self.called('judge', '--class', word, 'page', 'it.asm', status=2)[1])
-
-
-# Runs a command, and tells the processor time and the most memory that it took.
-MEASURED = """import resource, subprocess, sys
-print(subprocess.run(sys.argv[1:], stdout=subprocess.PIPE, stderr=subprocess.DEVNULL, text=True).stdout)
-used = resource.getrusage(resource.RUSAGE_CHILDREN)
-print(used.ru_utime + used.ru_stime, used.ru_maxrss, file=sys.stderr)
-"""
 
 
 if __name__ == '__main__':

@@ -9,17 +9,11 @@ import subprocess
 import sys
 import unittest
 
-from tests.support import SECONDS, TOOLS, ToolCase, but_progress, example, is_at_work, until
+from tests.support import MEASURED, SECONDS, TOOLS, ToolCase, but_progress, example, is_at_work, until
 
 from toolbox.command import waiting
 
 
-# Runs a command, and tells the processor time and the most memory that it took.
-MEASURED = """import resource, subprocess, sys
-print(subprocess.run(sys.argv[1:], stdout=subprocess.PIPE, stderr=subprocess.DEVNULL, text=True).stdout)
-used = resource.getrusage(resource.RUSAGE_CHILDREN)
-print(used.ru_utime, used.ru_maxrss, file=sys.stderr)
-"""
 # Asks tools for their help, one behind the other, with a zero between.
 HELPS = """import runpy, sys
 folder, *names = sys.argv[1:]
