@@ -5,6 +5,7 @@ import os
 import re
 import shutil
 import subprocess
+import tempfile
 import unittest
 from typing import Any
 from xml.etree import ElementTree
@@ -19,6 +20,21 @@ def lines_of(path: str) -> list[str]:
     """What a workflow runs."""
     with open(path, encoding='utf-8') as file:
         return re.findall(r'^ +- run: (.+)$', file.read(), re.M)
+
+
+def bare_system() -> str | None:
+    """A folder with a Debian that has git and Python alone. It is made once, and kept in the user's cache; where that can't be, why not
+    is told."""
+    made = os.path.join(os.environ.get('XDG_CACHE_HOME') or os.path.expanduser('~/.cache'), 'zebludor', 'bare-system')
+    if not os.path.isdir(made):
+        shutil.rmtree(f'{made}.new', ignore_errors=True)
+        os.makedirs(f'{made}.new')
+        ran = subprocess.run(['debootstrap', *BARE, f'{made}.new'], capture_output=True, text=True, check=False)
+        if ran.returncode:
+            print(f'not run: the workflow of examples/class in a bare system; debootstrap: {(ran.stdout + ran.stderr).strip()[-200:]}')
+            return None
+        os.rename(f'{made}.new', made)
+    return made
 
 
 class Recipe(ToolCase):
@@ -43,8 +59,8 @@ class Recipe(ToolCase):
 
     def typed(self, folder: str, commit: str, before: tuple[str, ...] = (), there: str | None = None, **how: Any) -> str:
         """Types the lines in the class's repository, and returns what the last one prints; `there` is the folder's own name for it."""
-        there = folder if there is None else there
-        environment = {'HOME': there or '/', 'PATH': '/usr/bin:/bin', 'ZEBLUDOR': f'file://{there}/zebludor.git', 'VERSION': commit}
+        there = there or folder
+        environment = {'HOME': there, 'PATH': '/usr/bin:/bin', 'ZEBLUDOR': f'file://{there}/zebludor.git', 'VERSION': commit}
         for line in self.lines:
             words = [*before, '/bin/sh', '-e', '-c', f'cd {there}/class; {line}']
             ran = subprocess.run(words, env=environment, stdin=subprocess.DEVNULL, capture_output=True, text=True, check=False, **how)
@@ -75,8 +91,12 @@ class Recipe(ToolCase):
         if os.geteuid() != 0 or not os.path.isdir(f'{TOP}/.git'):
             print('not run: the workflow of examples/class in a bare system; it wants root, and a clone')
             return
-        subprocess.run(['debootstrap', *BARE, self.home], check=True, capture_output=True)
-        self.is_judged(self.home, self.typed(self.home, self.fill(self.home), ('chroot', self.home), ''))
+        system = bare_system()
+        if system:
+            folder = tempfile.mkdtemp(dir=system)
+            self.addCleanup(shutil.rmtree, folder)
+            out = self.typed(folder, self.fill(folder), (shutil.which('chroot') or 'chroot', system), f'/{os.path.basename(folder)}')
+            self.is_judged(folder, out)
 
 
 if __name__ == '__main__':
