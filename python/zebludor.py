@@ -237,7 +237,7 @@ def limited(words: list[str]) -> list[str]:
     return ['/bin/sh', '-c', f'ulimit -v {1024 * _limits[0]} 2>/dev/null; exec "$0" "$@"', *words] if _limits else words
 
 
-def ran(words: list[str], given: bytes = b'', most: int | None = None) -> Ran:
+def ran(words: list[str], given: bytes = b'', most: int = sys.maxsize) -> Ran:
     """Runs the program to its end. An answer of more than `most` bytes isn't read, which is told as Unfit."""
     with tempfile.TemporaryFile() as err:
         process = subprocess.Popen(limited([program(), *words]), stdin=subprocess.PIPE, stdout=subprocess.PIPE, stderr=err)
@@ -246,9 +246,11 @@ def ran(words: list[str], given: bytes = b'', most: int | None = None) -> Ran:
             with contextlib.suppress(BrokenPipeError), process.stdin as to:
                 to.write(given)  # it answers once it has read all, so neither side waits for the other
             with process.stdout as out:
-                octets = out.read() if most is None else out.read(most + 1)
-            if most is not None and len(octets) > most:
-                raise Unfit(f'the answer has more than {most:,} bytes')
+                octets = bytearray()
+                while piece := out.read1(1 << 16):  # read() would make room for `most` at once
+                    octets += piece
+                    if len(octets) > most:
+                        raise Unfit(f'the answer has more than {most:,} bytes')
         except BaseException:
             process.kill()
             raise
