@@ -399,6 +399,48 @@ class Sessions(ToolCase):
         self.assertTrue(0 < other.clock() < 1 << 39)
         self.assertEqual((client.leave(), other.leave()), (0, 0))
 
+    def test_exceptions(self) -> None:
+        """A jam, a halt for good and a lost key end a run where they begin, if they are wanted; and the adapter's end is told."""
+        keys = ','.join(f'[{100 + it},30]' for it in range(18))
+        for lines, run, kind, clock in (
+            ('        NOP\n        DB 0Fh', '[]', 'jammed', 18),  # JMP FAR takes 15 clocks, NOP 3
+            ('        INC AX\n        CLI\n        HLT', '[]', 'halted for good', None),
+            ('        STI\nstay:   HLT\n        JMP SHORT stay', f'[{keys}]', 'key lost', 116),
+        ):
+            source, _ = self.program(lines)
+            run_file = self.file('k.json', f'{{"version":1,"ram":64,"sw1":0,"sw2":0,"budget":1000,"keys":{run}}}')
+            client, trail = self.client(), self.pcboard('debug', source, run_file, given='go 1000\ntrail\n').stdout.splitlines()
+            clock = clock or int(trail[-1].split()[0])  # that of HLT
+            client.launch(source, run=run_file, stopOnEntry=True)
+            client.event('stopped')
+            (told,) = client.ask('setExceptionBreakpoints', filters=[kind])['breakpoints']
+            self.assertTrue(told['verified'])
+            told = client.move('continue')
+            self.assertEqual((told['reason'], told['text'].partition(':')[0]), ('exception', f'clock {clock}'), told)
+            (told,) = client.ask('setExceptionBreakpoints', filters=['frob'])['breakpoints']
+            self.assertIn('none of jammed', told['message'])
+            client.move('reverseContinue')
+            self.assertEqual(client.move('continue')['text'].partition(',')[0], 'the run ends at clock 1000')
+            client.ask('terminate')
+            self.assertEqual(client.event('exited'), {'exitCode': 0})
+            self.assertEqual(client.end(), 0)
+
+    def test_uris(self) -> None:
+        """Where an editor speaks of files so: in the launch, at breakpoints, and in what it is told."""
+        with tempfile.TemporaryDirectory(prefix='a b') as room:
+            with open(example('ticks')[0], encoding='utf-8') as file, open(f'{room}/it.asm', 'w', encoding='utf-8') as to:
+                to.write(file.read())
+            uri = f'file://{room}/it.asm'.replace(' ', '%20')
+            client = self.client()
+            client.ask('initialize', adapterID='zebludor', pathFormat='uri')
+            client.ask('launch', program=uri, run=example('ticks')[1])
+            (told,) = client.lines(uri, 41)
+            self.assertEqual((told['verified'], told['source']['path']), (True, uri))
+            client.ask('configurationDone')
+            self.assertEqual(client.event('stopped')['reason'], 'breakpoint')
+            self.assertEqual(client.ask('stackTrace', threadId=1)['stackFrames'][0]['source']['path'], uri)
+            self.assertEqual(client.leave(), 0)
+
     def test_seventeen_breakpoints_and_halts(self) -> None:
         client, (source, run) = self.client(), example('ticks')
         told = client.launch(source, *range(8, 31), run=run, stopOnEntry=True)

@@ -7,22 +7,25 @@ import queue
 import re
 import subprocess
 from typing import Any, Callable
+from urllib.parse import quote, unquote
 
 from toolbox.command import PYTHON, Sorry
 from toolbox.conditions import Asked, count_of
-from toolbox.dap_board import ENDS, FLAG_BITS, MOST_BREAKPOINTS, Machine
+from toolbox.dap_board import ENDS, FLAG_BITS, IF, MOST_BREAKPOINTS, Machine
 from toolbox.dap_values import Disassembly, Expression, is_code
 from toolbox.framing import Broken, Read
 from toolbox.listing import labels_alone, listing_of, physical
 from toolbox.places import far_of
 from toolbox.program import LAST_CLOCK, TOP, Files, copied, is_hex_name
 from toolbox.returns import Far
-from toolbox.runfile import DEFAULTS, budget_of, text_of
+from toolbox.runfile import DEFAULTS, budget_of, report_at, text_of
 from toolbox.scancodes import stamped, strokes_of
 from toolbox.session_board import Gone, Left, Paused, SessionBoard, break_at
 
 Fields = dict[str, Any]
 THREAD, REGISTERS, FLAGS, BOARD = 1, 1, 2, 3
+# What may end a run beside breakpoints, if it is wanted.
+FILTERS = {'jammed': 'The processor has jammed', 'halted for good': 'Halted with interrupts off', 'key lost': 'A key was lost'}
 CAPABILITIES = {
     'supportsConfigurationDoneRequest': True,
     'supportsStepBack': True,
@@ -36,6 +39,7 @@ CAPABILITIES = {
     'supportsConditionalBreakpoints': True,
     'supportsHitConditionalBreakpoints': True,
     'supportsLogPoints': True,
+    'exceptionBreakpointFilters': [{'filter': name, 'label': label, 'default': False} for name, label in FILTERS.items()],
 }
 SHOWING = ('regs', 'screen', 'dump', 'trail')
 READ_ONLY = "the board's answers are those of its source: registers and memory can't be written"
@@ -61,6 +65,23 @@ def field(fields: Fields, name: str, kind: type, default: Any = None) -> Any:
     return found
 
 
+def path_in(text: str) -> str:
+    """A path, which may be given as a URI."""
+    return unquote(text.removeprefix('file://')) if text.startswith('file://') else text
+
+
+def first_lost(files: Files, begun: int, end: int) -> int | None:
+    """The first clock above one at which another key was lost, if one was up to the end, as reports tell it."""
+    before = report_at(files, begun).lost
+    low, high = begun, end
+    if report_at(files, end).lost == before:
+        return None
+    while high - low > 1:
+        middle = (low + high) // 2
+        low, high = (middle, high) if report_at(files, middle).lost == before else (low, middle)
+    return high
+
+
 class Adapter:
     """One client's session, from its first message to its last."""
 
@@ -70,6 +91,7 @@ class Adapter:
         self.program, self.line_base, self.is_entry = '', 1, False
         self.breakpoints: dict[str, dict[str, int]] = {'line': {}, 'function': {}, 'instruction': {}}
         self.asked = {kind: dict[str, Asked]() for kind in self.breakpoints}  # what each asks besides its place
+        self.filters, self.has_uris = set[str](), False
         self.sent, self.count, self.is_running, self.is_over, self.is_paused, self.screen = 0, 0, False, False, False, ''
 
     def serve(self) -> None:
@@ -145,6 +167,7 @@ class Adapter:
         if self.machine:
             self.machine.close()
         self.machine = None
+        self.event('exited', {'exitCode': 1})
         self.event('terminated')
 
     def poll(self) -> None:
@@ -202,12 +225,13 @@ class Adapter:
 
     def on_initialize(self, given: Fields) -> Fields:
         self.line_base = 1 if given.get('linesStartAt1', True) else 0
+        self.has_uris = given.get('pathFormat') == 'uri'
         return CAPABILITIES
 
     def on_launch(self, given: Fields) -> tuple[Fields, None]:
         if self.machine:
             raise Sorry('a board is launched already')
-        self.program = os.path.realpath(field(given, 'program', str))
+        self.program = os.path.realpath(path_in(field(given, 'program', str)))
         is_hex = field(given, 'hex', bool, is_hex_name(self.program))
         self.is_entry = field(given, 'stopOnEntry', bool, False)
         run_file = self.run_file(given)
@@ -274,6 +298,7 @@ class Adapter:
         return {}
 
     def on_terminate(self, given: Fields) -> Fields:
+        self.event('exited', {'exitCode': 0})
         self.event('terminated')
         return self.on_disconnect(given)
 
@@ -318,7 +343,7 @@ class Adapter:
         return Asked(holds, count_of(count) if count else None, tell if log else None)
 
     def on_setBreakpoints(self, given: Fields) -> Fields:
-        path = field(field(given, 'source', dict), 'path', str, '')
+        path = path_in(field(field(given, 'source', dict), 'path', str, ''))
         asked = field(given, 'breakpoints', list, [{'line': it} for it in given.get('lines') or []])
         if os.path.realpath(path) != self.program:
             return {'breakpoints': [{'verified': False, 'message': 'this file is not the program that runs'} for _ in asked]}
@@ -348,8 +373,11 @@ class Adapter:
 
         return self.set_breakpoints('instruction', field(given, 'breakpoints', list), place_of)
 
-    def on_setExceptionBreakpoints(self, _: Fields) -> Fields:
-        return {'breakpoints': []}
+    def on_setExceptionBreakpoints(self, given: Fields) -> Fields:
+        asked = field(given, 'filters', list, [])
+        self.filters = {it for it in asked if it in FILTERS}
+        told = [{'verified': True} if it in FILTERS else {'verified': False, 'message': f'{it} is none of {", ".join(FILTERS)}'} for it in asked]
+        return {'breakpoints': told}
 
     def far(self, address: int) -> Far:
         """CS:IP of a physical address: a line's or label's there, else by the present CS."""
@@ -389,13 +417,28 @@ class Adapter:
         return self.told(met, 'step', text)
 
     def run_on(self) -> tuple[str, str]:
-        board = self.board()
-        while board.clock < board.budget:
+        board, begun, met = self.board(), self.board().clock, None
+        while met is None and board.clock < board.budget:
             # Breakpoints may change while it runs.
             met = board.run(self.wanted(), board.budget)
-            if met is None or met in self.wanted():
-                return self.told(met, 'pause', 'the run ends')
-        return self.told(None, 'pause', 'the run ends')
+            met = met if met in self.wanted() else None
+        return self.exception(begun) or self.told(met, 'pause', 'the run ends')
+
+    def exception(self, begun: int) -> tuple[str, str] | None:
+        """What is wanted beside breakpoints, if the run from a clock on came to it; the board is where that began then."""
+        board = self.board()
+        kind = board.state() if self.filters else 'running'
+        if kind == 'halted':
+            kind = kind if board.registers()['FL'] & IF else 'halted for good'
+        if 'key lost' in self.filters and (clock := first_lost(board.files, begun, board.clock)):
+            board.go_to(clock)
+            return 'exception', f'clock {clock}: {FILTERS["key lost"]}'
+        if kind in self.filters and board.trail()[-1].clock >= begun:
+            board.go_to(board.trail()[-1].clock)
+            if kind == 'jammed':  # behind the last that began
+                board.one('step')
+            return 'exception', f'clock {board.clock}: {FILTERS[kind]}'
+        return None
 
     def unless_ended(self) -> Machine:
         """The board, unless it has run to the budget's end: beyond it goes by single steps alone."""
@@ -458,7 +501,7 @@ class Adapter:
     # looking
 
     def source(self) -> Fields:
-        return {'name': os.path.basename(self.program), 'path': self.program}
+        return {'name': os.path.basename(self.program), 'path': f'file://{quote(self.program)}' if self.has_uris else self.program}
 
     def on_threads(self, _: Fields) -> Fields:
         return {'threads': [{'id': THREAD, 'name': '8086'}]}
