@@ -152,12 +152,12 @@ class Client:
         return self.shown
 
     def registers(self) -> list[int]:
-        text = bytes.fromhex(self.ask('g'))
+        text = bytes.fromhex(self.ask('g').rstrip('x'))
         return [int.from_bytes(text[at : at + 4], 'little') for at in range(0, len(text), 4)]
 
 
 def told_as(lines: list[str]) -> list[int]:
-    """The registers of a session as gdb is told them, but for FS and GS, of which it makes its frames."""
+    """The registers of a session as gdb is told them, but for FS and GS, which it hasn't."""
     found = registers_of(lines)
     for name, segment in (('SP', 'SS'), ('BP', 'SS'), ('IP', 'CS')):
         found[name] = (16 * found[segment] + found[name]) % (1 << 20)
@@ -647,6 +647,24 @@ class Gdb(ToolCase):
         told = self.gdb(example('ticks'), *begin, 'monitor clock', 'checkpoint')
         self.assertEqual(re.findall(r'^clock (\d+)$', told, re.M), ['1009', '1397', '1009', '1009', '1009', '1009', '1032'])
         self.assertIn('"monitor to CLOCK" goes there', told)
+
+    def test_the_machine(self) -> None:
+        """The 8086's own registers, flags by their bits, what it hasn't as unavailable; and no warning at the beginning."""
+        if not GDB:
+            return
+        files = example('ticks')
+        told = self.gdb(files, 'break tick if $ip == 0x58', 'continue', 'p $ip', 'p/x $sp16', 'p/x $bp16', 'p $eflags', 'p $fs', 'p $st0', 'info registers')
+        with Session(Files(*files)) as session:
+            session.go_to(1009)
+            registers = registers_of(session.many('regs'))
+        flags = ' '.join(
+            name for name, bit in {'CF': 0, 'PF': 2, 'AF': 4, 'ZF': 6, 'SF': 7, 'TF': 8, 'IF': 9, 'DF': 10, 'OF': 11}.items() if registers['FL'] >> bit & 1
+        )
+        values = [str(registers['IP']), f'{registers["SP"]:#x}', f'{registers["BP"]:#x}', f'[ {flags} ]', '<unavailable>', '<unavailable>']
+        self.assertEqual(re.findall(r'^\$\d+ = (.*)$', told, re.M), values)
+        self.assertEqual(told.count('clock '), 1)
+        self.assertRegex(told, r'\nfs +<unavailable>\ngs +<unavailable>\nip +0x58 ')
+        self.assertNotIn('OS ABI', told)
 
     def test_a_condition(self) -> None:
         """As gdb hands it over, forth and back."""

@@ -1,5 +1,5 @@
 """Where gdb finds the callers, as DWARF's `.debug_frame`. A frame is where its stack ends, at the return address, and its routine.
-Everywhere one rule goes by what `gdb_frames` tells in FS and GS. A routine that begins with PUSH BP and MOV BP,SP, as those of C do,
+Everywhere one rule goes by what `gdb_frames` tells, in the control and the status word of a coprocessor that isn't there. A routine that begins with PUSH BP and MOV BP,SP, as those of C do,
 has rules of its own behind these, by BP."""
 from __future__ import annotations
 
@@ -9,7 +9,7 @@ from toolbox.listing import Listing
 
 MEMORY = 1 << 20
 # DWARF's numbers of registers on the i386, and what its expressions and rules are made of.
-ESP, EBP, EIP, CS, SS, FS, GS = 4, 5, 8, 41, 42, 44, 45
+ESP, EBP, EIP, CS, SS, ENDS, BACK = 4, 5, 8, 41, 42, 37, 38
 ZERO, FOUR, SIXTEEN, LEFT, RIGHT, PLUS, WORD_AT = b'\x30', b'\x34', b'\x40', b'\x24', b'\x26', b'\x22', b'\x94\x02'
 BREG, BREGX = 0x70, b'\x92'
 FURTHER, SAME, CFA_AT, CFA_IS, VALUE_IS = b'\x04', b'\x08', b'\x0C', b'\x0F', b'\x16'
@@ -57,18 +57,18 @@ def word_in(segment: int, base: int, offset: int) -> tuple[bytes, ...]:
 
 
 def told() -> bytes:
-    """The rule by FS and GS: the end, from SP on, is FS's low word; the caller's SP is from there on its high word; GS tells where
-    it goes on."""
-    low, high = (register(FS), SIXTEEN, LEFT, SIXTEEN, RIGHT), (register(FS), SIXTEEN, RIGHT)
+    """The rule by ENDS and BACK: the end, from SP on, is the low word of ENDS; the caller's SP is from there on its high word; BACK
+    tells where it goes on."""
+    low, high = (register(ENDS), SIXTEEN, LEFT, SIXTEEN, RIGHT), (register(ENDS), SIXTEEN, RIGHT)
     end = (bytes([BREG + ESP, 0]), *low, PLUS)
-    return CFA_IS + expression(*end) + value_is(ESP, *end, *high, PLUS) + value_is(EIP, register(GS)) + value_is(FS, ZERO) + SAME + uleb(GS)
+    return CFA_IS + expression(*end) + value_is(ESP, *end, *high, PLUS) + value_is(EIP, register(BACK)) + value_is(ENDS, ZERO) + SAME + uleb(BACK)
 
 
 def returns_at(base: int, offset: int, has_saved: bool) -> bytes:
     """The rule where the return address stands so far from a register, and BP's value before it if it is saved."""
     there, above = word_in(CS, base, offset), bytes([BREG + base]) + sleb(offset + 2)
     saved = value_is(EBP, *word_in(SS, EBP, 0)) if has_saved else SAME + uleb(EBP)
-    return CFA_AT + uleb(base) + uleb(offset) + value_is(ESP, above) + value_is(EIP, *there) + value_is(GS, *there) + value_is(FS, ZERO) + saved
+    return CFA_AT + uleb(base) + uleb(offset) + value_is(ESP, above) + value_is(EIP, *there) + value_is(BACK, *there) + value_is(ENDS, ZERO) + saved
 
 
 def rules_of(octets: bytes) -> bytes:

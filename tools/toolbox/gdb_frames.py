@@ -34,7 +34,7 @@ class Frames:
         self._below = dict[tuple[int, int], int]()  # by return address and SP at the call, how far below it the end was told
 
     def frame(self, registers: dict[str, int], trail: list[Event]) -> tuple[int, Far | None]:
-        """What is told in FS; and where a call has just led here, the CS:IP to which it returns."""
+        """How the stack of the present frame ends, as the rules of `gdb_cfi` have it; and where a call has just led here, the CS:IP to which it returns."""
         before, event = ([None, None] + trail)[-2:]
         here, stack = (registers['CS'], registers['IP']), registers['SP']
         pushed = pushed_by(event, here) if event else 0

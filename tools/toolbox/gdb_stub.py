@@ -8,6 +8,7 @@ from toolbox.command import Sorry
 from toolbox.conditions import Asked
 from toolbox.gdb_board import MEMORY, Board, Met, far_of_address
 from toolbox.gdb_bytecode import Condition
+from toolbox.gdb_features import FIRST_OWN, OWN, UNKNOWN, WORDS_OF_FRAMES, description, without_value
 from toolbox.gdb_frames import Frames
 from toolbox.gdb_wire import MOST_BYTES, Wire
 from toolbox.listing import Listing, physical
@@ -37,9 +38,9 @@ def condition_of(text: str) -> Condition:
 
 
 class Stub:
-    """A session with gdb over a wire. The 8086 has no FS and GS. Where a CALL, INT or interrupt has just led to, they tell gdb how
-    many bytes that pushed, and to which address it returns: so `next` goes over it. Elsewhere they lead to the same frame, which gdb
-    takes for the last."""
+    """A session with gdb over a wire. The board has no coprocessor. Where a CALL, INT or interrupt has just led to, its control and
+    status words tell gdb how many bytes that pushed, and to which address it returns: so `next` goes over it. Elsewhere they lead to
+    the same frame, which gdb takes for the last."""
 
     def __init__(self, wire: Wire, board: Board, listing: Listing) -> None:
         self._wire, self._board, self._listing = wire, board, listing
@@ -96,7 +97,7 @@ class Stub:
         if self._is_run(request):
             return self._run(request)
         if first == 'g':
-            return ''.join(map(word_of, self._registers()))
+            return ''.join(map(word_of, self._registers()[: len(NAMES)])) + 2 * UNKNOWN
         if first == 'p':
             return self._register(request[1:])
         if first == 'm':
@@ -135,13 +136,15 @@ class Stub:
         name = re.split('[:,;]', request, maxsplit=1)[0]
         if name == 'qSupported':
             self._can_name_breaks = 'swbreak+' in request
-            return f'PacketSize={MOST_BYTES // 2:x};ReverseStep+;ReverseContinue+;QStartNoAckMode+;swbreak+;ConditionalBreakpoints+'
+            return f'PacketSize={MOST_BYTES // 2:x};ReverseStep+;ReverseContinue+;QStartNoAckMode+;swbreak+;ConditionalBreakpoints+;qXfer:features:read+'
         if name == 'qRcmd':
             return self._monitor(request.partition(',')[2])
+        if name == 'qXfer':
+            return self._described(request)
         return {'QStartNoAckMode': 'OK', 'qAttached': '1', 'qC': 'QC1', 'qfThreadInfo': 'm1', 'qsThreadInfo': 'l'}.get(name, '')
 
     def _registers(self) -> list[int]:
-        """The sixteen registers of `g`."""
+        """The registers of `g`, but FS and GS, which the 8086 hasn't; and the two words of frames."""
         found = self._board.registers()
         ends, place = self._frames.frame(found, self._board.trail())
         told = [physical(found[SEGMENT_OF[it]], found[it]) if it in SEGMENT_OF else found[it] for it in NAMES]
@@ -149,9 +152,22 @@ class Stub:
 
     def _register(self, text: str) -> str:
         """A register by its number."""
-        if not re.fullmatch('[0-9a-f]{1,4}', text) or int(text, 16) >= 16:
-            return 'E01'
-        return word_of(self._registers()[int(text, 16)])
+        number = int(text, 16) if re.fullmatch('[0-9a-f]{1,4}', text) else FIRST_OWN + len(OWN)
+        if number < len(NAMES) or number in WORDS_OF_FRAMES:
+            return word_of(self._registers()[number if number < len(NAMES) else len(NAMES) + number - WORDS_OF_FRAMES[0]])
+        if FIRST_OWN <= number < FIRST_OWN + len(OWN):
+            return self._board.registers()[list(OWN.values())[number - FIRST_OWN]].to_bytes(2, 'little').hex()
+        return without_value(number) or 'E01'
+
+    @staticmethod
+    def _described(request: str) -> str:
+        """A part of the target's description."""
+        found = re.fullmatch('qXfer:features:read:target.xml:([0-9a-f]{1,8}),([0-9a-f]{1,8})', request)
+        if not found:
+            return 'E00' if request.startswith('qXfer:features:') else ''
+        first, count = (int(it, 16) for it in found.groups())
+        text = description()
+        return ('m' if first + count < len(text) else 'l') + text[first : first + count]
 
     def _memory(self, text: str) -> str:
         """Bytes of memory, as many as there are."""
@@ -182,7 +198,9 @@ class Stub:
             if number < len(NAMES):
                 name = NAMES[number]
                 return physical(registers[SEGMENT_OF[name]], registers[name]) if name in SEGMENT_OF else registers[name]
-            return self._registers()[number] if number < 16 else 0
+            if number >= FIRST_OWN:
+                return registers[list(OWN.values())[number - FIRST_OWN]]
+            raise IndexError  # of which no condition speaks
 
         return condition.holds(register, lambda address, count: board.dump(address, count) if address < MEMORY else b'')
 

@@ -1,0 +1,41 @@
+"""What gdb is told of the registers (gdb's manual, "Target Descriptions"): the core of its i386, without which it takes none, and
+behind it those of the 8086 that the core shows as addresses."""
+from __future__ import annotations
+
+CORE = ('eax', 'ecx', 'edx', 'ebx', 'esp', 'ebp', 'esi', 'edi', 'eip', 'eflags', 'cs', 'ss', 'ds', 'es', 'fs', 'gs')
+FLOATS, CONTROLS = [f'st{it}' for it in range(8)], ('fctrl', 'fstat', 'ftag', 'fiseg', 'fioff', 'foseg', 'fooff', 'fop')
+FLAGS = {'CF': 0, 'PF': 2, 'AF': 4, 'ZF': 6, 'SF': 7, 'TF': 8, 'IF': 9, 'DF': 10, 'OF': 11}
+OWN = {'ip': 'IP', 'sp16': 'SP', 'bp16': 'BP'}  # their names in gdb
+TYPES = {'esp': 'data_ptr', 'ebp': 'data_ptr', 'eip': 'code_ptr', 'eflags': 'i386_eflags'}
+FIRST_FLOAT = len(CORE)
+FIRST_CONTROL = FIRST_FLOAT + len(FLOATS)
+FIRST_OWN = FIRST_CONTROL + len(CONTROLS)
+
+
+UNKNOWN = 8 * 'x'
+WORDS_OF_FRAMES = (FIRST_CONTROL, FIRST_CONTROL + 1)  # which `gdb_cfi` makes callers of
+
+
+def register(name: str, bits: int, kind: str, more: str = '') -> str:
+    """A register's element."""
+    return f'<reg name="{name}" bitsize="{bits}" type="{kind}"{more}/>'
+
+
+def description() -> str:
+    """The whole of it."""
+    flags = ''.join(f'<field name="{name}" start="{bit}" end="{bit}"/>' for name, bit in FLAGS.items())
+    core = ''.join(register(it, 32, TYPES.get(it, 'int32')) for it in CORE)
+    floats = ''.join(register(it, 80, 'i387_ext') for it in FLOATS) + ''.join(register(it, 32, 'int', ' group="float"') for it in CONTROLS)
+    own = ''.join(register(it, 16, 'uint16') for it in OWN)
+    return (
+        '<?xml version="1.0"?><!DOCTYPE target SYSTEM "gdb-target.dtd"><target version="1.0"><architecture>i8086</architecture>'
+        f'<osabi>none</osabi><feature name="org.gnu.gdb.i386.core"><flags id="i386_eflags" size="4">{flags}</flags>{core}{floats}</feature>'
+        f'<feature name="zebludor.8086">{own}</feature></target>'
+    )
+
+
+def without_value(number: int) -> str | None:
+    """The answer for a register of gdb's that the 8086 hasn't, by its number; of others none."""
+    if FIRST_FLOAT <= number < FIRST_CONTROL:
+        return 20 * 'x'
+    return UNKNOWN if len(CORE) - 2 <= number < FIRST_OWN else None
