@@ -1,11 +1,13 @@
 """Symbols of Intel HEX, over stored listings; and the commands of tools/dbg that step over, run to a place and disassemble."""
 from __future__ import annotations
 
+import subprocess
 import unittest
 
-from tests.support import ToolCase, example
+from tests.support import EXAMPLES, ToolCase, example, is_there
 
 from toolbox.command import Sorry
+from toolbox.places import far_of
 from toolbox.symbols import image_of, symbols_of
 
 ROM = 'B800B0 8EC0 EBFE 68656C6C6F2C2062696720776F726C64 00 90 90 F4'
@@ -50,6 +52,42 @@ def hex_of(octets: bytes, paragraph: int = 0xF000) -> str:
     return ''.join(f':{it.hex()}{-sum(it) & 0xFF:02X}\n' for it in rows)
 
 
+# Sections without bytes, a structure, whose names are no places, and a label at a section's end.
+RAM = """     1                                          org 0
+     2                                  struc point
+     3 00000000 ????                    .x:     resw 1
+     4                                  endstruc
+     5                                          absolute 0
+     6 00000000 ????                    ticks:  resw 1
+     7                                  keys:
+     8 00000002 ????????                        resb 4
+     9                                  top:
+    10                                          section .text
+    11 00000000 B800B0                  start:  mov ax,0B000h
+    12                                          section .bss
+    13 00000006 <res 10h>               buf:    resb 16
+"""
+RAM_MAP = """- NASM Map file ---------------------------------------------------------------
+
+Vstart            Start             Stop              Length    Class     Name
+               0                 0                 3  00000003  progbits  .text
+               C                 C                1C  00000010  nobits    .bss
+
+---- Section .text ------------------------------------------------------------
+
+Real              Virtual           Name
+               0                 0  start
+
+---- Section .bss -------------------------------------------------------------
+
+Real              Virtual           Name
+               E                 E  buf
+"""
+LD86 = """       main _main               0  00000000 R
+       main _ticks              3  00000012 R
+"""
+
+
 class Files(ToolCase):
     """Over texts."""
 
@@ -83,6 +121,45 @@ class Files(ToolCase):
             self.of('start equ 5\n')
         with self.assertRaisesRegex(Sorry, "can't be read"):
             symbols_of(f'{self.room}/none', {})
+
+    def test_what_has_no_bytes(self) -> None:
+        """It stands in the paragraph of RAM that is told, else nowhere: no tool takes it for what is at F000h."""
+        image = image_of(hex_of(bytes.fromhex(ROM)))
+        for text, places in (
+            (RAM, {'ticks': (0x50, 0), 'keys': (0x50, 2), 'top': (0x50, 6), 'buf': (0x50, 6)}),
+            (RAM_MAP, {'buf': (0x50, 2)}),
+            (LD86, {'_ticks': (0x50, 0x12)}),
+        ):
+            path, code = self.file('symbols', text), {'_main' if text == LD86 else 'start': (0xF000, 0)}
+            found = symbols_of(f'{path}@F000,ram=50', image)
+            self.assertEqual((found.labels, found.absent), (places | code, set()))
+            found = symbols_of(f'{path}@F000', image)
+            self.assertEqual((found.labels, found.absent), (code, set(places)))
+            for name in places:
+                with self.assertRaisesRegex(Sorry, f'{name.upper()} is not in the image: --symbols FILE,ram=PARAGRAPH'):
+                    far_of(found, name.upper())
+        lines = {it.number: it.address for it in symbols_of(f'{self.file("symbols", RAM)},ram=50', image).lines}
+        self.assertEqual({number for number, address in lines.items() if address}, {11})
+
+    def test_names_of_files(self) -> None:
+        """One with the signs of a place in it is taken as it is named."""
+        image = image_of(hex_of(bytes.fromhex(ROM)))
+        for name in ('a@F0', 'a,ram=7', 'b@1:2,ram=3'):
+            path = self.file(name, RAM)
+            self.assertEqual([symbols_of(f'{path}{it}', image).labels['start'] for it in ('', '@F000', ',ram=50')], [(0xF000, 0)] * 3)
+
+    def test_nasm_itself(self) -> None:
+        """Its listing and its map, of the example whose ticks and keys are in RAM."""
+        if not is_there('nasm', "symbols of NASM's own", 'nasm'):
+            return
+        with open(f'{EXAMPLES}/nasm/rom.asm', encoding='utf-8') as file:
+            self.file('rom.asm', file.read())
+        subprocess.run(['nasm', '-f', 'bin', '-l', 'rom.lst', '-o', 'rom.bin', 'rom.asm'], cwd=self.room, check=True)
+        with open(f'{self.room}/rom.bin', 'rb') as octets:
+            image = image_of(hex_of(octets.read(), 0xF600))
+        labels = symbols_of(f'{self.room}/rom.lst@F600,ram=50', image).labels
+        self.assertEqual([labels[it] for it in ('ticks', 'keys', 'start')], [(0x50, 0), (0x50, 2), (0xF600, 0)])
+        self.assertEqual(symbols_of(f'{self.room}/rom.lst@F600', image).absent, {'ticks', 'keys'})
 
 
 class Board(ToolCase):

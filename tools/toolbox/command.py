@@ -15,7 +15,7 @@ PYTHON = sys.executable or 'python3'  # Python knows no path of its own where it
 SYMBOLS = (
     "with --hex: a NASM listing or map file, or a listing of pcboard asm --list, for labels and lines; FILE@SEGMENT or "
     "FILE@SEGMENT:OFFSET, where NASM's first byte isn't at F000:0000; or labels as nm or ld86 -M prints them, or lines "
-    "SEGMENT:OFFSET NAME"
+    "SEGMENT:OFFSET NAME; FILE@SEGMENT,ram=PARAGRAPH gives names to what has no bytes, as in .bss, and to data of C"
 )
 
 

@@ -36,6 +36,7 @@ class Listing:
     at: dict[int, Line] = field(default_factory=dict)
     labels: dict[str, tuple[int, int]] = field(default_factory=dict)
     parts: dict[int, bytes] = field(default_factory=dict)
+    absent: set[str] = field(default_factory=set)  # labels of sections without bytes, of which nothing says where they stand
 
     def has(self, address: int) -> bool:
         """Whether a line begins at a physical address, or Intel HEX has a byte there."""
@@ -50,6 +51,8 @@ class Listing:
 
     def label_of(self, name: str) -> tuple[int, int] | None:
         """A label's segment and offset; upper and lower case are one."""
+        if name.lower() in map(str.lower, self.absent):
+            raise Sorry(f'{name} is not in the image: --symbols FILE,ram=PARAGRAPH tells where its section stands')
         return next((at for it, at in self.labels.items() if it.lower() == name.lower()), None)
 
 

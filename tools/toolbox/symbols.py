@@ -3,16 +3,20 @@ NASM's, or the listing of `pcboard asm --list`; or labels alone, as nm or ld86 p
 against the program's bytes."""
 from __future__ import annotations
 
+import os
 import re
 
 from toolbox.command import Sorry, read_text
 from toolbox.listing import Line, Listing, label_in, line_of, physical
 
 MEMORY = 1 << 20
-PLACE = r'@([0-9A-Fa-f]{1,4})(?::([0-9A-Fa-f]{1,4}))?$'
+RAM = r'(?:,ram=([0-9A-Fa-f]{1,4}))?'
+PLACE = rf'(?:@([0-9A-Fa-f]{{1,4}})(?::([0-9A-Fa-f]{{1,4}}))?)?{RAM}$'
 WHERE = 'FILE@SEGMENT or FILE@SEGMENT:OFFSET tells where its first byte stands; it is F000:0000 where nothing is said'
 OURS = r'(?:[0-9A-F]{4}:[0-9A-F]{4} [0-9A-F]*\+? +| {20,}|$)'
 NASM_ROW = re.compile(r' *(\d+) ([0-9A-F]{8}) ([0-9A-F\[\]()]*)(?:<rep ([0-9A-F]+)h>)?(-?) *(<\d+>)?')
+NASM_RESERVED = re.compile(r' *\d+ ([0-9A-F]{8}) (?:(\?+)|<res ([0-9A-F]+)h>)')
+NASM_SECTION = re.compile(r'\s*\[?\s*(section|segment|absolute|struc|endstruc)\b', re.I)
 NASM_TEXT = 40  # the column of a line's text
 NASM_SYMBOL = re.compile(r' *([0-9A-F]+) +([0-9A-F]+)  (\S+)$')
 NASM_LABEL = re.compile(r'([A-Za-z_.?@][\w.$#@~?]*)(?:\s*:|\s+(?:d[bwdq]|res[bwdq]|times)\b)', re.I)
@@ -37,25 +41,28 @@ def image_of(text: str) -> dict[int, int]:
 
 
 def path_of(given: str) -> str:
-    """The path of such a file, without the place of its first byte."""
-    return re.sub(PLACE, '', given)
+    """The path of such a file, without the places of its first byte and of what has none: as much of it as is a file's name."""
+    without_ram = re.sub(RAM + '$', '', given)
+    return next((it for it in (given, without_ram) if os.path.exists(it)), re.sub(PLACE, '', given))
 
 
 def symbols_of(given: str, image: dict[int, int]) -> Listing:
     """The lines and labels of such a file."""
-    place, path = re.search(PLACE, given), path_of(given)
-    far = (int(place[1], 16), int(place[2] or '0', 16)) if place else (0xF000, 0)
+    path = path_of(given)
+    place = re.search(PLACE, given[len(path) :])
+    assert place
+    far, ram = (int(place[1] or 'F000', 16), int(place[2] or '0', 16)), int(place[3], 16) if place[3] else None
     rows = read_text(path).removesuffix('\n').replace('\r', '').split('\n')
     told = [it for it in rows if it]
     if any(it.startswith('- NASM Map file') for it in told[:1]):
-        found = of_a_map(rows, far)
+        found = of_a_map(rows, far, ram)
     elif told and all(re.match(r' *\d+ ', it) for it in told):
-        found = of_nasm(told, far)
+        found = of_nasm(told, far, ram)
     elif told and all(re.match(OURS, it) for it in told):
         found = of_ours(rows)
     else:
-        found = of_labels(told, far if place else None)
-    if not found.lines and not found.labels:
+        found = of_labels(told, far if place[1] else None, ram)
+    if not found.lines and not found.labels and not found.absent:
         raise Sorry(
             f'{path} is no NASM listing or map file (nasm -l FILE, [map all FILE]), no listing of pcboard asm --list, '
             'and has no labels as nm or ld86 -M prints them, or in lines SEGMENT:OFFSET NAME'
@@ -77,11 +84,52 @@ def of_ours(rows: list[str]) -> Listing:
     return found
 
 
-def of_nasm(rows: list[str], far: tuple[int, int]) -> Listing:
+class Waiting:
+    """Labels of a NASM listing that wait for their place: the next row's, or, where a section ends, the end of the last one. A
+    structure's are no places."""
+
+    def __init__(self, found: Listing, ram: int | None) -> None:
+        self._found, self._ram, self._names, self._is_structure = found, ram, list[str](), False
+        self._end: tuple[int, int] | None = None  # the last row's; None behind what has no bytes and no place
+
+    def add(self, name: str) -> None:
+        """A label."""
+        self._names.append(name)
+
+    def stand(self, at: tuple[int, int] | None) -> None:
+        """They stand here, or, without a place, nowhere in the image."""
+        if at:
+            self._found.labels.update(dict.fromkeys(self._names, at))
+        elif not self._is_structure:
+            self._found.absent.update(self._names)
+        self._names = []
+
+    def begins(self, word: str) -> None:
+        """A section or a structure begins or ends."""
+        self.stand(None if self._is_structure else self._end)
+        self._is_structure = word == 'struc'
+
+    def row(self, far: tuple[int, int], octets: bytes) -> None:
+        """A row with bytes."""
+        self.stand(far)
+        self._end = far[0], far[1] + len(octets)
+
+    def reserved(self, offset: int, count: int) -> None:
+        """A row without them."""
+        self.stand(None if self._ram is None or self._is_structure else (self._ram, offset))
+        self._end = None if self._ram is None else (self._ram, offset + count)
+
+
+def of_nasm(rows: list[str], far: tuple[int, int], ram: int | None) -> Listing:
     """A listing of NASM's. What a macro makes, or a file that is included, belongs to the line that calls it."""
-    found, waiting, above = Listing(), list[str](), ''
+    found, above = Listing(), ''
+    waiting = Waiting(found, ram)
     for row in rows:
         told, text, number = NASM_ROW.match(row), row[NASM_TEXT:].rstrip(), int(row.split()[0])
+        reserved, section = NASM_RESERVED.match(row), NASM_SECTION.match(text)
+        told = None if reserved else told
+        if section:
+            waiting.begins(section[1].lower())
         at = (far[0], (far[1] + int(told[2], 16)) % 0x10000) if told else None
         is_inner = bool(re.match(r'[^<]*<\d+> ', row[:NASM_TEXT]))
         if found.lines and (is_inner or found.lines[-1].number == number):
@@ -96,10 +144,12 @@ def of_nasm(rows: list[str], far: tuple[int, int]) -> Listing:
         label = NASM_LABEL.match(inner.strip())
         if label and not label[1].startswith('..'):
             above = above if label[1].startswith('.') else label[1]
-            waiting.append(above + label[1] if label[1].startswith('.') else label[1])
-        if at:
-            found.labels.update(dict.fromkeys(waiting, at))
-            waiting = []
+            waiting.add(above + label[1] if label[1].startswith('.') else label[1])
+        if told and at:
+            waiting.row(at, octets_of(told[3], told[4]))
+        elif reserved:
+            waiting.reserved(int(reserved[1], 16), len(reserved[2]) // 2 if reserved[2] else int(reserved[3], 16))
+    waiting.begins('')
     return found
 
 
@@ -109,18 +159,29 @@ def octets_of(text: str, times: str | None) -> bytes:
     return octets * min(int(times, 16), 8) if times else octets
 
 
-def of_a_map(rows: list[str], far: tuple[int, int]) -> Listing:
-    """A map file of NASM's, which has labels alone. Its numbers count ORG in, so only the segment is added."""
+def of_a_map(rows: list[str], far: tuple[int, int], ram: int | None) -> Listing:
+    """A map file of NASM's, which has labels alone. Its numbers count ORG in, so only the segment is added; those of a section without
+    bytes are counted from its beginning."""
     found = Listing()
-    for symbol in filter(None, map(NASM_SYMBOL.match, rows)):
-        found.labels[symbol[3]] = (far[0], int(symbol[2], 16) % 0x10000)
+    starts = {it[2]: int(it[1], 16) for it in (re.match(r' *([0-9A-F]+) +[0-9A-F]+ +[0-9A-F]+ +[0-9A-F]+  nobits +(\S+)', row) for row in rows) if it}
+    section = ''
+    for row in rows:
+        section = it[1] if (it := re.match(r'---- Section (\S+) -', row)) else section
+        if symbol := NASM_SYMBOL.match(row):
+            offset, start = int(symbol[2], 16), starts.get(section)
+            if start is None:
+                found.labels[symbol[3]] = far[0], offset % 0x10000
+            elif ram is None:
+                found.absent.add(symbol[3])
+            else:
+                found.labels[symbol[3]] = ram, (offset - start) % 0x10000
     return found
 
 
-def of_labels(rows: list[str], far: tuple[int, int] | None) -> Listing:
+def of_labels(rows: list[str], far: tuple[int, int] | None, ram: int | None) -> Listing:
     """Lines `SEGMENT:OFFSET NAME`; nm's, `ADDRESS TYPE NAME`; and those of ld86 by -M, `MODULE NAME SEGMENT ADDRESS FLAGS`. Their
-    addresses are physical ones, taken by the multiple of 1000h below; or where the first byte is told, offsets from there, and only
-    those of code count."""
+    addresses are physical ones, taken by the multiple of 1000h below; or where the first byte is told, offsets from there, of code; and
+    of data from the beginning of RAM, if that is told."""
     found = Listing()
     for row in map(str.strip, rows):
         if label := FAR_LABEL.fullmatch(row):
@@ -129,6 +190,10 @@ def of_labels(rows: list[str], far: tuple[int, int] | None) -> Listing:
             address, name = int(flat['nm'] or flat['ld86'], 16), flat['of_nm'] or flat['of_ld86']
             if far and (flat['type'] or flat['part']) in ('T', 't', '0'):
                 found.labels[name] = far[0], (far[1] + address) % 0x10000
+            elif far and ram is None:
+                found.absent.add(name)
+            elif far:
+                found.labels[name] = ram or 0, address % 0x10000
             elif not far and address < MEMORY:
                 found.labels[name] = address >> 16 << 12, address & 0xFFFF
     return found
@@ -157,4 +222,4 @@ def finished(found: Listing, image: dict[int, int]) -> Listing:
     for line in lines:
         if line.address:
             at.setdefault(physical(*line.address), line)
-    return Listing(lines, at, found.labels)
+    return Listing(lines, at, found.labels, absent=found.absent)
