@@ -130,7 +130,7 @@ def is_at_work(process: int) -> bool:
     """Waits until pcboard or pcprobe, which a process has started, has worked for a tenth of a second from now on."""
 
     def spent() -> float:
-        return max((processor_seconds(it) for it in children(process) if name_of(it) in ('pcboard', 'pcprobe')), default=0)
+        return sum(processor_seconds(it) for it in children(process) if name_of(it) in ('pcboard', 'pcprobe'))
 
     begun = spent()
     return until(lambda: spent() - begun > 0.1, 0.05)  # each look is at all processes

@@ -286,7 +286,7 @@ class Terminal(ToolCase):
 
     def test_ends_a_way_back(self) -> None:
         """To a stop that never held: the board stays within the run, with its stop."""
-        self.say('to 3000000000')
+        self.say('to 1000000000')
         self.say('byte b0000 77')
         os.write(self.terminal, b'last\n')
         self.assertTrue(is_at_work(self.pid))
