@@ -9,7 +9,7 @@ use std::fmt;
 
 /// A physical address, below 100000h, in five hexadecimal digits.
 #[derive(Clone, Copy)]
-struct Address(u32);
+pub struct Address(pub u32);
 
 impl fmt::Display for Address {
     ghost output = { λ a. Some (address_text a.0) };

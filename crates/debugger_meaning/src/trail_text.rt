@@ -13,7 +13,7 @@ use std::fmt;
 
 /// Bytes, two digits each.
 #[derive(Clone, Copy)]
-struct Bytes<'a>(&'a [u8]);
+pub struct Bytes<'a>(pub &'a [u8]);
 
 impl fmt::Display for Bytes<'_> {
     ghost output = { λ b. Some (flat_map hex_byte_text b.0.now) };

@@ -1,15 +1,13 @@
 //! What happens while clocks are made.
 ghost use Rattle.std.specs.Prelude.{ℕ, ◌≡◌, ◌+◌, ◌-◌, ◌<◌, ◌≤◌, ◌^◌, ◌++◌, [], ◌∷◌, IfOk, OnOk, Some, List, length, map, slice_get};
-ghost use Rattle.std.specs.List.{flat_map, list_any};
+ghost use Rattle.std.specs.List.{list_any};
 ghost use Rattle.std.specs.Option.{option_to_list};
 ghost use Rattle.std.specs.String.{string_bytes};
-ghost use Rattle.board_types.specs.Digits.{hex_byte_text};
 ghost use Rattle.board_types.specs.declared.keys.StampedKey.{StampedKey};
 ghost use Rattle.board.specs.OneTurn.{begun_of};
 ghost use Rattle.board_plain.specs.Plain.{clock_of, codes_at};
 ghost use Rattle.board_plain.specs.Trail.{last};
 ghost use Rattle.board_plain.specs.declared.trail.TrailEntry.{TrailEntry};
-ghost use Rattle.debugger_meaning.specs.Dump.{address_text};
 ghost use Rattle.events.specs.Events.{is_same_state, state_events};
 ghost use Rattle.events.specs.declared.event.Event.TheVariants.{Began, Became, Keyed, Reached, Wired};
 ghost use Rattle.probe.specs.Listed.{access_text, begun_text, events_text, key_word, listed_lines, lists_access, lists_begun, lists_keys, lists_states, lists_wires, state_word, wire_name};
@@ -29,44 +27,15 @@ use board_types::keys::StampedKey;
 use board_types::state::State;
 use debugger::session::Session;
 use debugger_meaning::answer::Answer;
+use debugger_meaning::dump::Address;
 use debugger_meaning::fault::DebugFault;
+use debugger_meaning::trail_text::Bytes;
 use events::access::Access;
 use events::event::{KeyEvent, Wire};
 use execute_noted::notes::Accesses;
 use keyboard::keyboard::Keyboard;
 use std::alloc::{AllocError, Global};
 use std::fmt;
-
-/// A physical address, below 100000h, in five hexadecimal digits.
-#[derive(Clone, Copy)]
-struct Address(u32);
-
-impl fmt::Display for Address {
-    ghost output = { λ a. Some (address_text a.0) };
-
-    #[tactic(auto, using(std::proofs::lemmas::Fmt::hex_one_digit))]
-    fn fmt<W: fmt::Write>(&self, f: &mut fmt::Formatter<W>) -> fmt::Result {
-        let bank = (self.0 / 65536 % 16) as u8;
-        let rest = HexWord((self.0 % 65536) as u16);
-        write!(f, "{bank:X}{rest}")
-    }
-}
-
-/// Bytes, two digits each.
-#[derive(Clone, Copy)]
-struct Bytes<'a>(&'a [u8]);
-
-impl fmt::Display for Bytes<'_> {
-    ghost output = { λ b. Some (flat_map hex_byte_text b.0.now) };
-
-    fn fmt<W: fmt::Write>(&self, f: &mut fmt::Formatter<W>) -> fmt::Result {
-        for byte in self.0 {
-            let byte = HexByte(*byte);
-            write!(f, "{byte}")?;
-        }
-        Ok(())
-    }
-}
 
 /// What begins.
 #[derive(Drop)]
