@@ -38,21 +38,11 @@ fn image_text(alloc: Global, image: &Image) -> Result<String, AllocError> {
     let mut text = String::from_str(alloc, "front")?;
     for (place, end) in PLACES {
         if image.get(place).is_some() {
-            push_run(alloc, &mut text, image, place, end)?;
+            text.push_str(format!(in alloc; " {place:05X}:")?.as_str())?;
+            push_bytes(alloc, &mut text, image, place, end)?;
         }
     }
     Ok(text)
-}
-
-fn push_run(
-    alloc: Global,
-    text: &mut String,
-    image: &Image,
-    place: u32,
-    end: u32,
-) -> Result<(), AllocError> {
-    text.push_str(format!(in alloc; " {place:05X}:")?.as_str())?;
-    push_bytes(alloc, text, image, place, end)
 }
 
 fn fault_text(alloc: Global, fault: AsmFault) -> Result<String, AllocError> {

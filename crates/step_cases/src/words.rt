@@ -62,22 +62,22 @@ pub fn words_of(regs: Regs) -> [u16; 14] {
 
 /// Reads the registers of a case.
 pub fn read_regs(text: &str) -> Result<Regs> {
-    let [ax, cx, dx, bx, sp, bp, si, di, es, cs, ss, ds, ip, word] = read_words(text)?;
+    let words = read_words(text)?;
     Ok(Regs {
-        ax,
-        cx,
-        dx,
-        bx,
-        sp,
-        bp,
-        si,
-        di,
-        es,
-        cs,
-        ss,
-        ds,
-        ip,
-        flags: read_flags(word),
+        ax: words[0],
+        cx: words[1],
+        dx: words[2],
+        bx: words[3],
+        sp: words[4],
+        bp: words[5],
+        si: words[6],
+        di: words[7],
+        es: words[8],
+        cs: words[9],
+        ss: words[10],
+        ds: words[11],
+        ip: words[12],
+        flags: read_flags(words[13]),
     })
 }
 
