@@ -184,7 +184,6 @@ class Guests(ToolCase):
         self.assertIn('0110:0000 start', out)
         self.assertIn('FE00:0006 bios_over', out)
         self.assertIn('Exe', out)
-        self.assertIn('RUN', self.called('dbg', example('hello')[0], status=2)[1])
         self.assertIn('is empty', self.called('dbg', self.binary('e.com', b''), status=2)[1])
 
     def test_gdb_serves(self) -> None:
