@@ -1,19 +1,19 @@
 -- A shift by several places: all but the last, of which no bit is told, in one go.
-use Rattle.std.proofs.Common.{◌≡◌, ℕ, suc, ◌+◌, ◌-◌, ◌*◌, ◌/◌, ◌%◌, ◌^◌, ◌<◌, ◌≤◌, true, false, if◌then◌else◌, sym, ap, ◌∙◌, arith, inl, inr}
+use Rattle.std.proofs.Common.{◌≡◌, ℕ, zero, suc, ◌+◌, ◌-◌, ◌*◌, ◌/◌, ◌%◌, ◌^◌, ◌<◌, ◌≤◌, true, false, if◌then◌else◌, sym, ap, ◌∙◌, arith, inl, inr}
 use Rattle.std.proofs.Math.Nat.{div-eq_of_lt}
 use Rattle.std.proofs.lemmas.Nat.{pow-add, pow_pos}
 use Rattle.std.proofs.lemmas.Bool.{cases_lt}
 use Rattle.std.proofs.lemmas.Bool.Decides.{nat_tests}
 use Rattle.board_types.specs.Iterate.{iterate}
-use Rattle.isa.specs.declared.operation.Shift.{Shift}
 use Rattle.isa.specs.declared.operation.Shift.TheVariants.{Shl, Shr, Sar}
+use Rattle.execute_machine.specs.FlagState.{FlagState}
 use Rattle.execute_machine.specs.declared.width.Width.{Width}
 use Rattle.execute_machine.specs.declared.width.Width.TheVariants.{Byte, Word}
 use Rattle.execute_machine.specs.Widths.{size_of, half_size, is_negative}
 use Rattle.execute_arith.specs.declared.single.Shifted.{Shifted}
 use Rattle.execute_arith.specs.Single.{after_single, after_left, after_right}
-use Rattle.execute_arith.specs.Places.{lack, signed_right}
-use Rattle.execute_arith.specs.Shifts.{after_shifts}
+use Rattle.execute_arith.specs.Places.{alone, lack, signed_right}
+use Rattle.execute_arith.specs.Shifts.{after_shifts, shifted_operand}
 use Rattle.execute_arith.proofs.Powers.{sar_high_value, sar_low_value, shl_multiplies, shr_divides}
 
 -- a place past the last bit
@@ -34,22 +34,19 @@ pub none_left : (width : Width) (v k : ℕ) → 15 < k → 0 ≡ v * 2 ^ k % siz
 none_left width v k many =
     cut width (v * 2 ^ (k - 16)) ∙ ap (λ n. n % size_of width) (sym (ap (λ n. v * n) (split k many) ∙ turned v (2 ^ (k - 16))))
 
-pub none_at_all : (op : Shift) (width : Width) (s : Shifted) (count : ℕ) → count ≡ 0 → s ≡ after_shifts op width s count
-unfolding after_shifts iterate
-none_at_all op width s count none = ap (after_shifts op width s) (sym none)
-
-abbrev with_value : Shifted → ℕ → Shifted
-with_value s value = record s { value = value }
-
-pub one_more_left : (width : Width) (s : Shifted) (count before value : ℕ) → count ≡ suc before → s.value < size_of width → value ≡ s.value * 2 ^ before % size_of width → after_single Shl width (with_value s value) ≡ after_shifts Shl width s count
+pub last_left : (width : Width) (f : FlagState) (a count value : ℕ) → 0 < count → a < size_of width → value ≡ a * 2 ^ (count - 1) % size_of width → after_single Shl width (alone value) ≡ after_shifts Shl width (shifted_operand f a) count
 unfolding after_shifts iterate after_single after_left
-one_more_left width s count before value more fits is =
-    ap (λ v. after_single Shl width (with_value s v)) (is ∙ sym (shl_multiplies width s before fits)) ∙ ap (after_shifts Shl width s) (sym more)
+last_left width f a zero value some fits is = absurd (omega (arith, some))
+last_left width f a (suc n) value some fits is =
+    let at : suc n - 1 ≡ n = omega arith in
+    ap (λ x. after_single Shl width (alone x)) (is ∙ ap (λ k. a * 2 ^ k % size_of width) at ∙ sym (shl_multiplies width (shifted_operand f a) n fits))
 
-pub one_more_right : (width : Width) (s : Shifted) (count before value : ℕ) → count ≡ suc before → value ≡ s.value / 2 ^ before → after_single Shr width (with_value s value) ≡ after_shifts Shr width s count
+pub last_right : (width : Width) (f : FlagState) (a count value : ℕ) → 0 < count → value ≡ a / 2 ^ (count - 1) → after_single Shr width (alone value) ≡ after_shifts Shr width (shifted_operand f a) count
 unfolding after_shifts iterate after_single after_right
-one_more_right width s count before value more is =
-    ap (λ v. after_single Shr width (with_value s v)) (is ∙ sym (shr_divides width s before)) ∙ ap (after_shifts Shr width s) (sym more)
+last_right width f a zero value some is = absurd (omega (arith, some))
+last_right width f a (suc n) value some is =
+    let at : suc n - 1 ≡ n = omega arith in
+    ap (λ x. after_single Shr width (alone x)) (is ∙ ap (λ k. a / 2 ^ k) at ∙ sym (shr_divides width (shifted_operand f a) n))
 
 not_negative : (width : Width) (v : ℕ) → v < half_size width → is_negative width v ≡ false
 not_negative Byte v low = grind (arith, nat_tests)
@@ -67,7 +64,9 @@ signed_value width s n fits = elim (cases_lt s.value (half_size width)) [
       ap (λ b. if b then lack width (lack width s.value / 2 ^ n) else s.value / 2 ^ n) (negative width s.value above) ∙ sym (sar_high_value width s n above fits)
 ]
 
-pub one_more_signed : (width : Width) (s : Shifted) (count before value : ℕ) → count ≡ suc before → s.value < size_of width → value ≡ signed_right width s.value before → after_single Sar width (with_value s value) ≡ after_shifts Sar width s count
+pub last_signed : (width : Width) (f : FlagState) (a count value : ℕ) → 0 < count → a < size_of width → value ≡ signed_right width a (count - 1) → after_single Sar width (alone value) ≡ after_shifts Sar width (shifted_operand f a) count
 unfolding after_shifts iterate after_single after_right
-one_more_signed width s count before value more fits is =
-    ap (λ v. after_single Sar width (with_value s v)) (is ∙ signed_value width s before fits) ∙ ap (after_shifts Sar width s) (sym more)
+last_signed width f a zero value some fits is = absurd (omega (arith, some))
+last_signed width f a (suc n) value some fits is =
+    let at : suc n - 1 ≡ n = omega arith in
+    ap (λ x. after_single Sar width (alone x)) (is ∙ ap (signed_right width a) at ∙ signed_value width (shifted_operand f a) n fits)

@@ -4,7 +4,7 @@ ghost use Rattle.execute_machine.specs.Locations.{machine};
 ghost use Rattle.execute_machine.specs.Widths.{size_of};
 ghost use Rattle.execute_arith.specs.Shifts.{after_shift, after_shifts, shifted_operand, tells_result, with_shifted, with_told};
 
-use crate::single::{Shifted, shift_by};
+use crate::single::{Shifted, left_by, right_by, rotate_by, signed_right_by, single};
 use bus::Bus;
 use digest::digest::Digest;
 use execute_machine::flags::{FlagRegister, StatusFlags};
@@ -70,7 +70,9 @@ pub fn perform_shift<B: Bus>(
     put(bus, registers, place, value);
 }
 
-/// What so many single shifts make of a number of this width and of the flags.
+/// What so many single shifts make of a number of this width and of the flags. It is in line, so that an operation which is
+/// known costs no choice.
+#[inline(always)]
 pub fn calculate_shift(
     flags: &mut FlagRegister,
     operation: Shift,
@@ -82,12 +84,40 @@ pub fn calculate_shift(
     ensures value { result ≡ (after_shifts operation width (shifted_operand flags.old a) count).value }
     ensures flags { flags.new ≡ with_shifted flags.old operation width count (after_shifts operation width (shifted_operand flags.old a) count) }
 {
+    let after = shifted(flags, operation, width, a, count);
+    set_shifted(flags, operation, width, count, after);
+    after.value
+}
+
+/// What so many single shifts leave. CF and OF, which have to be worked out, are asked for a rotate alone.
+#[inline(always)]
+#[tactic(auto, using(crate::proofs::Places::last_left, crate::proofs::Places::last_right, crate::proofs::Places::last_signed))]
+fn shifted(flags: &FlagRegister, operation: Shift, width: Width, a: u16, count: u16) -> Shifted
+    requires { a < size_of width }
+    ensures { result ≡ after_shifts operation width (shifted_operand flags.now a) count }
+{
+    if count != 0 {
+        // all places but the last in one go, for no bit of these is told
+        let before = count - 1;
+        match operation {
+            Shift::Shl => {
+                return single(operation, width, Shifted::alone(left_by(width, a, before)));
+            }
+            Shift::Shr => return single(operation, width, Shifted::alone(right_by(a, before))),
+            Shift::Sar => {
+                return single(
+                    operation,
+                    width,
+                    Shifted::alone(signed_right_by(width, a, before)),
+                );
+            }
+            _ => {}
+        }
+    }
     let before = Shifted {
         value: a,
         carry: flags.carry(),
         overflow: flags.overflow(),
     };
-    let after = shift_by(operation, width, before, count);
-    set_shifted(flags, operation, width, count, after);
-    after.value
+    rotate_by(operation, width, before, count)
 }

@@ -2,7 +2,7 @@
 ghost use Rattle.std.specs.Prelude.{◌≡◌, ◌<◌, ◌≤◌, ◌*◌, ◌/◌, ◌%◌, ◌^◌};
 ghost use Rattle.execute_machine.specs.Widths.{is_negative, size_of};
 ghost use Rattle.execute_arith.specs.Single.{after_left, after_right, after_right_rotation, after_single, left_value, right_value, second_bit};
-ghost use Rattle.execute_arith.specs.Places.{signed_right};
+ghost use Rattle.execute_arith.specs.Places.{alone, signed_right};
 ghost use Rattle.execute_arith.specs.Shifts.{after_shifts};
 
 use execute_machine::width::Width;
@@ -85,8 +85,9 @@ fn right_rotation(width: Width, operand: Shifted, entering: bool) -> Shifted
 }
 
 /// One place.
+#[inline(always)]
 #[tactic(auto, unfolding(crate::specs::Single::after_single))]
-fn single(operation: Shift, width: Width, operand: Shifted) -> Shifted
+pub(crate) fn single(operation: Shift, width: Width, operand: Shifted) -> Shifted
     requires { operand.value < size_of width }
     ensures value { result ≡ after_single operation width operand }
     ensures bound { result.value < size_of width }
@@ -103,9 +104,22 @@ fn single(operation: Shift, width: Width, operand: Shifted) -> Shifted
     }
 }
 
+impl Shifted {
+    /// An operand of a shift that asks neither CF nor OF.
+    pub(crate) fn alone(value: u16) -> Shifted
+        ensures { result ≡ alone value }
+    {
+        Shifted {
+            value,
+            carry: false,
+            overflow: false,
+        }
+    }
+}
+
 /// What shifts of a value to the left by so many places leave of it.
 #[tactic(auto, using(crate::proofs::Places::none_left))]
-fn left_by(width: Width, value: u16, places: u16) -> u16
+pub(crate) fn left_by(width: Width, value: u16, places: u16) -> u16
     requires { value < size_of width }
     ensures value { result ≡ value * 2 ^ places % size_of width }
     ensures bound { result < size_of width }
@@ -118,7 +132,7 @@ fn left_by(width: Width, value: u16, places: u16) -> u16
 
 /// And to the right, if zeros enter.
 #[tactic(auto, using(crate::proofs::Places::none_right))]
-fn right_by(value: u16, places: u16) -> u16
+pub(crate) fn right_by(value: u16, places: u16) -> u16
     ensures value { result ≡ value / 2 ^ places }
     ensures bound { result ≤ value }
 {
@@ -129,7 +143,7 @@ fn right_by(value: u16, places: u16) -> u16
 }
 
 /// And to the right, if what enters is the top bit.
-fn signed_right_by(width: Width, value: u16, places: u16) -> u16
+pub(crate) fn signed_right_by(width: Width, value: u16, places: u16) -> u16
     requires { value < size_of width }
     ensures value { result ≡ signed_right width value places }
     ensures bound { result < size_of width }
@@ -142,28 +156,9 @@ fn signed_right_by(width: Width, value: u16, places: u16) -> u16
     }
 }
 
-/// So many places: of a shift all but the last in one go, of which no bit is told.
-#[tactic(auto, using(crate::proofs::Places::none_at_all, crate::proofs::Places::one_more_left, crate::proofs::Places::one_more_right, crate::proofs::Places::one_more_signed))]
-pub fn shift_by(operation: Shift, width: Width, operand: Shifted, count: u16) -> Shifted
-    requires { operand.value < size_of width }
-    ensures { result ≡ after_shifts operation width operand count }
-{
-    if count == 0 {
-        return operand;
-    }
-    let before = count - 1;
-    let value = match operation {
-        Shift::Shl => left_by(width, operand.value, before),
-        Shift::Shr => right_by(operand.value, before),
-        Shift::Sar => signed_right_by(width, operand.value, before),
-        _ => return rotate_by(operation, width, operand, count),
-    };
-    single(operation, width, Shifted { value, ..operand })
-}
-
 /// So many places, one after the other.
 #[tactic(auto, unfolding(crate::specs::Shifts::after_shifts), using(board_types::proofs::Iterate::iterate_steps))]
-fn rotate_by(operation: Shift, width: Width, operand: Shifted, count: u16) -> Shifted
+pub(crate) fn rotate_by(operation: Shift, width: Width, operand: Shifted, count: u16) -> Shifted
     requires { operand.value < size_of width }
     ensures { result ≡ after_shifts operation width operand count }
 {
