@@ -104,29 +104,25 @@ pub fn calculate_product(
     registers: &mut Registers,
     operation: Product,
     width: Width,
-    operand: u16,
+    a: u16,
 ) -> bool
-    requires { operand < size_of width }
-    ensures made { (if result then Some registers.new else None) ≡ calculated registers.old operation width operand }
+    requires { a < size_of width }
+    ensures made { (if result then Some registers.new else None) ≡ calculated registers.old operation width a }
     ensures left { result ≡ false → registers.new ≡ registers.old }
 {
     let factor = accumulator(registers, width);
     let dividend = dividend_of(registers, width);
     match operation {
         Product::Mul => {
-            set_product(registers, width, unsigned_product(width, factor, operand));
+            set_product(registers, width, unsigned_product(width, factor, a));
             true
         }
         Product::Imul => {
-            set_product(registers, width, signed_product(width, factor, operand));
+            set_product(registers, width, signed_product(width, factor, a));
             true
         }
-        Product::Div => {
-            take_division(registers, width, divide_unsigned(width, dividend, operand))
-        }
-        Product::Idiv => {
-            take_division(registers, width, divide_signed(width, dividend, operand))
-        }
+        Product::Div => { take_division(registers, width, divide_unsigned(width, dividend, a)) }
+        Product::Idiv => { take_division(registers, width, divide_signed(width, dividend, a)) }
     }
 }
 
