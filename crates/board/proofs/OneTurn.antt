@@ -1,7 +1,7 @@
 -- A turn is one of those that a caller makes by itself: its entries and its wires.
 use Rattle.std.proofs.Common.{◌≡◌, ℕ, ◌+◌, ◌-◌, ◌<◌, ◌≤◌, inl, inr, Bool, true, false, List, [], ◌∷◌, ◌++◌, length, map, Option, None, refl, sym, ap, ◌∙◌, subst, arith, append-nil}
 use Rattle.std.proofs.lemmas.Bool.Decides.{nat_tests}
-use Rattle.std.specs.Prelude.{◌⊎◌, nat_lt, IfSome, IsTrue}
+use Rattle.std.specs.Prelude.{◌⊎◌, nat_lt, IfOk, IfSome, IsTrue, OnOk, Result, Ok, Err}
 use Rattle.std.specs.Option.{option_to_list}
 use Rattle.board_types.proofs.Iterate.{iterate_add, gathered_add}
 use Rattle.board_plain.specs.Board.{BoardState}
@@ -25,7 +25,7 @@ use Rattle.board.proofs.Turns.{before_rest, leap_runs, ran_leap}
 
 -- what begins
 
-pub found_by_size : (bytes : List ℕ) (d : Decoding) (n : ℕ) → n ≡ size_of d → IsDecoded bytes d → nat_lt 0 n ≡ is_found d
+found_by_size : (bytes : List ℕ) (d : Decoding) (n : ℕ) → n ≡ size_of d → IsDecoded bytes d → nat_lt 0 n ≡ is_found d
 found_by_size bytes (Found i size) n is found =
     let some : 0 < size = found_size bytes (Found i size) found refl in
     let more : nat_lt 0 n ≡ true = grind (arith, nat_tests, is, some) in more
@@ -34,13 +34,25 @@ found_by_size bytes NoRow n is none = ap (nat_lt 0) is
 abbrev begun_now : Plain → Option ℕ → Begun
 begun_now s entered = record { clock = clock_of s; cs = s.cpu.registers.cs; ip = s.cpu.registers.ip; entered = entered }
 
-pub starts : (s : Plain) (d : Decoding) → is_found d ≡ true → map begun_of (entry_at s (start_of s.cpu s.chips d)) ≡ begun_now s None ∷ []
+starts : (s : Plain) (d : Decoding) → is_found d ≡ true → map begun_of (entry_at s (start_of s.cpu s.chips d)) ≡ begun_now s None ∷ []
 starts s (Found i size) is = refl
 starts s NoRow is = absurd (cc)
 
-pub no_start : (s : Plain) (d : Decoding) → is_found d ≡ false → map begun_of (entry_at s (start_of s.cpu s.chips d)) ≡ []
+no_start : (s : Plain) (d : Decoding) → is_found d ≡ false → map begun_of (entry_at s (start_of s.cpu s.chips d)) ≡ []
 no_start s (Found i size) is = absurd (cc)
 no_start s NoRow is = refl
+
+-- an instruction that has a size begins
+pub sized_begins : (s : Plain) (bytes : List ℕ) (d : Decoding) (n : ℕ) → n ≡ size_of d → IsDecoded bytes d → 0 < n → begun_now s None ∷ [] ≡ map begun_of (entry_at s (start_of s.cpu s.chips d))
+sized_begins s bytes d n is found some =
+    let more : nat_lt 0 n ≡ true = grind (arith, nat_tests, some) in
+    sym (starts s d (sym (found_by_size bytes d n is found) ∙ more))
+
+-- and one that has none doesn't
+pub sizeless_begins : (s : Plain) (bytes : List ℕ) (d : Decoding) (n : ℕ) → n ≡ size_of d → IsDecoded bytes d → n ≤ 0 → [] ≡ map begun_of (entry_at s (start_of s.cpu s.chips d))
+sizeless_begins s bytes d n is found none =
+    let more : nat_lt 0 n ≡ false = grind (arith, nat_tests, none) in
+    sym (no_start s d (sym (found_by_size bytes d n is found) ∙ more))
 
 pub begins_by : (s : Plain) (act : Act) (begun : List Begun) → act ≡ next_act s → begun ≡ map begun_of (entry_at s (event_of s.cpu s.chips act)) → begun ≡ map begun_of (trail_next s)
 unfolding trail_next
@@ -147,3 +159,9 @@ stay_behind s t stay = λ j some few.
     let there : after_clocks s j ≡ after_clocks (after_clock s) (j - 1) =
     ap (after_clocks s) (sym whole) ∙ iterate_add after_clock 1 (j - 1) s ∙ ap (λ p. after_clocks p (j - 1)) (first_clock s) in
     subst (HaveSameWires (after_clock s)) (sym there) (stay (j - 1) (omega (arith, few, clock, some)))
+
+-- of a turn that isn't refused
+pub turned_once : {E : Type 0} (edges : Bool) (end to : ℕ) (s u : BoardState) (answer : Result (Option Begun) E) → length s.trail ≤ 32 → clock_of s.plain < end → to ≡ end → OnOk answer (IsTurnOn to to s u) → (¬ (IsTrue edges) → OnOk answer (WiresStayThen s.plain u.plain)) → IfOk answer (λ begun. option_to_list begun ≡ map begun_of (trail_next s.plain)) → IfOk answer (λ begun. IfSome begun (λ b. b.clock ≡ clock_of s.plain)) → IfOk answer (IsOneTurn edges end s u)
+turned_once edges end to s u (Ok begun) few before at turn stay is clock =
+    once_turned edges end s u begun few before (subst (λ n. IsTurnOn n n s u) at turn) stay is clock
+turned_once edges end to s u (Err fault) few before at turn stay is clock = tt

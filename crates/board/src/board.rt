@@ -1,5 +1,6 @@
 //! The board: run for a number of clocks, and read.
-ghost use Rattle.std.specs.Prelude.{ℕ, IsTrue, None, true, All, ◌-◌, slice_get, ◌≡◌, ◌+◌, ◌*◌, ◌<◌, ◌≤◌, ◌^◌, [], ◌∷◌, ◌++◌, length, OnErr, OnOk, IfOk, IsOk, ◌↔◌};
+ghost use Rattle.std.specs.Prelude.{ℕ, IsTrue, None, true, All, map, IfSome, ◌-◌, slice_get, ◌≡◌, ◌+◌, ◌*◌, ◌<◌, ◌≤◌, ◌^◌, [], ◌∷◌, ◌++◌, length, OnErr, OnOk, IfOk, IsOk, ◌↔◌};
+ghost use Rattle.std.specs.Option.{option_to_list};
 ghost use Rattle.std.specs.Result.{IfErr, IsErrOf};
 ghost use Rattle.std.specs.String.{string_bytes};
 ghost use Rattle.memory.specs.Map.{IsRamSize, FitsRam};
@@ -9,6 +10,7 @@ ghost use Rattle.board_plain.specs.Board.{Ran, StoppedEarly, board_fault_name, b
 ghost use Rattle.board.specs.Alone.{PassesOver, WiresStay, WiresStayThen};
 ghost use Rattle.board.specs.HeldBack.{IsHeldBack};
 ghost use Rattle.board.specs.KeptAgain.{IsExact};
+ghost use Rattle.board.specs.OneTurn.{begun_of};
 ghost use Rattle.board.specs.Reach.{AllWithin, may_pass};
 ghost use Rattle.board_plain.specs.Plain.{act_at, after_clock, after_clocks, byte_of, change_next, changes_in, clock_of, lost_codes, next_act, power_on, registers_of, screen_of, speaker_level, state_of};
 ghost use Rattle.board_plain.specs.Stops.{FitsRoom, HasAddress, IsStopOf, NoStop, holding, run_length};
@@ -22,6 +24,7 @@ ghost use Rattle.board_types.specs.Lines.{from_bool};
 ghost use Rattle.events.specs.Accesses.{accesses_next};
 
 use crate::engine::Engine;
+use crate::one_turn::Begun;
 use crate::stop::{Reach, all_await_free};
 use crate::trail::Trail;
 use crate::watch::{Nothing, Watch};
@@ -367,10 +370,11 @@ impl<A: Allocator> Board<A> {
     {
         self.engine.look_ahead();
         let boundary = self.engine.boundary();
-        self.turn_by::<Engine, Unnoted>(boundary, &mut Unnoted, true, within, end)
+        self.turn_by::<Engine, Unnoted>(boundary, &mut Unnoted, true, within, end)?;
+        Ok(())
     }
 
-    /// A turn from this case of a boundary, with a note of its first clock's accesses. If it may not leap over edges of the
+    /// A turn from this case of a boundary, with a note of its first clock's accesses. Answers what begins. If it may not leap over edges of the
     /// timer, no wire changes but in its first clock. `L` is a tag alone: each caller has a copy of its own, which LLVM
     /// takes in.
     #[inline(always)]
@@ -381,27 +385,59 @@ impl<A: Allocator> Board<A> {
         over_edges: bool,
         within: u64,
         end: u64,
-    ) -> Result<(), BoardFault>
+    ) -> Result<Option<Begun>, BoardFault>
         requires boundary { act_at self.old.plain.cpu self.old.plain.chips boundary ≡ next_act self.old.plain }
         requires before { clock_of self.old.plain < within }
         requires order { within ≤ end }
         requires limit { end ≤ 2 ^ 40 }
         ensures ok { OnOk result (IsTurnOn within end self.old self.new) }
         ensures steady { ¬ (IsTrue over_edges) → OnOk result (WiresStayThen self.old.plain self.new.plain) }
+        ensures begun { IfOk result (λ begun. option_to_list begun ≡ map begun_of (trail_next self.old.plain)) }
+        ensures clock { IfOk result (λ begun. IfSome begun (λ b. b.clock ≡ clock_of self.old.plain)) }
         ensures noted { OnOk result (N.are notes.new (accesses_next self.old.plain)) }
         ensures err { OnErr result (IsHeldBack self.old self.new) }
         ensures fault { IfErr result (λ fault. fault ≡ BoardFault.Memory) }
     {
         match boundary {
-            Boundary::Nothing => self.pass(notes, over_edges, within, end),
+            Boundary::Nothing => {
+                self.pass(notes, over_edges, within, end)?;
+                Ok(None)
+            }
             Boundary::Instruction => {
                 let next = self.engine.instruction();
-                self.act(&next, notes, over_edges, within)
+                self.begin(&next, notes, over_edges, within)
             }
-            Boundary::Request => self.act(&Act::Request, notes, over_edges, within),
-            Boundary::SingleStep => self.act(&Act::SingleStep, notes, over_edges, within),
-            Boundary::Iteration => self.act(&Act::Iteration, notes, over_edges, within),
+            Boundary::Request => self.begin(&Act::Request, notes, over_edges, within),
+            Boundary::SingleStep => self.begin(&Act::SingleStep, notes, over_edges, within),
+            Boundary::Iteration => self.begin(&Act::Iteration, notes, over_edges, within),
         }
+    }
+
+    /// What the processor does in this clock as a turn, and what begins by it.
+    #[inline(always)]
+    fn begin<N: Notes>(
+        &mut self,
+        next: &Act,
+        notes: &mut N,
+        over_edges: bool,
+        within: u64,
+    ) -> Result<Option<Begun>, BoardFault>
+        requires next { next.now ≡ next_act self.old.plain }
+        requires exact { IsExact self.old.plain.cpu self.old.plain.chips next.now }
+        requires works { 1 ≤ work_next self.old.plain }
+        requires before { clock_of self.old.plain < within }
+        requires limit { within ≤ 2 ^ 40 }
+        ensures ok { OnOk result (IsActOn within self.old self.new) }
+        ensures steady { ¬ (IsTrue over_edges) → OnOk result (WiresStayThen self.old.plain self.new.plain) }
+        ensures begun { IfOk result (λ begun. option_to_list begun ≡ map begun_of (trail_next self.old.plain)) }
+        ensures clock { IfOk result (λ begun. IfSome begun (λ b. b.clock ≡ clock_of self.old.plain)) }
+        ensures noted { OnOk result (N.are notes.new (accesses_next self.old.plain)) }
+        ensures err { OnErr result (IsHeldBack self.old self.new) }
+        ensures fault { IfErr result (λ fault. fault ≡ BoardFault.Memory) }
+    {
+        let begun = self.engine.begins(next);
+        self.act(next, notes, over_edges, within)?;
+        Ok(begun)
     }
 
     /// A turn in which the processor does nothing: a leap of time, or where this clock has work, the clock, and the rest of a step.

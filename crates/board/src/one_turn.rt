@@ -2,19 +2,20 @@
 ghost use Rattle.std.specs.Prelude.{◌≡◌, ◌<◌, IfOk, IfSome, OnErr, OnOk, map};
 ghost use Rattle.std.specs.Option.{option_to_list};
 ghost use Rattle.std.specs.Result.{IfErr};
-ghost use Rattle.decode.specs.Fields.{is_found};
-ghost use Rattle.board_plain.specs.Plain.{act_at, clock_of, decoded_at};
-ghost use Rattle.board_plain.specs.Trail.{entry_at, event_of};
+ghost use Rattle.board_plain.specs.Plain.{clock_of};
+ghost use Rattle.board_plain.specs.Trail.{entry_at, event_of, start_of};
+ghost use Rattle.board_plain.specs.declared.act.Act.TheVariants.{Instruction};
 ghost use Rattle.events.specs.Accesses.{accesses_next};
 ghost use Rattle.board.specs.HeldBack.{IsHeldBack};
+ghost use Rattle.board.specs.KeptAgain.{IsExact};
 ghost use Rattle.board.specs.OneTurn.{IsOneTurn, begun_of};
 
 use crate::board::Board;
 use crate::engine::Engine;
+use board_plain::act::Act;
 use board_plain::fault::BoardFault;
 use board_types::clock::Clock;
-use decode::decode::decode;
-use execute_meaning::boundary::Boundary;
+use decode::decoded::Decoded;
 use execute_noted::notes::Notes;
 use std::alloc::Allocator;
 
@@ -30,18 +31,34 @@ pub struct Begun {
 }
 
 impl Engine {
-    /// What begins at a boundary of this case, as the trail lists it, without an instruction's bytes.
+    /// What begins by this act, as the trail lists it, without an instruction's bytes.
     #[inline(always)]
-    fn begins(&self, boundary: Boundary) -> Option<Begun>
-        ensures begun { option_to_list result ≡ map begun_of
-            (entry_at self.now (event_of self.now.cpu self.now.chips (act_at self.now.cpu self.now.chips boundary))) }
+    pub(crate) fn begins(&self, next: &Act) -> Option<Begun>
+        requires exact { IsExact self.now.cpu self.now.chips next.now }
+        ensures begun { option_to_list result
+            ≡ map begun_of (entry_at self.now (event_of self.now.cpu self.now.chips next.now)) }
         ensures clock { IfSome result (λ begun. begun.clock ≡ clock_of self.now) }
     {
-        match boundary {
-            Boundary::Request => Some(self.begun(Some(self.chips.requested_type()))),
-            Boundary::SingleStep => Some(self.begun(Some(1))),
-            Boundary::Instruction if self.stands_here() => Some(self.begun(None)),
-            Boundary::Instruction | Boundary::Nothing | Boundary::Iteration => None,
+        match next {
+            Act::Request => Some(self.begun(Some(self.chips.requested_type()))),
+            Act::SingleStep => Some(self.begun(Some(1))),
+            Act::Instruction(decoded) => self.starts(decoded),
+            Act::Nothing | Act::Iteration => None,
+        }
+    }
+
+    /// The instruction that begins, if one was decoded at CS:IP.
+    #[inline(always)]
+    fn starts(&self, decoded: &Decoded) -> Option<Begun>
+        requires exact { IsExact self.now.cpu self.now.chips (Instruction decoded.now) }
+        ensures begun { option_to_list result
+            ≡ map begun_of (entry_at self.now (start_of self.now.cpu self.now.chips decoded.now)) }
+        ensures clock { IfSome result (λ begun. begun.clock ≡ clock_of self.now) }
+    {
+        if decoded.length() > 0 {
+            Some(self.begun(None))
+        } else {
+            None
         }
     }
 
@@ -62,18 +79,6 @@ impl Engine {
             ip: self.cpu.ip(),
             entered,
         }
-    }
-
-    /// Whether an instruction stands at CS:IP. What is kept is one.
-    #[inline(always)]
-    fn stands_here(&self) -> bool
-        ensures { result ≡ is_found (decoded_at self.now.cpu self.now.chips) }
-    {
-        let (cs, ip) = (self.cpu.cs(), self.cpu.ip());
-        if self.chips.slot(cs, ip).is_some() {
-            return true;
-        }
-        decode(&self.chips, cs, ip).length() > 0
     }
 }
 
@@ -96,9 +101,7 @@ impl<A: Allocator> Board<A> {
     {
         self.engine.look_ahead();
         let boundary = self.engine.boundary();
-        let begun = self.engine.begins(boundary);
         let to = end.get();
-        self.turn_by::<Begun, N>(boundary, notes, over_edges, to, to)?;
-        Ok(begun)
+        self.turn_by::<Begun, N>(boundary, notes, over_edges, to, to)
     }
 }

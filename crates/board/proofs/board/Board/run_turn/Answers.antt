@@ -1,15 +1,15 @@
-use Rattle.std.proofs.Common.{◌≡◌, ◌-◌, ◌≤◌, true, false, length, map, ap, ◌∙◌, subst}
+use Rattle.std.proofs.Common.{◌≡◌, ◌-◌, ◌≤◌, length, map, ap, ◌∙◌, subst}
 use Rattle.std.specs.Option.{option_to_list}
-use Rattle.std.specs.Prelude.{IfSome}
+use Rattle.std.specs.Prelude.{IfOk, IfSome, IsTrue, OnOk}
 use Rattle.events.specs.Accesses.{accesses_next}
 use Rattle.board.specs.OneTurn.{begun_of}
 use Rattle.board.specs.Alone.{WiresStayThen}
 use Rattle.board.specs.Turns.{IsTurnOn}
 use Rattle.std.specs.Vec.{vec_capacity}
 use Rattle.board_plain.specs.Board.{BoardState}
-use Rattle.board_plain.specs.Plain.{Plain, act_at, clock_of}
+use Rattle.board_plain.specs.Plain.{Plain, clock_of}
 use Rattle.board_plain.specs.Trail.{trail_next}
-use Rattle.board.proofs.OneTurn.{begins_by, once_turned}
+use Rattle.board.proofs.OneTurn.{turned_once}
 use Rattle.board.proofs.board.Board.run_turn.Goals as goal
 
 pub returns-clause-ok : goal.returns-clause-ok
@@ -21,13 +21,13 @@ returns-clause-ok g c =
     let looked : (record { plain = p; changes = changes.items; room = vec_capacity changes - length changes.items; trail = c.self.inside.trail; turns = c.self.inside.turns }) ≡ s =
     ap (λ (q : Plain). record { plain = q; changes = changes.items; room = vec_capacity changes - length changes.items; trail = c.self.inside.trail; turns = c.self.inside.turns }) c.look_ahead.ensures ∙ c.self.view_is in
     let few : length s.trail ≤ 32 = subst (λ (b : BoardState). length b.trail ≤ 32) c.self.view_is c.self.invariant.1 in
-    once_turned c.args.over_edges c.args.end s c.turn_by.new.self c.begins-begun.result few c.requires
-    (subst (λ n. IsTurnOn n n s c.turn_by.new.self) c.get-to.ensures.value (subst (λ (b : BoardState). IsTurnOn c.get-to.result c.get-to.result b c.turn_by.new.self) looked c.in_ok-turn_by.ensures.ok))
-    (λ not. subst (λ (q : Plain). WiresStayThen q c.turn_by.new.self.plain) same (c.in_ok-turn_by.ensures.steady not))
-    (begins_by p (act_at p.cpu p.chips c.boundary-boundary.result) (option_to_list c.begins-begun.result) c.boundary-boundary.ensures c.begins-begun.ensures.begun ∙ ap (λ (q : Plain). map begun_of (trail_next q)) same)
-    (subst (λ (q : Plain). IfSome c.begins-begun.result (λ b. b.clock ≡ clock_of q)) same c.begins-begun.ensures.clock)
+    turned_once c.args.over_edges c.args.end c.get-to.result s c.turn_by.new.self c.turn_by.result few c.requires c.get-to.ensures.value
+    (subst (λ (b : BoardState). OnOk c.turn_by.result (IsTurnOn c.get-to.result c.get-to.result b c.turn_by.new.self)) looked c.turn_by.ensures.ok)
+    (λ not. subst (λ (q : Plain). OnOk c.turn_by.result (WiresStayThen q c.turn_by.new.self.plain)) same (c.turn_by.ensures.steady not))
+    (subst (λ (q : Plain). IfOk c.turn_by.result (λ begun. option_to_list begun ≡ map begun_of (trail_next q))) same c.turn_by.ensures.begun)
+    (subst (λ (q : Plain). IfOk c.turn_by.result (λ begun. IfSome begun (λ b. b.clock ≡ clock_of q))) same c.turn_by.ensures.clock)
 
 pub returns-clause-noted : goal.returns-clause-noted
 returns-clause-noted g c =
     let same : c.look_ahead.new.self ≡ c.args.self.now.plain = c.look_ahead.ensures ∙ ap (λ (b : BoardState). b.plain) c.self.view_is in
-    subst (λ (q : Plain). g.N.Notes.are c.turn_by.new.notes (accesses_next q)) same c.in_ok-turn_by.ensures.noted
+    subst (λ (q : Plain). OnOk c.turn_by.result (g.N.Notes.are c.turn_by.new.notes (accesses_next q))) same c.turn_by.ensures.noted
