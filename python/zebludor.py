@@ -200,27 +200,29 @@ class Ran:
     err: str
 
 
-def program() -> str:
-    """The program: $PCBOARD, else the one that the repository's launcher takes, or one that was built of other sources."""
-    found = os.environ.get('PCBOARD') or taken()
+def program(name: str = 'pcboard') -> str:
+    """The program pcboard or pcprobe: the one that $PCBOARD or $PCPROBE names, else the one that the repository's launcher takes, or
+    one that was built of other sources."""
+    found = os.environ.get(name.upper()) or taken(name)
     if not os.access(found, os.X_OK):
-        raise Unfit(f"the program {found} isn't there; a first run of ./pcboard builds one, or name it in PCBOARD")
+        raise Unfit(f"the program {found} isn't there; a first run of ./{name} builds one, or name it in {name.upper()}")
     return found
 
 
 @functools.cache
-def taken() -> str:
-    """The program that the launcher takes, as its `--version` tells, which says once to each user where that is the stored one."""
+def taken(name: str) -> str:
+    """The program that the launcher of this name takes, as its `--version` tells, which says once to each user where that is the
+    stored one."""
     try:
-        told = subprocess.run([f'{TOP}/pcboard', '--version'], stdin=subprocess.DEVNULL, stdout=subprocess.PIPE, text=True, check=False).stdout
+        told = subprocess.run([f'{TOP}/{name}', '--version'], stdin=subprocess.DEVNULL, stdout=subprocess.PIPE, text=True, check=False).stdout
     except OSError:
-        raise Unfit(f"no launcher is in {TOP}, to which this copy of zebludor.py belongs: name the program in PCBOARD") from None
-    name = re.search(r'^program (\w+/[\w/]+)', told, re.M)
-    if not name:
-        why = re.search(r"^stored/pcboard isn't taken: .*$", told, re.M)
+        raise Unfit(f"no launcher is in {TOP}, to which this copy of zebludor.py belongs: name the program in {name.upper()}") from None
+    path = re.search(r'^program (\w+/[\w/]+)', told, re.M)
+    if not path:
+        why = re.search(rf"^stored/{name} isn't taken: .*$", told, re.M)
         more = f' ({why[0]})' if why else ''
-        raise Unfit(f'no program is built here; a first run of ./pcboard builds one, or name one in PCBOARD{more}')
-    return f'{TOP}/{name[1]}'
+        raise Unfit(f'no {name} is built here; a first run of ./{name} builds one, or name one in {name.upper()}{more}')
+    return f'{TOP}/{path[1]}'
 
 
 def limit_memory(megabytes: int) -> None:

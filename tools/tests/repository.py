@@ -1,4 +1,5 @@
-"""A repository of two crates, and a kit whose commands only write what a build leaves: for tests of what proves and builds."""
+"""A repository of two programs over a crate or two, and a kit whose commands only write what a build leaves: for tests of what
+proves and builds."""
 from __future__ import annotations
 
 import os
@@ -12,6 +13,7 @@ KIT, LOGIC = 'rattle-kit-1', '0123456789abcdef'
 RT = f"""#!/bin/sh
 [ "$1" != version ] || echo "{KIT} logic {LOGIC}"
 """
+CRATES = 'low:\npcboard: low\nprobe: low\npcprobe: low probe\nother:\n'
 # It leaves what was to be built, and tells a verdict; a program, which the linker makes, is a script that tells how it was called.
 RATTLE = r"""#!/bin/sh
 echo "${PWD##*/}" >> "$(dirname "$0")/proved"
@@ -21,7 +23,8 @@ echo "fn it: proved"
 echo "logic=proved functions=1 sum=0123456789abcdef native=nat"
 """
 LINK = r"""#!/bin/sh
-printf '#!/bin/sh\n[ "$1" != --help ] || exit 2\necho "it runs $*"\n' > out/pcboard; chmod +x out/pcboard
+name=${PWD##*/}
+printf '#!/bin/sh\n# %s\n[ "$1" != --help ] || exit 2\necho "it runs $*"\n' $name > out/$name; chmod +x out/$name
 """
 
 
@@ -35,17 +38,18 @@ class Repository(ToolCase):
         shared = (f'tools/toolbox/{it}.py' for it in ('__init__', 'building', 'command', 'crates', 'proved', 'sources', 'writing'))
         for name in ('pcboard', 'VERSION', 'README.md', 'dev/build', *shared):
             shutil.copy(f'{TOP}/{name}', f'{self.room}/top/{name}')
-        for name in ('low', 'pcboard', 'other'):
+        os.symlink('pcboard', f'{self.room}/top/pcprobe')
+        for name in ('low', 'pcboard', 'probe', 'pcprobe', 'other'):
             os.makedirs(f'{self.room}/top/crates/{name}/src')
-            self.file(f'top/crates/{name}/src/{"main" if name == "pcboard" else "lib"}.rt', '// nothing\n')
-        self.file('top/crates.txt', 'low:\npcboard: low\nother:\n')
+            self.file(f'top/crates/{name}/src/{"main" if name.startswith("pc") else "lib"}.rt', '// nothing\n')
+        self.file('top/crates.txt', CRATES)
         os.mkdir(f'{self.room}/bin')
         self.file('WHAT', 'a kit')
         for name, text in (('rt', RT), ('rattle', RATTLE), ('rattle-link', LINK)):
             os.chmod(self.file(f'bin/{name}', text), 0o755)
 
-    def launch(self, *words: str, has_rt: bool = True, top: str = '') -> subprocess.CompletedProcess[str]:
-        return self.start(f'{top or f"{self.room}/top"}/pcboard', *(words or ['run']), has_rt=has_rt)
+    def launch(self, *words: str, has_rt: bool = True, top: str = '', name: str = 'pcboard') -> subprocess.CompletedProcess[str]:
+        return self.start(f'{top or f"{self.room}/top"}/{name}', *(words or ['run']), has_rt=has_rt)
 
     def start(self, *words: str, has_rt: bool = True) -> subprocess.CompletedProcess[str]:
         """Runs a command with a cache in the folder, and with the kit on the path or without."""

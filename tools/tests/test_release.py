@@ -1,5 +1,5 @@
 """dev/release: its archive is the same twice, runs in any folder without kit, compiler or environment, and is refused where something
-of it isn't there. It is made of a repository whose pages, tools and program are this one's, and whose crates are stand-ins; its
+of it isn't there. It is made of a repository whose pages, tools and programs are this one's, and whose crates are stand-ins; its
 libraries are those that the gate left, else stand-ins too, which answer nothing."""
 from __future__ import annotations
 
@@ -17,11 +17,12 @@ from tests.repository import KIT, LOGIC, Repository
 from tests.support import SECONDS, TOP, is_there
 from toolbox import program, release
 from toolbox.crates import Crates
-from toolbox.proved import Proved
+from toolbox.proved import PROGRAMS, Made, Proved
 from toolbox.sources import sum_of, sum_of_sources
 
 VERDICT = 'logic=proved functions=1 sum=0123456789abcdef native=nat'
-CRATES = {'pcboard': {'low', 'pcboard'}, 'zebludor_chips': {'low', 'zebludor_chips'}, 'zebludor_run': {'low', 'zebludor_run'}}
+LIBRARIES = ('zebludor_chips', 'zebludor_run')
+CRATES = {it: {'low', it} for it in ('pcboard', *LIBRARIES)} | {'pcprobe': {'low', 'probe', 'pcprobe'}}
 NAME = release.name()
 HAS_CC = is_there('cc', 'a release', 'gcc')  # without it none is made, and no case here is run
 NOBODY = 65534
@@ -66,6 +67,8 @@ WORDS = (
     (f'tools/dbg {RUN}', 'go 100\nquit\n', 'clock 100: F000:0017'),
     (f'tools/moments PAGE {RUN} --key 1E --at 10..11', '', '1 of 1 moments tried, 0 failed'),
     ('tools/keys a', '', '[[2000,30],[2500,158]]'),
+    ('./pcprobe examples/hello.asm examples/hello.json', 'chips\n', 'processor running busy 0 IF 0 inhibits none'),
+    (f'tools/dbg {RUN}', 'chips\nquit\n', 'processor running busy 0'),
     ('tools/runfile', '', '"budget":100000'),
     (f'tools/picture - --of {RUN}', '', '<svg'),
     ('tools/table -', 'REPORT', '\t100\thalted\t'),
@@ -92,15 +95,16 @@ class Unpacked(Repository):
             elif not path.startswith('stored/'):
                 shutil.copy(source, f'{self.top}/{path}')
         os.makedirs(f'{self.top}/stored')
-        shutil.copy(program.path(), f'{self.top}/stored/pcboard')
-        self.file('top/crates.txt', 'low:\npcboard: low\nzebludor_chips staticlib: low\nzebludor_run staticlib: low\n')
+        for name in PROGRAMS:
+            shutil.copy(program.path(name), f'{self.top}/stored/{name}')
+        self.file('top/crates.txt', 'low:\npcboard: low\nprobe: low\npcprobe: low probe\nzebludor_chips staticlib: low\nzebludor_run staticlib: low\n')
         for name in release.LIBRARIES:
             for part in ('src', 'out'):
                 os.makedirs(f'{self.top}/crates/{name}/{part}')
             self.file(f'top/crates/{name}/src/lib.rt', '// nothing\n')
         self.is_real = self.put_libraries()
-        for name in CRATES:
-            self.note(name)
+        for names in (PROGRAMS, *((it,) for it in LIBRARIES)):
+            self.note(*names)
 
     def put_libraries(self) -> bool:
         """Puts the gate's libraries there; where one of them isn't there, stand-ins. Returns whether they are the gate's."""
@@ -130,13 +134,15 @@ class Unpacked(Repository):
 
     def made(self, name: str) -> str:
         """What is built of a crate."""
-        return f'{self.top}/stored/pcboard' if name == 'pcboard' else f'{self.top}/crates/{name}/out/lib{name}.a'
+        return f'{self.top}/stored/{name}' if name in PROGRAMS else f'{self.top}/crates/{name}/out/lib{name}.a'
 
-    def note(self, name: str, **others: str) -> None:
-        """Writes PROVED beside what is built of a crate."""
-        heads = {'program': sum_of(self.made(name)), 'sources': sum_of_sources(CRATES[name], self.top), 'kit': KIT, 'logic': LOGIC} | others
-        told = Proved(**heads, verdicts={it: f'{VERDICT} of={it}' for it in CRATES[name]})
-        self.file(os.path.relpath(f'{os.path.dirname(self.made(name))}/PROVED', self.room), told.text())
+    def note(self, *names: str, kit: str = KIT) -> None:
+        """Writes PROVED beside what is built of these crates, in one folder."""
+        paths = {name: self.made(name) for name in names}
+        made = {os.path.basename(path): Made(sum_of(path), sum_of_sources(CRATES[name], self.top)) for name, path in paths.items()}
+        verdicts = {crate: f'{VERDICT} of={crate}' for name in names for crate in CRATES[name]}
+        folder = os.path.dirname(paths[names[0]])
+        self.file(os.path.relpath(f'{folder}/PROVED', self.room), Proved(kit, LOGIC, made, verdicts).text())
 
     def release(self, into: str = '') -> subprocess.CompletedProcess[str]:
         return self.start(sys.executable, '-S', f'{self.top}/dev/release', '--into', into or self.room)
@@ -215,6 +221,8 @@ class Release(Unpacked):
         for path in (
             'pcboard',
             'stored/pcboard',
+            'pcprobe',
+            'stored/pcprobe',
             'tools/try',
             'python/zebludor.py',
             'c/zebludor.h',
@@ -236,14 +244,11 @@ class Release(Unpacked):
             lines = file.read().splitlines()
         heads = [f'zebludor {release.version()} x86_64-linux', f'kit {KIT}', f'logic {LOGIC}']
         self.assertEqual(lines[:3], heads)
-        made = [
-            (f'{top}/{path}', crate)
-            for path, crate in (('stored/pcboard', 'pcboard'), ('lib/libzebludor_chips.a', 'zebludor_chips'), ('lib/libzebludor_run.a', 'zebludor_run'))
-        ]
+        made = [(f'{top}/{path}', crate) for path, crate in (*((f'stored/{it}', it) for it in PROGRAMS), *((f'lib/lib{it}.a', it) for it in LIBRARIES))]
         self.assertEqual(
-            lines[3:6], [f'made {os.path.relpath(path, top)} {sum_of(path)} sources {sum_of_sources(CRATES[crate], self.top)}' for path, crate in made]
+            lines[3:7], [f'made {os.path.relpath(path, top)} {sum_of(path)} sources {sum_of_sources(CRATES[crate], self.top)}' for path, crate in made]
         )
-        self.assertEqual(lines[6:], [f'{it}: {VERDICT} of={it}' for it in ('low', 'pcboard', 'zebludor_chips', 'zebludor_run')])
+        self.assertEqual(lines[7:], [f'{it}: {VERDICT} of={it}' for it in ('low', 'pcboard', 'pcprobe', 'probe', *LIBRARIES)])
 
     def test_sums(self) -> None:
         top = self.unpacked()
@@ -269,21 +274,22 @@ class Release(Unpacked):
             command, printed = re.findall(r'^```\n(\./pcboard run .*)\n```\n\nprints\n\n```\n(.*?)^```', file.read(), re.M | re.S)[0]
         status, out, told = self.run_in(top, *command.split())
         self.assertEqual((status, out.rstrip()), (0, printed.rstrip()))
-        self.assertRegex(told, r'\Apcboard: this program, stored/pcboard, was proved elsewhere, with rattle-kit-1; RELEASE has [^\n]*\n\Z')
-        self.assertEqual(
-            self.run_in(top, './pcboard', '--version')[:2],
-            (
-                0,
-                f'pcboard {release.version()}\nkit {KIT}\nlogic {LOGIC}\nsources {sum_of_sources(CRATES["pcboard"], self.top)}\n'
-                'program stored/pcboard, proved elsewhere\n',
-            ),
-        )
-        self.assertIn('Usage: pcboard', self.run_in(top, './pcboard', '--help')[1])
+        self.assertRegex(told, r'\Apcboard: the programs [^\n]* were proved elsewhere, with rattle-kit-1; RELEASE has [^\n]*\n\Z')
+        for name in PROGRAMS:
+            self.assertEqual(
+                self.run_in(top, f'./{name}', '--version')[:2],
+                (
+                    0,
+                    f'{name} {release.version()}\nkit {KIT}\nlogic {LOGIC}\nsources {sum_of_sources(CRATES[name], self.top)}\n'
+                    f'program stored/{name}, proved elsewhere\n',
+                ),
+            )
+            self.assertIn(f'Usage: {name}', self.run_in(top, f'./{name}', '--help')[1])
 
     def test_each_tool(self) -> None:
         top = self.unpacked()
         tools = sorted(f'tools/{it}' for it in os.listdir(f'{top}/tools') if os.path.isfile(f'{top}/tools/{it}'))
-        self.assertLess({it.split()[0] for it, _, _ in WORDS}, set(tools))
+        self.assertLess({it.split()[0] for it, _, _ in WORDS}, {*tools, './pcprobe'})
         for tool in tools:
             status, printed, told = self.run_in(top, tool, '--help')
             self.assertEqual((status, told), (0, ''), tool)
@@ -300,13 +306,14 @@ class Release(Unpacked):
 
     def test_one_that_is_damaged(self) -> None:
         top = self.unpacked()
-        os.chmod(f'{top}/stored/pcboard', 0o755)
-        with open(f'{top}/stored/pcboard', 'ab') as file:
-            file.write(b'\n')
-        for ran in (self.launch(has_rt=has_rt, top=top) for has_rt in (True, False)):
-            self.assertEqual((ran.returncode, ran.stdout), (127, ''))
-            self.assertIn('its SHA-256 is another\n', ran.stderr)
-            self.assertIn('unpack its archive again', ran.stderr)
+        for name in PROGRAMS:
+            os.chmod(f'{top}/stored/{name}', 0o755)
+            with open(f'{top}/stored/{name}', 'ab') as file:
+                file.write(b'\n')
+            for ran in (self.launch(has_rt=has_rt, top=top, name=name) for has_rt in (True, False)):
+                self.assertEqual((ran.returncode, ran.stdout), (127, ''))
+                self.assertIn('its SHA-256 is another\n', ran.stderr)
+                self.assertIn('unpack its archive again', ran.stderr)
         self.assertFalse(os.path.exists(f'{top}/crates'))
 
 
@@ -390,14 +397,21 @@ class Lacking(Unpacked):
     def test_other_sources(self) -> None:
         put_back = self.change_text('crates/low/src/lib.rt')
         other = 'it was made of other sources than are here'
-        self.refused(f"stored/pcboard isn't taken: {other}; tools/test", *(f"{it}.a isn't taken: {other}; dev/build {it}" for it in release.LIBRARIES))
+        self.refused(
+            *(f"stored/{it} isn't taken: {other}; tools/test" for it in PROGRAMS), *(f"{it}.a isn't taken: {other}; dev/build {it}" for it in LIBRARIES)
+        )
         put_back()
         self.archive()
 
     def test_another_program(self) -> None:
-        with open(self.made('pcboard'), 'ab') as file:
-            file.write(b'\n')
-        self.refused("stored/pcboard isn't one of which stored/PROVED tells")
+        os.remove(self.made('pcprobe'))
+        one = "isn't one of which stored/PROVED tells"
+        self.refused("stored/pcprobe isn't there", f'stored/pcprobe {one}')
+        shutil.copy(program.path('pcprobe'), self.made('pcprobe'))
+        for name in PROGRAMS:
+            with open(self.made(name), 'ab') as file:
+                file.write(b'\n')
+        self.refused(*(f'stored/{name} {one}' for name in PROGRAMS))
 
     def test_a_verdict_that_is_unknown(self) -> None:
         path = f'{self.top}/crates/zebludor_run/out/PROVED'
@@ -408,7 +422,7 @@ class Lacking(Unpacked):
 
     def test_another_kit(self) -> None:
         self.note('zebludor_chips', kit='rattle-kit-0')
-        self.refused('rattle-kit-0 made it, and rattle-kit-1 stored/pcboard')
+        self.refused('rattle-kit-0 made it, and rattle-kit-1 the stored programs')
 
     def test_no_kit(self) -> None:
         os.remove(f'{self.room}/bin/rt')

@@ -1,4 +1,5 @@
-"""The program that is stored in the repository: how it gets there, when the launcher takes it, and that it is what is built."""
+"""The programs that are stored in the repository: how they get there, when the launcher takes them, and that they are what is
+built."""
 from __future__ import annotations
 
 import os
@@ -20,21 +21,27 @@ from toolbox.sources import sum_of, sum_of_sources
 
 VERDICT = 'logic=proved functions=1 sum=0123456789abcdef native=nat'
 AT_ONCE = (0, 'it runs run\n')
-# What `rt ci` prints and leaves, where it proves two crates and keeps one.
+NAMES = ('pcboard', 'pcprobe')
+BELOW = {'pcboard': ['low', 'pcboard'], 'pcprobe': ['low', 'pcprobe', 'probe']}
+ALL = sorted({*BELOW['pcboard'], *BELOW['pcprobe']})
+# What `rt ci` prints and leaves, where it proves the crates of both programs and keeps another one.
 CI = rf"""#!/bin/sh
 [ "$1" != version ] || {{ echo "{KIT} logic {LOGIC}"; exit; }}
 printf '== low\nfn it: proved\n{VERDICT}\nrt: low proved\nrt: other is kept: as before\n'
-printf '== low: its tests\nlogic=proved tests=1 functions=9\nrt: low: its tests are proved\n== pcboard\n{VERDICT}\nrt: pcboard proved\n'
-mkdir -p crates/pcboard/out
-printf '#!/bin/sh\n[ "$1" != --help ] || exit 2\necho "it runs $*"\n' > crates/pcboard/out/pcboard
-chmod +x crates/pcboard/out/pcboard
-echo HI > crates/pcboard/out/stdout
+printf '== low: its tests\nlogic=proved tests=1 functions=9\nrt: low: its tests are proved\n== probe\n{VERDICT}\nrt: probe proved\n'
+for name in pcboard pcprobe; do
+    printf '== %s\n{VERDICT}\nrt: %s proved\n' $name $name
+    mkdir -p crates/$name/out
+    printf '#!/bin/sh\n# %s\n[ "$1" != --help ] || exit 2\necho "it runs $*"\n' $name > crates/$name/out/$name
+    chmod +x crates/$name/out/$name
+    echo HI > crates/$name/out/stdout
+done
 echo '3 passed, 0 failed'
 """
 
 
 class Stored(Repository):
-    """A stored program in a repository of two crates."""
+    """Stored programs in that repository."""
 
     made: dict[str, str] = {}
 
@@ -48,14 +55,25 @@ class Stored(Repository):
         self.assertEqual(ran.returncode, 0, ran.stderr)
         return ran.stdout + ran.stderr
 
+    def build_both(self) -> None:
+        for name in NAMES:
+            self.build(name)
+
+    def proved(self, folder: str) -> proved.Proved:
+        """The text PROVED in a folder, which is there."""
+        found = proved.read(folder)
+        assert found
+        return found
+
     def store(self) -> None:
-        """Leaves a clone as it is made from a repository in which a program was built and stored, which is done once for all cases."""
+        """Leaves a clone as it is made from a repository in which programs were built and stored, which is done once for all cases."""
         if not Stored.made:
-            self.build('pcboard')
+            self.build_both()
             self.build('--store')
-            shutil.rmtree(self.out)
+            for name in NAMES:
+                shutil.rmtree(f'{self.top}/crates/{name}/out')
             shutil.rmtree(f'{self.room}/cache')
-            for name in ('pcboard', 'PROVED'):
+            for name in (*NAMES, 'PROVED'):
                 with open(f'{self.stored}/{name}', encoding='utf-8') as file:
                     Stored.made[name] = file.read()
         os.makedirs(self.stored, exist_ok=True)
@@ -63,37 +81,62 @@ class Stored(Repository):
             os.chmod(self.file(f'top/stored/{name}', text), 0o755)
 
     def at_once(self, top: str = '') -> str:
-        """What standard error has where it runs at once, with Rattle and without."""
-        told = [self.launch(has_rt=has_rt, top=top) for has_rt in (False, True)]
-        for ran in told:
-            self.assertEqual((ran.returncode, ran.stdout), AT_ONCE)
-        self.assertFalse(os.path.exists(f'{top or self.top}/crates/pcboard/out'))
-        return ''.join(it.stderr for it in told)
+        """What standard error has where both run at once, with Rattle and without."""
+        found = ''
+        for name in NAMES:
+            for has_rt in (False, True):
+                ran = self.launch(has_rt=has_rt, top=top, name=name)
+                self.assertEqual((ran.returncode, ran.stdout), AT_ONCE)
+                found += ran.stderr
+            self.assertFalse(os.path.exists(f'{top or self.top}/crates/{name}/out'))
+        return found
 
-    def put(self, text: str) -> None:
+    def put(self, text: str, name: str = 'pcboard') -> None:
         """Makes this the stored program, of which PROVED tells."""
-        path = self.file('top/stored/pcboard', text)
+        path = self.file(f'top/stored/{name}', text)
         os.chmod(path, 0o755)
-        told = proved.read(self.stored)
-        assert told
-        self.file('top/stored/PROVED', told.text().replace(told.program, sum_of(path)))
+        whole = self.proved(self.stored)
+        self.file('top/stored/PROVED', whole.text().replace(whole.made[name].sum, sum_of(path)))
 
-    def test_it_answers_at_once_and_says_once_where_it_was_proved(self) -> None:
+    def test_they_answer_at_once_and_it_is_said_once_where_they_were_proved(self) -> None:
         self.store()
-        told = self.launch(has_rt=False).stderr
-        self.assertEqual(told.count('\n'), 1)
-        for words in ('was proved elsewhere', KIT, 'dev/build pcboard proves it here'):
-            self.assertIn(words, told)
+        said = self.launch(has_rt=False).stderr
+        self.assertEqual(said.count('\n'), 1)
+        for words in ('stored/pcboard and stored/pcprobe were proved elsewhere', KIT, 'dev/build pcboard proves this one here'):
+            self.assertIn(words, said)
         self.assertEqual(self.at_once(), '')
+        shutil.rmtree(f'{self.room}/cache')
+        self.assertIn('dev/build pcprobe proves this one here', self.launch(name='pcprobe').stderr)
 
     def test_where_nothing_can_be_kept_it_is_said_again(self) -> None:
         self.store()
-        launcher, nowhere = f'{self.top}/pcboard', self.file('a file', '')
-        for more in ({'XDG_CACHE_HOME': f'{nowhere}/cache'}, {'HOME': nowhere}, {}):
-            for _ in range(2):
-                ran = subprocess.run([launcher, 'run'], capture_output=True, text=True, check=False, env={'PATH': '/usr/bin:/bin', **more})
-                self.assertEqual((ran.returncode, ran.stdout), AT_ONCE)
-                self.assertRegex(ran.stderr, r'\Apcboard: this program, [^\n]*proved elsewhere[^\n]*\n\Z')
+        nowhere = self.file('a file', '')
+        for name in NAMES:
+            for more in ({'XDG_CACHE_HOME': f'{nowhere}/cache'}, {'HOME': nowhere}, {}):
+                for _ in range(2):
+                    ran = subprocess.run([f'{self.top}/{name}', 'run'], capture_output=True, text=True, check=False, env={'PATH': '/usr/bin:/bin', **more})
+                    self.assertEqual((ran.returncode, ran.stdout), AT_ONCE)
+                    self.assertRegex(ran.stderr, rf'\A{name}: the programs [^\n]*proved elsewhere[^\n]*\n\Z')
+
+    def test_the_launcher_has_two_names(self) -> None:
+        """A link of any name to one of them starts what that one starts."""
+        self.assertEqual(os.readlink(f'{TOP}/pcprobe'), 'pcboard')
+        self.store()
+        os.makedirs(f'{self.room}/links')
+        for link, to in (
+            ('one', f'{self.top}/pcprobe'),
+            ('two', 'one'),
+            ('three', '../links/two'),
+            ('pcprobe', f'{self.top}/pcprobe'),
+            ('board', '../top/pcboard'),
+        ):
+            os.symlink(to, f'{self.room}/links/{link}')
+        for link in ('one', 'two', 'three', 'pcprobe', 'board'):
+            name = 'pcboard' if link == 'board' else 'pcprobe'
+            ran = self.start(
+                '/bin/sh', '-c', 'cd "$1" && "$2" --version && bash "$2" --version && PATH=$1:$PATH "${2#./}" --version', '', f'{self.room}/links', f'./{link}'
+            )
+            self.assertEqual(re.findall('^program .*$', ran.stdout, re.M), [f'program stored/{name}, proved elsewhere'] * 3, link)
 
     def test_a_clone_that_is_copied_moved_touched_or_only_read(self) -> None:
         self.store()
@@ -104,7 +147,7 @@ class Stored(Repository):
         os.symlink(places[1], places[2])
         for place in places:
             self.assertEqual(self.at_once(place), '', place)
-        for path in ('crates/low/src/lib.rt', 'crates.txt', 'stored/pcboard', 'stored/PROVED'):
+        for path in ('crates/low/src/lib.rt', 'crates.txt', 'stored/pcboard', 'stored/pcprobe', 'stored/PROVED'):
             os.utime(f'{places[0]}/{path}')
         for folder, _, files in os.walk(places[0], topdown=False):
             for path in (*(f'{folder}/{it}' for it in files), folder):
@@ -130,19 +173,19 @@ class Stored(Repository):
         self.assertEqual((self.launch(has_rt=False).stderr, self.launch().stderr), ('', ''))
         self.assertIn('program stored/pcboard, proved elsewhere\n', self.launch('--version').stdout)
 
-    def compared(self) -> int:
+    def compared(self, name: str = 'pcboard') -> int:
         """How many sums a call works out."""
         self.file('summed', '')
-        self.assertEqual(self.launch('--version').returncode, 0)
+        self.assertEqual(self.launch('--version', name=name).returncode, 0)
         with open(f'{self.room}/summed', encoding='utf-8') as file:
             return len(file.read())
 
-    def note(self) -> str:
+    def note(self, name: str = 'pcboard') -> str:
         """The note of a comparison, which a call makes once all files are older."""
         os.chmod(self.file('bin/sha256sum', f'#!/bin/sh\nprintf x >> {self.room}/summed\nexec /usr/bin/sha256sum "$@"\n'), 0o755)
-        path = f'{self.room}/cache/zebludor/compared{self.top.replace("/", "+")}'
+        path = f'{self.room}/cache/zebludor/compared-{name}{self.top.replace("/", "+")}'
         for _ in range(100):
-            self.compared()
+            self.compared(name)
             if os.path.exists(path):
                 break
             time.sleep(0.01)
@@ -159,6 +202,29 @@ class Stored(Repository):
             self.assertGreater(self.compared(), 0)
             self.assertEqual(self.compared(), 0)
         self.assertFalse([it for it in os.listdir(os.path.dirname(note)) if it.startswith('note-')])
+
+    def test_each_looks_at_its_own_sources(self) -> None:
+        """Those of pcprobe's crates are none of pcboard's, whatever becomes of them."""
+        self.store()
+        for name in NAMES:
+            self.note(name)
+            self.assertEqual(self.compared(name), 0)
+        before = self.launch('--version').stdout
+        os.chmod(self.file('bin/find', f'#!/bin/sh\nprintf "%s\\n" "$@" >> {self.room}/looked\nexec /usr/bin/find "$@"\n'), 0o755)
+        for path in ('crates/probe/src/lib.rt', 'crates/pcprobe/src/main.rt', 'crates/probe/proofs/New.antt', 'crates/other/src/lib.rt'):
+            put_back = self.change_text(path)
+            self.assertEqual(self.compared(), 0, path)
+            is_its_own = not path.startswith('crates/other')
+            self.assertEqual('made of other sources' in self.launch('--version', name='pcprobe').stdout, is_its_own, path)
+            put_back()
+        self.assertEqual(self.launch('--version').stdout, before)
+        os.remove(f'{self.room}/looked')
+        self.compared()
+        with open(f'{self.room}/looked', encoding='utf-8') as file:
+            looked = file.read()
+        self.assertIn('crates/low/src\n', looked)
+        for crate in ('probe', 'pcprobe', 'other'):
+            self.assertNotIn(f'crates/{crate}/', looked)
 
     def test_what_is_touched_is_compared_again(self) -> None:
         """Also what is changed with its size and time kept, and what is written back."""
@@ -212,11 +278,32 @@ class Stored(Repository):
         shutil.rmtree(self.stored)
         self.assertNotIn('stored', self.launch(has_rt=False).stderr)
 
-    def not_taken(self, why: str) -> None:
+    def test_one_that_is_missing_or_damaged_leaves_the_other(self) -> None:
+        for gone, other in (NAMES, NAMES[::-1]):
+            self.store()
+            for damage, why in (
+                (lambda: os.truncate(f'{self.stored}/{gone}', 9), 'its SHA-256 is another'),
+                (lambda: os.remove(f'{self.stored}/{gone}'), f"one of stored/{gone} and stored/PROVED isn't there"),
+            ):
+                damage()
+                self.not_taken(why, gone)
+                ran = self.launch(has_rt=False, name=other)
+                self.assertEqual((ran.returncode, ran.stdout), AT_ONCE)
+                self.assertNotIn('taken', ran.stderr)
+        self.store()
+        self.file('top/stored/PROVED', re.sub('made pcprobe .*\n', '', Stored.made['PROVED']))
+        self.not_taken('its SHA-256 is another', 'pcprobe')
+        self.assertEqual(self.launch(has_rt=False).returncode, 0)
+        for name, others in (('pcprobe', 'pcboard'), ('pcboard', 'pcprobe')):  # nor is one taken for the other
+            shutil.copy(f'{self.stored}/{others}', f'{self.stored}/{name}')
+            self.not_taken('its SHA-256 is another', name)
+            self.store()
+
+    def not_taken(self, why: str, name: str = 'pcboard') -> None:
         """Without Rattle nothing runs, and it is told why."""
-        ran = self.launch(has_rt=False)
+        ran = self.launch(has_rt=False, name=name)
         self.assertEqual((ran.returncode, ran.stdout), (127, ''), why)
-        self.assertRegex(ran.stderr, rf"\Apcboard: stored/pcboard isn't taken: .*{why}\n")
+        self.assertRegex(ran.stderr, rf"\A{name}: stored/{name} isn't taken: .*{why}\n")
 
     def is_built_instead(self, why: str) -> None:
         """With Rattle one is built then, and it is told why."""
@@ -243,108 +330,149 @@ class Stored(Repository):
         self.assertEqual(self.launch(has_rt=False).stdout, 'stored\n')
 
     def test_the_version_tells_which_program_answers(self) -> None:
+        for name in NAMES:
+            self.versions(name)
+
+    def versions(self, name: str) -> None:
+        """What the version of a program tells, from its being stored on."""
+
         def told() -> list[str]:
-            ran = self.launch('--version', has_rt=False)
+            ran = self.launch('--version', has_rt=False, name=name)
             self.assertEqual((ran.returncode, ran.stderr), (0, ''))
-            return ran.stdout.splitlines()[1:]
+            first, *rest = ran.stdout.splitlines()
+            self.assertRegex(first, rf'\A{name} \d')
+            return rest
 
         self.store()
         self.launch()
-        facts = [f'kit {KIT}', f'logic {LOGIC}', f'sources {sum_of_sources(["low", "pcboard"], self.top)}']
-        self.assertEqual(told(), [*facts, 'program stored/pcboard, proved elsewhere'])
-        os.truncate(f'{self.stored}/pcboard', 9)
-        self.assertEqual(told()[3:], ['program none', "stored/pcboard isn't taken: it isn't the one of which stored/PROVED tells: its SHA-256 is another"])
-        self.build('pcboard')
-        self.assertEqual(told(), [*facts, 'program crates/pcboard/out/pcboard, built here'])
-        self.change_text('crates/low/src/lib.rt')
-        self.assertEqual(told()[3], 'program crates/pcboard/out/pcboard, made of other sources')
-        self.stand_in('echo another')
+        facts = [f'kit {KIT}', f'logic {LOGIC}', f'sources {sum_of_sources(BELOW[name], self.top)}']
+        self.assertEqual(told(), [*facts, f'program stored/{name}, proved elsewhere'])
+        os.truncate(f'{self.stored}/{name}', 9)
+        self.assertEqual(told()[3:], ['program none', f"stored/{name} isn't taken: it isn't the one of which stored/PROVED tells: its SHA-256 is another"])
+        self.build(name)
+        path = f'crates/{name}/out/{name}'
+        self.assertEqual(told(), [*facts, f'program {path}, built here'])
+        put_back = self.change_text('crates/low/src/lib.rt')
+        self.assertEqual(told()[3], f'program {path}, made of other sources')
+        put_back()
+        self.file(f'top/{path}', '#!/bin/sh\necho another\n')
         self.assertNotIn(f'kit {KIT}', told())
-        self.assertEqual(told()[3], 'program crates/pcboard/out/pcboard, built here (no source is newer)')
-        self.touch('crates/low/src/lib.rt')
-        self.assertEqual(told()[3], 'program crates/pcboard/out/pcboard, perhaps made of other sources')
+        self.assertEqual(told()[3], f'program {path}, built here (no source is newer)')
+        later = os.stat(f'{self.top}/{path}').st_mtime + 3600
+        os.utime(f'{self.top}/crates/low/src/lib.rt', (later, later))
+        self.assertEqual(told()[3], f'program {path}, perhaps made of other sources')
+        os.utime(f'{self.top}/crates/low/src/lib.rt', (1, 1))
 
     def test_the_tools_take_the_same(self) -> None:
         for name in ('program', 'comments'):
             shutil.copy(f'{TOP}/tools/toolbox/{name}.py', f'{self.top}/tools/toolbox')
         os.mkdir(f'{self.top}/python')
         shutil.copy(f'{TOP}/python/zebludor.py', f'{self.top}/python')
-        ask = ['/usr/bin/env', 'python3', '-B', '-c', f'import sys; sys.path.insert(0, "{self.top}/tools"); from toolbox import program; print(program.path())']
-        self.assertIn('no program is built here; a first run of ./pcboard builds one', self.start(*ask).stderr)
+        asked = f'import sys; sys.path.insert(0, "{self.top}/tools"); from toolbox import program; print(program.path("%s"))'
+        ask = {name: ['/usr/bin/env', 'python3', '-B', '-c', asked % name] for name in NAMES}
+        for name in NAMES:
+            self.assertIn(f'no {name} is built here; a first run of ./{name} builds one, or name one in {name.upper()}', self.start(*ask[name]).stderr)
         self.store()
-        first, then = self.start(*ask), self.start(*ask)
-        self.assertEqual((first.stdout, then.stdout, then.stderr), (*[f'{self.stored}/pcboard\n'] * 2, ''))
+        first, then = self.start(*ask['pcboard']), self.start(*ask['pcprobe'])
+        self.assertEqual((first.stdout, then.stdout, then.stderr), (f'{self.stored}/pcboard\n', f'{self.stored}/pcprobe\n', ''))
         self.assertIn('proved elsewhere', first.stderr)
-        os.truncate(f'{self.stored}/pcboard', 9)
-        self.assertIn("stored/pcboard isn't taken", self.start(*ask).stderr)
-        self.build('pcboard')
+        for name in NAMES:
+            os.truncate(f'{self.stored}/{name}', 9)
+            self.assertIn(f"stored/{name} isn't taken", self.start(*ask[name]).stderr)
+            self.build(name)
         self.change_text('crates/low/src/lib.rt')
-        self.assertEqual(self.start(*ask).stdout, f'{self.out}/pcboard\n')
+        for name in NAMES:
+            self.assertEqual(self.start(*ask[name]).stdout, f'{self.top}/crates/{name}/out/{name}\n')
+            another, none = self.file('another', '#!/bin/sh\n'), f'{self.room}/none'
+            os.chmod(another, 0o755)
+            self.assertEqual(self.start('/usr/bin/env', f'{name.upper()}={another}', *ask[name][1:]).stdout, f'{another}\n')
+            self.assertIn(f"the program {none} isn't there", self.start('/usr/bin/env', f'{name.upper()}={none}', *ask[name][1:]).stderr)
 
     def test_a_proof_here_is_compared(self) -> None:
-        self.store()
-        self.assertIn('pcboard: its bytes are those of stored/pcboard, and the verdicts are the same\n', self.build('pcboard'))
-        told = proved.read(self.stored)
-        assert told
-        self.file('top/stored/PROVED', told.text().replace(f'low: {VERDICT}', 'low: logic=proved functions=2').replace(KIT, 'rattle-kit-0'))
-        self.assertIn(f'its bytes are those of stored/pcboard, by {KIT} as by rattle-kit-0, but the verdicts of low are others\n', self.build('pcboard'))
-        self.file('top/stored/PROVED', told.text())
-        self.put('#!/bin/sh\necho another\n')
-        self.assertIn('its bytes are NOT those of stored/pcboard, which the same kit made of the same sources\n', self.build('pcboard'))
-        os.truncate(f'{self.stored}/pcboard', 9)
-        self.assertIn("stored/pcboard isn't the one that stored/PROVED tells of\n", self.build('pcboard'))
+        for name in NAMES:
+            self.store()
+            whole = self.proved(self.stored).text()
+            self.assertIn(f'{name}: its bytes are those of stored/{name}, and the verdicts are the same\n', self.build(name))
+            self.file('top/stored/PROVED', whole.replace(f'low: {VERDICT}', 'low: logic=proved functions=2').replace(KIT, 'rattle-kit-0'))
+            self.assertIn(f'its bytes are those of stored/{name}, by {KIT} as by rattle-kit-0, but the verdicts of low are others\n', self.build(name))
+            self.file('top/stored/PROVED', whole)
+            self.put('#!/bin/sh\necho another\n', name)
+            self.assertIn(f'its bytes are NOT those of stored/{name}, which the same kit made of the same sources\n', self.build(name))
+            os.truncate(f'{self.stored}/{name}', 9)
+            self.assertIn(f"stored/{name} isn't the one that stored/PROVED tells of\n", self.build(name))
 
     def refused(self) -> str:
         """What is told where nothing is stored."""
-        before = proved.read(self.stored)
+
+        def held() -> dict[str, bytes]:
+            found = {}
+            for name in os.listdir(self.stored) if os.path.isdir(self.stored) else ():
+                with open(f'{self.stored}/{name}', 'rb') as file:
+                    found[name] = file.read()
+            return found
+
+        before = held()
         ran = self.start(f'{self.top}/dev/build', '--store')
-        self.assertEqual((ran.returncode, ran.stdout, proved.read(self.stored)), (2, '', before))
+        self.assertEqual((ran.returncode, ran.stdout, held()), (2, '', before))
         return ran.stderr
 
     def test_what_is_stored(self) -> None:
         self.assertIn('crates/pcboard/out has no program', self.refused())
         self.build('pcboard')
-        self.assertIn(f'{KIT}, 2 verdicts', self.build('--store'))
-        self.assertEqual(os.stat(f'{self.stored}/pcboard').st_mode & 0o777, 0o755)
+        self.assertIn('crates/pcprobe/out has no program; tools/test makes one, and so do rt ci and dev/build pcprobe', self.refused())
+        self.build('pcprobe')
+        self.assertIn(f'stored/PROVED: {KIT}, 4 verdicts', self.build('--store'))
         with open(f'{self.stored}/PROVED', encoding='utf-8') as file:
-            told = file.read()
-        self.assertEqual(
-            told.splitlines(),
-            [
-                f'program {sum_of(f"{self.out}/pcboard")}',
-                f'sources {sum_of_sources(["low", "pcboard"], self.top)}',
-                f'kit {KIT}',
-                f'logic {LOGIC}',
-                f'low: {VERDICT}',
-                f'pcboard: {VERDICT}',
-            ],
-        )
-        self.assertEqual(sum_of(f'{self.stored}/pcboard'), sum_of(f'{self.out}/pcboard'))
-        self.change_text('crates/low/src/lib.rt')
-        self.assertIn('crates/pcboard/out/pcboard is not made of the present sources', self.refused())
+            lines = file.read().splitlines()
+        made = [f'made {name} {sum_of(f"{self.stored}/{name}")} sources {sum_of_sources(BELOW[name], self.top)}' for name in NAMES]
+        self.assertEqual(lines, [f'kit {KIT}', f'logic {LOGIC}', *made, *(f'{crate}: {VERDICT}' for crate in ALL)])
+        self.assertEqual(sorted(os.listdir(self.stored)), ['PROVED', *NAMES])
+        for name in NAMES:
+            self.assertEqual(os.stat(f'{self.stored}/{name}').st_mode & 0o777, 0o755)
+            self.assertEqual(sum_of(f'{self.stored}/{name}'), sum_of(f'{self.top}/crates/{name}/out/{name}'))
+
+    def test_both_are_renewed_or_none(self) -> None:
+        self.build_both()
+        self.build('--store')
+        for gone in NAMES:
+            os.rename(f'{self.top}/crates/{gone}/out', f'{self.room}/out')
+            self.assertIn(f'crates/{gone}/out has no program', self.refused())
+            os.rename(f'{self.room}/out', f'{self.top}/crates/{gone}/out')
+        for crate, stale in (('pcprobe', 'pcprobe'), ('probe', 'pcprobe'), ('pcboard', 'pcboard'), ('low', 'pcboard')):
+            put_back = self.change_text(f'crates/{crate}/src/New.rt')
+            self.assertIn(f'crates/{stale}/out/{stale} is not made of the present sources', self.refused())
+            put_back()
+        self.change_text('crates/probe/src/lib.rt')
+        self.build('pcprobe')
+        self.build('--store')
+        self.assertEqual(self.proved(self.stored).made['pcprobe'].sources, sum_of_sources(BELOW['pcprobe'], self.top))
+
+    def test_one_kit_makes_both(self) -> None:
+        self.build('pcboard')
         self.file('bin/rt', '#!/bin/sh\necho "rattle-kit-2 logic 0"\n')
+        self.build('pcprobe')
+        self.assertIn(f'{KIT} made crates/pcboard/out/pcboard and rattle-kit-2 made crates/pcprobe/out/pcprobe; one kit has to make both', self.refused())
         self.build('pcboard')
         shutil.rmtree(f'{self.room}/cache')
         self.file('bin/rt', f'#!/bin/sh\necho "{KIT} logic {LOGIC}"\n')
-        self.assertIn('rattle-kit-2, 2 verdicts', self.build('--store'))
-        told = proved.read(self.out)
-        assert told
-        self.file('top/crates/pcboard/out/PROVED', told.text().replace(f'low: {VERDICT}\n', ''))
+        self.assertIn('rattle-kit-2, 4 verdicts', self.build('--store'))
+        self.file('top/crates/pcprobe/out/PROVED', self.proved(f'{self.top}/crates/pcprobe/out').text().replace(f'low: {VERDICT}\n', ''))
         self.assertIn("was built by rattle-kit-2, which isn't the kit that is here", self.refused())
 
     def test_a_crate_whose_verdict_is_lost_is_proved_again(self) -> None:
-        self.build('pcboard')
+        self.build_both()
         shutil.rmtree(f'{self.room}/cache/zebludor/verdicts')
         self.assertIn('2 of 2: pcboard', self.build('pcboard'))
+        self.assertIn('3 of 3: pcprobe', self.build('pcprobe'))
         self.build('--store')
 
     def test_verdicts_that_are_unknown_can_be_proved_alone(self) -> None:
         """Nothing that stands there is changed by it."""
         self.file('bin/rt', CI)
         self.start('/bin/sh', '-c', 'cd "$1" && rt ci', '', self.top)
-        before = sorted(os.walk(self.out))
-        self.assertEqual(re.findall(r'proving (\w+) again', self.build('--verdicts')), ['low', 'pcboard'])
-        self.assertEqual(sorted(os.walk(self.out)), before)
+        before = sorted(os.walk(f'{self.top}/crates'))
+        self.assertEqual(re.findall(r'proving (\w+) again', self.build('--verdicts')), ALL)
+        self.assertEqual(sorted(os.walk(f'{self.top}/crates')), before)
         self.assertEqual(self.build('--verdicts'), '')
         self.build('--store')
 
@@ -365,40 +493,46 @@ class Stored(Repository):
         )
         self.assertEqual((ran.stdout.splitlines()[-1:], ran.stderr), ([counts], ''))
 
-    def test_one_that_the_gate_built_is_stored(self) -> None:
+    def test_those_that_the_gate_built_are_stored(self) -> None:
         self.by_gate()
-        told = proved.read(self.out)
-        assert told
-        self.assertEqual(told.verdicts, {'low': VERDICT, 'pcboard': VERDICT})
-        self.assertEqual(self.launch('--version').stdout.splitlines()[-1], 'program crates/pcboard/out/pcboard, built here')
+        for name in NAMES:
+            self.assertEqual(self.proved(f'{self.top}/crates/{name}/out').verdicts, dict.fromkeys(BELOW[name], VERDICT))
+            self.assertEqual(self.launch('--version', name=name).stdout.splitlines()[-1], f'program crates/{name}/out/{name}, built here')
         self.build('--store')
-        self.assertEqual(proved.read(self.stored), told)
+        stored = self.proved(self.stored)
+        self.assertEqual((stored.kit, stored.logic, stored.verdicts), (KIT, LOGIC, dict.fromkeys(ALL, VERDICT)))
+        for name in NAMES:
+            self.assertEqual(stored.made[name], self.proved(f'{self.top}/crates/{name}/out').made[name])
 
     def test_a_gate_that_failed_or_whose_sources_changed_meanwhile_tells_nothing_of_the_program(self) -> None:
         self.by_gate(CI.replace('3 passed, 0', '2 passed, 1'), '(2, 1)')
         self.assertIsNone(proved.read(self.out))
         shutil.rmtree(f'{self.room}/cache')
-        self.by_gate(CI.replace('mkdir', 'echo "// more" >> crates/low/src/lib.rt\nmkdir'))
-        self.assertIsNone(proved.read(self.out))
-        self.assertIn('nothing here has seen the verdicts of low, pcboard', self.refused())
+        self.by_gate(CI.replace('for name', 'echo "// more" >> crates/probe/src/lib.rt\nfor name'))
+        self.assertEqual((proved.read(self.out) is None, proved.read(f'{self.top}/crates/pcprobe/out')), (False, None))
+        self.assertIn('nothing here has seen the verdicts of pcprobe, probe', self.refused())
 
-    def test_one_that_rt_ci_left_is_stored_by_its_time_once_its_verdicts_are_known(self) -> None:
+    def test_those_that_rt_ci_left_are_stored_by_their_time_once_their_verdicts_are_known(self) -> None:
         self.file('bin/rt', CI)
         printed = self.start('/bin/sh', '-c', 'cd "$1" && rt ci', '', self.top).stdout
         self.assertIn('nothing here has seen the verdicts of low, pcboard; ', self.refused())
-        self.assertEqual(self.build('--seen', self.file('log', printed), self.top), '2 verdicts: low pcboard\n')
-        self.assertFalse(os.path.exists(f'{self.out}/PROVED'))
+        self.assertEqual(self.build('--seen', self.file('log', printed), self.top), f'4 verdicts: {" ".join(ALL)}\n')
+        for name in NAMES:
+            self.assertFalse(os.path.exists(f'{self.top}/crates/{name}/out/PROVED'))
         self.touch('crates/low/src/lib.rt')
         self.assertIn('crates/low/src/lib.rt is newer than crates/pcboard/out/pcboard', self.refused())
         ran = self.start(f'{self.top}/dev/build', '--seen', f'{self.room}/log', self.top)
         self.assertEqual(ran.returncode, 2)
         self.assertIn(f'is newer than {self.room}/log', ran.stderr)
         os.utime(f'{self.top}/crates/low/src/lib.rt', (1, 1))
-        os.rename(f'{self.out}/stdout', f'{self.room}/stdout')
-        self.assertIn('nothing tells what crates/pcboard/out/pcboard was made of', self.refused())  # as of one that was copied there
-        os.rename(f'{self.room}/stdout', f'{self.out}/stdout')
+        for name in NAMES:
+            out = f'{self.top}/crates/{name}/out'
+            os.rename(f'{out}/stdout', f'{self.room}/stdout')
+            self.assertIn(f'nothing tells what crates/{name}/out/{name} was made of', self.refused())  # as of one that was copied there
+            os.rename(f'{self.room}/stdout', f'{out}/stdout')
         self.build('--store')
-        shutil.rmtree(self.out)
+        for name in NAMES:
+            shutil.rmtree(f'{self.top}/crates/{name}/out')
         self.assertIn('proved elsewhere', self.at_once())
 
     def test_verdicts_are_read_from_what_rt_ci_prints(self) -> None:
@@ -429,70 +563,82 @@ class Checkout(ToolCase):
             return
         top, text = f'{self.room}/top', b'one\r\ntwo\nthree\0\n'
         git = ['git', '-c', 'core.autocrlf=true', '-c', 'user.name=it', '-c', 'user.email=it', '-c', 'commit.gpgsign=false']
-        paths = ('stored/pcboard', 'stored/PROVED', 'crates.txt', 'crates/isa/src/lib.rt', 'crates/isa/specs/Lib.antt')
+        paths = ('stored/pcboard', 'stored/pcprobe', 'stored/PROVED', 'crates.txt', 'crates/isa/src/lib.rt', 'crates/isa/specs/Lib.antt')
         for path in paths:
             os.makedirs(f'{top}/{os.path.dirname(path)}', exist_ok=True)
             with open(f'{top}/{path}', 'wb') as file:
                 file.write(text)
-        os.chmod(f'{top}/stored/pcboard', 0o755)
+        for name in NAMES:
+            os.chmod(f'{top}/stored/{name}', 0o755)
         shutil.copy(f'{TOP}/.gitattributes', top)
         for words in (['init', '-q'], ['add', '.'], ['commit', '-q', '-m', 'it'], ['clone', '-q', '.', f'{self.room}/clone']):
             subprocess.run([*git, *words], cwd=top, check=True, stdin=subprocess.DEVNULL, stderr=subprocess.DEVNULL)
         for path in paths:
             with open(f'{self.room}/clone/{path}', 'rb') as file:
                 self.assertEqual(file.read(), text, path)
-        self.assertTrue(os.access(f'{self.room}/clone/stored/pcboard', os.X_OK))
+        for name in NAMES:
+            self.assertTrue(os.access(f'{self.room}/clone/stored/{name}', os.X_OK))
 
 
 class Gate(ToolCase):
-    """The stored program against the one that is tested, which the gate built."""
+    """The stored programs against those that are tested, which the gate built."""
 
     def test_what_was_built_has_the_stored_bytes(self) -> None:
         """By the same kit of the same sources. A stored program that is older than the sources is told, and no failure."""
-        stored, built = proved.read(f'{TOP}/stored'), proved.read(os.path.dirname(os.path.realpath(program.path())))
-        if stored is None:
-            self.assertFalse(os.path.exists(f'{TOP}/stored/pcboard'))
-            print('not run: no program is stored')
-            return
-        self.assertTrue(stored.is_of(f'{TOP}/stored/pcboard'), "the stored program isn't the one that stored/PROVED tells of")
-        names = Crates(TOP).below('pcboard')
+        stored = proved.read(f'{TOP}/stored')
+        assert stored
+        self.assertEqual(sorted(stored.made), [*NAMES], 'stored/PROVED tells of others than the stored programs')
+        for name in NAMES:
+            self.compare(name, stored)
+
+    def compare(self, name: str, stored: proved.Proved) -> None:
+        """Compares one of them."""
+        path, names = os.path.realpath(program.path(name)), Crates(TOP).below(name)
+        self.assertTrue(stored.of(f'{TOP}/stored/{name}'), f"stored/{name} isn't the one that stored/PROVED tells of")
         present = sum_of_sources(names, TOP)
-        if stored.sources == present:
-            self.assertEqual(stored.verdicts.keys(), names)
-        if built and not built.is_of(program.path()):
+        if stored.made[name].sources == present:
+            self.assertLessEqual(names, stored.verdicts.keys())
+        built = proved.read(os.path.dirname(path))
+        if built and not built.of(path):
             built = None
-        why = proved.incomparable(stored, built, present)
+        why = proved.incomparable(name, stored, built, present)
         if why or built is None:
             print(f'not run: {why}')
             return
-        self.assertEqual(built.program, stored.program)
-        self.assertEqual({it: stored.verdicts[it] for it in built.verdicts}, built.verdicts)
+        self.assertEqual(built.made[name], stored.made[name])
+        self.assertEqual({crate: stored.verdicts[crate] for crate in built.verdicts}, built.verdicts)
 
     def test_when_they_are_compared(self) -> None:
-        stored = proved.Proved('program', 'sources', 'kit', 'logic', {})
+        def made_of(sources: str, its_sum: str = 'sum') -> dict[str, proved.Made]:
+            return {'pcprobe': proved.Made(its_sum, sources), 'pcboard': proved.Made('sum', 'its own')}
+
+        stored = proved.Proved('kit', 'logic', made_of('sources'), {})
         for built, present, why in (
             (stored, 'sources', None),
-            (replace(stored, program='other', logic='other'), 'sources', None),
+            (replace(stored, made=made_of('sources', 'other'), logic='other'), 'sources', None),
             (None, 'sources', 'nothing tells'),
             (stored, 'newer', 'dev/build --store renews it'),
             (None, 'newer', 'dev/build --store renews it'),
-            (replace(stored, sources='other'), 'sources', 'that is tested was made of other sources'),
-            (replace(stored, kit='other'), 'sources', 'kit made the stored program, other the one that is tested'),
+            (replace(stored, made=made_of('other')), 'sources', 'that is tested was made of other sources'),
+            (replace(stored, kit='other'), 'sources', 'kit made stored/pcprobe, other the pcprobe that is tested'),
         ):
-            told = proved.incomparable(stored, built, present)
-            self.assertTrue(told is None if why is None else told and why in told, told)
+            said = proved.incomparable('pcprobe', stored, built, present)
+            self.assertTrue(said is None if why is None else said and why in said, said)
 
     def clone(self) -> str:
-        """A copy of the repository, in which the program that is tested is the stored one."""
+        """A copy of the repository, in which the programs that are tested are the stored ones."""
         top = f'{self.room}/a clone'
         ignored = shutil.ignore_patterns('out', '.git', '__pycache__', 'must-fail', 'refused', 'docs')
         shutil.copytree(TOP, top, ignore=ignored, symlinks=True)
         shutil.rmtree(f'{top}/stored', ignore_errors=True)
         os.makedirs(f'{top}/stored')
-        shutil.copy(program.path(), f'{top}/stored/pcboard')
-        names = Crates(top).below('pcboard')
-        told = proved.Proved(sum_of(f'{top}/stored/pcboard'), sum_of_sources(names, top), 'rattle-kit-0', '0', dict.fromkeys(names, VERDICT))
-        write_text(f'{top}/stored/PROVED', told.text())
+        whole = proved.Proved('rattle-kit-0', '0', {}, {})
+        for name in NAMES:
+            shutil.copy(program.path(name), f'{top}/stored/{name}')
+            names = Crates(top).below(name)
+            whole.made[name] = proved.Made(sum_of(f'{top}/stored/{name}'), sum_of_sources(names, top))
+            whole.verdicts.update(dict.fromkeys(names, VERDICT))
+        write_text(f'{top}/stored/PROVED', whole.text())
         return top
 
     def launch(self, top: str, line: str) -> subprocess.CompletedProcess[str]:
@@ -518,6 +664,8 @@ class Gate(ToolCase):
         self.assertIn('proved elsewhere', ran.stderr)
         self.assertLess(after.ru_utime + after.ru_stime - before.ru_utime - before.ru_stime, 1)  # of a processor, however busy it is
         self.assertEqual(self.launch(top, line).stderr, '')
+        probed = self.launch(top, f'echo list FFFF0 1 | {line.replace("./pcboard run", "./pcprobe")}')
+        self.assertEqual((probed.returncode, probed.stdout, probed.stderr), (0, 'F000:FFF0 EA000000F0 JMP FAR 0F000h:00000h\n', ''))
         ran = self.launch(top, 'tools/try examples/hello.asm')
         self.assertEqual((ran.returncode, ran.stdout.partition('\n')[0].rstrip()), (0, 'HI'))
 

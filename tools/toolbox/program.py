@@ -36,10 +36,11 @@ CLOCKS_OF_A_TRAIL = 60
 MOST_READ = 1 << 26  # bytes of an answer
 
 
-def path() -> str:
-    """The program: $PCBOARD, else the one that the launcher takes, or one that was built of other sources."""
+def path(name: str = 'pcboard') -> str:
+    """The program pcboard or pcprobe: the one that $PCBOARD or $PCPROBE names, else the one that the launcher takes, or one that was
+    built of other sources."""
     try:
-        return zebludor.program()
+        return zebludor.program(name)
     except Unfit as unfit:
         raise Sorry(str(unfit)) from None
 

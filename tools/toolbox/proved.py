@@ -1,6 +1,6 @@
-"""What a program was made of and what was proved of it: the text PROVED beside it, the pair that is stored in the repository,
-and the verdicts of crates. These are remembered below the user's cache by what the crates hold, since a crate that is kept
-isn't proved again, and then has no verdict printed."""
+"""What a program was made of and what was proved of it: the text PROVED beside it, the programs that are stored in the
+repository, and the verdicts of crates. These are remembered below the user's cache by what the crates hold, since a crate that
+is kept isn't proved again, and then has no verdict printed."""
 from __future__ import annotations
 
 import os
@@ -14,45 +14,59 @@ from toolbox.command import Sorry, write_text
 from toolbox.crates import CACHE, TOP, Crates
 from toolbox.sources import files, stamps, sum_of, sum_of_sources
 
-TARGET = 'pcboard'
-OUT, STORED = f'{TOP}/crates/{TARGET}/out', f'{TOP}/stored'
+PROGRAMS = ('pcboard', 'pcprobe')  # which are stored together
+STORED = f'{TOP}/stored'
 REMEMBERED = f'{CACHE}/zebludor/verdicts'
 VERDICT = 'logic=proved '
-HEADS = ('program', 'sources', 'kit', 'logic')
+TEXT = re.compile(r'kit (\S+)\nlogic (\S+)\n((?:made \S+ \S+ sources \S+\n)*)((?:\w+: .*\n)*)')
+
+
+@dataclass(frozen=True)
+class Made:
+    """A program or library: the SHA-256 of its file, and the sum of its sources."""
+
+    sum: str
+    sources: str
 
 
 @dataclass(frozen=True)
 class Proved:
-    """The text PROVED: the program's SHA-256, the sum of its sources, the kit and the logic that proved it, and of each crate
-    the line in which Rattle tells that it is proved."""
+    """The text PROVED: kit and logic, what they made by the names of its files, and of each crate the line in which Rattle tells
+    that it is proved."""
 
-    program: str
-    sources: str
     kit: str
     logic: str
+    made: dict[str, Made]
     verdicts: dict[str, str]
 
     def text(self) -> str:
-        heads = ''.join(f'{it} {getattr(self, it)}\n' for it in HEADS)
-        return heads + ''.join(f'{name}: {verdict}\n' for name, verdict in sorted(self.verdicts.items()))
+        made = ''.join(f'made {name} {file.sum} sources {file.sources}\n' for name, file in self.made.items())
+        verdicts = ''.join(f'{name}: {verdict}\n' for name, verdict in sorted(self.verdicts.items()))
+        return f'kit {self.kit}\nlogic {self.logic}\n{made}{verdicts}'
 
-    def is_of(self, program: str) -> bool:
-        """Whether it tells of this file."""
-        return os.path.isfile(program) and sum_of(program) == self.program
+    def of(self, path: str) -> Made | None:
+        """What it tells of this file; None where that is nothing, or of other bytes."""
+        made = self.made.get(os.path.basename(path))
+        return made if made and os.path.isfile(path) and sum_of(path) == made.sum else None
 
 
 def read(folder: str) -> Proved | None:
     """The text PROVED in a folder, None where there is none."""
     try:
         with open(f'{folder}/PROVED', encoding='utf-8') as file:
-            lines = file.read().splitlines()
+            parts = TEXT.fullmatch(file.read())
     except (OSError, UnicodeDecodeError):
         return None
-    heads = [line.partition(' ') for line in lines[: len(HEADS)]]
-    if tuple(head for head, _, _ in heads) != HEADS:
+    if not parts:
         return None
-    verdicts = (line.partition(': ') for line in lines[len(HEADS) :])
-    return Proved(*(value for _, _, value in heads), verdicts={name: verdict for name, _, verdict in verdicts})
+    made = (line.split() for line in parts[3].splitlines())
+    verdicts = (line.partition(': ') for line in parts[4].splitlines())
+    return Proved(parts[1], parts[2], {name: Made(its_sum, sources) for _, name, its_sum, _, sources in made}, {name: line for name, _, line in verdicts})
+
+
+def out(name: str) -> str:
+    """Where a program is built."""
+    return f'{TOP}/crates/{name}/out/{name}'
 
 
 def version() -> tuple[str, str]:
@@ -118,74 +132,76 @@ def newer_than(path: str, names: Iterable[str], top: str = TOP) -> str | None:
     return next((it for it in [f'{top}/crates.txt', *files(names, top)] if os.stat(it).st_mtime > limit), None)
 
 
-def told_of(program: str, crates: Crates, names: set[str]) -> Proved:
-    """What there is to tell of a program that the present kit made of these crates, as they stand, with the verdicts that are known."""
+def told_of(path: str, crates: Crates, names: set[str]) -> Proved:
+    """What there is to tell of a file that the present kit made of these crates, as they stand, with the verdicts that are known."""
     known = {name: recall(made_of) for name, made_of in stamps(crates, names).items()}
     verdicts = {name: verdict for name, verdict in known.items() if verdict}
-    return Proved(sum_of(program), sum_of_sources(names, crates.top), *version(), verdicts=verdicts)
+    return Proved(*version(), {os.path.basename(path): Made(sum_of(path), sum_of_sources(names, crates.top))}, verdicts)
 
 
-def note(program: str, crates: Crates, names: set[str]) -> None:
-    """Writes PROVED beside a program that was made just now."""
-    write_text(f'{os.path.dirname(program)}/PROVED', told_of(program, crates, names).text())
+def note(path: str, crates: Crates, names: set[str]) -> None:
+    """Writes PROVED beside a file that was made just now."""
+    write_text(f'{os.path.dirname(path)}/PROVED', told_of(path, crates, names).text())
 
 
-def compared(built: Proved) -> str | None:
+def compared(name: str, built: Proved) -> str | None:
     """How a program that was proved here stands to the stored one, in a sentence; None where none is stored."""
-    stored, program = read(STORED), f'stored/{TARGET}'
+    stored, path = read(STORED), f'stored/{name}'
     if stored is None:
         return None
-    if stored.sources != built.sources:
-        return f'{program} was made of other sources, so its bytes are not compared'
-    if not stored.is_of(f'{TOP}/{program}'):
-        return f"{program} isn't the one that stored/PROVED tells of"
+    was, now = stored.of(f'{TOP}/{path}'), built.made[name]
+    if was is None:
+        return f"{path} isn't the one that stored/PROVED tells of"
+    if was.sources != now.sources:
+        return f'{path} was made of other sources, so its bytes are not compared'
     by = '' if stored.kit == built.kit else f', by {built.kit} as by {stored.kit}'
-    if stored.program != built.program:
-        return f'its bytes are NOT those of {program}, which {"the same kit" if not by else stored.kit} made of the same sources'
-    others = [name for name, verdict in built.verdicts.items() if stored.verdicts.get(name) != verdict]
-    told = f'but the verdicts of {", ".join(others)} are others' if others else 'and the verdicts are the same'
-    return f'its bytes are those of {program}{by}, {told}'
+    if was.sum != now.sum:
+        return f'its bytes are NOT those of {path}, which {"the same kit" if not by else stored.kit} made of the same sources'
+    others = [crate for crate, verdict in built.verdicts.items() if stored.verdicts.get(crate) != verdict]
+    verdicts = f'but the verdicts of {", ".join(others)} are others' if others else 'and the verdicts are the same'
+    return f'its bytes are those of {path}{by}, {verdicts}'
 
 
-def incomparable(stored: Proved, built: Proved | None, present: str) -> str | None:
+def incomparable(name: str, stored: Proved, built: Proved | None, present: str) -> str | None:
     """Why a stored program and one that the gate built need not have the same bytes, where the present sources have this sum;
     None where they need."""
-    if stored.sources != present:
-        return 'the stored program was made of other sources than the present ones; dev/build --store renews it'
+    if stored.made[name].sources != present:
+        return f'stored/{name} was made of other sources than the present ones; dev/build --store renews it'
     if built is None:
-        return 'nothing tells what the program that is tested was made of'
-    if built.sources != present:
-        return 'the program that is tested was made of other sources than the present ones'
-    return None if built.kit == stored.kit else f'{stored.kit} made the stored program, {built.kit} the one that is tested'
+        return f'nothing tells what the {name} that is tested was made of'
+    if built.made[name].sources != present:
+        return f'the {name} that is tested was made of other sources than the present ones'
+    return None if built.kit == stored.kit else f'{stored.kit} made stored/{name}, {built.kit} the {name} that is tested'
 
 
-def built_here() -> Proved:
-    """What is known of the program in crates/pcboard/out, which has to be made of the present sources. One that `rt ci` left
-    tells nothing of itself; then none of them may be newer, and what it printed for `rt ci` stands beside it."""
-    program, crates = f'{OUT}/{TARGET}', Crates()
-    names = crates.below(TARGET)
+def built_here(name: str) -> Proved:
+    """What is known of the program of this name that stands in its crate's folder, and has to be made of the present sources. One
+    that `rt ci` left tells nothing of itself; then none of them may be newer, and what it printed for `rt ci` stands beside it."""
+    program, crates = out(name), Crates()
+    names, short = crates.below(name), f'crates/{name}/out/{name}'
     if not os.access(program, os.X_OK):
-        raise Sorry(f'crates/{TARGET}/out has no program; tools/test makes one, and so do rt ci and dev/build {TARGET}')
-    told = read(OUT)
-    if told and told.program == sum_of(program):
-        if told.sources != sum_of_sources(names):
-            raise Sorry(f'crates/{TARGET}/out/{TARGET} is not made of the present sources')
-        if names <= told.verdicts.keys():
-            return told
-        if told.kit != version()[0]:
-            raise Sorry(f"verdicts are unknown, and crates/{TARGET}/out/{TARGET} was built by {told.kit}, which isn't the kit that is here")
+        raise Sorry(f'crates/{name}/out has no program; tools/test makes one, and so do rt ci and dev/build {name}')
+    known = read(os.path.dirname(program))
+    made = known and known.of(program)
+    if known and made:
+        if made.sources != sum_of_sources(names):
+            raise Sorry(f'{short} is not made of the present sources; tools/test makes it so, and so do rt ci and dev/build {name}')
+        if names <= known.verdicts.keys():
+            return known
+        if known.kit != version()[0]:
+            raise Sorry(f"verdicts are unknown, and {short} was built by {known.kit}, which isn't the kit that is here")
     elif not was_left_by_ci(program):
-        raise Sorry(f'nothing tells what crates/{TARGET}/out/{TARGET} was made of; build it by tools/test, rt ci or dev/build {TARGET}')
+        raise Sorry(f'nothing tells what {short} was made of; build it by tools/test, rt ci or dev/build {name}')
     elif newer := newer_than(program, names):
-        raise Sorry(f'{os.path.relpath(newer, TOP)} is newer than crates/{TARGET}/out/{TARGET}, which may be made of other sources')
-    told = told_of(program, crates, names)
-    lacking = sorted(names - told.verdicts.keys())
+        raise Sorry(f'{os.path.relpath(newer, TOP)} is newer than {short}, which may be made of other sources')
+    known = told_of(program, crates, names)
+    lacking = sorted(names - known.verdicts.keys())
     if lacking:
         raise Sorry(
             f"nothing here has seen the verdicts of {', '.join(lacking)}; 'dev/build --verdicts' proves these crates again, and "
             "'dev/build --seen LOG CLONE' reads the output of an rt ci that proved them"
         )
-    return told
+    return known
 
 
 def was_left_by_ci(program: str) -> bool:
@@ -195,12 +211,19 @@ def was_left_by_ci(program: str) -> bool:
 
 
 def store() -> Proved:
-    """Makes the stored pair that of the program that was built here."""
-    told = built_here()
+    """Makes the stored programs those that were built here. Nothing is stored where one of them can't be."""
+    built = [built_here(name) for name in PROGRAMS]
+    if len({(each.kit, each.logic) for each in built}) > 1:
+        raise Sorry(' and '.join(f'{each.kit} made crates/{name}/out/{name}' for name, each in zip(PROGRAMS, built)) + '; one kit has to make both')
+    whole = Proved(built[0].kit, built[0].logic, {}, {})
+    for each in built:
+        whole.made.update(each.made)
+        whole.verdicts.update(each.verdicts)
     os.makedirs(STORED, exist_ok=True)
-    program = f'{STORED}/{TARGET}'
-    shutil.copyfile(f'{OUT}/{TARGET}', f'{program}.new')
-    os.chmod(f'{program}.new', 0o755)
-    os.replace(f'{program}.new', program)
-    write_text(f'{STORED}/PROVED', told.text())
-    return told
+    for name in PROGRAMS:
+        shutil.copyfile(out(name), f'{STORED}/{name}.new')
+        os.chmod(f'{STORED}/{name}.new', 0o755)
+    for name in PROGRAMS:
+        os.replace(f'{STORED}/{name}.new', f'{STORED}/{name}')
+    write_text(f'{STORED}/PROVED', whole.text())
+    return whole

@@ -14,11 +14,12 @@ from typing import Iterator
 from toolbox import proved
 from toolbox.command import Sorry
 from toolbox.crates import TOP, Crates
-from toolbox.proved import STORED, TARGET, Proved
+from toolbox.proved import PROGRAMS, STORED, Made, Proved
 from toolbox.sources import sum_of, sum_of_sources
 
 PLATFORM = 'x86_64-linux'
-FILES = ('CHANGELOG.md', 'CONTRIBUTING.md', 'LICENSE-APACHE', 'LICENSE-MIT', 'README.md', 'VERSION', TARGET, f'stored/{TARGET}', 'stored/PROVED')
+STORED_FILES = tuple(f'stored/{it}' for it in PROGRAMS)
+FILES = ('CHANGELOG.md', 'CONTRIBUTING.md', 'LICENSE-APACHE', 'LICENSE-MIT', 'README.md', 'VERSION', *PROGRAMS, *STORED_FILES, 'stored/PROVED')
 FOLDERS = ('c', 'docs', 'editors', 'examples', 'python', 'services', 'tools')
 LEFT_OUT = ('tools/test', 'tools/tests', 'editors/grammar')  # which want the sources
 LIBRARIES = {'zebludor_chips': 'timer, interrupt controller and parallel port of an IBM PC 5150', 'zebludor_run': 'whole runs of an IBM PC 5150'}
@@ -57,28 +58,29 @@ def lacking() -> list[str]:
     """A sentence for each thing that a release wants and that isn't here, or isn't of the present sources, with what makes it so."""
     crates = Crates()
     found = [f"{it} isn't there" for it in (*FILES, *FOLDERS) if not os.path.exists(f'{TOP}/{it}')]
-    found += filter(None, (of_program(crates), *(of_library(crates, it) for it in LIBRARIES)))
+    found += filter(None, (*(of_program(crates, it) for it in PROGRAMS), *(of_library(crates, it) for it in LIBRARIES)))
     found += [f'{it}, which makes the libraries, is not on the path' for it in ('cc', 'ar') if not shutil.which(it)]
     return found + [f"{it} isn't as it was committed; a release has what a commit has" for it in uncommitted()]
 
 
-def differs(told: Proved, crates: Crates, crate: str) -> str | None:
+def differs(told: Proved, made: Made, crates: Crates, crate: str) -> str | None:
     """What is amiss with the text PROVED of something that is made of a crate."""
     names = crates.below(crate)
-    if told.sources != sum_of_sources(names):
+    if made.sources != sum_of_sources(names):
         return 'it was made of other sources than are here'
     unknown = sorted(names - told.verdicts.keys())
     return f'its PROVED has no verdict of {", ".join(unknown)}' if unknown else None
 
 
-def of_program(crates: Crates) -> str | None:
-    """What is amiss with the stored program."""
+def of_program(crates: Crates, program: str) -> str | None:
+    """What is amiss with a stored program."""
     told = proved.read(STORED)
+    made = told and told.of(f'{STORED}/{program}')
     renew = 'tools/test proves and builds one, and then dev/build --store renews it'
-    if told is None or not told.is_of(f'{STORED}/{TARGET}'):
-        return f"stored/{TARGET} isn't one of which stored/PROVED tells; {renew}"
-    why = differs(told, crates, TARGET)
-    return why and f"stored/{TARGET} isn't taken: {why}; {renew}"
+    if told is None or made is None:
+        return f"stored/{program} isn't one of which stored/PROVED tells; {renew}"
+    why = differs(told, made, crates, program)
+    return why and f"stored/{program} isn't taken: {why}; {renew}"
 
 
 def of_library(crates: Crates, crate: str) -> str | None:
@@ -88,11 +90,12 @@ def of_library(crates: Crates, crate: str) -> str | None:
     if not os.path.isfile(path):
         return f"{short} isn't there; {build}"
     told, stored = proved.read(os.path.dirname(path)), proved.read(STORED)
-    if told is None or not told.is_of(path):
+    made = told and told.of(path)
+    if told is None or made is None:
         return f'nothing tells what {short} was made of; {build}'
-    why = differs(told, crates, crate)
+    why = differs(told, made, crates, crate)
     if not why and stored and (told.kit, told.logic) != (stored.kit, stored.logic):
-        why = f'{told.kit} made it, and {stored.kit} stored/{TARGET}'
+        why = f'{told.kit} made it, and {stored.kit} the stored programs'
     return why and f"{short} isn't taken: {why}; {build}"
 
 
@@ -157,19 +160,17 @@ def package(crate: str) -> str:
 
 
 def verdicts_of(crates: Crates) -> str:
-    """The text RELEASE: version, kit and logic; of each thing that was built its SHA-256 and the sum of its sources; and the
-    verdict on each crate."""
+    """The text RELEASE: the version, and a text as PROVED of all that was built, by its path."""
     stored = proved.read(STORED)
     assert stored
-    made, verdicts = [(f'stored/{TARGET}', stored)], dict(stored.verdicts)
+    whole = Proved(stored.kit, stored.logic, {f'stored/{name}': made for name, made in stored.made.items()}, {})
     for crate in LIBRARIES:
         library = proved.read(os.path.dirname(archive_of(crates, crate)))
         assert library
-        made.append((f'lib/lib{crate}.a', library))
-        verdicts |= {it: verdict for it, verdict in library.verdicts.items() if it not in verdicts}
-    lines = [f'zebludor {version()} {PLATFORM}', f'kit {stored.kit}', f'logic {stored.logic}']
-    lines += [f'made {path} {it.program} sources {it.sources}' for path, it in made]
-    return '\n'.join([*lines, *(f'{it}: {verdict}' for it, verdict in sorted(verdicts.items()))]) + '\n'
+        whole.made.update((f'lib/{name}', made) for name, made in library.made.items())
+        whole.verdicts.update(library.verdicts)
+    whole.verdicts.update(stored.verdicts)
+    return f'zebludor {version()} {PLATFORM}\n{whole.text()}'
 
 
 def contents() -> dict[str, tuple[bytes, bool]]:
