@@ -1,5 +1,5 @@
 """What is read of the chips' lines, over lines by hand; and what pcprobe tells of sessions whose chips are known by the data
-sheets, by hand, where it is built."""
+sheets, by hand."""
 from __future__ import annotations
 
 import subprocess
@@ -7,7 +7,8 @@ import unittest
 
 from tests.support import ToolCase, example
 
-from toolbox.chips import Chips, facts, probe
+from toolbox.chips import Chips, facts
+from toolbox.program import path
 
 CONTROLLER = 'controller IR {} IRR {} ISR {} IMR {} lowest {} INT {} vector 0F awaits {} LTIM 0 uPM {} AEOI 0 rotates 0 SMM {} P 0 RIS 0'
 COUNTER = 'counter 0 mode 0 RW 3 BCD 0 count 0000 newest {} load 0 OUT 0 GATE 1 first none latch none high 0'
@@ -93,13 +94,7 @@ def writes(*pairs: tuple[str, str]) -> str:
 
 
 class Probed(ToolCase):
-    """What pcprobe answers. Where it isn't built, that is told as not run, and is neither passed nor failed."""
-
-    def run(self, result: unittest.TestResult | None = None) -> unittest.TestResult | None:
-        if probe():
-            return super().run(result)
-        print(f'not run: {self.id()}; dev/build pcprobe', flush=True)
-        return result
+    """What pcprobe answers."""
 
     def probed(self, lines: str, commands: str, keys: str = '[]', timer: str = '8253') -> list[Chips]:
         """The chips that a session about a program shows, one behind the other."""
@@ -111,7 +106,7 @@ class Probed(ToolCase):
 
     def answers(self, source: str, run: str, commands: str) -> list[str]:
         """The lines that a session answers."""
-        done = subprocess.run([str(probe()), source, run], input=commands, capture_output=True, text=True, check=False)
+        done = subprocess.run([path('pcprobe'), source, run], input=commands, capture_output=True, text=True, check=False)
         self.assertEqual((done.returncode, done.stderr), (0, ''))
         return done.stdout.splitlines()
 

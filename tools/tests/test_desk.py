@@ -23,7 +23,7 @@ from unittest import mock
 from tests.support import EXAMPLES, SECONDS, TOOLS, TOP, ToolCase, children, example, is_running, processor_seconds, until
 
 from toolbox import desk_board, desk_http, desk_words, desk_work
-from toolbox.chips import chip_lines, lines_in, probe
+from toolbox.chips import chip_lines, lines_in
 from toolbox.command import Sorry
 from toolbox.desk_drafts import Drafts
 from toolbox.desk_files import Given, Kept
@@ -509,8 +509,7 @@ class Boards(Served):
                     (shown['clock'], shown['registers'], text_of_screen(shown['screen'])), (clock, registers_of(session.many('regs')), session.many('screen'))
                 )
             self.assertEqual(self.client.ask('memory', board=board, place='0FFE0', count=32)['bytes'], session.dump(0xFFE0, 32).hex())
-        if probe():
-            self.assertEqual(self.client.ask('chips', board=board), {'lines': chip_lines(Files(*example('fibonacci')), 9999), 'facts': []})
+        self.assertEqual(self.client.ask('chips', board=board), {'lines': chip_lines(Files(*example('fibonacci')), 9999), 'facts': []})
         self.assertEqual(self.client.ask('stops', board=board, stops=[':28'])['stops'][0][2], 28)
         self.client.ask('go to', board=board, clock=0)
         met = self.client.ask('run', board=board, ms=200)

@@ -17,7 +17,7 @@ from tests.browser import CONTROL, SHIFT, Browser, path
 from tests.support import EXAMPLES, SECONDS, TOOLS, ToolCase, children, example, processor_seconds, until
 from tests.test_desk import BUZZ, DARK, DATA
 
-from toolbox.chips import END_OF_INTERRUPT, chip_lines, probe
+from toolbox.chips import END_OF_INTERRUPT, chip_lines
 from toolbox.dap_board import FLAG_BITS
 from toolbox.program import Files, Session
 from toolbox.report import Report, registers_of, report_of
@@ -434,7 +434,7 @@ class OnePage(ToolCase):
                 if window[0] == 1280:  # the whole page is in sight
                     self.assertLessEqual(browser.run('Math.max(document.documentElement.scrollHeight,$("moves").getBoundingClientRect().bottom)'), 720)
                 self.assertEqual(browser.run("getComputedStyle(document.body).backgroundColor"), 'rgb(18, 21, 24)' if is_dark else 'rgb(239, 236, 228)')
-        self.assertTrue(browser.run("$('tab-chips').hidden===!pages.chips"))
+        self.assertFalse(browser.run("$('tab-chips').hidden"))
         self.fine(page)
 
     def test_long_runs_and_files(self) -> None:
@@ -567,10 +567,6 @@ class OnePage(ToolCase):
         if page is None:
             return
         browser = page.browser
-        self.assertEqual(browser.run("$('tab-chips').hidden"), probe() is None)
-        if probe() is None:
-            print("not run: the desk's tab of chips, since no pcprobe is built of the present sources, or named in PCPROBE")
-            return
         told = "[...document.querySelectorAll('#chip-lines>div')].map(it=>it.textContent)"
         page.example('ticks')
         page.click('#tab-chips')

@@ -8,7 +8,6 @@ import unittest
 
 from tests.support import EXAMPLES, TOOLS, TOP, ToolCase, but_progress
 
-from toolbox.chips import probe
 
 PAGES = (
     'README.md',
@@ -19,6 +18,7 @@ PAGES = (
     'docs/for-firmware.md',
     'docs/examples.md',
     'docs/debugger.md',
+    'docs/probe.md',
     'docs/sweeps.md',
 )
 SESSION = r'((?:break|byte|sound|halted|go|step|back|regs|screen|dump|trail|quit)\b.*)'  # what is typed in a session of debug
@@ -123,12 +123,9 @@ class Pages(ToolCase):
         for name in ('model', 'solution'):
             self.file(f'{name}.txt', self.pcboard('run', f'{self.room}/{name}.asm', f'{self.room}/run.json').stdout)
 
-    def shell(self, command: str, typed: str = '', has_probe: bool = False) -> str:
-        """What a command prints, on both streams; without the probe, as in a clone where it isn't built."""
-        environment = os.environ if has_probe else os.environ | {'PCPROBE': os.devnull}
-        ran = subprocess.run(
-            command, shell=True, input=typed, stdout=subprocess.PIPE, stderr=subprocess.STDOUT, text=True, cwd=self.room, check=False, env=environment
-        )
+    def shell(self, command: str, typed: str = '') -> str:
+        """What a command prints, on both streams."""
+        ran = subprocess.run(command, shell=True, input=typed, stdout=subprocess.PIPE, stderr=subprocess.STDOUT, text=True, cwd=self.room, check=False)
         return but_progress(ran.stdout)
 
     def check(self, page: str) -> int:
@@ -142,7 +139,7 @@ class Pages(ToolCase):
             if 'mine.asm' in command and '"ram"' in printed:
                 self.file('mine.asm', MINE.replace('0xB000', '0B000h'))
             wanted = re.escape(printed.rstrip()).replace('\n\\.\\.', '\n(.*\n)*.*')  # a line `..` stands for any
-            printed = self.shell(command, typed, has_probe=page == 'docs/probe.md').rstrip()
+            printed = self.shell(command, typed).rstrip()
             self.assertRegex(printed, f'\\A{wanted}\\Z', f'{page}: {command}')
             count += 1
         return count
@@ -151,13 +148,7 @@ class Pages(ToolCase):
         count = 0
         for page in PAGES[:-1]:
             count += self.check(page)
-        self.assertGreater(count, 14)
-
-    def test_the_probe(self) -> None:
-        if probe():
-            self.assertEqual(self.check('docs/probe.md'), 3)
-        else:
-            print('not run: the commands of docs/probe.md; dev/build pcprobe', flush=True)
+        self.assertGreater(count, 17)
 
     def test_the_ten_mistakes(self) -> None:
         """What the page says one sees, in examples with a line changed."""

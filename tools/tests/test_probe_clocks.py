@@ -1,7 +1,6 @@
 """`counts` of pcprobe against trails of few clocks, added up here, with the tables that tools/trace makes of them, and `signals`
 against the chips at each clock, over many programs."""
 import glob
-import os
 import subprocess
 import sys
 import tempfile
@@ -9,8 +8,12 @@ import unittest
 from collections import Counter
 
 from tests.support import EXAMPLES, RESET, TOP
-from toolbox.chips import UNBUILT, probe
-from toolbox.runfile import read_run_file, text_of
+from toolbox.events import events
+from toolbox.listing import listing_of
+from toolbox.places import line_at
+from toolbox.program import Files, path, run
+from toolbox.runfile import budget_of, read_run_file, text_of
+from zebludor import read_report
 
 FEW = 30  # clocks whose beginnings a trail holds whole
 # Programs by hand: what a count could take for something else. Each begins at `start`, with SS:SP at 0000:8000.
@@ -68,15 +71,9 @@ def told(events: list[tuple[int, str]], start: int, end: int) -> list[str]:
 class ProbeCase(unittest.TestCase):
     """A case that asks pcprobe."""
 
-    def setUp(self) -> None:
-        name = probe()
-        if not name:
-            self.skipTest(UNBUILT)
-        self.probe = name or ''
-
     def answers(self, files: list[str], lines: list[str]) -> list[str]:
         """What pcprobe prints."""
-        done = subprocess.run([self.probe, *files], input='\n'.join(lines) + '\n', capture_output=True, text=True, check=False)
+        done = subprocess.run([path('pcprobe'), *files], input='\n'.join(lines) + '\n', capture_output=True, text=True, check=False)
         self.assertEqual((done.returncode, done.stderr), (0, ''))
         return done.stdout.splitlines()
 
@@ -122,41 +119,53 @@ class Counts(ProbeCase):
                         file.write(source_of(snippet, period))
                     self.judge(files, 7 * number + period, 3000)
 
+    def by_trails(self, files: Files) -> Counter[tuple[str, str]]:
+        """How often each line of a source ran, and its clocks, each interrupt's too, of all trails of its run."""
+        listing, end = listing_of(files), budget_of(files)
+        begun = list(events(files, 0, end))
+        sums = Counter[tuple[str, str]]()
+        for event, later in zip(begun, [*(each.clock for each in begun[1:]), end]):
+            line = line_at(listing, event)
+            name = f'interrupt {event.entry:02X}' if event.entry is not None else str(line and line.number)
+            sums.update({(name, 'times'): 1, (name, 'clocks'): later - event.clock})
+        return sums
+
+    def trace(self, files: Files, *words: str) -> str:
+        """What tools/trace prints."""
+        return subprocess.run(
+            [sys.executable, '-S', f'{TOP}/tools/trace', *words, files.file, files.run_file], capture_output=True, text=True, check=True
+        ).stdout
+
     def test_tables(self) -> None:
         for name in ('ticks', 'keys', 'strings', 'nested', 'scroll'):
-            for kind in ('profile', 'coverage', 'listing'):
-                words = [sys.executable, '-S', f'{TOP}/tools/trace', f'--{kind}', f'{EXAMPLES}/{name}.asm', f'{EXAMPLES}/{name}.json']
-                found = [
-                    subprocess.run(words, env=os.environ | {'PCPROBE': it}, capture_output=True, text=True, check=True).stdout for it in (self.probe, '/none')
-                ]
-                self.assertEqual(*found, (name, kind))
+            files, found = Files(f'{EXAMPLES}/{name}.asm', f'{EXAMPLES}/{name}.json'), Counter[tuple[str, str]]()
+            for row in self.trace(files, '--profile').splitlines()[1:]:
+                clocks, _, times, *place = row.split(maxsplit=5)
+                line = place[1] + ' ' + place[2] if place[0] == '|' else place[0]
+                found.update({(line, 'times'): int(times), (line, 'clocks'): int(clocks)})
+            self.assertEqual(found, self.by_trails(files), name)
 
-    def waves(self, probe_name: str, example: str) -> dict[str, list[str]]:
-        """The times and values of each signal of an example's waveform."""
-        words = [sys.executable, '-S', f'{TOP}/tools/trace', '--vcd', '-', f'{EXAMPLES}/{example}.asm', f'{EXAMPLES}/{example}.json']
-        text = subprocess.run(words, env=os.environ | {'PCPROBE': probe_name}, capture_output=True, text=True, check=True).stdout
-        head, _, body = text.partition('$enddefinitions $end\n')
-        names = {it.split()[3]: it.split()[4] for it in head.splitlines() if it.startswith('$var')}
-        found, time = {it: list[str]() for it in names.values()}, ''
+    def waves(self, files: Files) -> dict[str, list[tuple[int, int]]]:
+        """The clocks and values of each signal of a run's waveform."""
+        head, _, body = self.trace(files, '--vcd', '-').partition('$enddefinitions $end\n')
+        names = {line.split()[3]: line.split()[4] for line in head.splitlines() if line.startswith('$var')}
+        found, clock = {name: list[tuple[int, int]]() for name in names.values()}, 0
         for line in body.splitlines():
             if line.startswith('#'):
-                time = line
+                clock = int(line[1:]) // 210
             elif not line.startswith('$'):
-                found[names[line[-1]]].append(f'{time} {line[:-1].strip()}')
+                found[names[line[-1]]].append((clock, int(line[:-1].strip().lstrip('b'), 2)))
         return found
 
     def test_waveform(self) -> None:
         for name in ('tone', 'keys', 'ticks'):
-            mine, told = self.waves(self.probe, name), self.waves('/none', name)
-            self.assertEqual({it: mine[it] for it in told}, told, name)
-            lines = self.answers([f'{EXAMPLES}/{name}.asm', f'{EXAMPLES}/{name}.json'], ['signals 20000'])
-            wanted = [it.split() for it in lines if ' IR1 ' in it or ' OUT0 ' in it]
-            for wire in ('OUT0', 'IR1'):
-                self.assertEqual(
-                    [it for it in mine[wire.lower()][1:] if int(it[1:].split()[0]) <= 20000 * 210],
-                    [f'#{210 * int(clock)} {level}' for clock, of, level in wanted if of == wire],
-                    (name, wire),
-                )
+            files = Files(f'{EXAMPLES}/{name}.asm', f'{EXAMPLES}/{name}.json')
+            waves, end = self.waves(files), budget_of(files)
+            speaker = [tuple(change) for change in read_report(run(files.words('run')).out).changes]
+            self.assertEqual(waves['speaker'], [(0, 0), *speaker], name)
+            changes = [line.split() for line in self.answers([files.file, files.run_file], [f'signals {end}'])[:-1]]
+            for wire in ('OUT0', 'OUT2', 'IR0', 'IR1', 'INT'):
+                self.assertEqual(waves[wire.lower()][1:], [(int(clock), int(level)) for clock, of, level in changes if of == wire], (name, wire))
 
 
 class Signals(ProbeCase):

@@ -15,7 +15,6 @@ from tests.support import SECONDS, TOOLS, ToolCase, but_progress, example, is_at
 
 from toolbox import events  # where zebludor is found
 from toolbox.command import Sorry
-from toolbox.places import event_of
 from toolbox.program import Files, Session
 from toolbox.runfile import budget_of
 from toolbox.vcd import Wave
@@ -82,10 +81,6 @@ class Stored(unittest.TestCase):
             self.assertEqual(self.of(clocks, end=clocks[-1] + 1), clocks, name)
             self.assertLess(StandIn.went_back, 150, name)
             self.assertLess(StandIn.asked, len(clocks) // 8 + (2500 if name == 'halts' else 300), name)
-
-    def test_costs(self) -> None:
-        found = [event_of('0 FFFF:0000 90 NOP'), event_of('15 F000:0000 F4 HLT')]
-        self.assertEqual([clocks for _, clocks in events.with_costs(found, 100)], [15, 85])
 
     def test_waveform(self) -> None:
         text = io.StringIO()

@@ -1,44 +1,20 @@
 """What the chips hold at a clock, as `pcprobe` tells it (docs/probe.md), and what of it keeps an interrupt or a key away."""
 from __future__ import annotations
 
-import functools
-import os
 import subprocess
 from dataclasses import dataclass
 
 import zebludor
 
 from toolbox.command import Sorry
-from toolbox.crates import Crates
-from toolbox.program import TOP, Files, refusal
-from toolbox.sources import files as sources_of
+from toolbox.program import Files, path, refusal
 
-BUILT = f'{TOP}/crates/pcprobe/out/pcprobe'
-UNBUILT = 'pcprobe tells what the chips hold, and none is built here of the present sources: dev/build pcprobe builds it, or name one in PCPROBE'
 END_OF_INTERRUPT = 'no end of interrupt (20h to port 20h)'
-
-
-@functools.cache
-def probe() -> str | None:
-    """The probe: $PCPROBE, else the one that is built here, where no source is newer, else none."""
-    name = os.environ.get('PCPROBE')
-    if name:
-        return name if os.access(name, os.X_OK) else None
-    return BUILT if os.access(BUILT, os.X_OK) and is_newest(BUILT) else None
-
-
-def is_newest(program: str) -> bool:
-    """Whether a program is no older than the sources of pcprobe."""
-    age = os.path.getmtime(program)
-    return all(os.path.getmtime(it) <= age for it in sources_of(Crates().below('pcprobe')))
 
 
 def question(files: Files, clock: int) -> tuple[list[str], bytes]:
     """What is run to be told what the chips hold at a clock: the probe's words, and its commands."""
-    name = probe()
-    if not name:
-        raise Sorry(UNBUILT)
-    return [name, *files.words('')[1:]], f'go {clock}\nchips\n'.encode()
+    return [path('pcprobe'), *files.words('')[1:]], f'go {clock}\nchips\n'.encode()
 
 
 def lines_in(answer: str, clock: int) -> list[str]:

@@ -10,7 +10,6 @@ import time
 from dataclasses import asdict
 from typing import Any, Callable
 
-from toolbox.chips import probe
 from toolbox.command import Sorry, read_text
 from toolbox.desk_board import Board
 from toolbox.desk_drafts import Drafts
@@ -145,7 +144,7 @@ class Desk:
     def _hello(self, _: Fields) -> Fields:
         """What the page begins with. It is offered the drafts of FILE, and those of no file that were written since this desk began;
         without FILE all of no file."""
-        found = {'examples': [asdict(it) for it in examples()], 'defaults': DEFAULTS, 'chips': probe() is not None, 'grammar': grammar(), 'given': None}
+        found = {'examples': [asdict(it) for it in examples()], 'defaults': DEFAULTS, 'grammar': grammar(), 'given': None}
         free = self.drafts.of_file(None)
         if not self.given.file:
             return found | {'drafts': free}

@@ -108,14 +108,3 @@ def commands(first: int, end: int) -> Iterator[str]:
     for clock in range(first, end, CLOCKS_OF_A_TRAIL):
         yield f'go {min(CLOCKS_OF_A_TRAIL, end - clock)}'
         yield 'trail'
-
-
-def with_costs(found: Iterable[Event], end: int) -> Iterator[tuple[Event, int]]:
-    """Each event with the clocks to the next one, the last with those to the run's end."""
-    before: Event | None = None
-    for event in found:
-        if before:
-            yield before, event.clock - before.clock
-        before = event
-    if before:
-        yield before, end - before.clock

@@ -43,7 +43,7 @@ the source placed other bytes                of an instruction in RAM at most 32
 a call isn't among the services              the services (docs/services.md) are in ROM, and have noted it
 keys were lost                               so too
 
-With pcprobe, of the chips at the run's end:
+Of the chips at the run's end, as pcprobe tells them:
 
 IRn asks, and nothing is taken               IF is 1, and the controller waits for an initialisation word, or isn't in 8086 mode
 IRn asks, and is masked, or another level    IF is 1, and the controller, initialised, asks for nothing: n's bit of the mask is 1; or it is 0,
@@ -57,7 +57,7 @@ from __future__ import annotations
 import re
 from itertools import takewhile
 
-from toolbox.chips import chip_lines, facts, probe
+from toolbox.chips import chip_lines, facts
 from toolbox.doubts import decimal_call, of_a_call
 from toolbox.later import later
 from toolbox.leaving import is_left
@@ -171,8 +171,8 @@ def of_the_services(it: Run) -> list[str]:
 
 
 def of_the_chips(it: Run) -> list[str]:
-    """What keeps an interrupt or a key away, where the probe is built."""
-    return facts(chip_lines(it.files, it.report.clock)) if it.is_repeated and probe() else []
+    """What keeps an interrupt or a key away."""
+    return facts(chip_lines(it.files, it.report.clock)) if it.is_repeated else []
 
 
 def of_address_zero(it: Run) -> list[str]:

@@ -1,4 +1,4 @@
-"""What pcprobe tells of a run (docs/PROBE.md): where its clocks went, by `counts`, and its wires' changes, by `signals`."""
+"""What pcprobe tells of a run (docs/probe.md): where its clocks went, by `counts`, and its wires' changes, by `signals`."""
 from __future__ import annotations
 
 import itertools
@@ -9,7 +9,7 @@ import zebludor
 
 from toolbox.command import Sorry
 from toolbox.places import Event, event_of
-from toolbox.program import Files, refusal
+from toolbox.program import Files, path, refusal
 
 PIECE = 20_000_000  # clocks that are made at once: an interrupt is seen behind them
 FIRST = 10_000
@@ -22,9 +22,9 @@ P = TypeVar('P', bound='Probe')
 class Probe:
     """A session of pcprobe."""
 
-    def __init__(self, name: str, files: Files) -> None:
+    def __init__(self, files: Files) -> None:
         self._process = subprocess.Popen(
-            zebludor.limited([name, *files.words('')[1:]]),
+            zebludor.limited([path('pcprobe'), *files.words('')[1:]]),
             stdin=subprocess.PIPE,
             stdout=subprocess.PIPE,
             stderr=subprocess.PIPE,
@@ -74,8 +74,8 @@ class Probe:
 class Counting(Probe):
     """A session that counts a run piece by piece: of each name the times and clocks so far."""
 
-    def __init__(self, name: str, files: Files) -> None:
-        super().__init__(name, files)
+    def __init__(self, files: Files) -> None:
+        super().__init__(files)
         self.clock, self.sums, self._latest = 0, dict[str, list[int]](), ''
 
     def run(self, first: int, end: int) -> Iterator[int]:
@@ -115,11 +115,11 @@ class Counting(Probe):
             yield event_of(f'0 0000:0000 {name}'), *self.sums[name]
 
 
-def wire_changes(name: str, files: Files, end: int) -> Iterator[tuple[int, str, int]]:
+def wire_changes(files: Files, end: int) -> Iterator[tuple[int, str, int]]:
     """The wires' changes in their order, of pieces each ten times as long as the one before, up to PIECE. Behind a piece stands
     its clock, with no name."""
     clock, piece = 0, FIRST
-    with Probe(name, files) as probe:
+    with Probe(files) as probe:
         while clock < end:
             clocks = min(piece, end - clock)
             for line in probe.answers([f'signals {clocks}'])[:-1]:

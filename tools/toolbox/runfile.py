@@ -5,7 +5,6 @@ from __future__ import annotations
 import contextlib
 import json
 import os
-import subprocess
 import tempfile
 from dataclasses import replace
 from typing import Any, Iterator
@@ -13,10 +12,9 @@ from typing import Any, Iterator
 from zebludor import CHOICES, DEFAULTS, FIRST_CHOICES, run_file as text_of
 
 from toolbox.command import Sorry, read_text
-from toolbox.program import Files, answer_of, path, refusal
+from toolbox.program import Files, answer_of
 from toolbox.report import Report, report_of
 
-FIRST_REPORT = 1_000_000  # clocks
 
 __all__ = [
     'CHOICES',
@@ -26,7 +24,6 @@ __all__ = [
     'chosen',
     'read_run_file',
     'report_at',
-    'speaker_changes',
     'text_of',
     'with_budget',
     'with_run_file',
@@ -81,44 +78,6 @@ def report_at(files: Files, clock: int) -> Report:
     """The report of the same files with this clock as their budget."""
     with with_budget(files, clock) as them:
         return report_of(answer_of(them.words('run')), 'the answer')
-
-
-def speaker_changes(files: Files, end: int) -> Iterator[tuple[int, int | None]]:
-    """The speaker's changes in their order, as reports tell them, each of a run ten times as long as the one before: so what is
-    wanted of a run's beginning is there at once. Behind a report's changes stands its clock, with None for a level."""
-    told, budget = 0, min(FIRST_REPORT, end)
-    while True:
-        for clock, level in changes_of_a_run(files, budget):
-            if clock > told:
-                yield clock, level
-        yield budget, None
-        if budget == end:
-            return
-        told, budget = budget, min(10 * budget, end)
-
-
-def changes_of_a_run(files: Files, clock: int) -> Iterator[tuple[int, int]]:
-    """The speaker's changes of the report at a clock, read as they are wanted: there may be millions."""
-    with with_budget(files, clock) as them, tempfile.TemporaryFile() as err:
-        process = subprocess.Popen([path(), *them.words('run')], stdout=subprocess.PIPE, stderr=err)
-        assert process.stdout
-        with process.stdout as out:
-            try:
-                for line in out:
-                    if line == b'screen\n':
-                        break
-                    words = line.split()
-                    if len(words) == 2 and words[0].isdigit():
-                        yield int(words[0]), int(words[1])
-                out.read()
-            except BaseException:
-                process.kill()
-                raise
-            finally:
-                process.wait()
-        if process.returncode > 0:
-            err.seek(0)
-            raise Sorry(refusal(process.returncode, err.read().decode('utf-8', 'replace')))
 
 
 def budget_of(files: Files) -> int:

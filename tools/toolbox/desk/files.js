@@ -91,7 +91,6 @@ $('example').onchange = () => {
 export async function first() {
   pages = await ask('hello');
   $('example').replaceChildren(...(pages.given ? [new Option(`your file, ${pages.given.name}`, OWN)] : [new Option('choose one', '')]), ...pages.examples.map(it => { const one = new Option(it.name, it.name); one.title = it.shows; return one; }));
-  $('tab-chips').hidden = !pages.chips;
   note_grammar(pages.grammar);
   if (pages.given) { await take_given(pages); return; }
   offer(pages.drafts);
