@@ -1,9 +1,11 @@
-"""What pcprobe tells of a run (docs/probe.md): where its clocks went, by `counts`, and its wires' changes, by `signals`."""
+"""What pcprobe tells of a run (docs/probe.md): where its clocks went, by `counts`, its wires' changes, by `signals`, and what
+happens in it, by `events`."""
 from __future__ import annotations
 
 import itertools
+import re
 import subprocess
-from typing import Iterator, NoReturn, TypeVar
+from typing import Iterator, NamedTuple, NoReturn, TypeVar
 
 import zebludor
 
@@ -14,7 +16,9 @@ from toolbox.program import Files, path, refusal
 PIECE = 20_000_000  # clocks that are made at once: an interrupt is seen behind them
 FIRST = 10_000
 LISTED = 200  # instructions that are listed at once
-NO_COMMAND, ENDED = '?', 'fault 51 BadCommand'  # a line that ends an answer of any length
+ASKED = 2000  # questions that are asked at once: their commands fit in the pipe
+NO_COMMAND, ENDED = '?', b'fault 51 BadCommand\n'  # a line that ends an answer of any length
+STATE = re.compile(rb'SP=(....) .*\nCS=(....) .* SS=(....) IP=(....) FL=(....)')
 
 P = TypeVar('P', bound='Probe')
 
@@ -28,10 +32,9 @@ class Probe:
             stdin=subprocess.PIPE,
             stdout=subprocess.PIPE,
             stderr=subprocess.PIPE,
-            text=True,
             start_new_session=True,
         )  # the terminal's interrupt doesn't reach it
-        self._owed = 0
+        self._owed, self._told = 0, bytearray()
 
     def __enter__(self: P) -> P:
         return self
@@ -41,34 +44,35 @@ class Probe:
         self._process.communicate()
 
     def answers(self, commands: list[str]) -> list[str]:
-        """The lines that these are answered. An answer that an interrupt kept from being read comes before them."""
-        given, told = self._process.stdin, self._process.stdout
-        assert given and told
+        """The lines that these are answered."""
+        return self.told(commands).decode('ascii').splitlines()
+
+    def told(self, commands: list[str]) -> bytes:
+        """What these are answered. An answer that an interrupt kept from being read comes before it."""
+        given, out = self._process.stdin, self._process.stdout
+        assert given and out
         self._owed += 1
         try:
-            given.write('\n'.join([*commands, NO_COMMAND]) + '\n')
+            given.write('\n'.join([*commands, NO_COMMAND, '']).encode())
             given.flush()
         except BrokenPipeError:
             self._refuse()
-        lines = list[str]()
-        while self._owed:
-            line = told.readline()
-            if not line:
+        while not (self._told.endswith(ENDED) and self._told.count(ENDED) == self._owed):
+            octets = out.read1(1 << 16)  # type: ignore[attr-defined]
+            if not octets:
                 self._refuse()
-            if line.rstrip() == ENDED:
-                self._owed -= 1
-                lines = lines if not self._owed else []
-            else:
-                lines.append(line.rstrip('\n'))
-        fault = next((it for it in lines if it.startswith('fault')), None)
+            self._told += octets
+        told = bytes(self._told).split(ENDED)[self._owed - 1]
+        self._owed, self._told = 0, bytearray()
+        fault = re.search(rb'^fault.*', told, re.M)
         if fault:
-            raise Sorry(f'pcprobe refuses: {fault}')
-        return lines
+            raise Sorry(f'pcprobe refuses: {fault[0].decode("ascii")}')
+        return told
 
     def _refuse(self) -> NoReturn:
         """A sentence for a session that ended."""
         err = self._process.communicate()[1]
-        raise Sorry(refusal(self._process.returncode, err))
+        raise Sorry(refusal(self._process.returncode, err.decode('utf-8', 'replace')))
 
 
 class Counting(Probe):
@@ -127,3 +131,42 @@ def wire_changes(files: Files, end: int) -> Iterator[tuple[int, str, int]]:
                 yield int(at), wire, int(level)
             clock, piece = clock + clocks, min(10 * piece, PIECE)
             yield clock, '', 0
+
+
+class State(NamedTuple):
+    """SS, SP, the flags, and CS with IP."""
+
+    segment: int
+    pointer: int
+    flags: int
+    place: tuple[int, int]
+
+
+class Happenings(Probe):
+    """A session that tells what happens."""
+
+    clock = 0
+
+    def go_to(self, clock: int) -> None:
+        """Goes on to a clock."""
+        self.told([f'go {clock - self.clock}'])
+        self.clock = clock
+
+    def lines(self, clocks: int, kinds: str) -> list[bytes]:
+        """What happens in so many clocks, of these kinds: lines as `events` prints them."""
+        found = self.told([f'events {clocks} {kinds}']).split(b'\n')
+        self.clock += clocks
+        return found[:-2]  # but for the line that tells the clock, and what follows it: nothing
+
+    def states(self, clocks: list[int]) -> list[State]:
+        """Some registers at these clocks, which rise."""
+        found = list[State]()
+        for at in range(0, len(clocks), ASKED):
+            commands = list[str]()
+            for clock in clocks[at : at + ASKED]:
+                commands += f'go {clock - self.clock}', 'regs'
+                self.clock = clock
+            for words in STATE.findall(self.told(commands)):
+                pointer, code, segment, offset, flags = (int(it, 16) for it in words)
+                found.append(State(segment, pointer, flags, (code, offset)))
+        return found

@@ -1,0 +1,143 @@
+"""The tables of a run's calls and interrupts, as tools/trace prints them."""
+from __future__ import annotations
+
+from dataclasses import dataclass
+from typing import Iterator
+
+from toolbox.calls import Calls, Entry, Far, Line, Routine, Start, Tally, What
+from toolbox.effects import Does
+from toolbox.listing import Listing, code_of, physical
+
+Key = tuple['int | None', bool, Far]
+SHORT = {
+    Does.CLEARS_IF: 'CLI',
+    Does.SETS_IF: 'STI',
+    Does.RETURNS_WITH_FLAGS: 'IRET',
+    Does.LOADS: 'POPF',
+    Does.TRAPS: 'INT',
+    Does.MAY_TRAP: 'divide error or INTO',
+}
+NUMBERS = f'{"least":>9} {"most":>9} {"mean":>11}'
+SINGLE_STEP = 1
+
+
+def numbers(tally: Tally) -> str:
+    """The least, the most and the mean, or that there is none."""
+    if not tally.times:
+        return f'{"-":>9} {"-":>9} {"-":>11}'
+    return f'{tally.least:>9} {tally.most:>9} {tally.sum / tally.times:>11.1f}'
+
+
+def times(count: int) -> str:
+    """How often."""
+    return f'{count:,} times' if count != 1 else 'once'
+
+
+@dataclass
+class CallsTable:
+    """What a run's calls came to, as text."""
+
+    listing: Listing
+    calls: Calls
+
+    def lines(self) -> Iterator[str]:
+        """All of it."""
+        yield from self._routines()
+        yield ''
+        yield from self._interrupts()
+        yield ''
+        yield from self._off()
+
+    def name(self, key: Key) -> str:
+        """What a routine is called: by its label, else its place, with the interrupt that it serves."""
+        type_, is_entry, far = key
+        label = self.listing.label_before(*far) or '%04X:%04X' % far
+        return label if type_ is None else f'{label} ({"interrupt" if is_entry else "INT"} {type_:02X})'
+
+    def _routines(self) -> Iterator[str]:
+        """A line for each routine, the dearest first, and what isn't averaged."""
+        rows = sorted(self.calls.routines.items(), key=lambda it: (-it[1].took.sum, self.name(it[0])))
+        yield f'{"":<24} {"":>9} {"clocks":>31}   {"without interrupts":>31}'
+        yield f'{"routine":<24} {"times":>9} {NUMBERS}   {NUMBERS} {"most at":>12} {"stack":>6}'
+        for key, row in rows:
+            took = row.took
+            at, stack = (str(took.at), str(row.stack)) if took.times else ('-', '-')
+            yield f'{self.name(key):<24} {row.calls:>9} {numbers(took)}   {numbers(row.own)} {at:>12} {stack:>6}'
+        for key, row in rows:
+            yield from self._apart(self.name(key), row)
+        if self.calls.strays:
+            yield f'a return took an address that no call had put there {times(self.calls.strays)}'
+
+    @staticmethod
+    def _apart(name: str, row: Routine) -> Iterator[str]:
+        """The calls that haven't returned, which aren't averaged."""
+        if row.otherwise:
+            yield f'{name}: left otherwise than by its return {times(len(row.otherwise))}, and not averaged; first called at {min(row.otherwise)}'
+        if row.unended:
+            yield f'{name}: not left yet at the end {times(len(row.unended))}, and not averaged; first called at {min(row.unended)}'
+
+    def _interrupts(self) -> Iterator[str]:
+        """A line for each type: its latency, and its longest service."""
+        calls, requests = self.calls, self.calls.requests
+        served = dict[tuple[bool, int], Tally]()
+        for (type_, is_entry, _), row in calls.routines.items():
+            if type_ is not None:
+                longest = served.setdefault((is_entry, type_), Tally())
+                if row.took.times:
+                    longest.add(row.took.most, row.took.at)
+        lines = {(True, requests.base + level): line for level, line in enumerate(requests.lines) if line.has_come}
+        yield f'{"":<16} {"latency, in clocks":>41} {"":>12} {"longest":>9}'
+        yield f'{"interrupt":<16} {"taken":>9} {NUMBERS} {"most at":>12} {"service":>9} {"at":>12}'
+        for key in sorted({*served, *lines}):
+            line, service = lines.get(key, Line()), served.get(key, Tally())
+            at = str(line.taken.at) if line.taken.times else '-'
+            served_at = (str(service.most), str(service.at)) if service.times else ('-', '-')
+            name = self._line_name(key, key in lines)
+            yield f'{name:<16} {line.taken.times:>9} {numbers(line.taken)} {at:>12} {served_at[0]:>9} {served_at[1]:>12}'
+        for level, line in enumerate(requests.lines):
+            yield from self._fate(f'IR{level}', line)
+
+    def _line_name(self, key: tuple[bool, int], is_line: bool) -> str:
+        """What an interrupt is: its type, and what asks for it."""
+        is_entry, type_ = key
+        if is_line:
+            return f'{type_:02X} IR{type_ - self.calls.requests.base}'
+        return f'{type_:02X} {"INT" if not is_entry else "single step" if type_ == SINGLE_STEP else ""}'.rstrip()
+
+    @staticmethod
+    def _fate(name: str, line: Line) -> Iterator[str]:
+        """What became of requests that weren't simply taken."""
+        for it, what in ((line.fell, 'fell again before it was taken'), (line.met, 'rose while a request waited already')):
+            if it.count:
+                yield f'{name}: {what} {times(it.count)}, first at {it.first}'
+        if line.unseen:
+            yield f'{name}: entered without a rise in these clocks {times(line.unseen)}'
+        if line.polled:
+            yield f'{name}: taken by a poll {times(line.polled)}'
+        if line.forgotten:
+            yield f'{name}: forgotten as the controller was initialised {times(line.forgotten)}'
+        if line.waits is not None:
+            yield f'{name}: a request waits at the end, since {line.waits}'
+
+    def _off(self) -> Iterator[str]:
+        """How long interrupts were off."""
+        off = self.calls.off
+        if off.first:
+            yield f'interrupts off from the beginning up to {off.first[0]}, {self.place(off.first[1])}'
+        if off.longest:
+            begun, end, by, until = off.longest
+            yield f'interrupts off for {end - begun} clocks at most: from {begun}, {self.place(by)}, to {end}, {self.place(until)}'
+        if off.since:
+            begun, what = off.since
+            yield f'interrupts off at the end, since {begun}, {self.place(what)}' if what else 'interrupts off from the beginning to the end'
+
+    def place(self, what: What) -> str:
+        """What turned interrupts off or on, with its line or its place."""
+        if isinstance(what, Entry):
+            return f'the entry of interrupt {what.type:02X}'
+        assert isinstance(what, Start)
+        line = self.listing.at.get(physical(*what.place))
+        if line and what.octets[:8] == line.shown[: len(what.octets)]:
+            return f'line {line.number} ({code_of(line.text).strip()})'
+        label = self.listing.label_before(*what.place)
+        return f'{SHORT[what.effect.does]} at %04X:%04X{f" ({label})" if label else ""}' % what.place

@@ -1,0 +1,94 @@
+"""What an instruction's bytes tell of stack and flow: whether it calls, returns, or moves SP, and by how much."""
+from __future__ import annotations
+
+from enum import Enum, auto
+from typing import NamedTuple
+
+PREFIXES = b'\x26\x2E\x36\x3E\xF0\xF2\xF3'
+SP, SS = 4, 2  # their numbers in an instruction's bytes
+
+
+class Does(Enum):
+    """What there is to follow in an event."""
+
+    MOVES = auto()  # SP, by so many bytes
+    LOADS = auto()  # SP, SS or the flags, with values that its bytes don't tell
+    CALLS = auto()
+    TRAPS = auto()  # by INT
+    MAY_TRAP = auto()  # by INTO or a division
+    RETURNS = auto()
+    RETURNS_WITH_FLAGS = auto()
+    CLEARS_IF = auto()
+    SETS_IF = auto()
+
+
+class Effect(NamedTuple):
+    """What an instruction does, by how many bytes it moves SP, and the type of interrupt that INT, INTO and divisions enter."""
+
+    does: Does
+    moves: int = 0
+    type: int | None = None
+
+
+LOADS = Effect(Does.LOADS)
+PLAIN = {
+    **{it: Effect(Does.MOVES, -2) for it in (0x06, 0x0E, 0x16, 0x1E, 0x9C, *range(0x50, 0x58))},
+    **{it: Effect(Does.MOVES, 2) for it in (0x07, 0x1F, *range(0x58, 0x60))},
+    0x44: Effect(Does.MOVES, 1),
+    0x4C: Effect(Does.MOVES, -1),
+    **{it: LOADS for it in (0x17, 0x5C, 0x94, 0x9D, 0xBC)},  # POP SS, POP SP, XCHG AX,SP, POPF, MOV SP
+    0xE8: Effect(Does.CALLS, -2),
+    0x9A: Effect(Does.CALLS, -4),
+    0xC3: Effect(Does.RETURNS, 2),
+    0xCB: Effect(Does.RETURNS, 4),
+    0xCF: Effect(Does.RETURNS_WITH_FLAGS, 6),
+    0xCC: Effect(Does.TRAPS, -6, 3),
+    0xCE: Effect(Does.MAY_TRAP, -6, 4),
+    0xFA: Effect(Does.CLEARS_IF),
+    0xFB: Effect(Does.SETS_IF),
+}
+TO_REGISTER = {*(8 * it + 3 for it in range(7)), 0x87, 0x8B, 0x8D, 0xC4, 0xC5}  # ADD r,r/m to XOR r,r/m, XCHG, MOV, LEA, LES, LDS
+TO_OPERAND = {*(8 * it + 1 for it in range(7)), 0x87, 0x89, 0x8C, 0xC7, 0xD1, 0xD3}  # ADD r/m,r to XOR r/m,r, XCHG, MOV, shifts
+DIVIDE_ERROR = Effect(Does.MAY_TRAP, -6, 0)
+
+
+def signed(value: int) -> int:
+    """A word as a number from -32,768 to 32,767."""
+    return (value + 0x8000) % 0x10000 - 0x8000
+
+
+def effect_of(octets: bytes) -> Effect | None:
+    """What there is to follow in an instruction; None: nothing."""
+    code = octets.lstrip(PREFIXES)
+    first, form = code[0], code[1] if len(code) > 1 else 0
+    if first in PLAIN:
+        return PLAIN[first]
+    if first == 0xCD:
+        return Effect(Does.TRAPS, -6, form)
+    if first in (0xC2, 0xCA):
+        return Effect(Does.RETURNS, (2 if first == 0xC2 else 4) + signed(int.from_bytes(code[1:3], 'little')))
+    if first == 0xD4:
+        return DIVIDE_ERROR if form == 0 else None
+    is_register, digit, register = form >= 0xC0, form >> 3 & 7, form & 7
+    if first in (0xF6, 0xF7) and digit >= 6:
+        return DIVIDE_ERROR
+    if first == 0xFF and digit in (2, 3, 6):
+        return Effect(Does.MOVES if digit == 6 else Does.CALLS, -4 if digit == 3 else -2)
+    if first == 0x8E:
+        return LOADS if digit % 4 == SS else None
+    if first in TO_REGISTER and digit == SP:
+        return LOADS
+    if first == 0x8F:
+        return LOADS if is_register and register == SP else Effect(Does.MOVES, 2)
+    return of_operand(first, digit, code) if is_register and register == SP else None
+
+
+def of_operand(first: int, digit: int, code: bytes) -> Effect | None:
+    """What there is to follow if the operand is SP, or a byte register of its number."""
+    if first in (0x81, 0x83):
+        value = signed(int.from_bytes(code[2:4], 'little')) if first == 0x81 else (code[2] ^ 0x80) - 0x80
+        moves = {0: value, 5: -value}.get(digit)
+        return None if digit == 7 else LOADS if moves is None else Effect(Does.MOVES, moves)
+    if first == 0xFF and digit < 2:
+        return Effect(Does.MOVES, 1 - 2 * digit)
+    return LOADS if first in TO_OPERAND or first == 0xF7 and digit in (2, 3) else None
