@@ -3,6 +3,7 @@
 TOP     EQU 2000h
 SIZE    EQU 16
 PERIOD  EQU 1193                ; of the timer's ticks in a millisecond
+FIRST   EQU 1193                ; up to the first interrupt: another number moves the others against the main loop
 SEGMENT DATA AT 50h
 ticks:  DW 0,0
 head:   DW 0
@@ -42,7 +43,11 @@ inits:  XOR AX,AX
         MOV ES:[38],CS
         MOV AL,34h              ; counter 0, again and again
         OUT 43h,AL
-        MOV AX,PERIOD
+        MOV AX,FIRST
+        OUT 40h,AL
+        MOV AL,AH
+        OUT 40h,AL
+        MOV AX,PERIOD           ; which it takes once that count is over
         OUT 40h,AL
         MOV AL,AH
         OUT 40h,AL

@@ -1,17 +1,22 @@
 """tools/moments: over a program that stands in for the board, and the worked example over the built program."""
 import json
 import os
+import re
 import signal
 import subprocess
 import sys
 import unittest
+from pathlib import Path
 from unittest import mock
 
 from tests.support import EXAMPLES, SECONDS, TOOLS, ToolCase, but_progress, until
 
+from toolbox.program import zebludor
+
 # It shows T, but where a key comes in the first three clocks of ten, and keeps a list of the keys that it was run with. Once there
 # are nine of them it waits while a file `waits` is there.
 STAND_IN = """#!/bin/sh
+[ "$1" = run ] || exit 1
 run=$(cat "$4")
 keys=${run##*keys\\":}
 case $keys in *[0-9][0-2],*) line=a;; *) line=T;; esac
@@ -184,7 +189,9 @@ class Board(ToolCase):
         words = (f'{TURNS}.json', '--key', '1E', '--at')
         out, _ = self.tool('moments', f'{TURNS}.page', f'{TURNS}.asm', *words, '1980..2020', status=1)
         told = out.splitlines()
-        self.assertEqual((told[0], told[3]), ('40 of 40 moments tried, 12 failed', 'failing 1996 to 2007'))
+        self.assertEqual((told[0], told[3]), ('40 of 40 moments tried, 12 failed', 'failing 1996 to 2007: from line 36 (MOV AX,[turns]) to line 37 (INC AX)'))
+        trail = self.pcboard('debug', f'{TURNS}.asm', f'{TURNS}.json', given='go 1996\ntrail\ngo 11\ntrail\n').stdout.splitlines()
+        self.assertTrue(' MOV AX,[' in trail[32] and trail[-1].endswith(' INC AX'), (trail[32], trail[-1]))
         self.tool('judge', f'{TURNS}.page', f'{TURNS}.asm', f'{TURNS}.json')
         self.tool('judge', f'{TURNS}.page', f'{TURNS}.asm', f'{self.room}/turns.failing.json', status=1)
         out, _ = self.tool('moments', f'{TURNS}.page', f'{EXAMPLES}/moments/mended.asm', *words, '1980..2020')
@@ -195,7 +202,8 @@ class Board(ToolCase):
         source = self.file('it.asm', TWICE)
         words = (self.file('page', 'budget = 1000\nmemory 402 = 0\n'), source, '--jobs', '1', '--key', '1E', '--at', '100..900')
         out, _ = self.tool('moments', *words, '--sample', '4', '--seed', '2', status=1)
-        self.assertEqual([it for it in out.splitlines() if it.startswith('failing')], ['failing 157', 'failing 186', 'failing 193', 'failing 469'])
+        failing = [it.partition(':')[0] for it in out.splitlines() if it.startswith('failing')]
+        self.assertEqual(failing, ['failing 157', 'failing 186', 'failing 193', 'failing 469'])
         for clock, told in ((157, '1E'), (193, '1E'), (211, '1E'), (212, '00'), (300, '00'), (426, '00'), (427, '1E'), (469, '1E')):
             run = self.file('it.json', f'{{"version":1,"ram":64,"sw1":0,"sw2":0,"budget":1000,"keys":[[{clock},30]]}}')
             self.assertEqual(self.pcboard('debug', source, run, given='go 1000\ndump 402 1\n').stdout.splitlines()[-1], f'00402: {told}', clock)
@@ -215,10 +223,134 @@ class Board(ToolCase):
         words = (self.file('page', 'runs = idle\nmemory turns = 14 00\n'), text, f'{TURNS}.json', '--hex', '--key', '1E', '--at', '1994..1998')
         out, _ = self.tool('moments', *words, '--symbols', listing, status=1)
         self.assertEqual(out.splitlines()[0], '4 of 4 moments tried, 2 failed')
-        self.assertIn('failing 1996 to 1997\n', out)
+        self.assertRegex(out, r'failing 1996 to 1997: at turn\+5 \(MOV AX,\[\w+\]\)\n|failing 1996 to 1997: at line 36 \(')
         self.assertIn('no idle in', self.tool('moments', *words, status=1)[0])
         self.file('turns.lst', '0500:0000 turns\n')
         self.assertIn('no byte at any of its labels', self.tool('moments', *words, '--symbols', listing, status=2)[1])
+
+
+# The timer's interrupt and the main loop both count up; INITIAL is what the timer is loaded with.
+RACE = '''SEGMENT MAIN AT 0F000h
+initial EQU 400                 ; the first count
+start:  MOV AX,50h
+        MOV SS,AX
+        MOV DS,AX
+        MOV SP,200h
+        MOV AL,30h
+        OUT 43h,AL
+load:   MOV AX,INITIAL
+        OUT 40h,AL
+        MOV AL,AH
+        OUT 40h,AL
+        MOV AL,13h
+        OUT 20h,AL
+        MOV AL,8
+        OUT 21h,AL
+        MOV AL,1
+        OUT 21h,AL
+        STI
+        MOV CX,20
+turn:   LOOP turn
+        MOV AX,[0]
+        INC AX
+        MOV [0],AX
+        MOV CX,60
+rest:   LOOP rest
+        CLI
+        HLT
+tick:   PUSH AX
+        INC WORD [0]
+        MOV AL,20h
+        OUT 20h,AL
+        POP AX
+        IRET
+ENDS
+SEGMENT VECTORS AT 0
+        ORG 20h
+        DW tick,SEG tick
+ENDS
+SEGMENT RESET AT 0FFFFh
+        JMP FAR start
+ENDS
+'''
+COUNTS = range(88, 108)
+TERMINAL = f'{EXAMPLES}/terminal/terminal'
+
+
+class Measured(ToolCase):
+    """Clocks up to a place, and the timer's phase."""
+
+    def test_from_key_to_handler(self) -> None:
+        """The finding's numbers, 61 to 330 clocks, about the tick that makes the longest; each by a session of its own too."""
+        words = ('--measure', 'key', f'{TERMINAL}.asm', f'{TERMINAL}.json', '--jobs', '1', '--key', '1E', '--at')
+        self.assertEqual(
+            self.tool('moments', *words, '52640..52656')[0].splitlines()[:3:2], ['16 of 16 moments tried, 16 came to key', 'most 330 clocks, after 52648']
+        )
+        clocks = [self.clocks_to_key(it) for it in range(52640, 52656)]
+        out, _ = self.tool('moments', *words, '52640..52656')
+        self.assertIn(f'least {min(clocks)} clocks, after {52640 + clocks.index(min(clocks))}\n', out)
+        self.assertIn(f'most {max(clocks)} clocks, after {52640 + clocks.index(max(clocks))}\n', out)
+        self.assertIn(f'mean {sum(clocks) / 16:.1f} clocks\n', out)
+        self.assertIn('least 61 clocks, after 50000\n', self.tool('moments', *words, '50000')[0])
+
+    def clocks_to_key(self, stamp: int) -> int:
+        """The clocks from one key's stamp to its handler."""
+        with zebludor.Session(Path(f'{TERMINAL}.asm'), keys=[(20000, 30), (20480, 158), (stamp, 30)], budget=100_000) as session:
+            session.go(stamp)
+            session.stop_at('key')
+            session.go(1000)
+            return session.clock - stamp
+
+    def test_never(self) -> None:
+        words = (f'{TERMINAL}.asm', f'{TERMINAL}.json', '--jobs', '1', '--key', '1E', '--at')
+        out, _ = self.tool('moments', '--measure', 'full', *words, '30000..30003')
+        self.assertEqual(out, '3 of 3 moments tried, 0 came to full\nnever after 30000 to 30002\n')
+        out, _ = self.tool('moments', '--measure', 'key', *words, '99936..99941')
+        self.assertEqual(out.splitlines()[0] + out.splitlines()[-1], '5 of 5 moments tried, 4 came to keynever after 99940')
+
+    def counts(self) -> tuple[list[int], str]:
+        """The counts with which the race is lost, each by a run, and the source."""
+        source, lost = self.file('race.asm', RACE), list[int]()
+        run = self.file('race.json', '{"version":1,"ram":64,"sw1":0,"sw2":0,"budget":3000,"keys":[]}')
+        for count in COUNTS:
+            poked = self.file('it.asm', RACE.replace('EQU 400', f'EQU {count}'))
+            if not self.pcboard('debug', poked, run, given='go 3000\ndump 500 1\n').stdout.endswith(' 02\n'):
+                lost.append(count)
+        self.assertTrue(0 < len(lost) < len(COUNTS))
+        return lost, source
+
+    def told(self, out: str) -> list[int]:
+        """The counts of the failing ranges."""
+        found = re.findall(r'^failing count (\d+)(?: to (\d+))?$', out, re.M)
+        return [it for first, last in found for it in range(int(first), int(last or first) + 1)]
+
+    def test_first_counts(self) -> None:
+        """Of a source by its constant, and of Intel HEX by its bytes."""
+        lost, source = self.counts()
+        page, which = self.file('page', 'memory 500 = 02\n'), ('--first-count', f'{COUNTS.start}..{COUNTS.stop}')
+        out, _ = self.tool('moments', page, source, 'race.json', *which, '--poke', 'INITIAL', '--all', status=1)
+        self.assertEqual(self.told(out), lost)
+        self.tool('judge', page, 'race.failing.asm', 'race.failing.json', status=1)
+        listing, text = (self.pcboard('asm', *it, source).stdout for it in (['--list'], []))
+        words = (self.file('race.hex', text), 'race.json', '--symbols', self.file('race.lst', listing), *which)
+        out, _ = self.tool('moments', page, *words, '--poke', 'load+1,load+2', '--all', status=1)
+        self.assertEqual(self.told(out), lost)
+        self.tool('judge', page, 'race.failing.hex', 'race.failing.json', status=1)
+
+    def test_counts_with_keys(self) -> None:
+        """Pairs of a count and a key, and what can't be tried."""
+        source = self.file('race.asm', RACE)
+        words = ('--measure', 'tick', source, '--jobs', '1', '--first-count', '200..202', '--poke', 'INITIAL')
+        out, _ = self.tool('moments', *words, '--key', '1E', '--at', '300..303')
+        self.assertEqual(out.splitlines()[0], '6 of 6 moments tried, 6 came to tick')
+        self.assertRegex(out, r'least \d+ clocks, after count 20\d, 302\nmost \d+ clocks, after count 20\d, 300\n')
+        for more, wanted in (
+            (['--first-count', '1..2', '--poke', 'nobody'], 'no line "nobody EQU .."'),
+            (['--first-count', '1..2'], 'goes with --poke'),
+            (['--first-count', '2..2', '--poke', 'INITIAL'], 'has no count'),
+            (['--key', '1E', '--at', '1..2', 'a', 'b'], 'name FILE, and RUN'),
+        ):
+            self.assertIn(wanted, self.tool('moments', '--measure', 'tick', source, *more, status=2)[1])
 
 
 if __name__ == '__main__':

@@ -1,4 +1,5 @@
-"""Every moment tried: a program run once for each clock at which a key may come, by processes side by side."""
+"""Every moment tried: a program run once for each clock at which a key may come, or for each first count of the timer, by processes side
+by side."""
 from __future__ import annotations
 
 import contextlib
@@ -8,6 +9,7 @@ import math
 import os
 import queue
 import random
+import re
 import signal
 import subprocess
 import sys
@@ -22,8 +24,10 @@ from toolbox.comments import handed
 from toolbox.command import PYTHON, Sorry, read_text, write_text
 from toolbox.expectations import Planned, page_of
 from toolbox.judging import fields_of, outcomes_of, subject_of
-from toolbox.listing import Listing
-from toolbox.program import Files, path as program_path
+from toolbox.listing import Listing, code_of, label_in, listing_of
+from toolbox.places import event_of, far_of, line_at
+from toolbox.poking import Count
+from toolbox.program import Files, path as program_path, refusal, run
 from toolbox.runfile import DEFAULTS, text_of
 from toolbox.symbols import path_of
 
@@ -39,31 +43,60 @@ class Key:
     """A scan code, and the clocks at which it is tried."""
 
     code: int
-    clocks: range
+    values: range
+
+
+@dataclass(frozen=True)
+class Asked:
+    """What is wanted of each run: a page's expectations, or the clocks up to a place."""
+
+    page: str | None
+    place: str | None = None
 
 
 class Plan:
-    """What is to be tried: moments, of which each is a clock for each key."""
+    """What is to be tried: moments, of which each is a count, if there is one to try, and a clock for each key."""
 
-    def __init__(self, page: str, files: Files, keys: list[Key], sample: int, seed: int) -> None:
-        self.page, self.files = page, files
+    def __init__(self, asked: Asked, files: Files, keys: list[Key], sample: int, seed: int, count: Count | None = None) -> None:
+        self.asked, self.files, self.count = asked, files, count
         self.keys, self.sample, self.seed = keys, sample, seed
-        self.runs, self.text = page_of(page), read_text(files.file if files.is_hex else handed(files.file))
+        self.axes: list[Count | Key] = [*([count] if count else []), *keys]
+        self.runs = page_of(asked.page) if asked.page else [Planned()]
+        self.text = read_text(files.file if files.is_hex else handed(files.file))
         self.symbols = [files.symbols, read_text(path_of(files.symbols))] if files.symbols else []
         self.listing: Listing | None = None  # where labels stand, once it was asked
-        total = math.prod(len(it.clocks) for it in keys)
+        self._poked: tuple[int, Files] | None = None
+        total = math.prod(len(it.values) for it in self.axes)
         if not 0 <= sample <= total:
             raise Sorry(f'--sample {sample}: there are {total} moments')
         self.moments: Sequence[int] = sorted(random.Random(seed).sample(range(total), sample)) if sample else range(total)
         self._run = {id(it): fields_of(it, files.run_file or None, SHORT) for it in self.runs}
 
-    def clocks(self, moment: int) -> tuple[int, ...]:
-        """The clocks of the moment of this number."""
+    def values(self, moment: int) -> tuple[int, ...]:
+        """The count, if there is one to try, and the clocks of the moment of this number."""
         number, found = self.moments[moment], list[int]()
-        for key in reversed(self.keys):
-            number, place = divmod(number, len(key.clocks))
-            found.append(key.clocks[place])
+        for axis in reversed(self.axes):
+            number, place = divmod(number, len(axis.values))
+            found.append(axis.values[place])
         return tuple(reversed(found))
+
+    def stamps(self, moment: int) -> tuple[int, ...]:
+        """The keys' clocks of a moment."""
+        return self.values(moment)[len(self.axes) - len(self.keys) :]
+
+    def files_of(self, moment: int | None, room: str) -> Files:
+        """The program's files of a moment: a copy in this folder, if there is a count to try. None: the files as they are."""
+        if self.count is None or moment is None:
+            return self.files
+        value = self.values(moment)[0]
+        if self._poked is None or self._poked[0] != value:
+            name = f'{room}/{os.getpid()}{".hex" if self.files.is_hex else ".asm"}'
+            self._poked = value, self.count.poked(self.files, self.text, value, name)
+            if not self.files.is_hex:
+                self.listing = None  # another constant may move labels
+            elif self.listing is None:
+                self.listing = listing_of(self.files)  # whose bytes are those of its symbols
+        return self._poked[1]
 
     def fields(self, planned: Planned) -> dict[str, Any]:
         """A run's run file, without the keys that are tried."""
@@ -72,31 +105,36 @@ class Plan:
     def with_keys(self, fields: dict[str, Any], moment: int) -> dict[str, Any]:
         """A run file with the keys of a moment, each behind those that are stamped with its clock already."""
         keys = [list(it) for it in fields['keys']]
-        for key, clock in zip(self.keys, self.clocks(moment)):
+        for key, clock in zip(self.keys, self.stamps(moment)):
             keys.insert(bisect_right([it[0] for it in keys], clock), [clock, key.code])
         return fields | {'keys': keys}
 
     def words(self, room: str) -> list[str]:
         """The command line of a process that tries moments, with run files in this folder."""
         tool = os.path.join(os.path.dirname(os.path.dirname(os.path.realpath(__file__))), 'moments')
-        keys = [word for it in self.keys for word in ('--key', f'{it.code:02X}', '--at', f'{it.clocks.start}..{it.clocks.stop}')]
+        keys = [word for it in self.keys for word in ('--key', f'{it.code:02X}', '--at', f'{it.values.start}..{it.values.stop}')]
+        if self.count:
+            keys += ['--first-count', f'{self.count.values.start}..{self.count.values.stop}', '--poke', self.count.named]
         sample = ['--sample', str(self.sample), '--seed', str(self.seed)] if self.sample else []
         files = self.files
         form = [*(['--hex'] if files.is_hex else []), *(['--symbols', files.symbols] if files.symbols else [])]
-        return [PYTHON, '-S', tool, '--worker', room, *keys, *sample, *form, '--', self.page, files.file, *([files.run_file] if files.run_file else [])]
+        what = ['--measure', self.asked.place] if self.asked.place else []
+        names = [it for it in (self.asked.page, files.file, files.run_file) if it]
+        return [PYTHON, '-S', tool, '--worker', room, *what, *keys, *sample, *form, '--', *names]
 
     def sum(self) -> str:
         """What tells this plan from others: all that an outcome hangs on."""
         program = os.stat(program_path())
         known = [
             self.text,
-            read_text(self.page),
+            read_text(self.asked.page) if self.asked.page else self.asked.place,
             [self.fields(it) for it in self.runs],
             self.files.is_hex,
             self.symbols,
             self.sample,
             self.seed,
-            [(it.code, it.clocks.start, it.clocks.stop) for it in self.keys],
+            [(it.code, it.values.start, it.values.stop) for it in self.keys],
+            [self.count.named, self.count.values.start, self.count.values.stop] if self.count else [],
             program.st_size,
             program.st_mtime_ns,
         ]
@@ -112,20 +150,28 @@ class Failure:
     but: str
 
 
+NEVER = -1
+# What a moment comes to: what it fails by, or the clocks up to the place, NEVER if it doesn't come.
+Outcome = Failure | int | None
+
+
 @dataclass
 class Found:
-    """What came out: which moments were tried, by number, and which failed."""
+    """What came out: which moments were tried, by number, which failed, and what was measured."""
 
     is_tried: bytearray
     failed: dict[int, Failure] = field(default_factory=dict)
     tried: int = 0
+    measured: dict[int, int] = field(default_factory=dict)
 
-    def add(self, moment: int, failure: Failure | None) -> None:
+    def add(self, moment: int, outcome: Outcome) -> None:
         """A moment that was tried."""
         self.is_tried[moment] = 1
         self.tried += 1
-        if failure:
-            self.failed[moment] = failure
+        if isinstance(outcome, int):
+            self.measured[moment] = outcome
+        elif outcome:
+            self.failed[moment] = outcome
 
 
 class Kept:
@@ -145,6 +191,7 @@ class Kept:
                 print(f'moments: {self.path} is of other files, clocks or another program; it begins anew', file=sys.stderr)
                 return found
             found.failed = {int(it): Failure(*rest) for it, *rest in kept['failed']}
+            found.measured = dict(map(tuple, kept['measured']))
             for first, last in kept['tried']:
                 found.is_tried[first:last] = b'\1' * (last - first)
             found.tried = sum(found.is_tried)
@@ -160,7 +207,8 @@ class Kept:
             tried.append((at, end if end >= 0 else self._total))
             at = found.is_tried.find(1, end) if end >= 0 else -1
         failed = [(it, why.run, why.said, why.but) for it, why in found.failed.items()]
-        write_text(self.path, json.dumps({'of': self._sum, 'tried': tried, 'failed': failed}) + '\n')
+        kept = {'of': self._sum, 'tried': tried, 'failed': failed, 'measured': list(found.measured.items())}
+        write_text(self.path, json.dumps(kept) + '\n')
 
     def remove(self) -> None:
         """Nothing is left to try."""
@@ -168,13 +216,17 @@ class Kept:
             os.remove(self.path)
 
 
-def failure_of(plan: Plan, run_file: str, moment: int | None) -> Failure | None:
-    """What a moment fails by: the first expectation of the first run that isn't met. None: the runs without the keys."""
-    files = replace(plan.files, run_file=run_file)
+def write_run(plan: Plan, planned: Planned, path: str, moment: int | None) -> None:
+    """Writes the run file of a moment. None: without the keys that are tried."""
+    fields = plan.fields(planned)
+    with open(path, 'w', encoding='utf-8') as to:
+        to.write(text_of(fields if moment is None else plan.with_keys(fields, moment)))
+
+
+def failure_of(plan: Plan, files: Files, moment: int | None) -> Failure | None:
+    """What a moment fails by: the first expectation of the first run that isn't met. The run file is overwritten."""
     for number, planned in enumerate(plan.runs):
-        fields = plan.fields(planned)
-        with open(run_file, 'w', encoding='utf-8') as to:
-            to.write(text_of(fields if moment is None else plan.with_keys(fields, moment)))
+        write_run(plan, planned, files.run_file, moment)
         subject = subject_of(files)
         if isinstance(subject, str):
             raise Sorry(f'{files.file} is {subject} (tools/why tells more)')
@@ -186,19 +238,66 @@ def failure_of(plan: Plan, run_file: str, moment: int | None) -> Failure | None:
     return None
 
 
+def clocks_of(plan: Plan, files: Files, moment: int, place: str) -> int:
+    """The clocks of a moment from its last key's stamp, or from the run's beginning, until the place begins next."""
+    write_run(plan, plan.runs[0], files.run_file, moment)
+    plan.listing = plan.listing or listing_of(files)
+    far, stamp = far_of(plan.listing, place), (0, *plan.stamps(moment))[-1]
+    rest = plan.fields(plan.runs[0])['budget'] - stamp
+    ran = run(files.words('debug'), f'go {stamp}\nbreak {far[0]:X}:{far[1]:X}\ngo {rest}\n'.encode())
+    told = ran.out.splitlines()
+    if ran.status or len(told) != 3:
+        raise Sorry(refusal(ran.status, ran.err))
+    return int(told[2].split()[-1]) - stamp if told[2].startswith('stop') else NEVER
+
+
+def lines_at(plan: Plan, moments: list[int], failed: dict[int, Failure]) -> dict[int, str]:
+    """What ran when the last key of each moment came: its line, or its place and instruction; nothing if it can't be told."""
+    found, groups = dict[int, str](), dict[tuple[int, ...], list[int]]()
+    for moment in moments if plan.keys else []:
+        groups.setdefault((failed[moment].run, *plan.values(moment)[:-1]), []).append(moment)
+    with tempfile.TemporaryDirectory() as room:
+        for (number, *_), group in groups.items():
+            files = replace(plan.files_of(group[0], room), run_file=f'{room}/run.json')
+            write_run(plan, plan.runs[number], files.run_file, group[-1])
+            clocks = [plan.stamps(it)[-1] for it in group]
+            steps = ''.join(f'go {b - a}\ntrail\n' for a, b in zip([0, *clocks], clocks))
+            told = re.split(r'^clock \d+\n', run(files.words('debug'), steps.encode()).out, flags=re.M)[1:]
+            for moment, trail in zip(group, told):
+                plan.listing = plan.listing or listing_of(files)
+                found[moment] = last_line(plan.listing, trail)
+    return found
+
+
+def last_line(listing: Listing, trail: str) -> str:
+    """What began last in a trail."""
+    lines = trail.splitlines()
+    if not lines:
+        return ''
+    event = event_of(lines[-1])
+    line, label = line_at(listing, event), listing.label_before(event.segment, event.offset)
+    if event.entry is not None:
+        return f'the entry of interrupt {event.entry:02X}'
+    if line:
+        return f'line {line.number} ({code_of(line.text.partition(":")[2] if label_in(line.text) else line.text).strip()})'
+    return f'{label or "%04X:%04X" % (event.segment, event.offset)} ({event.text})'
+
+
 def without_keys(plan: Plan) -> Failure | None:
     """What isn't met without the keys already."""
     with tempfile.TemporaryDirectory() as room:
-        return failure_of(plan, f'{room}/run.json', None)
+        return failure_of(plan, replace(plan.files, run_file=f'{room}/run.json'), None) if plan.asked.page else None
 
 
 def work(plan: Plan, room: str) -> int:
     """A process that tries moments: their numbers come in lines, and each is answered by a line, until the input ends."""
+    place = plan.asked.place
     for line in sys.stdin:
         for moment in json.loads(line):
             try:
-                found = failure_of(plan, f'{room}/{os.getpid()}.json', moment)
-                answer: Any = found and [found.run, found.said, found.but]
+                files = replace(plan.files_of(moment, room), run_file=f'{room}/{os.getpid()}.json')
+                found = clocks_of(plan, files, moment, place) if place else failure_of(plan, files, moment)
+                answer: Any = [found.run, found.said, found.but] if isinstance(found, Failure) else found
             except Sorry as sorry:
                 answer = str(sorry)
             print(json.dumps(answer), flush=True)
@@ -211,8 +310,8 @@ class Worker:
     def __init__(self, words: list[str]) -> None:
         self._process = subprocess.Popen(words, stdin=subprocess.PIPE, stdout=subprocess.PIPE, stderr=subprocess.PIPE, text=True, start_new_session=True)
 
-    def ask(self, moments: list[int]) -> Iterator[Failure | None]:
-        """What each of these fails by."""
+    def ask(self, moments: list[int]) -> Iterator[Outcome]:
+        """What each of these comes to."""
         assert self._process.stdin and self._process.stdout and self._process.stderr
         with contextlib.suppress(BrokenPipeError):
             self._process.stdin.write(json.dumps(moments) + '\n')
@@ -225,7 +324,7 @@ class Worker:
             answer = json.loads(line)
             if isinstance(answer, str):
                 raise Sorry(answer)
-            yield Failure(*answer) if answer else None
+            yield Failure(*answer) if isinstance(answer, list) else answer
 
     def end(self) -> None:
         """Ends it, also in the midst of a run: it has nothing to keep."""
@@ -249,7 +348,7 @@ class Feeder:
     """Hands the moments to processes, each by a thread of its own."""
 
     def __init__(self, plan: Plan, found: Found, jobs: int, room: str) -> None:
-        self.answers: queue.Queue[tuple[int, Failure | None] | Exception | None] = queue.Queue()
+        self.answers: queue.Queue[tuple[int, Outcome] | Exception | None] = queue.Queue()
         self._todo, self._lock = chunks(found), threading.Lock()
         self.workers = [Worker(plan.words(room)) for _ in range(min(jobs, math.ceil(found.is_tried.count(0) / AT_ONCE)))]
         for worker in self.workers:
@@ -263,8 +362,8 @@ class Feeder:
                     chunk = next(self._todo, None)
                 if chunk is None:
                     return
-                for moment, failure in zip(chunk, worker.ask(chunk)):
-                    self.answers.put((moment, failure))
+                for moment, outcome in zip(chunk, worker.ask(chunk)):
+                    self.answers.put((moment, outcome))
         except (Sorry, ValueError, OSError) as error:
             self.answers.put(error)
         finally:
