@@ -8,7 +8,7 @@ from tests.support import ToolCase
 
 from toolbox.expectations import Subject, first_start
 from toolbox.judging import subject_of
-from toolbox.listing import listing_of
+from toolbox.listing import listing_of, physical
 from toolbox.program import Files, Session
 from toolbox.report import NANOSECONDS
 from toolbox.runfile import DEFAULTS, text_of
@@ -110,6 +110,34 @@ class Held(ToolCase):
                 self.assertEqual(self.levels(text, name)[first:], held[first:], (seed, name))
                 halts += name == 'halted' and sum(a < b for a, b in zip(held, held[1:]))
         self.assertGreater(halts, 30)
+
+    def words(self, text: str, name: str) -> list[int]:
+        """A signal of many bits of a waveform, at each clock."""
+        sign = next(it.split()[3] for it in text.splitlines() if it.startswith('$var') and it.split()[4] == name)
+        found, value = list[int](), 0
+        for line in text.partition('$end\n#')[2].splitlines():
+            if line.isdecimal() or line.startswith('#'):
+                found += [value] * (int(line.strip('#')) // NANOSECONDS - len(found))
+            elif line.startswith('b') and line.split()[1] == sign:
+                value = int(line.split()[0][1:], 2)
+        return found
+
+    def test_watched_memory(self) -> None:
+        """A word of the stack, a byte that strings reach, and one of ROM: at each clock what memory holds."""
+        changes = 0
+        for seed in range(6):
+            files, first = self.files(seed), 0 if seed % 2 else 700
+            rom = physical(*(listing_of(files).label_of('tick') or (0, 0)))
+            places = {'0050:07FA,word': (0xCFA, 2), '400': (0x400, 1), 'tick,byte': (rom, 1)}
+            words = [word for it in places for word in ('--watch', it)]
+            text, _ = self.called('trace', '--vcd', '-', '--from', str(first), *words, files.file, files.run_file)
+            for name, (at, size) in places.items():
+                given = ''.join(f'dump {at:X} {size}\ngo 1\n' for _ in range(CLOCKS))
+                told = [it for it in self.pcboard(*files.words('debug'), given=given).stdout.splitlines() if ':' in it]
+                held = [int.from_bytes(bytes.fromhex(it.partition(':')[2]), 'little') for it in told]
+                self.assertEqual(self.words(text, name.partition(',')[0])[first:], held[first:], (seed, name))
+                changes += sum(a != b for a, b in zip(held, held[1:]))
+        self.assertGreater(changes, 40)
 
     def test_what_ran(self) -> None:
         """Where an instruction first began, as tools/judge looks for it: as single steps meet it, at the reset's place too."""

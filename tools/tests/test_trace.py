@@ -149,6 +149,21 @@ class Runs(ToolCase):
         files = self.program('        JMP SHORT over\n        NOP\nover:   HLT', 100)
         self.assertIn('   never', self.tool('trace', '--listing', *files)[0])
 
+    def test_lcov(self) -> None:
+        """Each line of code with its times, beside the table; of Intel HEX by its symbols and its source's name."""
+        source, run = self.program('        JMP SHORT over\n        NOP\nover:   MOV CX,3\nturn:   LOOP turn\n        HLT\n        DB 5', 200)
+        wanted = 'TN:\nSF:{}\nDA:3,1\nDA:4,0\nDA:5,1\nDA:6,3\nDA:7,1\nDA:11,1\nLF:6\nLH:5\nend_of_record\n'
+        out, _ = self.tool('trace', '--coverage', '--lcov', 'it.info', source, run)
+        self.assertTrue(out.startswith('5 of 6 lines of code ran'), out)
+        with open(f'{self.room}/it.info', encoding='utf-8') as file:
+            self.assertEqual(file.read(), wanted.format(source))
+        listing = self.file('it.lst', self.pcboard('asm', '--list', source).stdout)
+        words = ('--lcov', '-', self.file('it.hex', self.pcboard('asm', source).stdout), run)
+        self.assertEqual(self.tool('trace', '--symbols', listing, '--source', 'it.asm', *words)[0], wanted.format('it.asm'))
+        self.assertIn('--source NAME', self.tool('trace', '--symbols', listing, *words, status=2)[1])
+        self.assertIn('goes with', self.tool('trace', '--lcov', 'it.info', '--vcd', 'it.vcd', source, run, status=2)[1])
+        self.assertIn('--watch goes with --vcd', self.tool('trace', '--watch', 'over', source, run, status=2)[1])
+
     def test_part_of_a_run(self) -> None:
         out, _ = self.tool('trace', '--from', '948', '--to', '1045', *example('ticks'))
         self.assertEqual([it.split()[0] for it in out.splitlines()], ['948', '1009', '1032', '1036', '1045'])
