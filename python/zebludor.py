@@ -370,13 +370,58 @@ def _place_of(octets: bytes) -> tuple[int, int, bytes, str, int | None]:
     return segment, offset, bytes.fromhex(shown), text, None
 
 
+class Happening(NamedTuple):
+    """Something that happens in a clock, as docs/probe.md tells of `events`: what, where and with which value.
+
+    start: (segment, offset), the bytes; entry: None, the type; write: the address, the byte; in and out: the port, the byte;
+    key: `arrives`, `lost` or `latched`, the code; wire: its name, the level; halted, woken, jammed: None, None"""
+
+    clock: int
+    what: str
+    place: Any
+    value: Any
+
+
+def happening_of(line: str) -> Happening:
+    """A line of `events`."""
+    clock, what, *words = line.split()
+    if what == 'start':
+        return Happening(int(clock), what, (int(words[0][:4], 16), int(words[0][5:], 16)), bytes.fromhex(words[1]))
+    if what in ('write', 'in', 'out'):
+        return Happening(int(clock), what, int(words[0], 16), int(words[1], 16))
+    if what == 'key':
+        return Happening(int(clock), what, words[1], int(words[0], 16))
+    if what == 'wire':
+        return Happening(int(clock), what, words[0], int(words[1]))
+    return Happening(int(clock), what, None, int(words[0], 16) if words else None)
+
+
+def _beside() -> None:
+    """The tools' modules, which stand in the folder beside this file's, can be imported."""
+    if f'{TOP}/tools' not in sys.path:
+        sys.path.append(f'{TOP}/tools')
+
+
+def _probe() -> str:
+    """The probe that the tools take."""
+    _beside()
+    try:
+        from toolbox.chips import UNBUILT, probe
+    except ImportError as error:
+        raise Unfit(f"the probe is found by the tools, and {TOP}/tools hasn't them: {error}") from None
+    name = probe()
+    if not name:
+        raise Unfit(UNBUILT)
+    return name
+
+
 class Dialogue:
     """A session of `pcboard debug` by its texts: one command at a time, and its answer. The terminal's interrupt doesn't reach
     it, so that what talks with it can end a long run and go on."""
 
-    def __init__(self, words: list[str]) -> None:
+    def __init__(self, words: list[str], name: str | None = None) -> None:
         self._process = self.started(
-            [program(), *words], stdin=subprocess.PIPE, stdout=subprocess.PIPE, stderr=subprocess.PIPE, bufsize=0, start_new_session=True
+            [name or program(), *words], stdin=subprocess.PIPE, stdout=subprocess.PIPE, stderr=subprocess.PIPE, bufsize=0, start_new_session=True
         )
         assert self._process.stdout
         self._out = os.fdopen(os.dup(self._process.stdout.fileno()), 'rb')
@@ -451,6 +496,15 @@ class Dialogue:
                 return lines
             lines.append(line)
 
+    def happenings(self, command: str) -> list[str]:
+        """The lines of an answer that ends with its clock, or is a refusal alone."""
+        self._send(command + '\n')
+        lines = [self._line()]
+        while not re.match('clock |fault ', lines[-1]):
+            lines.append(self._line())
+        self.clock, self.is_idle = int(lines[-1].split()[-1]) if 'clock ' in lines[-1] else self.clock, True
+        return lines
+
     def trails(self, clocks: list[int], command: str = 'trail') -> list[list[bytes]]:
         """The trails behind runs of so many clocks each, one behind the other, in a session without stops; lines for `event_of`. Or
         the answers to another command. All are asked for at once, so that neither side waits for the other: at most some thirty,
@@ -508,9 +562,8 @@ class Places:
 
     @functools.cached_property
     def _tools(self) -> Any:
-        """The tools' modules, which stand in the folder beside this file's."""
-        if f'{TOP}/tools' not in sys.path:
-            sys.path.append(f'{TOP}/tools')
+        """The tools' modules."""
+        _beside()
         try:
             from toolbox import command, listing as listings, places, program as programs
         except ImportError as error:
@@ -537,12 +590,14 @@ class Places:
 class Session:
     """A session of the debugger, as a context manager: a board at clock 0 that goes forth and back. Stops are numbered from 1,
     and stay for the whole session; what goes to a stop answers the number of the one that holds, or None. Its commands are
-    those of docs/debugger.md; a refused one is raised as Fault. `source` tells where labels and lines stand."""
+    those of docs/debugger.md; a refused one is raised as Fault. `source` tells where labels and lines stand. With `probe` it is
+    one of pcprobe, which has `events`."""
 
-    def __init__(self, source: Source, *, is_hex: bool = False, symbols: str | os.PathLike | None = None, **fields: Any) -> None:
-        self.source = Places(source, is_hex=is_hex, symbols=symbols)
+    def __init__(self, source: Source, *, is_hex: bool = False, symbols: str | os.PathLike | None = None, probe: bool = False, **fields: Any) -> None:
+        self.source, self._has_events = Places(source, is_hex=is_hex, symbols=symbols), probe
         with _files(source, _fields(fields)) as names:
-            self._dialogue = Dialogue(['debug', *_hex_words(source, is_hex), *names])
+            words = [*_hex_words(source, is_hex), *names]
+            self._dialogue = Dialogue(words, _probe()) if probe else Dialogue(['debug', *words])
             try:
                 self._dialogue.many('regs')  # behind its answer the files are read, and may go
             except BaseException:
@@ -645,6 +700,26 @@ class Session:
     def word(self, place: str | int) -> int:
         """The word there."""
         return int.from_bytes(self.dump(self._address(place), 2), 'little')
+
+    def events(self, clocks: int, *kinds: str) -> list[Happening]:
+        """Goes on by so many clocks, whatever stops hold, and tells what happens in them, of kinds of docs/probe.md: `starts`,
+        `entries`, `writes`, `ports`, `states`, `keys`, `wires`. Labels and other places of `source` may stand in the ranges of
+        writes, as in `writes=ticks` or `writes=first-last`."""
+        if not self._has_events:
+            raise Unfit('events are told by a session of the probe: Session(source, probe=True)')
+        *lines, last = self._dialogue.happenings(f'events {clocks} {" ".join(map(self._kind, kinds))}')
+        fault = fault_in(last)
+        if fault:
+            raise fault
+        return [happening_of(it) for it in lines]
+
+    def _kind(self, kind: str) -> str:
+        """A kind as the probe takes it."""
+        name, _, text = kind.partition('=')
+        if name != 'writes' or not text:
+            return kind
+        first, _, last = text.partition('-')
+        return f'{name}={self._address(first):X}-{self._address(last or first):X}'
 
     def trail(self) -> list[Event]:
         """The last 32 instruction starts and interrupt entries, the oldest first."""

@@ -11,6 +11,7 @@ from tests.support import STORED, TOP, ToolCase, example
 
 import toolbox  # where zebludor is found
 import zebludor
+from toolbox.chips import UNBUILT, probe
 from zebludor import Fault, Header, Session, Unfit
 
 assert toolbox
@@ -168,6 +169,33 @@ class Runs(ToolCase):
                 self.assertEqual(caught.exception.number, number)
         with self.assertRaisesRegex(Fault, 'fault 4 UnknownName line 2'):
             Session('SEGMENT A AT 0\n FROB\n')
+
+    def test_events(self) -> None:
+        """What happens, by labels too; they are the session's own: the trail, memory, a key's stamp."""
+        source = pathlib.Path(example('keys')[0])
+        with self.assertRaisesRegex(Unfit, 'probe=True'), Session(source) as session:
+            session.events(1, 'starts')
+        if not probe():
+            self.skipTest(UNBUILT)
+        with Session(source, probe=True, keys=[(1500, 0x1E)], budget=3000) as session:
+            started = session.events(200, 'starts')
+            self.assertEqual(
+                [(it.clock, *it.place, it.value) for it in started], [(it.clock, it.segment, it.offset, it.octets) for it in session.trail()[-len(started) :]]
+            )
+            self.assertEqual(session.clock, 200)
+            found = session.events(1400, 'keys', 'entries', 'states', 'wires', 'ports=60-60')
+            self.assertIn((1500, 'key', 'arrives', 0x1E), found)
+            self.assertIn((1500, 'wire', 'IR1', 1), found)
+            self.assertEqual([it.value for it in found if it.what == 'entry'], [9])
+            self.assertIn(('in', 0x60, 0x1E), [it[1:] for it in found])
+            last = session.events(1400, 'writes=B000:0000-B000:0F9F')[-1]
+            self.assertEqual((last.what, session.byte(last.place)), ('write', last.value))
+            with self.assertRaisesRegex(Fault, '51 BadCommand'):
+                session.events(5)
+            self.assertEqual((session.clock, len(session.registers())), (3000, 14))
+        ticks = '\n'.join(['SEGMENT M AT 0F000h', 'go: INC WORD [count]', ' JMP go', 'ENDS', 'SEGMENT D AT 0', ' DB 7', 'count: DW 0FFh', 'ENDS', RESET])
+        with Session(ticks, probe=True) as session:
+            self.assertEqual([it[2:] for it in session.events(200, 'writes=count')][:2], [(1, 0), (1, 1)])
 
     def test_a_screen_that_looks_like_an_answer(self) -> None:
         """A refusal, and the end of an answer: on the screen both are text."""
