@@ -35,6 +35,50 @@ FLOOD = (
     'SEGMENT MAIN AT 50h\nstart: MOV AL,99h\n OUT 63h,AL\n MOV AL,96h\n OUT 43h,AL\n MOV AL,2\n OUT 42h,AL\n MOV AL,3\n OUT 61h,AL\n HLT\nENDS\n'
     'SEGMENT RESET AT 0FFFFh\n JMP FAR start\nENDS\n'
 )
+# Submissions that are to echo two words, each typed in a run of its own: their texts, and whether they are right.
+KINDS_PAGE = 'plain keys = hello\n[2] line 1 = HELLO\nlost = 0\nrun = another word\nplain keys = zebra\n[2] line 1 = ZEBRA\nstate = halted\n'
+with open(example('keys')[0], encoding='ascii') as _file:
+    RIGHT = _file.read()
+SHOWS = """        MOV SI,text
+        MOV CX,11
+        MOV AH,7
+more:   LODSB
+        STOSW
+        LOOP more
+        CLI
+        HLT
+text:   DB '{}'
+"""
+
+
+def cheat(text: str) -> bytes:
+    """A program that shows a text and takes no key."""
+    return RIGHT.replace('        STI\n', SHOWS.format(text)).encode()
+
+
+KINDS = {
+    'right': (RIGHT.encode(), True),
+    'small': (RIGHT.replace('MOV', 'mov').replace(' AX', ' ax').encode(), True),
+    'crlf': (RIGHT.replace('\n', '\r\n').encode(), True),
+    'tabs': (RIGHT.replace('        ', '\t').encode(), True),
+    'other': (RIGHT.replace('MOV DI,0', 'XOR DI,DI').encode(), True),
+    'umlaut': (RIGHT.replace('; the code', '; größer').encode(), True),
+    'latin': (RIGHT.replace('; the code', '; größer').encode('latin-1'), True),
+    'mark': ('\ufeff'.encode() + RIGHT.encode(), True),
+    'wrong': (RIGHT.replace('QWERTY', 'QWARTY').encode(), False),
+    'latch': (RIGHT.replace('MOV AL,0C0h', 'MOV AL,40h').encode(), False),
+    'end': (RIGHT.replace('done:   MOV AL,20h', 'done:   MOV AL,0').encode(), False),
+    'endless': (RIGHT.replace('idle:   HLT', 'idle:   JMP start').encode(), False),
+    'leaves': (RIGHT.replace('idle:   HLT', 'idle:   MOV AX,4C00h\n        INT 21h').encode(), False),
+    'knows_one': (cheat('HELLO      '), False),
+    'knows_both': (cheat('HELLO ZEBRA'), False),
+    'refused': (RIGHT.replace('0B000h', '0xB000').encode(), False),
+    'empty': (b'', False),
+    'letter': (b'I could not do it.\n', False),
+    'utf16': (RIGHT.encode('utf-16'), False),
+    'nul': (RIGHT.replace('IRET', 'IRET\0').encode(), False),
+    'huge': (b'; x\n' * 300000, False),
+}
 # Names and texts that break what isn't written with care.
 ODD = ['=1+1', '+x', '-x', '@x', 'a,b', 'a"b', "a'b", 'a\nb', 'a\r\tb', '\x00\x1b[2J', 'b\udce9d', '<&>]]>', '\u2028', '\ufffe', 'Größe', '']
 SEEN = ["'=1+1", "'+x", "'-x", "'@x", 'a,b', 'a"b', "a'b", r'a\nb', r'a\r\tb', r'\x00\x1b[2J', r'b\xe9d', '<&>]]>', r'\u2028', r'\ufffe', 'Größe', '']
@@ -186,6 +230,37 @@ class Strangers(ToolCase):
         room, self.room = self.room, there
         self.assertRegex(self.called(*judge, status=1)[0], wanted)
         self.assertEqual(self.called(*show)[0].splitlines()[0], 'HALLO')
+        self.room = room
+
+    def test_a_class_of_all_kinds(self) -> None:
+        """By one command each has its row, mark and text: right ones in any style full marks, no cheat full ones, and the commands of each
+        text repeat its failure."""
+        page = self.file('page', KINDS_PAGE)
+        for name, (text, _) in KINDS.items():
+            with open(f'{self.room}/{name}.asm', 'wb') as file:
+                file.write(text)
+        out, _ = self.called('judge', '--class', page, *(f'./{it}.asm' for it in KINDS), '--feedback', 'told', status=1)
+        marks = {row[0]: row[-2:] for row in (it.split('\t') for it in out.splitlines()[1:])}
+        self.assertEqual({name: marks[f'./{name}.asm'] == ['6', '6'] for name in KINDS}, {name: is_right for name, (_, is_right) in KINDS.items()})
+        self.assertEqual({it[1] for it in marks.values()}, {'6'})
+        for name, (_, is_right) in KINDS.items():
+            self.assertRegex(self.told(name), r'Mark: \d of 6')
+            if not is_right:
+                self.fails_again(name)
+
+    def fails_again(self, name: str) -> None:
+        """The commands of a text, typed where the folder is."""
+        text, room = self.told(name), self.room
+        self.room = f'{room}/told'
+        commands = re.findall(r'^ *tools/(judge .*|why --all \S+|try \S+$)', text, re.M)
+        self.assertTrue(commands, name)
+        for command in commands:
+            out, err = self.called(*shlex.split(command), status=1)
+            if command.startswith('judge'):
+                failed = [it for it in out.splitlines() if it.startswith('no')]
+                self.assertTrue(failed and all(f'  {it}\n' in text for it in failed), (name, failed))
+            else:
+                self.assertRegex(out + err, r'fault \d+')
         self.room = room
 
     def test_what_only_a_page_shows_to_its_teacher(self) -> None:

@@ -19,6 +19,7 @@ from toolbox.marks import Row, visible
 from toolbox.program import TOP, Files
 
 TEXT = 'feedback.txt'
+MOST_COPIED = 1 << 24  # bytes of a submission that is refused before it runs
 HEAD = "Type the commands below in Zebludor's folder, with this folder copied into it."
 LINK = 'The submission is a link, which is not followed: neither the file nor lines of it are here.'
 
@@ -150,5 +151,19 @@ def close(folder: str, row: Row, words: list[str]) -> None:
     """The text's end: why the file's judge was ended, with the run at which that was, and the mark."""
     if row.why:
         at = max((int(it[:-5]) for it in os.listdir(folder) if re.fullmatch('[0-9]+[.]json', it)), default=0) if os.path.isdir(folder) else 0
-        tell(folder, [f'Not judged: {scrubbed(row.why, row.file)}', *commands(folder, plain_name(row.file), words, at), ''])
+        again = commands(folder, plain_name(row.file), words, at) or not_begun(folder, row.file)
+        tell(folder, [f'Not judged: {scrubbed(row.why, row.file)}', *again, ''])
     tell(folder, [f'Mark: {row.mark} of {row.of}'])
+
+
+def not_begun(folder: str, file: str) -> list[str]:
+    """The command that repeats the refusal of a file of which no run began, with a copy of it; of a link, of what is no file and of a
+    very large one none."""
+    name = plain_name(file)
+    is_plain = os.path.isfile(file) and not os.path.islink(file) and os.path.getsize(file) <= MOST_COPIED
+    if not is_plain or os.path.exists(os.path.join(folder, name)):
+        return []
+    with contextlib.suppress(OSError):
+        shutil.copyfile(file, os.path.join(folder, name))
+        return [f'  tools/try {os.path.basename(folder)}/{name}']
+    return []
