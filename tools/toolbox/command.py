@@ -14,8 +14,8 @@ HINT_STATUS = 2
 PYTHON = sys.executable or 'python3'  # Python knows no path of its own where it was started without PATH
 SYMBOLS = (
     "with --hex: a NASM listing or map file, or a listing of pcboard asm --list, for labels and lines; FILE@SEGMENT or "
-    "FILE@SEGMENT:OFFSET, where NASM's first byte isn't at F000:0000; or labels as nm or ld86 -M prints them, or lines "
-    "SEGMENT:OFFSET NAME; FILE@SEGMENT,ram=PARAGRAPH gives names to what has no bytes, as in .bss, and to data of C"
+    "FILE@SEGMENT:OFFSET, where NASM's first byte isn't at F000:0000; or labels as nm or ld86 -M prints them, with lines of C if "
+    "as86's listings stand beside ld86's map, or lines SEGMENT:OFFSET NAME; FILE@SEGMENT,ram=PARAGRAPH gives names to what has no bytes, as in .bss, and to data of C"
 )
 
 

@@ -82,7 +82,7 @@ class Board(SessionBoard):
 def far_of_address(listing: Listing, address: int, segment: int) -> tuple[int, int, bool]:
     """The CS:IP by which an address is most likely come to, and whether the source says so: that of its line or label, else by the
     present CS if it reaches so far, else by the multiple of 1000h below."""
-    known = [line.address for line in (listing.at.get(address),) if line and line.address]
+    known = [line.address for line in (listing.line_from(address),) if line and line.address]
     known += [it for it in listing.labels.values() if physical(*it) == address]
     if known:
         return *known[0], True

@@ -19,7 +19,7 @@ def runs_of(listing: Listing) -> list[list[tuple[int, Line]]]:
     """The lines that place bytes, by address, in runs of which each line ends where the next begins."""
     runs: list[list[tuple[int, Line]]] = []
     end = -1
-    for address, line in sorted(listing.at.items()):
+    for address, line in sorted([*listing.at.items(), *listing.modules.items()], key=lambda it: it[0]):
         if not line.shown:
             continue
         # The listing shows a long line's first bytes alone; it reaches to the next line of its segment.
@@ -41,23 +41,28 @@ def end_of(run: list[tuple[int, Line]]) -> int:
     return run[-1][0] + len(run[-1][1].shown)
 
 
-def steps_of(run: list[tuple[int, Line]]) -> bytes:
-    """The program of line numbers for a run: each line's address and number, and where the last one ends."""
-    program, address, number = b'\x00\x05\x02' + struct.pack('<I', run[0][0]), run[0][0], 1
+def steps_of(run: list[tuple[int, Line]], files: list[str]) -> bytes:
+    """The program of line numbers for a run: the address, file and number of each line that isn't the one before, and where the
+    last one ends."""
+    program, address, number, source = b'\x00\x05\x02' + struct.pack('<I', run[0][0]), run[0][0], 1, files[0]
     for here, line in run:
+        if here > run[0][0] and (line.number, line.source) == (number, source):
+            continue
+        program += b'' if line.source == source else b'\x04' + uleb(files.index(line.source) + 1)
         program += b'\x02' + uleb(here - address) + b'\x03' + sleb(line.number - number) + b'\x01'
-        address, number = here, line.number
+        address, number, source = here, line.number, line.source
     return program + b'\x02' + uleb(end_of(run) - address) + b'\x00\x01\x01'
 
 
-def lines_of(listing: Listing, name: str) -> bytes:
-    """`.debug_line`."""
+def lines_of(listing: Listing, paths: dict[str, str]) -> bytes:
+    """`.debug_line`. The first file is the unit's own, by its name in the unit's folder."""
     lengths = bytes([0, 1, 1, 1, 1, 0, 0, 0, 1, 0, 0, 1])  # how many operands each standard step has
-    files = b'\x00' + name.encode('utf-8', 'surrogateescape') + b'\x00\x00\x00\x00\x00'
+    names = [path if number else os.path.basename(path) for number, path in enumerate(paths.values())]
+    files = b'\x00' + b''.join(it.encode('utf-8', 'surrogateescape') + b'\x00\x00\x00\x00' for it in names) + b'\x00'
     header = bytes([1, 1, 0xFB, 14, 13]) + lengths + files
-    # Without any line gdb would leave out the unit: so of Intel HEX the last byte of memory has one.
-    runs = runs_of(listing) or [[(MEMORY - 1, Line(1, '', None, b'\x00'))]]
-    program = b''.join(map(steps_of, runs))
+    # Without any line gdb would leave out the unit: so of Intel HEX with labels alone the last byte of memory has one.
+    runs = runs_of(listing) or [[(MEMORY - 1, Line(1, '', None, b'\x00', next(iter(paths))))]]
+    program = b''.join(steps_of(it, list(paths)) for it in runs)
     return counted(struct.pack('<HI', 3, len(header)) + header + program)
 
 
@@ -145,16 +150,16 @@ class Section:
     row: int = 0
 
 
-def elf_of(listing: Listing, path: str) -> bytes:
-    """The file's bytes, for a source at this absolute path."""
-    abbreviation, unit = unit_of(path)
+def elf_of(listing: Listing, paths: dict[str, str]) -> bytes:
+    """The file's bytes. Sources, as lines name them, stand at these full paths, of which the first is the unit's."""
+    abbreviation, unit = unit_of(next(iter(paths.values())))
     extents = extents_of(listing)
     symbols, names = symbols_of(extents)
     sections = [
         Section('.text', NOBITS, flags=6, size=MEMORY),
         Section('.debug_abbrev', PROGBITS, abbreviation),
         Section('.debug_info', PROGBITS, unit),
-        Section('.debug_line', PROGBITS, lines_of(listing, os.path.basename(path))),
+        Section('.debug_line', PROGBITS, lines_of(listing, paths)),
         Section('.debug_frame', PROGBITS, frames_of(listing, sorted(set(extents.values())))),
         Section('.symtab', SYMTAB, symbols, link=7, first_global=1, row=16),
         Section('.strtab', STRTAB, names),

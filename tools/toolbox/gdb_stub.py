@@ -246,7 +246,9 @@ class Stub:
         if state not in ('running', self._state):
             self.tell(f'clock {self._board.clock}: the processor is {state}')
         self._state = state
-        return self._stopped(ILLEGAL if state == 'jammed' else TRAP)
+        # Beyond the budget nothing ends a halt: without this signal gdb's `next` and `finish` would go on for ever.
+        otherwise = TIME_IS_UP if state == 'halted' and self._board.clock > self._board.budget else TRAP
+        return self._stopped(ILLEGAL if state == 'jammed' else otherwise)
 
     def _ended(self, met: Met, before: int) -> str:
         """How a run that began at a clock ended, told with the present one."""

@@ -1,6 +1,7 @@
 """Where a source's lines and labels stand, as the program's listing tells it."""
 from __future__ import annotations
 
+import os
 import re
 from dataclasses import dataclass, field, replace
 
@@ -19,24 +20,40 @@ def physical(segment: int, offset: int) -> int:
 
 @dataclass(frozen=True)
 class Line:
-    """A line of a source that places bytes, or none (then its address is None)."""
+    """A line of a source that places bytes, or none (then its address is None). Of Intel HEX it names its file: by the full path, or
+    by a bare name if no file has that text."""
 
     number: int
     text: str
     address: tuple[int, int] | None
     shown: bytes
+    source: str = ''
 
 
 @dataclass(frozen=True)
 class Listing:
-    """A source's lines, by physical address too, and its labels. Intel HEX has no lines, but parts of memory that it fills, by
-    where they begin."""
+    """A source's lines, by physical address too, and its labels. Intel HEX has parts of memory that it fills, by where they begin.
+    It has lines if its symbols' file is a listing, and by a map with listings beside it those of several files, in `modules`."""
 
     lines: list[Line] = field(default_factory=list)
     at: dict[int, Line] = field(default_factory=dict)
     labels: dict[str, tuple[int, int]] = field(default_factory=dict)
     parts: dict[int, bytes] = field(default_factory=dict)
     absent: set[str] = field(default_factory=set)  # labels of sections without bytes, of which nothing says where they stand
+    files: dict[str, list[Line]] = field(default_factory=dict)  # of Intel HEX the lines of each file, from its first on
+    modules: dict[int, Line] = field(default_factory=dict)  # of several files those that place bytes, by physical address
+
+    def of_file(self, source: str) -> list[Line]:
+        """The lines of a file, or of the program's own source."""
+        return self.files.get(source, self.lines)
+
+    def line_from(self, address: int) -> Line | None:
+        """The line whose bytes, or a part of them, begin at a physical address."""
+        return self.at.get(address) or self.modules.get(address)
+
+    def told(self, line: Line) -> str:
+        """A line beside a place: of one source without its comment, of several with its file."""
+        return f'{os.path.basename(line.source)}:{line.number}: {line.text.strip()}' if self.modules else f'{line.number}: {code_of(line.text).strip()}'
 
     def has(self, address: int) -> bool:
         """Whether a line begins at a physical address, or Intel HEX has a byte there."""
@@ -131,5 +148,5 @@ def listing_of(files: Files) -> Listing:
 
 
 def labels_alone(listing: Listing) -> Listing:
-    """A listing of Intel HEX without the lines that its symbols' file has: in which source they are that doesn't tell."""
-    return replace(listing, lines=[], at={})
+    """A listing of Intel HEX without the lines of its symbols' files."""
+    return replace(listing, lines=[], at={}, files={}, modules={})

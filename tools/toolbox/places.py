@@ -1,12 +1,13 @@
 """Places as a person says them: labels, source lines, segment:offset and physical addresses; and events of the trail."""
 from __future__ import annotations
 
+import os
 import re
 
 from zebludor import Event, event_of
 
 from toolbox.command import Sorry
-from toolbox.listing import Line, Listing, code_of, physical
+from toolbox.listing import Line, Listing, physical
 
 __all__ = ['Event', 'address_of', 'event_of', 'event_text', 'far_of', 'is_repeated', 'line_at', 'number_of', 'of_line', 'operation_of', 'told_of']
 PREFIXES = ('ES:', 'CS:', 'SS:', 'DS:', 'LOCK', 'REP', 'REPNE')
@@ -32,9 +33,9 @@ def line_at(listing: Listing, event: Event) -> Line | None:
 
 def told_of(listing: Listing, event: Event) -> str:
     """A line of the trail, with label and source line, and without its clock."""
-    label, line = listing.label_before(event.segment, event.offset), line_at(listing, event)
+    label, line = listing.label_before(event.segment, event.offset), line_at(listing, event) or listing.modules.get(event.address)
     what = f'interrupt {event.entry:02X}' if event.entry is not None else event.text
-    source = f'| {line.number}: {code_of(line.text).strip()}' if line and event.entry is None else ''
+    source = f'| {listing.told(line)}' if line and event.entry is None else ''
     return f'{event.segment:04X}:{event.offset:04X} {label:<12} {what:<28} {source}'.rstrip()
 
 
@@ -52,9 +53,9 @@ def number_of(text: str, most: int = 0xFFFFF) -> int:
 
 
 def far_of(listing: Listing, text: str) -> tuple[int, int]:
-    """Segment and offset of a place: a label, label+N, :LINE of the source, or SEGMENT:OFFSET."""
-    if re.fullmatch(r':\d+', text):
-        return of_line(listing, int(text[1:]))
+    """Segment and offset of a place: a label, label+N, :LINE of the source, FILE.C:LINE of one of several, or SEGMENT:OFFSET."""
+    if found := re.fullmatch(r'(|[^:]+\.[^:]+):(\d+)', text):
+        return of_line(listing, int(found[2]), found[1])
     if ':' in text:
         segment, _, offset = text.partition(':')
         return number_of(segment, 0xFFFF), number_of(offset, 0xFFFF)
@@ -65,9 +66,12 @@ def far_of(listing: Listing, text: str) -> tuple[int, int]:
     return label[0], (label[1] + (number_of(more, 0xFFFF) if more else 0)) % 0x10000
 
 
-def of_line(listing: Listing, number: int) -> tuple[int, int]:
+def of_line(listing: Listing, number: int, name: str = '') -> tuple[int, int]:
     """Where the first bytes of a source line, or of the next one that places some, stand."""
-    found = next((it.address for it in listing.lines[number - 1 :] if it.address), None)
+    source = next((it for it in listing.files if name and os.path.basename(it) == name), '')
+    if name and not source:
+        raise Sorry(f'no lines of {name} are known; those are of {", ".join(map(os.path.basename, listing.files)) or "none"}')
+    found = next((it.address for it in listing.of_file(source)[max(0, number - 1) :] if it.address), None)
     if number < 1 or found is None:
         raise Sorry(f'no line of the source from {number} on places bytes')
     return found

@@ -5,8 +5,11 @@ from __future__ import annotations
 
 import os
 import re
+from dataclasses import replace
+from itertools import takewhile
 
 from toolbox.command import Sorry, read_text
+from toolbox.hex_lines import with_modules, with_source
 from toolbox.listing import Line, Listing, label_in, line_of, physical
 
 MEMORY = 1 << 20
@@ -57,11 +60,11 @@ def symbols_of(given: str, image: dict[int, int]) -> Listing:
     if any(it.startswith('- NASM Map file') for it in told[:1]):
         found = of_a_map(rows, far, ram)
     elif told and all(re.match(r' *\d+ ', it) for it in told):
-        found = of_nasm(told, far, ram)
+        found = with_source(of_nasm(told, far, ram), path)
     elif told and all(re.match(OURS, it) for it in told):
-        found = of_ours(rows)
+        found = with_source(of_ours(rows), path)
     else:
-        found = of_labels(told, far if place[1] else None, ram)
+        found = with_modules(of_labels(told, far if place[1] else None, ram), path, told)
     if not found.lines and not found.labels and not found.absent:
         raise Sorry(
             f'{path} is no NASM listing or map file (nasm -l FILE, [map all FILE]), no listing of pcboard asm --list, '
@@ -201,9 +204,10 @@ def of_labels(rows: list[str], far: tuple[int, int] | None, ram: int | None) -> 
 
 def check(path: str, found: Listing, image: dict[int, int]) -> None:
     """Each line's bytes are the program's, or the file is of another one, or stands elsewhere."""
-    for line in (*found.lines, *found.at.values()):
+    for line in (*found.lines, *found.at.values(), *found.modules.values()):
         if line.address and any(image.get(physical(line.address[0], line.address[1] + place)) != it for place, it in enumerate(line.shown)):
-            raise Sorry(f'{path}, line {line.number}: at {line.address[0]:04X}:{line.address[1]:04X} the program has other bytes. {WHERE}')
+            name = line.source if found.modules else path
+            raise Sorry(f'{name}, line {line.number}: at {line.address[0]:04X}:{line.address[1]:04X} the program has other bytes. {WHERE}')
     if found.labels and not any(physical(*it) in image for it in found.labels.values()):
         raise Sorry(f'{path}: the program has no byte at any of its labels. {WHERE}')
 
@@ -215,11 +219,13 @@ def finished(found: Listing, image: dict[int, int]) -> Listing:
         if line.address is None:
             return line
         first = physical(*line.address)
-        return Line(line.number, line.text, line.address, bytes([image.get(it % MEMORY, 0) for it in range(first, first + 8)]))
+        return replace(line, shown=bytes(image[it % MEMORY] for it in takewhile(lambda it: it % MEMORY in image, range(first, first + 8))))
 
-    lines = [told(it) for it in found.lines]
+    files = {source: list(map(told, lines)) for source, lines in found.files.items()}
+    lines = next(iter(files.values())) if found.lines else []
     at = {where: told(it) for where, it in found.at.items()}
     for line in lines:
         if line.address:
             at.setdefault(physical(*line.address), line)
-    return Listing(lines, at, found.labels, absent=found.absent)
+    modules = {where: told(it) for where, it in found.modules.items()}
+    return Listing(lines, at, found.labels, absent=found.absent, files=files, modules=modules)

@@ -1,0 +1,161 @@
+"""Source lines of Intel HEX: by NASM's listing, and of C by as86's beside ld86's map; in gdb and in tools/dbg. Listings are
+stored; where NASM and bcc are installed, they are made again."""
+from __future__ import annotations
+
+import os
+import re
+import shutil
+import subprocess
+import unittest
+
+from tests.support import EXAMPLES, STORED, ToolCase, is_there
+from tests.test_gdb import GDB
+from tests.test_symbols import NASM, ROM, hex_of
+
+from toolbox.command import Sorry
+from toolbox.places import far_of
+from toolbox.symbols import image_of, symbols_of
+
+RUN = '{"version":1,"ram":64,"sw1":0,"sw2":0,"budget":20000,"keys":[]}'
+TO_START = ':02000002FFFFFE\n:05000000EA000000F021\n:00000001FF\n'  # the far jump to F000:0000, where the processor begins
+SOURCE = ''.join(f'{row[40:]}\n' for row in NASM.splitlines() if '<1>' not in row and row[:6] != '     7' or "'" in row)
+# By sums.map _sum stands at F000:0044 and _main at F000:0067, and by sums.lst the lines of C so many bytes behind them.
+LINES_OF_C = {7: 0x44, 8: 0x44 + 0xC, 9: 0x44 + 0x12, 15: 0x67}
+
+
+class Case(ToolCase):
+    """Programs in a folder of their own."""
+
+    def nasm(self, source: str | None = SOURCE) -> tuple[str, str, str]:
+        """The HEX, its run file and its listing, with the source beside it or without."""
+        program = self.file('rom.hex', hex_of(bytes.fromhex(ROM)).replace(':00000001FF\n', TO_START))
+        if source is not None:
+            self.file('rom.asm', source)
+        return program, self.file('run.json', RUN), self.file('rom.lst', NASM)
+
+    def c(self) -> tuple[str, str, str]:
+        """The C program's HEX, its run file and its map, with source and listings beside it."""
+        for name in ('sums.hex', 'sums.map', 'sums.c', 'crt0.s', 'lines/sums.lst', 'lines/crt0.lst'):
+            shutil.copy(f'{STORED}/c/{name}', self.room)
+        return f'{self.room}/sums.hex', self.file('run.json', RUN), f'{self.room}/sums.map'
+
+    def gdb(self, files: tuple[str, str, str], *typed: str) -> str:
+        """What gdb tells."""
+        program, run_file, symbols = files
+        words = [it for line in typed for it in ('-ex', line)]
+        return ''.join(self.tool('gdb', program, run_file, '--symbols', symbols, '-nx', '-batch', *words))
+
+
+class Lines(Case):
+    """What the files tell."""
+
+    def test_nasm(self) -> None:
+        program, _, listing = self.nasm()
+        with open(program, encoding='ascii') as file:
+            image = image_of(file.read())
+        found = symbols_of(listing, image)
+        self.assertEqual({it.source for it in found.at.values()}, {f'{self.room}/rom.asm'})
+        self.assertEqual([far_of(found, it) for it in ('rom.asm:6', ':9', 'rom.asm:12')], [(0xF000, 5), (0xF000, 0x18), (0xF000, 0x18)])
+        self.file('rom.asm', SOURCE.replace('a ROM', 'another'))
+        self.assertEqual(list(symbols_of(listing, image).files), ['rom.asm'])  # a name, for that file says something else
+        for place in ('other.asm:1', 'rom.asm:99', 'rom.asm:0'):
+            with self.assertRaises(Sorry):
+                far_of(found, place)
+
+    def test_c(self) -> None:
+        program, _, symbols = self.c()
+        with open(program, encoding='ascii') as file:
+            image = image_of(file.read())
+        found = symbols_of(symbols, image)
+        self.assertEqual({os.path.basename(it) for it in found.files}, {'sums.c', 'crt0.s'})
+        self.assertEqual({number: far_of(found, f'sums.c:{number}') for number in LINES_OF_C}, {number: (0xF000, at) for number, at in LINES_OF_C.items()})
+        self.assertEqual(far_of(found, 'crt0.s:8'), (0xF000, 0))  # _start: cld
+        self.assertEqual([it.text for it in found.files[f'{self.room}/sums.c'][6:9]], ['    if (n == 0)', '        return 0;', '    return n + sum(n - 1);'])
+        self.assertEqual((found.lines, found.at), ([], {}))  # what is said of assembler is not said of C
+        with open(f'{self.room}/sums.lst', encoding='ascii') as file:
+            listing = file.read()
+        self.file('sums.lst', listing.replace('00022 0000           55 ', '00022 0000           54 '))
+        with self.assertRaisesRegex(Sorry, 'sums.c, line 7: at F000:0044 the program has other bytes'):
+            symbols_of(symbols, image)
+        for name in ('sums.lst', 'crt0.lst'):
+            os.remove(f'{self.room}/{name}')
+        self.assertEqual(symbols_of(symbols, image).files, {})
+
+    def test_dbg(self) -> None:
+        program, run_file, symbols = self.c()
+        told = self.tool('dbg', program, run_file, '--symbols', symbols, given='until sums.c:9\nlist\nbreak sums.c:8\ngo\ntrail 1\n')[0]
+        self.assertRegex(told, r'^clock \d+: F000:0056 _sum\+12 \| sums\.c:9: return n \+ sum\(n - 1\);\n')
+        self.assertIn('>    9 F000:0056     return n + sum(n - 1);\n', told)
+        self.assertRegex(told, r'clock \d+: F000:0050 _sum\+C \| sums\.c:8: return 0;\n')
+        self.assertRegex(told.splitlines()[-1], r'JNZ +\w+ +\| sums\.c:7: if \(n == 0\)$')
+
+    def test_nasm_itself(self) -> None:
+        """The example's listing, as its Makefile has it made: each line's bytes are the program's."""
+        if not is_there('nasm', "lines of NASM's own", 'nasm'):
+            return
+        folder = shutil.copytree(f'{EXAMPLES}/nasm', f'{self.room}/nasm')
+        subprocess.run(['nasm', '-f', 'bin', '-l', 'rom.lst', '-o', 'rom.bin', 'rom.asm'], cwd=folder, check=True)
+        with open(f'{folder}/rom.bin', 'rb') as octets:
+            image = image_of(hex_of(octets.read(), 0xF600))
+        found = symbols_of(f'{folder}/rom.lst@F600,ram=50', image)
+        with open(f'{folder}/rom.asm', encoding='utf-8') as file:
+            source = file.read().split('\n')
+        self.assertEqual([it.text.split() for it in found.files[f'{folder}/rom.asm']], [it.split() for it in source[:-1]])
+        self.assertEqual(far_of(found, f'rom.asm:{source.index("start:  cli") + 1}'), (0xF600, 0))
+
+    def test_bcc_itself(self) -> None:
+        """The example by its Makefile: lines of C and of its start."""
+        packages = {'bcc': 'bcc', 'as86': 'bin86', 'ld86': 'bin86', 'objcopy': 'binutils', 'make': 'make'}
+        if not all(is_there(command, 'lines of C by bcc', package) for command, package in packages.items()):
+            return
+        folder = shutil.copytree(f'{EXAMPLES}/bcc', f'{self.room}/bcc')
+        subprocess.run(['make', '-s', 'rom.hex'], cwd=folder, check=True)
+        with open(f'{folder}/rom.hex', encoding='ascii') as file:
+            found = symbols_of(f'{folder}/rom.map@F600,ram=50', image_of(file.read()))
+        with open(f'{folder}/main.c', encoding='utf-8') as file:
+            number = next(at for at, line in enumerate(file, 1) if 'ticks++' in line)
+        self.assertEqual(far_of(found, f'main.c:{number}'), found.labels['_tick'])
+        self.assertEqual(far_of(found, 'start.s:1'), (0xF600, 0))
+        shutil.copytree(f'{STORED}/c', f'{self.room}/c')
+        subprocess.run([f'{self.room}/c/make', 'sums', f'{self.room}/c'], check=True)
+        for name in ('sums.lst', 'crt0.lst'):
+            with open(f'{self.room}/c/{name}', encoding='ascii') as made, open(f'{STORED}/c/lines/{name}', encoding='ascii') as stored:
+                self.assertEqual(made.read(), stored.read())
+
+
+class Gdb(Case):
+    """By gdb itself."""
+
+    def setUp(self) -> None:
+        super().setUp()
+        if not GDB:
+            self.skipTest("gdb isn't installed")
+
+    def test_nasm(self) -> None:
+        told = self.gdb(self.nasm(), 'info line rom.asm:12', 'break rom.asm:4', 'continue', 'next', 'reverse-stepi', 'info source')
+        self.assertIn('Line 12 of "rom.asm" starts at address 0xf0018 <end_it', told.replace('<msg+17', '<end_it'))
+        for line in ('Breakpoint 1, start () at rom.asm:4\n4\t        mov es,ax\n', '\n6\t        jmp short .loop\n', f'Located in {self.room}/rom.asm\n'):
+            self.assertIn(line, told)
+
+    def test_a_source_that_is_not_there(self) -> None:
+        """Then gdb shows what the listing has of it."""
+        for source in (None, 'something else\n'):
+            told = self.gdb(self.nasm(source), 'break rom.asm:4', 'continue', 'list 1,3')
+            for line in ('\n4\t        mov es,ax\n', '\n2\t; a ROM\n3\tstart:  mov ax,0B000h\n'):
+                self.assertIn(line, told)
+
+    def test_c(self) -> None:
+        typed = ('tbreak sums.c:9', 'continue', 'backtrace', 'step', 'finish', 'tbreak *_main', 'reverse-continue', 'list crt0.s:8,8')
+        told = self.gdb(self.c(), *typed)
+        for line in (
+            '_sum () at sums.c:9\n9\t    return n + sum(n - 1);\n',
+            '#0  _sum () at sums.c:9\n#1  0x000f00a1 in _main () at sums.c:17\n#2  0x000f002a in _start () at ',
+            '\n7\t    if (n == 0)\n',
+            '_main () at sums.c:15\n15\t    for (i = 0; text[i]; i++)\n',
+            '8\t_start: cld\n',
+        ):
+            self.assertIn(line, re.sub(r'at \S*/(sums\.c|crt0\.s)', r'at \1', told))
+
+
+if __name__ == '__main__':
+    unittest.main()

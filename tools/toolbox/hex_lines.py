@@ -1,0 +1,108 @@
+"""Of which files the lines of Intel HEX are; and those of C and of as86's assembler, which ld86's map of names tells together with
+as86's listings of its modules."""
+from __future__ import annotations
+
+import os
+import re
+from dataclasses import replace
+
+from toolbox.command import read_text
+from toolbox.listing import Line, Listing, physical
+
+SOURCES = ('.asm', '.nasm', '.s', '.inc')
+ROW = re.compile(r'\d{5} ([0-9A-F]{4}|    ) (.{36}) ?(.*)')  # of as86: offset, bytes, text
+OF_MODULE = re.compile(r' *(\S+) +(\S+) +0 +([0-9A-Fa-f]{8})')  # of ld86: a name of code
+OF_C, FILE_OF_C, SECTION = re.compile(r'! (\d+) ?(.*)'), re.compile(r'# (\d+) "([^"]*)"'), re.compile(r'\.(text|data|bss)\b', re.I)
+
+
+def filled(lines: list[Line]) -> list[Line]:
+    """A file's lines from its first on, those that no listing has blank."""
+    known = {it.number: it for it in lines}
+    return [known.get(number, Line(number, '', None, b'', lines[0].source)) for number in range(1, max(known, default=0) + 1)]
+
+
+def source_beside(path: str, lines: list[Line]) -> str:
+    """The source of NASM's listing, if a file of the listing's name beside it has these lines; else its likely name."""
+    stem = os.path.splitext(os.path.abspath(path))[0]
+    for ending in SOURCES:
+        if os.path.isfile(stem + ending) and is_of(stem + ending, lines):
+            return stem + ending
+    return os.path.basename(stem) + SOURCES[0]
+
+
+def is_of(path: str, lines: list[Line]) -> bool:
+    """Whether a file has these lines."""
+    own = read_text(path).replace('\r', '').split('\n')
+    return all(it.number <= len(own) and own[it.number - 1].split() == it.text.split() for it in lines)
+
+
+def with_source(found: Listing, path: str) -> Listing:
+    """A listing of NASM's with the file that its lines are of."""
+    source = source_beside(path, found.lines)
+    lines = filled([replace(it, source=source) for it in found.lines])
+    return replace(found, lines=lines, at={where: replace(it, source=source) for where, it in found.at.items()}, files={source: lines})
+
+
+def with_modules(found: Listing, path: str, rows: list[str]) -> Listing:
+    """A map of ld86's with the lines of its modules, as far as their listings stand beside it: main.lst of main."""
+    modules = dict[str, dict[str, int]]()
+    for name, label, _ in filter(None, (it and it.groups() for it in map(OF_MODULE.match, rows))):
+        if label in found.labels:
+            modules.setdefault(name, {})[label] = found.labels[label][1]
+    folder, at, files = os.path.dirname(os.path.abspath(path)), dict[int, Line](), dict[str, dict[int, Line]]()
+    segment = next((found.labels[label][0] for them in modules.values() for label in them), 0)
+    for name, labels in modules.items():
+        listing = os.path.join(folder, f'{name}.lst')
+        for line in of_module(listing, labels, segment) if os.path.isfile(listing) else []:
+            files.setdefault(line.source, {}).setdefault(line.number, line)
+            if line.address:
+                at.setdefault(physical(*line.address), line)
+                if not files[line.source][line.number].address:
+                    files[line.source][line.number] = line
+    own = {source: filled(list(them.values())) for source, them in files.items() if any(it.address for it in them.values())}
+    return replace(found, modules=at, files=own)
+
+
+def of_module(path: str, labels: dict[str, int], segment: int) -> list[Line]:
+    """The lines of a module by as86's listing: of C, whose lines stand in it as comments, those of C; else the assembler's. A row of
+    code belongs to the line of C above it. Offsets are counted from the module's first byte, which its labels tell."""
+    rows = [it.groups() for it in map(ROW.match, read_text(path).split('\n')) if it]
+    base = base_of(rows, labels)
+    is_code, is_c = True, any((told := OF_C.match(text)) and FILE_OF_C.match(told[2]) for _, _, text in rows)
+    found, now = list[Line](), Line(0, '', None, b'', named(path, os.path.basename(os.path.splitext(path)[0]) + '.s'))
+    for number, (offset, octets, text) in enumerate(rows, 1):
+        told, section = OF_C.match(text), SECTION.match(text.strip())
+        is_code = section[1].lower() == 'text' if section else is_code
+        begins = FILE_OF_C.match(told[2]) if told else None
+        if begins:
+            now = Line(int(begins[1]), '', None, b'', named(path, begins[2]))
+        elif told or not is_c:
+            now = Line(int(told[1]) if told else number, (told[2] if told else text).rstrip(), None, b'', now.source)
+            found.append(now)
+        first = octets.split()[:1]
+        if base is not None and is_code and offset.strip() and first and re.fullmatch('([0-9A-F]{2})+', first[0]):
+            found.append(replace(now, address=(segment, (base + int(offset, 16)) % 0x10000), shown=bytes.fromhex(first[0])))
+    return found
+
+
+def base_of(rows: list[tuple[str, ...]], labels: dict[str, int]) -> int | None:
+    """Where a module's code begins, by a label that both the listing and the map have."""
+    is_code = True
+    for offset, value, text in rows:
+        section = SECTION.match(text.strip())
+        is_code = section[1].lower() == 'text' if section else is_code
+        label, told = text.partition(':')[0], re.fullmatch(' *([0-9A-F]{8})>? *', value)
+        if is_code and label in labels and (told or offset.strip()):
+            return (labels[label] - int(told[1] if told else offset, 16)) % 0x10000
+    return None
+
+
+def named(listing: str, name: str) -> str:
+    """A source's full path, if it is there; else its name."""
+    path = os.path.join(os.path.dirname(os.path.abspath(listing)), name)
+    return path if os.path.isfile(path) else os.path.basename(name)
+
+
+def text_of_lines(lines: list[Line]) -> str:
+    """A file's text, as far as its listing has it."""
+    return ''.join(f'{it.text}\n' for it in lines)
