@@ -15,6 +15,7 @@ import unittest
 import unittest.mock
 from typing import Any
 
+from tests.protocol import types
 from tests.support import SECONDS, SLOW, TOOLS, ToolCase, example
 
 from toolbox.dap_values import number_in
@@ -28,7 +29,8 @@ Fields = dict[str, Any]
 
 
 class Client:
-    """An editor, as far as the protocol goes."""
+    """An editor, as far as the protocol goes. Where the protocol's types are installed, each message is held against them: what the
+    adapter sends, and each request that it answers with success."""
 
     def __init__(self, room: str) -> None:
         os.makedirs(f'{room}/tmp', exist_ok=True)
@@ -40,7 +42,7 @@ class Client:
             cwd=room,
             env=os.environ | {'TMPDIR': f'{room}/tmp'},
         )
-        self.count, self.events = 0, list[Fields]()
+        self.count, self.events, self.requests = 0, list[Fields](), dict[int, Fields]()
         assert self.adapter.stdout
         self.reader = Reader(self.adapter.stdout.fileno())
         self.watch = threading.Timer(SECONDS, self.adapter.kill)
@@ -55,7 +57,8 @@ class Client:
     def send(self, command: str, **arguments: Any) -> int:
         """Sends a request, and returns its number."""
         self.count += 1
-        body = json.dumps({'seq': self.count, 'type': 'request', 'command': command, 'arguments': arguments}).encode()
+        self.requests[self.count] = {'seq': self.count, 'type': 'request', 'command': command, 'arguments': arguments}
+        body = json.dumps(self.requests[self.count]).encode()
         self.raw(b'Content-Length: %d\r\n\r\n%b' % (len(body), body))
         return self.count
 
@@ -63,6 +66,10 @@ class Client:
         """The next message."""
         message = self.reader.next()
         assert isinstance(message, dict), self.adapter.stderr and self.adapter.stderr.read()
+        if known := types():
+            asked = self.requests.get(message.get('request_seq', 0)) if message.get('success') else None
+            wrong = known.wrong_message(message) + (known.wrong_message(asked) if asked else [])
+            assert not wrong, (wrong, message, asked)
         return message
 
     def response(self, number: int) -> Fields:
@@ -155,6 +162,35 @@ class Words(unittest.TestCase):
         self.assertEqual([operation_of(it) for it in ('REP MOVSW', 'ES: INC BYTE [00000h]', 'HLT', 'LOCK XCHG AX,BX')], ['MOVSW', 'INC', 'HLT', 'XCHG'])
         self.assertEqual([is_repeated(it) for it in ('REP ES: MOVSW', 'MOVSW', 'REPNE SCASB')], [True, False, True])
         self.assertEqual([number_in(it) for it in ('0B8h', '0x10', '101b', '17')], [0xB8, 0x10, 5, 17])
+
+    def test_the_protocols_types(self) -> None:
+        """What is held against them is found: a field too few, too many, of another type; a word that isn't one of them."""
+        known = types()
+        if known is None:
+            print("not run: messages against the protocol's types; apt install node-vscode-debugprotocol")
+            return
+        stopped = {'seq': 1, 'type': 'event', 'event': 'stopped', 'body': {'reason': 'step', 'hitBreakpointIds': [1]}}
+        done = {'seq': 1, 'type': 'response', 'request_seq': 1, 'success': True, 'command': 'source', 'body': {'content': ''}}
+        for right in (
+            stopped,
+            done,
+            done | {'command': 'pause', 'body': {}},
+            {'seq': 1, 'type': 'request', 'command': 'launch', 'arguments': {'program': 'x'}},
+        ):
+            self.assertEqual(known.wrong_message(right), [])
+        for wrong in (
+            stopped | {'body': {}},
+            stopped | {'body': {'reason': 'step', 'threadId': '1'}},
+            stopped | {'body': {'reason': 'step', 'hitBreakpointIds': [1, 'x']}},
+            stopped | {'body': {'reason': 'step', 'colour': 1}},
+            stopped | {'event': 'frob'},
+            done | {'body': {}},
+            done | {'request_seq': True},
+            done | {'success': False, 'body': {'error': {'id': 1}}},
+            {'seq': 1, 'type': 'request', 'command': 'launch', 'arguments': {'noDebug': 'x'}},
+            {'seq': 1, 'type': 'event', 'event': 'output', 'body': {'output': '', 'group': 'middle'}},
+        ):
+            self.assertEqual(len(known.wrong_message(wrong)), 1, wrong)
 
     def test_calls(self) -> None:
         for octets, wanted in (
@@ -323,10 +359,70 @@ class Sessions(ToolCase):
         self.assertIn("can't be written", client.refused('setVariable', variablesReference=1, name='AX', value='1'))
         self.assertEqual(client.leave(), 0)
 
+    def test_data(self) -> None:
+        """The labels of data with type, value and memory, as far as the client takes them; arrays in parts; stack, screen and state."""
+        lines = (
+            '        MOV SP,400h\n        MOV AX,1234h\n        PUSH AX\n        HLT\nENDS\nSEGMENT MINE AT 40h\n'
+            "name:   DB 'HI',0\ncount:  DW 65535\nlist:   DW 1,2,3\nlarge:  DD 12345678h\nover:   DB 65"
+        )
+        client = self.client()
+        source, run = self.program(lines)
+        client.ask('initialize', adapterID='zebludor', supportsVariableType=True, supportsMemoryReferences=True)
+        client.ask('launch', program=source, run=run)
+        client.ask('configurationDone')
+        client.event('stopped')
+        scopes = {it['name']: it['variablesReference'] for it in client.ask('scopes', frameId=1)['scopes']}
+        told = client.ask('variables', variablesReference=scopes['Data'])['variables']
+        self.assertEqual(
+            [(it['name'], it['type'], it['value'], it['memoryReference']) for it in told],
+            [
+                ('name', 'DB, 3', "48 49 00  'HI.'", '0x00400'),
+                ('count', 'DW', '0FFFFh (65535)', '0x00403'),
+                ('list', 'DW, 3', '0001 0002 0003', '0x00405'),
+                ('large', 'DD', '012345678h (305419896)', '0x0040B'),
+                ('over', 'DB', "041h (65) 'A'", '0x0040F'),
+            ],
+        )
+        parts = client.ask('variables', variablesReference=told[2]['variablesReference'], start=1, count=1)['variables']
+        self.assertEqual([(it['name'], it['value'], it['memoryReference']) for it in parts], [('[1]', '00002h (2)', '0x00407')])
+        for it in (parts[0], told[1], told[4]):
+            self.assertEqual(client.ask('evaluate', expression=it['evaluateName'], context='watch')['result'], it['value'])
+        self.assertEqual(client.variables(scopes['Stack'])['SP+0'], '1234h')
+        self.assertEqual((client.variables(scopes['Board'])['state'], len(client.variables(scopes['Screen']))), ('halted', 25))
+        client.refused('variables', variablesReference=99)
+        self.assertEqual(client.leave(), 0)
+        client = self.client()
+        client.launch(source, run=run, stopOnEntry=True)
+        client.event('stopped')
+        self.assertEqual({name for it in client.ask('variables', variablesReference=4)['variables'] for name in it} & {'type', 'memoryReference'}, set())
+        self.assertEqual(client.leave(), 0)
+
+    def test_an_edited_source(self) -> None:
+        """It is told once after each change of what the file says, and not after one of its time."""
+        source, run = self.program('again:  INC AX\n        JMP SHORT again')
+        client = self.client()
+        client.launch(source, run=run, stopOnEntry=True)
+        client.event('stopped')
+
+        def told() -> int:
+            client.move('stepIn')
+            client.lines(source, 3)
+            return sum('was edited since the launch' in it['body'].get('output', '') for it in client.events)
+
+        self.assertEqual(told(), 0)
+        os.utime(source, ns=(1, 1))
+        self.assertEqual(told(), 0)
+        with open(source, 'a', encoding='utf-8') as file:
+            file.write('; more\n')
+        self.assertEqual((told(), told()), (1, 1))
+        os.remove(source)
+        self.assertEqual(told(), 1)
+        self.assertEqual(client.leave(), 0)
+
     def test_a_refused_source(self) -> None:
         source, run = self.program('        MOV AX,0x10\n        FROB\n        INT 21')
         client = self.client()
-        client.ask('initialize')
+        client.ask('initialize', adapterID='zebludor')
         self.assertIn('it.asm, line 3: BadLine: hexadecimal', client.refused('launch', program=source, run=run))
         told = [client.event('output') for _ in range(3)]
         self.assertEqual([it['line'] for it in told], [3, 4, 5])

@@ -1,4 +1,4 @@
-"""Source lines of Intel HEX: by NASM's listing, and of C by as86's beside ld86's map; in gdb and in tools/dbg. Listings are
+"""Source lines of Intel HEX: by NASM's listing, and of C by as86's beside ld86's map; in gdb, in editors and in tools/dbg. Listings are
 stored; where NASM and bcc are installed, they are made again."""
 from __future__ import annotations
 
@@ -9,6 +9,7 @@ import subprocess
 import unittest
 
 from tests.support import EXAMPLES, STORED, ToolCase, is_there
+from tests.test_dap import Client
 from tests.test_gdb import GDB
 from tests.test_symbols import NASM, ROM, hex_of
 
@@ -44,6 +45,16 @@ class Case(ToolCase):
         program, run_file, symbols = files
         words = [it for line in typed for it in ('-ex', line)]
         return ''.join(self.tool('gdb', program, run_file, '--symbols', symbols, '-nx', '-batch', *words))
+
+    def client(self, files: tuple[str, str, str], **more: object) -> Client:
+        """An editor at the start of a run."""
+        client = Client(self.room)
+        self.addCleanup(client.watch.cancel)
+        self.addCleanup(client.end)
+        client.ask('initialize', adapterID='zebludor')
+        client.ask('launch', program=files[0], run=files[1], symbols=files[2], stopOnEntry=True, **more)
+        client.event('initialized')
+        return client
 
 
 class Lines(Case):
@@ -155,6 +166,59 @@ class Gdb(Case):
             '8\t_start: cld\n',
         ):
             self.assertIn(line, re.sub(r'at \S*/(sums\.c|crt0\.s)', r'at \1', told))
+
+
+class Editors(Case):
+    """By the adapter."""
+
+    def test_nasm(self) -> None:
+        client = self.client(self.nasm())
+        told = client.lines(f'{self.room}/rom.asm', 4, 8)
+        self.assertEqual([(it['verified'], it['line'], it['instructionReference']) for it in told], [(True, 4, '0xF0003'), (True, 12, '0xF0018')])
+        client.ask('configurationDone')
+        client.event('stopped')
+        self.assertEqual(client.move('continue')['reason'], 'breakpoint')
+        (frame,) = client.ask('stackTrace', threadId=1)['stackFrames']
+        self.assertEqual((frame['name'], frame['line'], frame['source']['path']), ('start+3', 4, f'{self.room}/rom.asm'))
+        rows = client.ask('disassemble', memoryReference='0xF0000', instructionCount=1)['instructions']
+        self.assertEqual((rows[0]['instruction'], rows[0]['line']), ('MOV AX,0B000h', 3))
+        self.assertIn('not the program', client.lines(f'{self.room}/other.asm', 4)[0]['message'])
+
+    def test_where_the_source_stands(self) -> None:
+        """It may be elsewhere, in a file or folder that the launch names; if it is nowhere, the client is given its text."""
+        files = self.nasm(None)
+        os.mkdir(f'{self.room}/src')
+        source = self.file('src/rom.asm', SOURCE)
+        for places in ([os.path.dirname(source)], [f'{self.room}/run.json', source]):
+            self.assertTrue(self.client(files, sources=places).lines(source, 4)[0]['verified'])
+        self.file('src/rom.asm', 'something else\n')
+        client = self.client(files, sources=[source])
+        self.assertIn("isn't the text of the listing: assemble it again", client.lines(source, 4)[0]['message'])
+        (told,) = client.ask('setBreakpoints', source={'name': 'rom.asm', 'sourceReference': 1}, breakpoints=[{'line': 4}])['breakpoints']
+        self.assertEqual((told['verified'], told['source']['sourceReference']), (True, 1))
+        self.assertEqual([it.split() for it in client.ask('source', sourceReference=1)['content'].split('\n')], [it.split() for it in SOURCE.split('\n')])
+        self.assertIn('no such source', client.refused('source', sourceReference=2))
+
+    def test_c(self) -> None:
+        """Breakpoints in two files; steps go from line to line of C, and by instructions if they are asked for."""
+        client = self.client(self.c())
+        self.assertEqual([it['instructionReference'] for it in client.lines(f'{self.room}/sums.c', 9, 8)], ['0xF0056', '0xF0050'])
+        self.assertTrue(client.lines(f'{self.room}/crt0.s', 8)[0]['verified'])
+        client.ask('configurationDone')
+        client.event('stopped')
+        seen = []
+        for command in ('continue', 'continue', 'stepIn', 'next'):
+            client.move(command)
+            seen.append((client.line(), os.path.basename(client.ask('stackTrace', threadId=1)['stackFrames'][0]['source']['path'])))
+        self.assertEqual(seen, [(8, 'crt0.s'), (9, 'sums.c'), (7, 'sums.c'), (9, 'sums.c')])
+        self.assertEqual(client.move('stepOut')['reason'], 'breakpoint')
+        client.lines(f'{self.room}/sums.c')
+        client.ask('next', threadId=1, granularity='instruction')
+        client.event('stopped')
+        self.assertEqual(client.line(), 9)
+        names = {it['name']: it for it in client.ask('variables', variablesReference=4)['variables']}
+        self.assertIn("'SUM ", names['_text']['value'])
+        self.assertEqual(names['_total']['value'], '00000h (0)')
 
 
 if __name__ == '__main__':

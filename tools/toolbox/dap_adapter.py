@@ -7,14 +7,16 @@ import queue
 import re
 import subprocess
 from typing import Any, Callable
-from urllib.parse import quote, unquote
 
 from toolbox.command import PYTHON, Sorry
 from toolbox.conditions import Asked, count_of
-from toolbox.dap_board import ENDS, FLAG_BITS, IF, MOST_BREAKPOINTS, Machine
+from toolbox.dap_sources import Sources, path_in
+from toolbox.dap_board import ENDS, IF, MOST_BREAKPOINTS, Machine
 from toolbox.dap_values import Disassembly, Expression, is_code
+from toolbox.dap_variables import Variables
+from toolbox.data_labels import labels_of_data
 from toolbox.framing import Broken, Read
-from toolbox.listing import labels_alone, listing_of, physical
+from toolbox.listing import Line, Listing, listing_of, physical
 from toolbox.places import far_of
 from toolbox.program import LAST_CLOCK, TOP, Files, copied, is_hex_name
 from toolbox.returns import Far
@@ -23,7 +25,7 @@ from toolbox.scancodes import stamped, strokes_of
 from toolbox.session_board import Gone, Left, Paused, SessionBoard, break_at
 
 Fields = dict[str, Any]
-THREAD, REGISTERS, FLAGS, BOARD = 1, 1, 2, 3
+THREAD = 1
 # What may end a run beside breakpoints, if it is wanted.
 FILTERS = {'jammed': 'The processor has jammed', 'halted for good': 'Halted with interrupts off', 'key lost': 'A key was lost'}
 CAPABILITIES = {
@@ -65,11 +67,6 @@ def field(fields: Fields, name: str, kind: type, default: Any = None) -> Any:
     return found
 
 
-def path_in(text: str) -> str:
-    """A path, which may be given as a URI."""
-    return unquote(text.removeprefix('file://')) if text.startswith('file://') else text
-
-
 def first_lost(files: Files, begun: int, end: int) -> int | None:
     """The first clock above one at which another key was lost, if one was up to the end, as reports tell it."""
     before = report_at(files, begun).lost
@@ -89,9 +86,11 @@ class Adapter:
         self.messages, self.write, self.room = messages, write, room
         self.machine: Machine | None = None
         self.program, self.line_base, self.is_entry = '', 1, False
-        self.breakpoints: dict[str, dict[str, int]] = {'line': {}, 'function': {}, 'instruction': {}}
-        self.asked = {kind: dict[str, Asked]() for kind in self.breakpoints}  # what each asks besides its place
-        self.filters, self.has_uris = set[str](), False
+        self.sources: Sources | None = None
+        self.variables: Variables | None = None
+        self.breakpoints = dict[str, dict[str, int]]()  # by kind: 'line' and a source, 'function', 'instruction'
+        self.asked = dict[str, dict[str, Asked]]()  # what each asks besides its place
+        self.filters, self.has_uris, self.knows = set[str](), False, Fields()
         self.sent, self.count, self.is_running, self.is_over, self.is_paused, self.screen = 0, 0, False, False, False, ''
 
     def serve(self) -> None:
@@ -197,6 +196,7 @@ class Adapter:
 
     def stopped(self, reason: str, text: str) -> None:
         """Tells a stop, and the screen if it is another."""
+        self.tell_edited()
         try:
             here, lines = break_at(self.board().place()), self.board().many('screen')
         except Gone as gone:
@@ -225,12 +225,13 @@ class Adapter:
 
     def on_initialize(self, given: Fields) -> Fields:
         self.line_base = 1 if given.get('linesStartAt1', True) else 0
-        self.has_uris = given.get('pathFormat') == 'uri'
+        self.has_uris, self.knows = given.get('pathFormat') == 'uri', given
         return CAPABILITIES
 
     def on_launch(self, given: Fields) -> tuple[Fields, None]:
         if self.machine:
             raise Sorry('a board is launched already')
+        self.breakpoints, self.asked = {}, {}
         self.program = os.path.realpath(path_in(field(given, 'program', str)))
         is_hex = field(given, 'hex', bool, is_hex_name(self.program))
         self.is_entry = field(given, 'stopOnEntry', bool, False)
@@ -239,8 +240,10 @@ class Adapter:
         files = copied(Files(self.program, run_file, is_hex, os.path.realpath(symbols) if symbols else None), self.room)
         try:
             budget, listing = budget_of(files), listing_of(files)
-            listing = labels_alone(listing) if is_hex else listing
+            places = [os.path.realpath(path_in(it)) for it in field(given, 'sources', list, []) if isinstance(it, str)]
+            self.sources = Sources(self.program, listing, places, self.has_uris)
             self.machine = Machine(files, listing, budget, self.poll)
+            self.variables = Variables(self.machine, lambda: labels_of_data(files, listing), self.knows)
         except Sorry as sorry:
             raise self.explained(run_file, is_hex, sorry) from None
         self.event('initialized')
@@ -272,7 +275,7 @@ class Adapter:
             )
             for line in told.stdout.splitlines():
                 number, kind, text = line.removeprefix(f'{self.program}:').split(': ', 2)
-                at = {'source': self.source(), 'line': int(number) - 1 + self.line_base}
+                at = {'source': Sources(self.program, Listing(), [], self.has_uris).described(''), 'line': int(number) - 1 + self.line_base}
                 self.output(f'{line}\n', 'stderr', at)
                 first = first or (f'{os.path.basename(self.program)}, line {number}: {text}' if kind == 'error' else '')
         if not first:
@@ -343,22 +346,24 @@ class Adapter:
         return Asked(holds, count_of(count) if count else None, tell if log else None)
 
     def on_setBreakpoints(self, given: Fields) -> Fields:
-        path = path_in(field(field(given, 'source', dict), 'path', str, ''))
-        asked = field(given, 'breakpoints', list, [{'line': it} for it in given.get('lines') or []])
-        if os.path.realpath(path) != self.program:
-            return {'breakpoints': [{'verified': False, 'message': 'this file is not the program that runs'} for _ in asked]}
-        return self.set_breakpoints('line', asked, lambda it: self.of_line(field(it, 'line', int) + 1 - self.line_base))
+        source = field(given, 'source', dict)
+        asked, sources = field(given, 'breakpoints', list, [{'line': it} for it in given.get('lines') or []]), self.of_launch()
+        name = sources.named(source)
+        if name is None:
+            return {'breakpoints': [{'verified': False, 'message': sources.unlike(source)} for _ in asked]}
+        self.tell_edited()
+        return self.set_breakpoints(f'line {name}', asked, lambda it: self.of_line(name, field(it, 'line', int) + 1 - self.line_base))
 
-    def of_line(self, number: int) -> tuple[Far, Fields]:
-        """A line's place, or that of the next line with code."""
-        lines = self.board().listing.lines
+    def of_line(self, name: str, number: int) -> tuple[Far, Fields]:
+        """The place of a source's line, or that of the next line with code."""
+        lines = self.board().listing.of_file(name)
         if not lines:
-            raise Sorry('Intel HEX has no source lines')
+            raise Sorry('this Intel HEX has no source lines; symbols may name the listing that its assembler wrote')
         here = lines[number - 1] if 1 <= number <= len(lines) else None
         found = here if here and here.address else next((it for it in lines[max(0, number - 1) :] if is_code(it)), None)
         if found is None or found.address is None or number < 1:
             raise Sorry(f'no line of the source from {number} on places an instruction')
-        more: Fields = {'line': found.number - 1 + self.line_base, 'source': self.source()}
+        more: Fields = {'line': found.number - 1 + self.line_base, 'source': self.of_launch().described(name)}
         if found is not here:
             more['message'] = f'line {number} places nothing, so this is at line {found.number}'
         return found.address, more
@@ -382,7 +387,7 @@ class Adapter:
     def far(self, address: int) -> Far:
         """CS:IP of a physical address: a line's or label's there, else by the present CS."""
         listing, segment = self.board().listing, self.board().registers()['CS']
-        line = listing.at.get(address)
+        line = listing.line_from(address)
         label = next((it for it in listing.labels.values() if physical(*it) == address), None)
         offset = (address - 16 * segment) % (1 << 20)
         if line and line.address or label:
@@ -403,7 +408,7 @@ class Adapter:
         """Why the board stands where it does."""
         if met:
             kinds = [kind for kind, them in self.breakpoints.items() if met in them]
-            name = {'line': 'breakpoint'}.get(kinds[0], f'{kinds[0]} breakpoint') if kinds else 'breakpoint'
+            name = f'{kinds[0]} breakpoint' if kinds and kinds[0] in ('function', 'instruction') else 'breakpoint'
             return name, f'clock {self.board().clock}: {name}'
         if self.board().clock >= self.board().budget:
             return 'pause', f'the run ends at clock {self.board().clock}, {self.board().state()}'
@@ -451,18 +456,36 @@ class Adapter:
         self.unless_ended()
         return {'allThreadsContinued': True}, self.run_on
 
-    def on_next(self, _: Fields) -> tuple[Fields, Callable[[], tuple[str, str]]]:
-        board = self.board()
-        return {}, lambda: self.told_of_a_way(board.next(self.wanted()), 'step')
+    def by_lines(self, given: Fields, step: Callable[[], str | None]) -> str | None:
+        """Steps on until another line of several files, as those of C, begins; else, or if instructions are asked for, makes one.
+        Returns the breakpoint that was met."""
+        board, line = self.board(), self.line_here()
+        met = step()
+        while line and given.get('granularity') != 'instruction' and met is None and board.clock < board.budget and board.why not in ENDS:
+            here = self.line_here()
+            if here is None or (here.number, here.source) != (line.number, line.source):
+                break
+            self.poll()
+            place = break_at(board.place())
+            met = place if place in self.wanted() and board.is_met(place, board.clock) else step()
+        return met
 
-    def on_stepIn(self, _: Fields) -> tuple[Fields, Callable[[], tuple[str, str]]]:
+    def line_here(self) -> Line | None:
+        """The line of several files to which the next instruction belongs."""
+        return self.board().listing.modules.get(physical(*self.board().place()))
+
+    def on_next(self, given: Fields) -> tuple[Fields, Callable[[], tuple[str, str]]]:
+        board = self.board()
+        return {}, lambda: self.told_of_a_way(self.by_lines(given, lambda: board.next(self.wanted())), 'step')
+
+    def on_stepIn(self, given: Fields) -> tuple[Fields, Callable[[], tuple[str, str]]]:
         board = self.board()
 
-        def step() -> tuple[str, str]:
+        def step() -> None:
+            board.why = 'returned'
             board.step()
-            return self.told(None, 'step', 'step')
 
-        return {}, step
+        return {}, lambda: self.told(self.by_lines(given, step), 'step', 'step')
 
     def on_stepOut(self, _: Fields) -> tuple[Fields, Callable[[], tuple[str, str]]]:
         board = self.unless_ended()
@@ -500,8 +523,25 @@ class Adapter:
 
     # looking
 
-    def source(self) -> Fields:
-        return {'name': os.path.basename(self.program), 'path': f'file://{quote(self.program)}' if self.has_uris else self.program}
+    def of_launch(self) -> Sources:
+        """The sources of the board, once there is one."""
+        if self.sources is None:
+            raise Sorry('no board is launched')
+        return self.sources
+
+    def tell_edited(self) -> None:
+        """Tells of each file that was edited since the launch, once after each change."""
+        for path in self.of_launch().edited():
+            self.output(
+                f'{os.path.basename(path)} was edited since the launch. Lines and breakpoints are those of the launch; launch again to run what the file says now.\n',
+                'important',
+            )
+
+    def on_source(self, given: Fields) -> Fields:
+        text = self.of_launch().text(field(given, 'sourceReference', int))
+        if text is None:
+            raise Sorry('there is no such source')
+        return {'content': text}
 
     def on_threads(self, _: Fields) -> Fields:
         return {'threads': [{'id': THREAD, 'name': '8086'}]}
@@ -517,30 +557,20 @@ class Adapter:
         listing, address = self.board().listing, physical(*place)
         name = listing.label_before(*place) or '{:04X}:{:04X}'.format(*place)
         told: Fields = {'id': number, 'name': name, 'line': 0, 'column': 0, 'instructionPointerReference': f'0x{address:05X}'}
-        line = listing.at.get(address)
+        line = listing.line_from(address)
         if line and self.board().dump(address, len(line.shown)) == line.shown:
-            told |= {'line': line.number - 1 + self.line_base, 'column': self.line_base, 'source': self.source()}
+            told |= {'line': line.number - 1 + self.line_base, 'column': self.line_base, 'source': self.of_launch().described(line.source)}
         return told
 
     def on_scopes(self, _: Fields) -> Fields:
         self.board()
-        names = (('Registers', REGISTERS), ('Flags', FLAGS), ('Board', BOARD))
-        return {'scopes': [{'name': name, 'variablesReference': it, 'expensive': False} for name, it in names]}
+        return {'scopes': Variables.scopes()}
 
     def on_variables(self, given: Fields) -> Fields:
-        board, which = self.board(), field(given, 'variablesReference', int)
-        registers = board.registers()
-        flags = {name: registers['FL'] >> bit & 1 for name, bit in FLAG_BITS.items()}
-        told = {
-            REGISTERS: {name: f'{it:04X}h' for name, it in registers.items()},
-            FLAGS: {name: str(it) for name, it in flags.items()},
-            BOARD: {'clock': str(board.clock), 'budget': str(board.budget)},
-        }.get(which)
-        if told is None:
-            raise Sorry(f'there are no variables {which}')
-        if which == REGISTERS:
-            told['FL'] += f' {" ".join(name for name, it in flags.items() if it)}'.rstrip()
-        return {'variables': [{'name': name, 'value': it, 'variablesReference': 0, 'evaluateName': name} for name, it in told.items()]}
+        which, first, count = field(given, 'variablesReference', int), field(given, 'start', int, 0), field(given, 'count', int, 0)
+        if self.variables is None:
+            raise Sorry('no board is launched')
+        return {'variables': self.variables.of(which, first, count)}
 
     def on_setVariable(self, _: Fields) -> Fields:
         raise Sorry(READ_ONLY)
@@ -589,6 +619,6 @@ class Adapter:
         for row in Disassembly(self.board()).rows(address, field(given, 'instructionOffset', int, 0), count):
             it: Fields = {'address': f'0x{max(row.address, 0):05X}', 'instruction': row.text or '??', 'instructionBytes': row.octets.hex(' ').upper()}
             if row.line:
-                it |= {'location': self.source(), 'line': row.line - 1 + self.line_base}
+                it |= {'location': self.of_launch().described(row.line.source), 'line': row.line.number - 1 + self.line_base}
             told.append(it | ({} if row.text and not row.text.startswith('DB ') else {'presentationHint': 'invalid'}))
         return {'instructions': told}

@@ -194,7 +194,7 @@ class Row:
     address: int
     octets: bytes
     text: str
-    line: int | None
+    line: Line | None
 
 
 class Disassembly:
@@ -214,14 +214,14 @@ class Disassembly:
 
     def at(self, address: int) -> Row:
         """The row that begins at an address."""
-        line, event = self.machine.listing.at.get(address), self.machine.known.get(address)
+        line, event = self.machine.listing.line_from(address), self.machine.known.get(address)
         if event and self._octets(address, len(event.octets)) == event.octets:
             text = event.text
-            same = line is not None and line.shown[:8] == event.octets[:8]
-            return Row(address, event.octets, text, line.number if line and same else None)
-        if line and line.shown and is_code(line) and self._octets(address, len(line.shown)) == line.shown:
+            same = line is not None and line.shown[: len(event.octets)] == event.octets[:8]
+            return Row(address, event.octets, text, line if line and same else None)
+        if line and line.shown and not line.source and is_code(line) and self._octets(address, len(line.shown)) == line.shown:
             label, code = label_in(line.text), code_of(line.text).strip()
-            return Row(address, line.shown, code.partition(':')[2].strip() if label else code, line.number)
+            return Row(address, line.shown, code.partition(':')[2].strip() if label else code, line)
         octets = self._octets(address, 1)
         return Row(address, octets, f'DB 0{octets[0]:02X}h' if octets else '', None)
 

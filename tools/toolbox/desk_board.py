@@ -12,7 +12,7 @@ from typing import Any, Callable
 from toolbox.chips import facts, lines_in, question
 from toolbox.command import Sorry
 from toolbox.dap_board import ENDS, MOST_BREAKPOINTS, Machine
-from toolbox.desk_data import Datum, data_of, values_of
+from toolbox.data_labels import Datum, data_of, values_of
 from toolbox.desk_sound import MOST_SAMPLES, Speaker
 from toolbox.desk_work import Fields, Helpers, Job
 from toolbox.events import commands

@@ -1,0 +1,118 @@
+"""What an editor shows as variables: registers, flags, the board, its data by label and type, the stack and the screen."""
+from __future__ import annotations
+
+import re
+from typing import Any, Callable
+
+from toolbox.command import Sorry
+from toolbox.dap_board import FLAG_BITS, Machine
+from toolbox.dap_values import Value
+from toolbox.data_labels import MOST_BYTES, SIZES, Datum
+from toolbox.listing import physical
+
+Fields = dict[str, Any]
+SCOPES = ('Registers', 'Flags', 'Board', 'Data', 'Stack', 'Screen')  # by their references, from 1 on
+FIRST_DATUM = len(SCOPES) + 1
+STACK_WORDS, MOST_SHOWN = 16, 40
+EVALUATED = {1: 'BYTE', 2: 'WORD'}  # what an expression can read
+
+
+def row(name: str, value: str, **more: Any) -> Fields:
+    """A variable that has no parts unless it says so."""
+    return {'name': name, 'value': value, 'variablesReference': 0} | more
+
+
+class Variables:
+    """The variables of a board, where it stands. A client may know types and memory references, or not."""
+
+    def __init__(self, board: Machine, data: Callable[[], list[Datum]], knows: Fields) -> None:
+        self._board, self._read, self._knows = board, data, knows
+        self._data: list[Datum] | None = None
+
+    @staticmethod
+    def scopes() -> list[Fields]:
+        """The scopes."""
+        return [{'name': name, 'variablesReference': number, 'expensive': False} for number, name in enumerate(SCOPES, 1)]
+
+    def data(self) -> list[Datum]:
+        """The labels of data, which are read once."""
+        if self._data is None:
+            self._data = self._read()
+        return self._data
+
+    def of(self, number: int, first: int, count: int) -> list[Fields]:
+        """The variables of a reference; of a long array a part, if the client wants one."""
+        if 0 < number <= len(SCOPES):
+            return (self._registers, self._flags, self._of_board, self._labels, self._stack, self._screen)[number - 1]()
+        if not 0 <= number - FIRST_DATUM < len(self.data()):
+            raise Sorry(f'there are no variables {number}')
+        rows = self._elements(self.data()[number - FIRST_DATUM])
+        return rows[first : first + count if count else None]
+
+    def _flags_of(self) -> dict[str, int]:
+        flags = self._board.registers()['FL']
+        return {name: flags >> bit & 1 for name, bit in FLAG_BITS.items()}
+
+    def _registers(self) -> list[Fields]:
+        told = {name: f'{it:04X}h' for name, it in self._board.registers().items()}
+        told['FL'] += f' {" ".join(name for name, it in self._flags_of().items() if it)}'.rstrip()
+        return [row(name, it, evaluateName=name) for name, it in told.items()]
+
+    def _flags(self) -> list[Fields]:
+        return [row(name, str(it), evaluateName=name) for name, it in self._flags_of().items()]
+
+    def _of_board(self) -> list[Fields]:
+        return [row('clock', str(self._board.clock)), row('budget', str(self._board.budget)), row('state', self._board.state())]
+
+    def _stack(self) -> list[Fields]:
+        """The words from SS:SP on."""
+        registers, listing = self._board.registers(), self._board.listing
+        segment, top = registers['SS'], registers['SP']
+        octets = self._board.dump(physical(segment, top), min(2 * STACK_WORDS, 0x10000 - top))
+        words = [int.from_bytes(octets[at : at + 2], 'little') for at in range(0, len(octets) - 1, 2)]
+        places = [(registers['CS'], it) if listing.has(physical(registers['CS'], it)) else None for it in words]
+        labels = [f' {listing.label_before(*it)}'.rstrip() if it else '' for it in places]
+        return [row(f'SP+{2 * at}', f'{word:04X}h{labels[at]}', evaluateName=f'WORD SS:[SP+{2 * at}]') for at, word in enumerate(words)]
+
+    def _screen(self) -> list[Fields]:
+        return [row(str(number), line.rstrip()) for number, line in enumerate(self._board.many('screen'), 1)]
+
+    def _labels(self) -> list[Fields]:
+        """Each label: one value, or a beginning of them and the rest as parts."""
+        return [self._label(FIRST_DATUM + at, it) for at, it in enumerate(self.data())]
+
+    def _label(self, number: int, datum: Datum) -> Fields:
+        values = self._values(datum)
+        if len(values) == 1:
+            return self._one(datum, 0, values[0], datum.name, datum.kind)
+        octets = b''.join((it.number % (1 << 8 * it.size)).to_bytes(it.size, 'little') for it in values)
+        told = ' '.join(f'{it.number:0{2 * it.size}X}' for it in values[:8]) + (' ..' if len(values) > 8 else '')
+        if datum.kind == 'DB':
+            told += "  '" + ''.join(chr(it) if 32 <= it < 127 else '.' for it in octets[:MOST_SHOWN]) + "'"
+        rows = datum.length // SIZES[datum.kind]
+        more: Fields = {'variablesReference': number if values else 0, 'indexedVariables': len(values)}
+        return self._known(datum, 0, row(datum.name, told if values else 'no memory is there', **more), f'{datum.kind}, {rows}')
+
+    def _values(self, datum: Datum) -> list[Value]:
+        """What memory holds there, as far as it is shown."""
+        size, first = SIZES[datum.kind], physical(*datum.place)
+        octets = self._board.dump(first, min(datum.length, MOST_BYTES))
+        return [Value(int.from_bytes(octets[at : at + size], 'little'), size, first + at) for at in range(0, len(octets) - size + 1, size)]
+
+    def _elements(self, datum: Datum) -> list[Fields]:
+        return [self._one(datum, at * SIZES[datum.kind], it, f'[{at}]', datum.kind) for at, it in enumerate(self._values(datum))]
+
+    def _one(self, datum: Datum, at: int, value: Value, name: str, kind: str) -> Fields:
+        """One value, so many bytes behind a label."""
+        more: Fields = {}
+        if value.size in EVALUATED and re.fullmatch(r'[A-Za-z_]\w*', datum.name):
+            more['evaluateName'] = f'{EVALUATED[value.size]} SEG {datum.name}:[{datum.name}{f"+{at}" if at else ""}]'
+        return self._known(datum, at, row(name, value.shown(), **more), kind)
+
+    def _known(self, datum: Datum, at: int, fields: Fields, kind: str) -> Fields:
+        """A variable with its type and memory, as far as the client takes them."""
+        if self._knows.get('supportsVariableType'):
+            fields['type'] = kind
+        if self._knows.get('supportsMemoryReferences'):
+            fields['memoryReference'] = f'0x{(physical(*datum.place) + at) % (1 << 20):05X}'
+        return fields

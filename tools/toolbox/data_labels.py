@@ -1,0 +1,135 @@
+"""A program's own data: its labels of DB, DW and DD, how long they are, and what memory holds there. Of Intel HEX so far as its
+symbols' files tell NASM's statements or C's declarations."""
+from __future__ import annotations
+
+import re
+from dataclasses import dataclass
+from typing import Any, Callable
+
+from toolbox.comments import handed
+from toolbox.listing import Line, Listing, code_of, label_in, physical
+from toolbox.program import Files, answer_of
+
+SIZES = {'DB': 1, 'DW': 2, 'DD': 4}
+OF_NASM = re.compile(r'\s*([A-Za-z_.?@][\w.$#@~?]*)\s*:?\s+(?:times\s+\S+\s+)?(?:D|RES)([BWD])\b(?:\s+(\d+)\s*(?:;|$))?', re.I)
+LABEL_OF_NASM = re.compile(r'\s*([A-Za-z_?@][\w.$#@~?]*)\s*:')
+OF_C = re.compile(r'(?:(?:static|extern|const|unsigned|signed)\s+)*(char|int|short|long|unsigned)\b([^;()]*)[;=]')
+SIZES_OF_C = {'char': 'DB', 'long': 'DD'}
+# So many bytes of a label are shown; of how many more there are the page tells.
+MOST_BYTES = 1024
+
+
+@dataclass(frozen=True)
+class Datum:
+    """A label of data: its name, line, statement, address and length in bytes."""
+
+    name: str
+    line: int
+    kind: str
+    place: tuple[int, int]
+    length: int
+
+
+def kind_in(text: str) -> str | None:
+    """DB, DW or DD of a line, with a label or without; of another line None."""
+    found = re.match(r'\s*(?:[A-Za-z_]\w*\s*:)?\s*(DB|DW|DD)\b', code_of(text), re.I)
+    return found[1].upper() if found else None
+
+
+def is_empty(text: str) -> bool:
+    """Whether a line places nothing but may have a label."""
+    return re.fullmatch(r'\s*(?:[A-Za-z_]\w*\s*:)?\s*', code_of(text)) is not None
+
+
+def goes_on(text: str, kind: str) -> bool:
+    """Whether a line may belong to the data of a statement of this kind before it."""
+    return not label_in(text) and (kind_in(text) == kind or is_empty(text))
+
+
+def data_of(listing: Listing, image: dict[int, int]) -> list[Datum]:
+    """The labels of data in the order of the source. A label's data are its statement and those of its kind behind it, up to the
+    next label or another statement."""
+    found, labelled = list[Datum](), list[str]()
+    lines = listing.lines
+    for at, line in enumerate(lines):
+        name = label_in(line.text)
+        if name:
+            labelled.append(name)
+        kind = kind_in(line.text)
+        if kind and line.address and labelled:
+            end = next((it for it in range(at + 1, len(lines)) if not goes_on(lines[it].text, kind)), len(lines))
+            length = length_of(lines[at:end], lines[end:], image)
+            found += [Datum(it, line.number, kind, line.address, length) for it in labelled]
+        if kind or not is_empty(line.text):
+            labelled.clear()
+    return found
+
+
+def length_of(own: list[Line], later: list[Line], image: dict[int, int]) -> int:
+    """How many bytes lines place: as far as the source has bytes, and not into a later line's."""
+    first = next(it.address for it in own if it.address)
+    begin, others = physical(*first), {physical(*it.address) for it in later if it.address}
+    end = begin
+    while end in image and (end == begin or end not in others):
+        end += 1
+    return end - begin
+
+
+def values_of(data: list[Datum], dump: Callable[[int, int], bytes]) -> list[dict[str, Any]]:
+    """The labels with what memory holds there."""
+    return [
+        {
+            'name': it.name,
+            'line': it.line,
+            'kind': it.kind,
+            'place': '%04X:%04X' % it.place,
+            'length': it.length,
+            'bytes': dump(physical(*it.place), min(it.length, MOST_BYTES)).hex(),
+        }
+        for it in data
+    ]
+
+
+def labels_of_data(files: Files, listing: Listing) -> list[Datum]:
+    """The labels of data of a board's program."""
+    if not files.is_hex:
+        from toolbox.symbols import image_of  # which stands on listings, as this does
+
+        return data_of(listing, image_of(answer_of(['asm', '--', handed(files.file)])))
+    return of_nasm(listing) + of_c(listing)
+
+
+def of_nasm(listing: Listing) -> list[Datum]:
+    """The labels before NASM's D.. and RES.., of the length that is told, else up to the next label."""
+    found, above = list[Datum](), ''
+    for line in listing.lines:
+        told, label = OF_NASM.match(line.text), LABEL_OF_NASM.match(line.text)
+        name = told[1] if told else label[1] if label else ''
+        name = above + name if name.startswith('.') else name
+        above = above if name.startswith(above + '.') or not name else name
+        place = listing.labels.get(name)
+        if told and place:
+            kind = f'D{told[2].upper()}'
+            count = int(told[3]) * SIZES[kind] if told[3] and 'RES' in line.text.upper() else room_behind(listing, place, SIZES[kind])
+            found.append(Datum(name, line.number, kind, place, count))
+    return found
+
+
+def of_c(listing: Listing) -> list[Datum]:
+    """The variables that C declares outside of functions: pointers and int are words."""
+    found = list[Datum]()
+    for line in (it for lines in listing.files.values() for it in lines if not listing.lines and it.text[:1].strip()):
+        told = OF_C.match(line.text)
+        for star, name, array in re.findall(r'(\*?)\s*([A-Za-z_]\w*)\s*(\[?)[^,]*', told[2]) if told else []:
+            place = listing.labels.get(f'_{name}')
+            if told and place:
+                kind = 'DW' if star else SIZES_OF_C.get(told[1], 'DW')
+                length = room_behind(listing, place, SIZES[kind]) if array else SIZES[kind]
+                found.append(Datum(f'_{name}', line.number, kind, place, length))
+    return found
+
+
+def room_behind(listing: Listing, place: tuple[int, int], size: int) -> int:
+    """How many bytes there are from a place up to the next label of its segment, a multiple of the size; of the last label one value."""
+    later = [offset for segment, offset in listing.labels.values() if segment == place[0] and offset > place[1]]
+    return max(size, (min(later) - place[1]) // size * size) if later else size
