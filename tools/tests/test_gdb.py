@@ -16,10 +16,11 @@ from tests.support import SECONDS, SLOW, STORED, TOOLS, TOP, ToolCase, children,
 
 from toolbox.gdb_board import far_of_address
 from toolbox.gdb_elf import is_call, sleb, uleb
+from toolbox.gdb_flow import goes_on, outermost, target_of
 from toolbox.gdb_frames import pushed_by
 from toolbox.gdb_stub import NAMES
 from toolbox.gdb_wire import framed, unescaped
-from toolbox.listing import Line, Listing
+from toolbox.listing import Line, Listing, listing_of
 from toolbox.places import event_of
 from toolbox.program import Files, Session
 from toolbox.report import registers_of
@@ -102,6 +103,36 @@ class Words(unittest.TestCase):
             ('9 F000:0010 EB0E JMP SHORT 00020h', (0xF000, 0x20), 0),
         ):
             self.assertEqual(pushed_by(event_of(event), place), wanted, event)
+
+
+class Flow(ToolCase):
+    """Code to which no call leads."""
+
+    def test_outermost(self) -> None:
+        """By jumps and what stands behind calls, from FFFF:0000 on; without what is called, also by a jump, and without handlers."""
+        lines = (
+            '        CALL one\n        JMP SHORT more\n        NOP\nmore:   JZ less\n        JMP two\nless:   LOOP more\n        JMP FAR last\n'
+            'one:    INC AX\n        JMP SHORT two\nhandle: IRET\ntwo:    RET\nlast:   HLT\n        JMP SHORT last'
+        )
+        source, run = self.program(lines)
+        found = listing_of(Files(source, run))
+        first = {address: line.number for address, line in found.at.items()}
+        self.assertEqual(sorted(first[it] for it, _ in outermost(found)), [3, 4, 6, 7, 8, 9, 14, 15, 18])
+
+    def test_places(self) -> None:
+        """As the 8086's manual has displacements: from behind the instruction on, in the same segment."""
+        for octets, wanted in (
+            ('EBFE', (0x10, 0xFFFF)),
+            ('7501', (0x10, 2)),
+            ('E8FDFF', (0x10, 0xFFFF)),
+            ('2EE90100', (0x10, 4)),
+            ('EA34127856', (0x5678, 0x1234)),
+            ('FFE0', None),
+            ('90', None),
+            ('', None),
+        ):
+            self.assertEqual(target_of(bytes.fromhex(octets), (0x10, 0xFFFF)), wanted, octets)
+        self.assertEqual([goes_on(bytes.fromhex(it)) for it in ('C3', 'CF', 'FF2F', 'FFE0', 'FFD0', 'E80000', 'F4', '7400')], [False] * 4 + [True] * 4)
 
 
 class Client:
@@ -695,6 +726,21 @@ class Gdb(ToolCase):
         self.assertEqual(stops, [34, 3, 4, 5, 6, 7, 8, 9, 10, 11, 12, 34, 24, 16, 6, 26, 7] if GDB else [])
         for wanted in ('#0  away () at it.asm:24\n#1  0x000f001e in far_on () at it.asm:15', f'\nclock {clock}\n') if GDB else ():
             self.assertIn(wanted, told)
+
+    def test_callers(self) -> None:
+        """A routine's caller is known at each of its instructions, and `finish` leads there; code that nothing calls has none, and gdb
+        doesn't take its stack for a broken one."""
+        typed = ['break again', 'continue', 'delete', 'finish', 'backtrace', 'finish', 'backtrace', 'break away', 'continue', 'stepi', 'finish', 'monitor go 0']
+        told = self.gdb(self.program(CALLS), *typed)
+        stops = [int(it) for it in re.findall(r'^(\d+)\t', told, re.M)]
+        self.assertEqual(stops, [34, 18, 14, 5, 24, 25, 16] if GDB else [])
+        for wanted in ('#0  near () at it.asm:14\n#1  0x000f0006 in start () at it.asm:4\n', '\n#0  start () at it.asm:5\n') if GDB else ():
+            self.assertIn(wanted, told)
+        self.assertNotIn('corrupt', told)
+        told = self.gdb(example('ticks'), 'backtrace', 'break idle', 'continue', 'backtrace', 'up', 'finish', 'monitor go 0')
+        for wanted in ('#0  idle () at ticks.asm:38\n', 'Initial frame selected; you cannot go up', 'not meaningful in the outermost frame') if GDB else ():
+            self.assertIn(wanted, told)
+        self.assertNotIn('corrupt', told)
 
     def test_a_watch(self) -> None:
         told = self.gdb(example('ticks'), 'watch *(char*)0xb0000', 'continue', 'continue')

@@ -5,6 +5,7 @@ from __future__ import annotations
 
 import struct
 
+from toolbox.gdb_flow import outermost
 from toolbox.listing import Listing
 
 MEMORY = 1 << 20
@@ -13,6 +14,7 @@ ESP, EBP, EIP, CS, SS, ENDS, BACK = 4, 5, 8, 41, 42, 37, 38
 ZERO, FOUR, SIXTEEN, LEFT, RIGHT, PLUS, WORD_AT = b'\x30', b'\x34', b'\x40', b'\x24', b'\x26', b'\x22', b'\x94\x02'
 BREG, BREGX = 0x70, b'\x92'
 FURTHER, SAME, CFA_AT, CFA_IS, VALUE_IS = b'\x04', b'\x08', b'\x0C', b'\x0F', b'\x16'
+NO_CALLER = b'\x07' + bytes([EIP])  # where a frame goes on is undefined
 PROLOGUES, POP_BP = (b'\x55\x89\xE5', b'\x55\x8B\xEC'), 0x5D
 RETURNS = {0xC3: 1, 0xC2: 3}  # near ones, with their lengths
 
@@ -90,16 +92,19 @@ def memory_of(listing: Listing) -> dict[int, int]:
 
 
 def frames_of(listing: Listing, routines: list[tuple[int, int]]) -> bytes:
-    """`.debug_frame`, for routines by first address and end, in their order."""
+    """`.debug_frame`, for routines by first address and end: those with a frame by BP, and code without a caller, have rules of
+    their own."""
     common = struct.pack('<IB', 0xFFFFFFFF, 3) + b'\x00' + uleb(1) + sleb(1) + uleb(EIP) + told()
-    entries, memory, here = counted(common), memory_of(listing), 0
-    for first, end in [*routines, (MEMORY, MEMORY)]:
-        octets = bytes(memory.get(it, 0) for it in range(first, end))
-        if first < here or octets[:3] not in PROLOGUES and first < MEMORY:
+    memory = memory_of(listing)
+    texts = [(first, end, bytes(memory.get(it, 0) for it in range(first, end))) for first, end in routines]
+    framed = [(first, end, rules_of(octets)) for first, end, octets in texts if octets[:3] in PROLOGUES]
+    entries, here = counted(common), 0
+    for first, end, rules in sorted([*framed, *((first, end, NO_CALLER) for first, end in outermost(listing)), (MEMORY, MEMORY, b'')]):
+        if first < here:
             continue
         if first > here:
             entries += counted(struct.pack('<III', 0, here, first - here))
         if first < end:
-            entries += counted(struct.pack('<III', 0, first, end - first) + rules_of(octets))
+            entries += counted(struct.pack('<III', 0, first, end - first) + rules)
         here = end
     return entries

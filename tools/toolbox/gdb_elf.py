@@ -66,13 +66,17 @@ def lines_of(listing: Listing, paths: dict[str, str]) -> bytes:
     return counted(struct.pack('<HI', 3, len(header)) + header + program)
 
 
-def unit_of(path: str) -> tuple[bytes, bytes]:
-    """`.debug_abbrev` and `.debug_info`: one unit, the source, over all of memory."""
+def unit_of(path: str, extents: dict[str, tuple[int, int]]) -> tuple[bytes, bytes]:
+    """`.debug_abbrev` and `.debug_info`: one unit, the source, over all of memory, and in it the labels as routines: by these gdb
+    tells a call from a step where neither frame has a caller."""
     forms = ((0x03, 0x08), (0x1B, 0x08), (0x25, 0x08), (0x13, 0x05), (0x10, 0x06), (0x11, 0x01), (0x12, 0x01))
-    abbreviation = b'\x01\x11\x00' + bytes(it for pair in forms for it in pair) + b'\x00\x00\x00'
+    of_routines = ((0x03, 0x08), (0x11, 0x01), (0x12, 0x01))
+    shapes = [(1, 0x11, 1, forms), (2, 0x2E, 0, of_routines)]
+    abbreviation = b''.join(bytes([*it[:3], *(one for pair in it[3] for one in pair), 0, 0]) for it in shapes) + b'\x00'
     folder, name = (it.encode('utf-8', 'surrogateescape') + b'\x00' for it in os.path.split(path))
     unit = b'\x01' + name + folder + PRODUCER + struct.pack('<HIII', ASSEMBLER, 0, 0, MEMORY)
-    return abbreviation, counted(struct.pack('<HIB', 3, 0, 4) + unit)
+    routines = (b'\x02' + it.encode() + b'\x00' + struct.pack('<II', *place) for it, place in extents.items() if place[0] < place[1])
+    return abbreviation, counted(struct.pack('<HIB', 3, 0, 4) + unit + b''.join(routines) + b'\x00')
 
 
 @dataclass
@@ -152,8 +156,8 @@ class Section:
 
 def elf_of(listing: Listing, paths: dict[str, str]) -> bytes:
     """The file's bytes. Sources, as lines name them, stand at these full paths, of which the first is the unit's."""
-    abbreviation, unit = unit_of(next(iter(paths.values())))
     extents = extents_of(listing)
+    abbreviation, unit = unit_of(next(iter(paths.values())), extents)
     symbols, names = symbols_of(extents)
     sections = [
         Section('.text', NOBITS, flags=6, size=MEMORY),

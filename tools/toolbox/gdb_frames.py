@@ -9,6 +9,7 @@ from toolbox.places import Event, operation_of
 
 Far = tuple[int, int]
 TRAPS = ('INT', 'INT3', 'INTO', 'DIV', 'IDIV', 'AAM')
+RETURNS, WORDS = ('RET', 'RETF', 'IRET'), 48  # so many words of the stack are looked at for a return address
 OF_AN_INTERRUPT = 6  # bytes that it pushes
 INT = b'\xCD'
 
@@ -24,9 +25,24 @@ def pushed_by(event: Event, place: Far) -> int:
     return OF_AN_INTERRUPT if operation in TRAPS and not is_behind else 0
 
 
+def last_call(trail: list[Event]) -> int | None:
+    """Which event of a trail has called the present routine, if one that is there has."""
+    depth = 0
+    for number in range(len(trail) - 1, -1, -1):
+        operation = operation_of(trail[number].text) if trail[number].entry is None else 'entry'
+        if operation in RETURNS:
+            depth += 1
+        elif operation in ('CALL', 'INT', 'INT3', 'entry'):
+            if not depth:
+                return number
+            depth -= 1
+    return None
+
+
 class Frames:
-    """What gdb takes for one frame is told by where its stack ends; so behind a return it has to be told the end that it was told
-    at the call, whatever arguments the return took."""
+    """What gdb takes for one frame is told by where its stack ends: at the routine's return address, if the trail has the call and
+    the stack that address; else at SP. Behind a return it has to be told the end that it was told at the call, whatever arguments
+    the return took."""
 
     def __init__(self, dump: Callable[[int, int], bytes]) -> None:
         self._dump = dump
@@ -34,19 +50,46 @@ class Frames:
         self._below = dict[tuple[int, int], int]()  # by return address and SP at the call, how far below it the end was told
 
     def frame(self, registers: dict[str, int], trail: list[Event]) -> tuple[int, Far | None]:
-        """How the stack of the present frame ends, as the rules of `gdb_cfi` have it; and where a call has just led here, the CS:IP to which it returns."""
-        before, event = ([None, None] + trail)[-2:]
-        here, stack = (registers['CS'], registers['IP']), registers['SP']
-        pushed = pushed_by(event, here) if event else 0
+        """How the stack of the present frame ends, as the rules of `gdb_cfi` have it; and the CS:IP to which it returns, if that is
+        known."""
+        here, stack, segment = (registers['CS'], registers['IP']), registers['SP'], registers['SS']
+        event = trail[-1] if trail else None
+        pushed, number = pushed_by(event, here) if event else 0, len(trail) - 1
+        end = 0
         if not event or not pushed:
-            return self._end(event, here, stack) & 0xFFFF, None
-        octets = self._dump(physical(registers['SS'], stack), 4)
-        offset, segment = (int.from_bytes(octets[at : at + 2], 'little') for at in (0, 2))
-        back = registers['CS'] if pushed == 2 else segment, offset
-        above = self._end(before, (event.segment, event.offset), stack + pushed)
+            known = self._call(trail, segment, stack)
+            if known is None:
+                return self._end(event, here, stack) & 0xFFFF, None
+            number, end, pushed = known
+            event = trail[number]
+        octets = self._dump(physical(segment, stack + end), 4)
+        offset, code = (int.from_bytes(octets[at : at + 2], 'little') for at in (0, 2))
+        back = registers['CS'] if pushed == 2 else code, offset
+        above = self._above(trail[:number], (event.segment, event.offset), back, segment, stack + end + pushed)
         self.returns[physical(*back)] = back
-        self._below[physical(*back), stack + pushed] = -above
-        return (pushed + above) % 0x10000 << 16, back
+        self._below[physical(*back), stack + end + pushed] = -above
+        return (pushed + above) % 0x10000 << 16 | end & 0xFFFF, back
+
+    def _call(self, trail: list[Event], segment: int, stack: int) -> tuple[int, int, int] | None:
+        """The event that has called the routine whose stack this is, how far from SP its return address stands, and its length."""
+        number = last_call(trail)
+        if number is None:
+            return None
+        event = trail[number]
+        operation = operation_of(event.text) if event.entry is None else ''
+        pushed = OF_AN_INTERRUPT if operation != 'CALL' else 4 if 'FAR' in event.text.split() else 2
+        back = (event.offset + len(event.octets)) % 0x10000
+        wanted = back.to_bytes(2, 'little') + (event.segment.to_bytes(2, 'little') if pushed > 2 else b'')
+        octets = self._dump(physical(segment, stack), min(WORDS * 2, 0x10000 - stack))
+        end = next((at for at in range(0, len(octets) - len(wanted) + 1, 2) if octets[at : at + len(wanted)] == wanted), None)
+        return None if end is None else (number, end, pushed)
+
+    def _above(self, trail: list[Event], place: Far, back: Far, segment: int, stack: int) -> int:
+        """How far from SP the stack of a caller ended, at this place and with this SP; as it was told before, if it was."""
+        if (physical(*back), stack) in self._below:
+            return -self._below[physical(*back), stack]
+        known = self._call(trail, segment, stack % 0x10000)
+        return known[1] if known else self._end(trail[-1] if trail else None, place, stack)
 
     def _end(self, event: Event | None, here: Far, stack: int) -> int:
         """How far from SP gdb is told that the stack of the present frame ends, here, behind this event."""

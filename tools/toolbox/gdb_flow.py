@@ -1,0 +1,66 @@
+"""Code to which no call leads, as far as jumps and calls with their places in them tell: what runs from FFFF:0000 on, but what is
+called. There gdb is told that a frame has no caller."""
+from __future__ import annotations
+
+from bisect import bisect_right
+
+from toolbox.listing import Line, Listing, physical
+
+Far = tuple[int, int]
+RESET = 0xFFFF0
+PREFIXES = b'\x26\x2E\x36\x3E\xF0\xF2\xF3'
+SHORT, NEAR, CALLS = {*range(0x70, 0x80), *range(0xE0, 0xE4), 0xEB}, (0xE8, 0xE9), (b'\xE8', b'\x9A')
+# Behind these the next instruction isn't come to: jumps, and returns.
+ENDS = {0xEB, 0xE9, 0xEA, 0xC2, 0xC3, 0xCA, 0xCB, 0xCF}
+
+
+def target_of(octets: bytes, at: Far) -> Far | None:
+    """The place that a jump or call at another has in its own bytes, if it is one."""
+    plain = octets.lstrip(PREFIXES)
+    opcode, length = plain[0] if plain else 0x90, len(octets) - len(plain)
+    if opcode in SHORT and len(plain) > 1:
+        return at[0], (at[1] + length + 2 + int.from_bytes(plain[1:2], 'little', signed=True)) % 0x10000
+    if opcode in NEAR and len(plain) > 2:
+        return at[0], (at[1] + length + 3 + int.from_bytes(plain[1:3], 'little')) % 0x10000
+    if opcode in (0xEA, 0x9A) and len(plain) > 4:
+        return int.from_bytes(plain[3:5], 'little'), int.from_bytes(plain[1:3], 'little')
+    return None
+
+
+def goes_on(octets: bytes) -> bool:
+    """Whether what stands behind an instruction may be come to from it."""
+    plain = octets.lstrip(PREFIXES) + b'\x90\x90'
+    return plain[0] not in ENDS and not (plain[0] == 0xFF and plain[1] >> 3 & 7 in (4, 5))
+
+
+def reached(lines: dict[int, Line], order: list[int], begun: set[int]) -> set[int]:
+    """The addresses of the lines that are come to from these, over calls."""
+    found, waiting = set[int](), [it for it in begun if it in lines]
+    while waiting:
+        here = waiting.pop()
+        if here in found:
+            continue
+        found.add(here)
+        line, later = lines[here], bisect_right(order, here)
+        target = target_of(line.shown, line.address) if line.address and not is_call(line) else None
+        next_one = order[later : later + 1] if goes_on(line.shown) else []
+        waiting += [it for it in (*next_one, *([physical(*target)] if target else [])) if it in lines]
+    return found
+
+
+def outermost(listing: Listing) -> list[tuple[int, int]]:
+    """The parts of memory, by first address and end, whose code no call leads to."""
+    lines = {address: it for address, it in (*listing.modules.items(), *listing.at.items()) if it.shown}
+    order = sorted(lines)
+    parts = [octets[RESET - first :] for first, octets in listing.parts.items() if first <= RESET < first + len(octets)]
+    begin = target_of(parts[0], (0xFFFF, 0)) if parts else None
+    called = {physical(*it) for line in lines.values() if line.address and is_call(line) and (it := target_of(line.shown, line.address))}
+    own = reached(lines, order, {RESET, *([physical(*begin)] if begin else [])}) - reached(lines, order, called)
+    ends = dict(zip(order, [*order[1:], 1 << 20]))
+    found = [(it, min(ends[it], it + max(8, len(lines[it].shown)))) for it in sorted(own)]
+    return found if RESET in lines or not parts else [*found, (RESET, RESET + 5)]
+
+
+def is_call(line: Line) -> bool:
+    """Whether a line's instruction is a CALL that has its place in its bytes."""
+    return line.shown.lstrip(PREFIXES)[:1] in CALLS
