@@ -55,6 +55,11 @@ BUZZ = (
     'SEGMENT MAIN AT 0F000h\nstart:  MOV AL,99h\n        OUT 63h,AL\n        MOV AL,96h\n        OUT 43h,AL\n        MOV AL,4\n        OUT 42h,AL\n        MOV AL,3\n'
     '        OUT 61h,AL\nbuzz:   INC BX\n        JMP SHORT buzz\nENDS\nSEGMENT RESET AT 0FFFFh\n        JMP FAR start\nENDS\n'
 )
+# Two calls within each other, in lines 3 and 5, which return to F000:0006 and F000:000A.
+NESTED = (
+    'SEGMENT MAIN AT 0F000h\nstart:  MOV SP,400h\n        CALL outer\n        HLT\nouter:  CALL inner\n        RET\n'
+    'inner:  NOP\n        RET\nENDS\nSEGMENT RESET AT 0FFFFh\n        JMP FAR start\nENDS\n'
+)
 DATA = '''SEGMENT MAIN AT 0F000h
 start:  MOV AX,50h
         MOV DS,AX
@@ -852,6 +857,16 @@ class Boards(Served):
         text = self.pcboard('asm', *example('monitor')[:1]).stdout
         board = self.client.ask('open', source=text, run=given['run'], hex=True)['board']
         self.assertEqual(self.client.ask('data', board=board)['data'], [])
+
+    def test_callers(self) -> None:
+        """Where the routine and the one above it return to, with label and line; none before the first call and after the last return."""
+        board = self.client.ask('open', source=NESTED, run=RUN)['board']
+        self.client.ask('stops', board=board, stops=['inner'])
+        there = self.client.ask('run', board=board, to=1000, past=False, ms=200)
+        self.assertEqual(there['callers'], [['F000:000A', 'outer+3', 6], ['F000:0006', 'start+6', 4]])
+        self.assertEqual(self.client.ask('out', board=board, seen=0)['callers'], [['F000:0006', 'start+6', 4]])
+        for clock in (0, 1000):
+            self.assertEqual(self.client.ask('go to', board=board, clock=clock)['callers'], [])
 
     def test_why_it_goes_nowhere(self) -> None:
         """As tools/why tells it of a run up to the clock that is shown; the board stays there."""

@@ -15,7 +15,7 @@ from typing import Any
 
 from tests.browser import CONTROL, SHIFT, Browser, path
 from tests.support import EXAMPLES, SECONDS, TOOLS, ToolCase, children, example, processor_seconds, until
-from tests.test_desk import BUZZ, DARK, DATA
+from tests.test_desk import BUZZ, DARK, DATA, NESTED
 
 from toolbox.chips import END_OF_INTERRUPT, chip_lines
 from toolbox.dap_board import FLAG_BITS
@@ -820,6 +820,27 @@ class OnePage(ToolCase):
         browser.until("$('said').textContent.startsWith('1,001 characters are too many')")
         self.assertEqual(browser.run("[view.keys.length,$('text').value.length]"), [20, 1001])
         browser.run("$('by-sign').value='place'")
+        self.fine(page)
+
+    def test_the_callers(self) -> None:
+        """Each with its place and line, to which a click leads; a sentence where none is known."""
+        page = self.opened()
+        if page is None:
+            return
+        browser = page.browser
+        page.write(NESTED)
+        page.click('#assemble', "assembled.includes('inner')")
+        page.click('#tab-callers')
+        self.assertIn('show a caller', browser.run("$('callers').textContent"))
+        page.click('#start', 'view.clock===0')
+        for _ in range(4):
+            page.click('#step')
+        self.assertEqual(
+            [it.split() for it in browser.run("[...document.querySelectorAll('#callers button')].map(it=>it.textContent)")],
+            [['F000:000A', 'outer+3', '|', '6:', 'RET'], ['F000:0006', 'start+6', '|', '4:', 'HLT']],
+        )
+        browser.run("document.querySelectorAll('#callers button')[1].click()")
+        self.assertEqual(browser.run("$('source').value.slice(0,$('source').selectionStart).split('\\n').length"), 4)
         self.fine(page)
 
     def test_the_data(self) -> None:

@@ -343,7 +343,8 @@ class Board:
         if seen != self._screen_number:
             found['screen'] = self._rows
         if not is_light:
-            found |= {'trail': [self._event(it) for it in trail], 'stack': self._stack(registers), 'keys': self._keys()}
+            found |= {'trail': [self._event(it) for it in trail], 'callers': self._callers()}
+            found |= {'stack': self._stack(registers), 'keys': self._keys()}
             self._vectors = self.machine.dump(0, 4 * 256)
         return found
 
@@ -380,6 +381,12 @@ class Board:
             text,
             line.number if line and event.entry is None else None,
         ]
+
+    def _callers(self) -> list[list[Any]]:
+        """Where the present routine and those above it return to, as far as the trail or the chain of BP tells it: address, label
+        and source line."""
+        lines = [(place, self.listing.at.get(physical(*place))) for place, _ in self.machine.callers()]
+        return [['%04X:%04X' % place, self.listing.label_before(*place), line.number if line else None] for place, line in lines]
 
     def _stack(self, registers: dict[str, int]) -> list[list[Any]]:
         """The words from SS:SP on, with the label of one that leads to a line of the source, or to bytes of Intel HEX."""

@@ -2,7 +2,7 @@
 import {$, HERTZ, LAST, ask, counted, differ, number, say, time_of} from './asking.js';
 import {assembled, draw_paper, note_assembled, refused, tell_refused} from './editor.js';
 import {fields_now, isHex, note_run, runFile} from './files.js';
-import {draw_registers, draw_stack, draw_trail, draw_why, forget_before, forget_why} from './processor.js';
+import {draw_callers, draw_registers, draw_stack, draw_trail, draw_why, forget_before, forget_why} from './processor.js';
 import {touched} from './saving.js';
 import {codes, draw_keys, draw_screen, send_keys} from './screen.js';
 import {speaker} from './sound.js';
@@ -110,7 +110,7 @@ export function show(answer, isLight = false) {
   if (answer.keys) { view.raw = answer.keys.map(it => [it[0], it[3]]); touched(); }
   forget_why();
   if (answer.why === 'stop' && !met.includes(answer.clock)) met.push(answer.clock);
-  if (!isLight) { draw_registers(looked && looked.registers, answer.registers); looked = answer; draw_trail(); draw_stack(); draw_keys(); later(look_on); }
+  if (!isLight) { draw_registers(looked && looked.registers, answer.registers); looked = answer; draw_trail(); draw_callers(); draw_stack(); draw_keys(); later(look_on); }
   else if (!isOn || differ(kept.registers, answer.registers)) draw_registers(looked && looked.registers, answer.registers);
   if (!isOn || kept.line !== answer.line) draw_paper(!isLight);
   /* While a run goes on, its clock and the time line are drawn five times a second. */

@@ -28,13 +28,26 @@ export function draw_registers(before, now) {
     return one;
   }));
 }
+/* A line of what runs, without its comment. */
+function source_at(line) {
+  return line ? `| ${line}: ${($('edit').classList.contains('stale') ? assembled : $('source').value).split('\n')[line - 1].replace(/;.*/, '').trim()}` : '';
+}
+/* Where the present routine, and those that called it, return to; a click leads to the line. */
+export function draw_callers() {
+  $('callers').replaceChildren(...view.callers.map(([place, label, line]) => {
+    const one = document.createElement(line ? 'button' : 'div');
+    one.textContent = `${place} ${label.padEnd(12)} ${source_at(line)}`.trimEnd();
+    if (line) { one.title = `line ${line}`; one.onclick = () => to_line(line); }
+    return one;
+  }));
+  if (!view.callers.length) $('callers').textContent = 'Neither the last 32 events nor the chain of BP show a caller.';
+}
 /* The trail is one stop of Tab; arrow keys go along it. */
 export function draw_trail() {
   const wasIn = $('trail').contains(document.activeElement);
   const list = view.trail.map(([clock, place, label, text, line]) => {
     const one = document.createElement('button');
-    const source = line ? `| ${line}: ${($('edit').classList.contains('stale') ? assembled : $('source').value).split('\n')[line - 1].replace(/;.*/, '').trim()}` : '';
-    one.textContent = `${String(clock).padStart(9)} ${place} ${label.padEnd(12)} ${text.padEnd(26)} ${source}`.trimEnd();
+    one.textContent = `${String(clock).padStart(9)} ${place} ${label.padEnd(12)} ${text.padEnd(26)} ${source_at(line)}`.trimEnd();
     one.title = `to clock ${clock}`;
     one.tabIndex = -1;
     one.onclick = () => acts(() => go_to(clock));
