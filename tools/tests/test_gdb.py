@@ -728,13 +728,29 @@ class Gdb(ToolCase):
             self.assertIn(wanted, told)
 
     def test_callers(self) -> None:
-        """A routine's caller is known at each of its instructions, and `finish` leads there; code that nothing calls has none, and gdb
+        """All callers are known at each instruction of a routine, and `finish` leads there; code that nothing calls has none, and gdb
         doesn't take its stack for a broken one."""
-        typed = ['break again', 'continue', 'delete', 'finish', 'backtrace', 'finish', 'backtrace', 'break away', 'continue', 'stepi', 'finish', 'monitor go 0']
+        typed = [
+            'break again',
+            'continue',
+            'backtrace',
+            'delete',
+            'finish',
+            'backtrace',
+            'finish',
+            'backtrace',
+            'break away',
+            'continue',
+            'stepi',
+            'finish',
+            'monitor go 0',
+        ]
         told = self.gdb(self.program(CALLS), *typed)
         stops = [int(it) for it in re.findall(r'^(\d+)\t', told, re.M)]
         self.assertEqual(stops, [34, 18, 14, 5, 24, 25, 16] if GDB else [])
-        for wanted in ('#0  near () at it.asm:14\n#1  0x000f0006 in start () at it.asm:4\n', '\n#0  start () at it.asm:5\n') if GDB else ():
+        outer = '#{}  0x000f0006 in start () at it.asm:4\n'.format
+        inner = '#0  again () at it.asm:18\n#1  0x000f0018 in near () at it.asm:13\n' + outer(2)
+        for wanted in (inner, '#0  near () at it.asm:14\n' + outer(1), '\n#0  start () at it.asm:5\n') if GDB else ():
             self.assertIn(wanted, told)
         self.assertNotIn('corrupt', told)
         told = self.gdb(example('ticks'), 'backtrace', 'break idle', 'continue', 'backtrace', 'up', 'finish', 'monitor go 0')

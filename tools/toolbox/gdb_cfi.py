@@ -1,17 +1,18 @@
 """Where gdb finds the callers, as DWARF's `.debug_frame`. A frame is where its stack ends, at the return address, and its routine.
-Everywhere one rule goes by what `gdb_frames` tells, in the control and the status word of a coprocessor that isn't there. A routine that begins with PUSH BP and MOV BP,SP, as those of C do,
-has rules of its own behind these, by BP."""
+Everywhere one rule goes by what `gdb_frames` tells, in records beyond memory, of which the status word of a coprocessor that isn't
+there has the place. A routine that begins with PUSH BP and MOV BP,SP, as those of C do, has rules of its own behind these, by BP."""
 from __future__ import annotations
 
 import struct
 
 from toolbox.gdb_flow import outermost
+from toolbox.gdb_frames import RECORDS
 from toolbox.listing import Listing
 
 MEMORY = 1 << 20
 # DWARF's numbers of registers on the i386, and what its expressions and rules are made of.
-ESP, EBP, EIP, CS, SS, ENDS, BACK = 4, 5, 8, 41, 42, 37, 38
-ZERO, FOUR, SIXTEEN, LEFT, RIGHT, PLUS, WORD_AT = b'\x30', b'\x34', b'\x40', b'\x24', b'\x26', b'\x22', b'\x94\x02'
+ESP, EBP, EIP, CS, SS, RECORD = 4, 5, 8, 41, 42, 38
+ZERO, FOUR, LEFT, PLUS, TIMES, EQUAL, AT, WORD_AT = b'\x30', b'\x34', b'\x24', b'\x22', b'\x1E', b'\x29', b'\x06', b'\x94\x02'
 BREG, BREGX = 0x70, b'\x92'
 FURTHER, SAME, CFA_AT, CFA_IS, VALUE_IS = b'\x04', b'\x08', b'\x0C', b'\x0F', b'\x16'
 NO_CALLER = b'\x07' + bytes([EIP])  # where a frame goes on is undefined
@@ -58,19 +59,23 @@ def word_in(segment: int, base: int, offset: int) -> tuple[bytes, ...]:
     return register(segment), FOUR, LEFT, bytes([BREG + base]) + sleb(offset), WORD_AT, PLUS
 
 
-def told() -> bytes:
-    """The rule by ENDS and BACK: the end, from SP on, is the low word of ENDS; the caller's SP is from there on its high word; BACK
-    tells where it goes on."""
-    low, high = (register(ENDS), SIXTEEN, LEFT, SIXTEEN, RIGHT), (register(ENDS), SIXTEEN, RIGHT)
-    end = (bytes([BREG + ESP, 0]), *low, PLUS)
-    return CFA_IS + expression(*end) + value_is(ESP, *end, *high, PLUS) + value_is(EIP, register(BACK)) + value_is(ENDS, ZERO) + SAME + uleb(BACK)
+def told(at: int) -> bytes:
+    """A word of the frame's record: how far its end is from SP, how far its caller's SP, where that goes on, and its record."""
+    return BREGX + uleb(RECORD) + sleb(RECORDS + at) + AT
+
+
+def by_record() -> bytes:
+    """The rule by the record. With none, which is 0, the caller is the same frame, with which gdb ends."""
+    stack, here = bytes([BREG + ESP, 0]), (bytes([BREG + EIP, 0]), register(RECORD), ZERO, EQUAL, TIMES)
+    next_one = value_is(EIP, told(8), *here, PLUS) + value_is(RECORD, told(12))
+    return CFA_IS + expression(stack, told(0), PLUS) + value_is(ESP, stack, told(4), PLUS) + next_one
 
 
 def returns_at(base: int, offset: int, has_saved: bool) -> bytes:
     """The rule where the return address stands so far from a register, and BP's value before it if it is saved."""
     there, above = word_in(CS, base, offset), bytes([BREG + base]) + sleb(offset + 2)
     saved = value_is(EBP, *word_in(SS, EBP, 0)) if has_saved else SAME + uleb(EBP)
-    return CFA_AT + uleb(base) + uleb(offset) + value_is(ESP, above) + value_is(EIP, *there) + value_is(BACK, *there) + value_is(ENDS, ZERO) + saved
+    return CFA_AT + uleb(base) + uleb(offset) + value_is(ESP, above) + value_is(EIP, *there) + value_is(RECORD, told(12)) + saved
 
 
 def rules_of(octets: bytes) -> bytes:
@@ -94,7 +99,7 @@ def memory_of(listing: Listing) -> dict[int, int]:
 def frames_of(listing: Listing, routines: list[tuple[int, int]]) -> bytes:
     """`.debug_frame`, for routines by first address and end: those with a frame by BP, and code without a caller, have rules of
     their own."""
-    common = struct.pack('<IB', 0xFFFFFFFF, 3) + b'\x00' + uleb(1) + sleb(1) + uleb(EIP) + told()
+    common = struct.pack('<IB', 0xFFFFFFFF, 3) + b'\x00' + uleb(1) + sleb(1) + uleb(EIP) + by_record()
     memory = memory_of(listing)
     texts = [(first, end, bytes(memory.get(it, 0) for it in range(first, end))) for first, end in routines]
     framed = [(first, end, rules_of(octets)) for first, end, octets in texts if octets[:3] in PROLOGUES]

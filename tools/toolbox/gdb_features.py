@@ -13,7 +13,7 @@ FIRST_OWN = FIRST_CONTROL + len(CONTROLS)
 
 
 UNKNOWN = 8 * 'x'
-WORDS_OF_FRAMES = (FIRST_CONTROL, FIRST_CONTROL + 1)  # which `gdb_cfi` makes callers of
+WORD_OF_FRAMES = FIRST_CONTROL + 1  # where the record of the present frame stands, for `gdb_cfi`
 
 
 def register(name: str, bits: int, kind: str, more: str = '') -> str:

@@ -2,6 +2,8 @@
 from __future__ import annotations
 
 import re
+import struct
+from dataclasses import dataclass
 from typing import Callable
 
 from toolbox.listing import physical
@@ -10,6 +12,7 @@ from toolbox.places import Event, operation_of
 Far = tuple[int, int]
 TRAPS = ('INT', 'INT3', 'INTO', 'DIV', 'IDIV', 'AAM')
 RETURNS, WORDS = ('RET', 'RETF', 'IRET'), 48  # so many words of the stack are looked at for a return address
+RECORDS, RECORD, MOST_FRAMES = 0xF0000000, 16, 64  # where records stand, beyond memory, and a record's bytes
 OF_AN_INTERRUPT = 6  # bytes that it pushes
 INT = b'\xCD'
 
@@ -39,6 +42,17 @@ def last_call(trail: list[Event]) -> int | None:
     return None
 
 
+@dataclass(frozen=True)
+class Frame:
+    """What the rules of `gdb_cfi` ask of a frame: how far from its SP its stack ends; how far from there its caller's SP is, and the
+    place to which it returns, or 0 and its own place, by which gdb ends the list."""
+
+    end: int
+    back_by: int
+    place: Far
+    is_last: bool = False
+
+
 class Frames:
     """What gdb takes for one frame is told by where its stack ends: at the routine's return address, if the trail has the call and
     the stack that address; else at SP. Behind a return it has to be told the end that it was told at the call, whatever arguments
@@ -47,28 +61,33 @@ class Frames:
     def __init__(self, dump: Callable[[int, int], bytes]) -> None:
         self._dump = dump
         self.returns = dict[int, Far]()  # of the addresses that calls were told to return to, their CS:IP
-        self._below = dict[tuple[int, int], int]()  # by return address and SP at the call, how far below it the end was told
+        self._ends = dict[tuple[int, int], int]()  # by address and SP, the frame's end that was told there, or in what it had called
 
-    def frame(self, registers: dict[str, int], trail: list[Event]) -> tuple[int, Far | None]:
-        """How the stack of the present frame ends, as the rules of `gdb_cfi` have it; and the CS:IP to which it returns, if that is
-        known."""
-        here, stack, segment = (registers['CS'], registers['IP']), registers['SP'], registers['SS']
-        event = trail[-1] if trail else None
-        pushed, number = pushed_by(event, here) if event else 0, len(trail) - 1
-        end = 0
-        if not event or not pushed:
+    def records(self, registers: dict[str, int], trail: list[Event]) -> bytes:
+        """The present frame and those above it, as far as they are known, as they stand in memory for gdb: the first is for frames of
+        which nothing is known."""
+        frames = self.frames(registers, trail)
+        rows = [struct.pack('<iiII', it.end, it.back_by, physical(*it.place), RECORD * (at + (not it.is_last))) for at, it in enumerate(frames, 1)]
+        return bytes(RECORD) + b''.join(rows)
+
+    def frames(self, registers: dict[str, int], trail: list[Event]) -> list[Frame]:
+        """The present frame and those above it, up to the last whose caller isn't known."""
+        segment, stack, place = registers['SS'], registers['SP'], (registers['CS'], registers['IP'])
+        event, found = trail[-1] if trail else None, list[Frame]()
+        pushed = pushed_by(event, place) if event else 0
+        known = (len(trail) - 1, 0, pushed) if pushed else self._call(trail, segment, stack)
+        end = self._ends[physical(*place), stack] = self._end(event, place, stack, known[1] if known else 0)
+        while known and len(found) < MOST_FRAMES:
+            number, at, pushed = known
+            octets = self._dump(physical(segment, (stack + at) % 0x10000), 4)
+            offset, code = (int.from_bytes(octets[it : it + 2], 'little') for it in (0, 2))
+            back = place[0] if pushed == 2 else code, offset
+            found.append(Frame(end, at + pushed, back))
+            self.returns[physical(*back)] = back
+            event, trail, place, stack = trail[number], trail[:number], back, (stack + at + pushed) % 0x10000
             known = self._call(trail, segment, stack)
-            if known is None:
-                return self._end(event, here, stack) & 0xFFFF, None
-            number, end, pushed = known
-            event = trail[number]
-        octets = self._dump(physical(segment, stack + end), 4)
-        offset, code = (int.from_bytes(octets[at : at + 2], 'little') for at in (0, 2))
-        back = registers['CS'] if pushed == 2 else code, offset
-        above = self._above(trail[:number], (event.segment, event.offset), back, segment, stack + end + pushed)
-        self.returns[physical(*back)] = back
-        self._below[physical(*back), stack + end + pushed] = -above
-        return (pushed + above) % 0x10000 << 16 | end & 0xFFFF, back
+            end = self._end_of_caller(trail, (event.segment, event.offset), place, stack, known[1] if known else None)
+        return [*found, Frame(end, 0, place, True)]
 
     def _call(self, trail: list[Event], segment: int, stack: int) -> tuple[int, int, int] | None:
         """The event that has called the routine whose stack this is, how far from SP its return address stands, and its length."""
@@ -84,19 +103,21 @@ class Frames:
         end = next((at for at in range(0, len(octets) - len(wanted) + 1, 2) if octets[at : at + len(wanted)] == wanted), None)
         return None if end is None else (number, end, pushed)
 
-    def _above(self, trail: list[Event], place: Far, back: Far, segment: int, stack: int) -> int:
-        """How far from SP the stack of a caller ended, at this place and with this SP; as it was told before, if it was."""
-        if (physical(*back), stack) in self._below:
-            return -self._below[physical(*back), stack]
-        known = self._call(trail, segment, stack % 0x10000)
-        return known[1] if known else self._end(trail[-1] if trail else None, place, stack)
+    def _end_of_caller(self, trail: list[Event], at: Far, back: Far, stack: int, end: int | None) -> int:
+        """How far from SP the stack of a caller ends, with the last event before its call at a place: where the trail doesn't reach
+        to what has called it, as it was told before, there or at the call."""
+        told = (self._ends.get((physical(*it), stack)) for it in (back, at))
+        found = end if end is not None else next((it for it in told if it is not None), None)
+        self._ends[physical(*back), stack] = self._end(trail[-1] if trail else None, at, stack, 0) if found is None else found
+        return self._ends[physical(*back), stack]
 
-    def _end(self, event: Event | None, here: Far, stack: int) -> int:
+    def _end(self, event: Event | None, here: Far, stack: int, otherwise: int) -> int:
         """How far from SP gdb is told that the stack of the present frame ends, here, behind this event."""
         found = re.fullmatch('(RETF?|IRET)( [0-9A-F]+h)?', event.text) if event and event.entry is None else None
         if not found:
-            return 0
+            return otherwise
         taken = int(found[2][:-1], 16) if found[2] else 0
         if found[1] == 'RETF' and taken and self._dump(physical(here[0], here[1] - 2), 1) == INT:
             taken -= 2  # the flags
-        return -taken - self._below.get((physical(*here), stack - taken), 0)
+        told = self._ends.get((physical(*here), (stack - taken) % 0x10000))
+        return (otherwise or -taken) if told is None else told - taken

@@ -8,8 +8,8 @@ from toolbox.command import Sorry
 from toolbox.conditions import Asked
 from toolbox.gdb_board import MEMORY, Board, Met, far_of_address
 from toolbox.gdb_bytecode import Condition
-from toolbox.gdb_features import FIRST_OWN, OWN, UNKNOWN, WORDS_OF_FRAMES, description, without_value
-from toolbox.gdb_frames import Frames
+from toolbox.gdb_features import FIRST_OWN, OWN, UNKNOWN, WORD_OF_FRAMES, description, without_value
+from toolbox.gdb_frames import RECORD, RECORDS, Frames
 from toolbox.gdb_wire import MOST_BYTES, Wire
 from toolbox.listing import Listing, physical
 from toolbox.program import LAST_CLOCK
@@ -38,9 +38,8 @@ def condition_of(text: str) -> Condition:
 
 
 class Stub:
-    """A session with gdb over a wire. The board has no coprocessor. Where a CALL, INT or interrupt has just led to, its control and
-    status words tell gdb how many bytes that pushed, and to which address it returns: so `next` goes over it. Elsewhere they lead to
-    the same frame, which gdb takes for the last."""
+    """A session with gdb over a wire. The board has no coprocessor; the place of its status word tells gdb where the record of the
+    present frame stands, beyond memory, by which it finds the callers: so `next` goes over them, and `finish` back."""
 
     def __init__(self, wire: Wire, board: Board, listing: Listing) -> None:
         self._wire, self._board, self._listing = wire, board, listing
@@ -97,7 +96,7 @@ class Stub:
         if self._is_run(request):
             return self._run(request)
         if first == 'g':
-            return ''.join(map(word_of, self._registers()[: len(NAMES)])) + 2 * UNKNOWN
+            return ''.join(map(word_of, self._registers())) + 2 * UNKNOWN
         if first == 'p':
             return self._register(request[1:])
         if first == 'm':
@@ -144,17 +143,17 @@ class Stub:
         return {'QStartNoAckMode': 'OK', 'qAttached': '1', 'qC': 'QC1', 'qfThreadInfo': 'm1', 'qsThreadInfo': 'l'}.get(name, '')
 
     def _registers(self) -> list[int]:
-        """The registers of `g`, but FS and GS, which the 8086 hasn't; and the two words of frames."""
+        """The registers of `g`, but FS and GS, which the 8086 hasn't."""
         found = self._board.registers()
-        ends, place = self._frames.frame(found, self._board.trail())
-        told = [physical(found[SEGMENT_OF[it]], found[it]) if it in SEGMENT_OF else found[it] for it in NAMES]
-        return told + [ends, physical(*place) if place else told[NAMES.index('IP')] + 1]
+        return [physical(found[SEGMENT_OF[it]], found[it]) if it in SEGMENT_OF else found[it] for it in NAMES]
 
     def _register(self, text: str) -> str:
         """A register by its number."""
         number = int(text, 16) if re.fullmatch('[0-9a-f]{1,4}', text) else FIRST_OWN + len(OWN)
-        if number < len(NAMES) or number in WORDS_OF_FRAMES:
-            return word_of(self._registers()[number if number < len(NAMES) else len(NAMES) + number - WORDS_OF_FRAMES[0]])
+        if number < len(NAMES):
+            return word_of(self._registers()[number])
+        if number == WORD_OF_FRAMES:
+            return word_of(RECORD)
         if FIRST_OWN <= number < FIRST_OWN + len(OWN):
             return self._board.registers()[list(OWN.values())[number - FIRST_OWN]].to_bytes(2, 'little').hex()
         return without_value(number) or 'E01'
@@ -172,9 +171,13 @@ class Stub:
     def _memory(self, text: str) -> str:
         """Bytes of memory, as many as there are."""
         found = re.fullmatch('([0-9a-f]{1,16}),([0-9a-f]{1,8})', text)
-        if not found or int(found[1], 16) >= MEMORY:
+        if not found:
             return 'E01'
-        return self._board.dump(int(found[1], 16), min(int(found[2], 16), MOST_MEMORY)).hex()
+        address, count = int(found[1], 16), min(int(found[2], 16), MOST_MEMORY)
+        if address >= RECORDS:
+            octets = self._frames.records(self._board.registers(), self._board.trail())
+            return octets[address - RECORDS : address - RECORDS + count].hex() or 'E01'
+        return self._board.dump(address, count).hex() if address < MEMORY else 'E01'
 
     def _breakpoint(self, request: str) -> str:
         """Puts in a breakpoint, with its conditions, or takes it out. One beyond memory is never met."""
