@@ -21,10 +21,12 @@ from typing import Any
 from unittest import mock
 
 from tests.support import EXAMPLES, SECONDS, TOOLS, TOP, ToolCase, children, example, is_running, processor_seconds, until
+from tests.test_symbols import NASM, ROM, hex_of
 
 from toolbox import desk_board, desk_http, desk_words, desk_work
 from toolbox.chips import chip_lines, lines_in
 from toolbox.command import Sorry
+from toolbox.dap_values import is_code
 from toolbox.desk_drafts import Drafts
 from toolbox.desk_files import Given, Kept
 from toolbox.desk_http import LONGEST_BODY, MOST_CONNECTIONS, MOST_STRANGERS, SECONDS_OF_A_STRANGER, Refused, Server, policy_of
@@ -32,6 +34,7 @@ from toolbox.desk_pages import as_html, examples, grammar, page_of
 from toolbox.desk_sound import Speaker
 from toolbox.desk_words import MOST_BOARDS, Desk
 from toolbox.desk_work import Helpers
+from toolbox.listing import line_of
 from toolbox.events import events
 from toolbox.program import Files, Session
 from toolbox.report import registers_of, report_of
@@ -637,6 +640,28 @@ class Boards(Served):
         shown = self.client.ask('run', board=answer['board'], to=answer['budget'], past=True, ms=200)
         self.assertEqual((answer['lines'], text_of_screen(shown['screen'])), ({}, report_of(self.pcboard('run', *example('monitor')).stdout).screen))
 
+    def test_instructions_of_hex(self) -> None:
+        """They are those that run, with the next one among them, and have the source's bytes; from a place on, if one is named; with
+        lines of the symbols' file."""
+        source, run_file = example('monitor')
+        with open(source.replace('.asm', '.hex'), encoding='utf-8') as file, open(run_file, encoding='utf-8') as fields:
+            text, run = file.read(), json.load(fields)
+        board = self.client.ask('open', source=text, run=run, hex=True)['board']
+        rows = [line_of(number, it) for number, it in enumerate(self.pcboard('asm', '--list', source).stdout.splitlines(), 1)]
+        placed = {'%04X:%04X' % it.address: it for it in rows if it.address and is_code(it)}
+        for clock in (15, 200, 3000):
+            view = self.client.ask('go to', board=board, clock=clock)
+            told = {it[0]: it for it in self.client.ask('code', board=board, place='')['code']}
+            self.assertIn(view['place'], told)
+            self.assertEqual((len(told), len(told.keys() & placed.keys()) > 10), (48, True))
+            for _, place, _, instruction, _ in view['trail']:
+                self.assertEqual(told.get(place, ['', '', '', instruction])[3], instruction)
+            for place in told.keys() & placed.keys():
+                self.assertEqual(bytes.fromhex(told[place][2]), placed[place].shown, place)
+        first = self.client.ask('code', board=board, place='FFFF:0')['code'][0]
+        self.assertEqual((first[0], first[2][:2]), ('FFFF:0000', 'EA'))
+        self.assertIn('is no label', self.client.ask('code', board=board, place='nowhere')['sorry'])
+
     def test_labels_of_hex(self) -> None:
         """Those of the words' file stand beside its bytes, where the source has them, and beside no other program's."""
         source, run_file = example('monitor')
@@ -857,6 +882,17 @@ class Boards(Served):
         text = self.pcboard('asm', *example('monitor')[:1]).stdout
         board = self.client.ask('open', source=text, run=given['run'], hex=True)['board']
         self.assertEqual(self.client.ask('data', board=board)['data'], [])
+
+    def test_data_of_hex(self) -> None:
+        """By NASM's statements of the symbols' file, without lines, which the editor hasn't: it has records."""
+        program = self.file('rom.hex', hex_of(bytes.fromhex(ROM)))
+        self.desk.given = Given(program, self.file('rom.json', text_of(RUN)), True, self.file('rom.lst', NASM))
+        self.desk.files = Kept(self.desk.given)
+        with open(program, encoding='ascii') as file:
+            board = self.client.ask('open', source=file.read(), run=RUN, hex=True)['board']
+        found = self.client.ask('data', board=board)['data']
+        told = [(it['name'], it['line'], it['kind'], it['place'], it['length'], it['bytes']) for it in found]
+        self.assertEqual(told, [('msg', 0, 'DB', 'F000:0007', 0x13, ROM.replace(' ', '').lower()[14 : 14 + 2 * 0x13])])
 
     def test_callers(self) -> None:
         """Where the routine and the one above it return to, with label and line; none before the first call and after the last return."""

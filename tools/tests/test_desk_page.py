@@ -384,7 +384,7 @@ class OnePage(ToolCase):
         page.settled(f'view.clock==={end - 1}')
         browser.press('Home')
         page.settled('view.clock===0')
-        browser.run("$('tab-trail').focus()")
+        browser.run("$('tab-callers').focus()")
         browser.press('ArrowRight')
         browser.until("!$('memory').hidden&&document.activeElement===$('tab-memory')&&$('bytes').textContent.startsWith('B0000: ')")
         self.fine(page)
@@ -820,6 +820,48 @@ class OnePage(ToolCase):
         browser.until("$('said').textContent.startsWith('1,001 characters are too many')")
         self.assertEqual(browser.run("[view.keys.length,$('text').value.length]"), [20, 1001])
         browser.run("$('by-sign').value='place'")
+        self.fine(page)
+
+    def test_the_instructions_of_hex(self) -> None:
+        """They stand where a source would, with the next one marked, and stops by a click; the records by a button, and if one is
+        refused."""
+        page = self.opened()
+        if page is None:
+            return
+        browser = page.browser
+        put = "put_file('monitor.hex',{},{},true);act(()=>begin(runFile));0"
+        with open(f'{EXAMPLES}/monitor.hex', encoding='ascii') as file, open(f'{EXAMPLES}/monitor.json', encoding='ascii') as run_file:
+            text, run = file.read(), run_file.read()
+        browser.run(put.format(json.dumps(text), run))
+        page.settled('isHex&&view.clock===40000')
+        page.click('#start', 'view.clock===0')
+        page.click('#step')
+        now = "$('code').querySelector('[aria-current]')?.textContent.split(' ')[0]===view.place"
+        for _ in range(3):
+            page.click('#step')
+            browser.until(now)
+        self.assertEqual(browser.run("[$('paper').hidden,$('code').hidden]"), [True, False])
+        rows = "[...document.querySelectorAll('#code button')]"
+        place = browser.run(f"{rows}[6].click(),{rows}[6].textContent.slice(0,9)")
+        browser.until(f"stops.length===1&&stops[0].at==='{place}'&&{rows}[6].className.includes('stop')")
+        page.settled()
+        page.click('#run', f"view.place==='{place}'")
+        browser.until(now)
+        browser.run(f"{rows}.find(it=>it.textContent.startsWith('{place}')).click()")
+        browser.until('stops.length===0')
+        page.settled()
+        browser.run(f"{rows}[0].focus()")
+        browser.press('ArrowDown')
+        self.assertEqual(browser.run(f'{rows}.indexOf(document.activeElement)'), 1)
+        page.click('#as-code')
+        self.assertEqual(browser.run("[$('paper').hidden,$('code').hidden,$('source').value.startsWith(':')]"), [False, True, True])
+        page.click('#as-code')
+        browser.run(put.format(json.dumps(':00'), run))
+        browser.until("!$('refusals').hidden")
+        self.assertEqual(browser.run("[$('paper').hidden,$('code').hidden]"), [False, True])
+        browser.run('queue')
+        page.example('first')
+        self.assertEqual(browser.run("[$('paper').hidden,$('code').hidden,$('as-code').hidden]"), [False, True, True])
         self.fine(page)
 
     def test_the_callers(self) -> None:

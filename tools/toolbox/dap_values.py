@@ -6,8 +6,10 @@ import re
 from dataclasses import dataclass
 from typing import Callable
 
+from toolbox.chips import probe
 from toolbox.command import Sorry
 from toolbox.dap_board import FLAG_BITS, Machine
+from toolbox.disassembly import LONGEST, NONE, instructions
 from toolbox.listing import Line, Listing, code_of, label_in, physical
 from toolbox.places import far_of
 from toolbox.session_board import SessionBoard
@@ -15,7 +17,7 @@ from toolbox.session_board import SessionBoard
 BYTE_REGISTERS = {'AL': ('AX', 0), 'AH': ('AX', 8), 'BL': ('BX', 0), 'BH': ('BX', 8), 'CL': ('CX', 0), 'CH': ('CX', 8), 'DL': ('DX', 0), 'DH': ('DX', 8)}
 TOKEN = re.compile(r"\s*(0x[0-9A-Fa-f]+|[0-9][0-9A-Fa-f]*[Hh]|[01]+[Bb]|\d+|[A-Za-z_]\w*|'[^']'|&&|\|\||[=!<>]=|<>|[-+*:\[\]()=<>!&])")
 DATA = re.compile(r'(\w+\s*:)?\s*D[BWD]\b', re.I)
-LONGEST_INSTRUCTION = 8
+LONGEST_INSTRUCTION, LISTED_AT_ONCE = 8, 64
 
 
 @dataclass(frozen=True)
@@ -198,10 +200,10 @@ class Row:
 
 
 class Disassembly:
-    """Instructions of memory, as far as the trail told their texts or the source has them; else bytes."""
+    """Instructions of memory, as far as the trail told their texts, the source has them, or pcprobe lists them; else bytes."""
 
     def __init__(self, machine: Machine) -> None:
-        self.machine, self.memory = machine, dict[int, int]()
+        self.machine, self.memory, self.listed = machine, dict[int, int](), dict[int, Row]()
 
     def _octets(self, address: int, count: int) -> bytes:
         """Bytes of memory, each read once."""
@@ -225,6 +227,20 @@ class Disassembly:
         octets = self._octets(address, 1)
         return Row(address, octets, f'DB 0{octets[0]:02X}h' if octets else '', None)
 
+    def row(self, address: int) -> Row:
+        """The row that begins at an address, of those that follow each other: with pcprobe's text if nothing else tells one."""
+        found = self.at(address)
+        if not found.text.startswith('DB ') or not probe():
+            return found
+        if address not in self.listed:
+            segment = self.machine.registers()['CS']
+            if not 0 <= address - 16 * segment < 0x10000 - LISTED_AT_ONCE * LONGEST:
+                segment = address >> 4 & 0xF000
+            for offset, octets, text in instructions(self.machine.dump, segment, address - 16 * segment, LISTED_AT_ONCE):
+                self.listed[physical(segment, offset)] = Row(physical(segment, offset), octets, text, self.machine.listing.line_from(physical(segment, offset)))
+        listed = self.listed.get(address, found)
+        return found if listed.text == NONE else listed
+
     def before(self, address: int) -> Row:
         """The row that ends where this address begins."""
         for length in range(LONGEST_INSTRUCTION, 0, -1):
@@ -241,7 +257,7 @@ class Disassembly:
         for _ in range(max(0, first)):
             at += len(self.at(at).octets) or 1
         while len(found) < count:
-            row = self.at(at)
+            row = self.row(at)
             found.append(row)
             at += len(row.octets) or 1
         return found

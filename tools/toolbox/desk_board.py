@@ -6,26 +6,26 @@ import base64
 import os
 import threading
 import time
-from dataclasses import dataclass
+from dataclasses import dataclass, replace
 from typing import Any, Callable
 
 from toolbox.chips import facts, lines_in, question
 from toolbox.command import Sorry
 from toolbox.dap_board import ENDS, MOST_BREAKPOINTS, Machine
-from toolbox.data_labels import Datum, data_of, values_of
+from toolbox.data_labels import Datum, labels_of_data, values_of
+from toolbox.disassembly import instructions
 from toolbox.desk_sound import MOST_SAMPLES, Speaker
 from toolbox.desk_work import Fields, Helpers, Job
 from toolbox.events import commands
 from toolbox.listing import labels_alone, listing_of, physical
 from toolbox.nowhere import told_of_end
 from toolbox.places import address_of, event_of, far_of, is_repeated, line_at, number_of, operation_of
-from toolbox.program import LAST_CLOCK, Files, answer_of, path
+from toolbox.program import LAST_CLOCK, Files, path
 from toolbox.report import REGISTERS, Report, report_of
 from toolbox.returns import Far
 from toolbox.runfile import text_of, with_budget
 from toolbox.scancodes import names
 from toolbox.session_board import Paused, break_at, place_of
-from toolbox.symbols import image_of
 from toolbox.text_memory import TEXT_MEMORY, WORDS, Cell, cells_at, plain_cells, starts
 
 # A typed key reaches the keyboard so many clocks on, and lies so many behind the one before: a handler takes some hundred.
@@ -35,6 +35,8 @@ FARTHEST = 50_000_000
 # So many clocks are run anew to tell why a run goes nowhere: a tenth of a second's work.
 REACH = 20_000_000
 STACK_BYTES, IF, CLOCKS_OF_HLT, LOOKS_WITHOUT_ATTRIBUTES = 32, 0x200, 2, 4
+# So many instructions of Intel HEX are shown, from so many bytes before the next one on.
+CODE_ROWS, CODE_BEFORE = 48, 40
 # No instruction takes so many clocks without a repeat, so a processor that began none for so long has jammed.
 LONGEST_STEP = 1000
 # Up to so many clocks all trails are read for the interrupts; in a longer run only handlers' first instructions are looked for.
@@ -94,8 +96,8 @@ class Board:
         self._data: list[Datum] | None = None
         self._speaker = Speaker([], 0)
         self.files = self._written(self.keys if is_key_list(given) else None)
-        listing = listing_of(self.files)
-        self.listing = labels_alone(listing) if is_hex else listing
+        self.whole = listing_of(self.files)
+        self.listing = labels_alone(self.whole) if is_hex else self.whole
         self.machine = self._machine(self.files)
 
     def _written(self, keys: list[Key] | None) -> Files:
@@ -414,6 +416,30 @@ class Board:
             address = address_of(self.listing, text)
         return {'address': address, 'bytes': self.machine.dump(address, min(max(count, 16), 4096)).hex()}
 
+    def code(self, place: str) -> Fields:
+        """The instructions around the next one, or from a place on: address, label that stands there, bytes, text, and the source
+        line that the symbols' file has of it."""
+        registers = self.machine.registers()
+        here = registers['CS'], registers['IP']
+        segment, offset = far_of(self.listing, place.strip()) if place.strip() else (here[0], self._code_before(here))
+        rows = list(instructions(self.machine.dump, segment, offset, CODE_ROWS))
+        if not place.strip() and all(at != here[1] for at, _, _ in rows):
+            rows = list(instructions(self.machine.dump, *here, CODE_ROWS))
+        return {'clock': self.clock, 'code': [self._row_of_code((segment, at), octets, text) for at, octets, text in rows]}
+
+    def _code_before(self, here: Far) -> int:
+        """The first offset a little before a place from which instructions can be told: a label's, a line's, or of one that ran."""
+        ran = [(it.segment, it.offset) for it in list(self.machine.known.values())]
+        lines = [it.address for them in (self.whole.at, self.whole.modules) for it in them.values() if it.address]
+        known = (at for segment, at in (*self.listing.labels.values(), *ran, *lines) if segment == here[0])
+        return min((it for it in known if 0 <= here[1] - it <= CODE_BEFORE), default=here[1])
+
+    def _row_of_code(self, place: Far, octets: bytes, text: str) -> list[str]:
+        """A row of the instructions."""
+        line = self.whole.line_from(physical(*place))
+        labels = [name for name, at in self.listing.labels.items() if at == place]
+        return ['%04X:%04X' % place, ' '.join(labels[:1]), octets.hex().upper(), text, self.whole.told(line) if line else '']
+
     def chips(self) -> Fields:
         """What the chips hold, by a run of pcprobe up to this clock, and what in them keeps an interrupt or a key away."""
         clock = self.clock
@@ -424,10 +450,10 @@ class Board:
         return {'lines': lines, 'facts': facts(lines)}
 
     def data(self) -> Fields:
-        """The source's labels of data, with what memory holds there."""
+        """The program's labels of data, with what memory holds there; of Intel HEX without their lines, which the editor hasn't."""
         if self._data is None:
-            image = {} if self.is_hex else image_of(answer_of(['asm', '--', self.files.file]))
-            self._data = data_of(self.listing, image)
+            found = labels_of_data(self.files, self.whole)
+            self._data = [replace(it, line=0) for it in found] if self.is_hex else found
         return {'clock': self.clock, 'data': values_of(self._data, self.machine.dump)}
 
     def why(self) -> Fields:

@@ -292,6 +292,11 @@ class Desk:
         place, count = want(fields, 'place', str), want(fields, 'count', int, 256)
         return self._do(board, lambda: board.memory(place, count))
 
+    def _code(self, board: Board, fields: Fields) -> Fields:
+        """Instructions of memory."""
+        place = want(fields, 'place', str, '')
+        return self._do(board, lambda: board.code(place))
+
     def _chips(self, board: Board, _: Fields) -> Fields:
         """What the chips hold."""
         return self._do(board, board.chips)
@@ -371,6 +376,7 @@ class Desk:
         'pause': _pause,
         'look': _look,
         'memory': _memory,
+        'code': _code,
         'chips': _chips,
         'data': _data,
         'why': _why,

@@ -1,18 +1,25 @@
-"""Instructions that may never have run, by the program's own disassembler: each is put on a board of its own, which runs it, and
-whose trail tells its bytes and its text. Nothing here decodes."""
+"""Instructions that may never have run, by the program's own disassembler: on a board of their own pcprobe lists them; where none is
+built, each is run there, and the trail tells its bytes and its text. Nothing here decodes."""
 from __future__ import annotations
 
+import functools
 import os
+import subprocess
 import tempfile
 from typing import Callable, Iterator
 
+import zebludor
 from zebludor import Event, event_of
 
-from toolbox.program import Files, Session
+from toolbox.chips import probe
+from toolbox.command import Sorry
+from toolbox.program import Files, Session, refusal
 from toolbox.runfile import DEFAULTS, text_of
 
 LONGEST = 16  # an instruction has at most seven prefixes and six bytes more
 PARAGRAPH = 0x1000  # where it is put, at its own offset: no text tells a segment that isn't in the bytes
+RECORD, MOST_LISTED = 128, 4096
+NONE = 'no instruction of the 8086'
 
 
 def record(at: int, kind: int, data: bytes) -> str:
@@ -23,21 +30,26 @@ def record(at: int, kind: int, data: bytes) -> str:
 
 def image_text(offset: int, octets: bytes) -> str:
     """A program that begins with these bytes at an offset."""
-    before_the_end = octets[: 0x10000 - offset]
-    records = [record(0, 2, PARAGRAPH.to_bytes(2, 'big')), record(offset, 0, before_the_end)]
-    if len(before_the_end) < len(octets):
-        records.append(record(0, 0, octets[len(before_the_end) :]))
+    places = [(offset + at) % 0x10000 for at in range(len(octets))]
+    cuts = sorted({0, len(octets), *range(RECORD, len(octets), RECORD), *(at for at, place in enumerate(places) if not place)})
+    records = [record(0, 2, PARAGRAPH.to_bytes(2, 'big')), *(record(places[a], 0, octets[a:b]) for a, b in zip(cuts, cuts[1:]))]
     jump = b'\xEA' + offset.to_bytes(2, 'little') + PARAGRAPH.to_bytes(2, 'little')
     return ''.join([*records, record(0, 2, b'\xF0\x00'), record(0xFFF0, 0, jump), record(0, 1, b'')])
 
 
+def written(room: str, offset: int, octets: bytes) -> Files:
+    """The board that has these bytes."""
+    for name, text in (('it.hex', image_text(offset, octets)), ('run.json', text_of(DEFAULTS | {'ram': 128}))):
+        with open(os.path.join(room, name), 'w', encoding='ascii') as file:
+            file.write(text)
+    return Files(f'{room}/it.hex', f'{room}/run.json', True)
+
+
+@functools.lru_cache(MOST_LISTED)
 def instruction(offset: int, octets: bytes) -> Event | None:
     """The instruction with which these bytes begin, or None: the 8086 has none."""
     with tempfile.TemporaryDirectory() as room:
-        for name, text in (('it.hex', image_text(offset, octets)), ('run.json', text_of(DEFAULTS | {'ram': 128}))):
-            with open(os.path.join(room, name), 'w', encoding='ascii') as file:
-                file.write(text)
-        with Session(Files(f'{room}/it.hex', f'{room}/run.json', True)) as session:
+        with Session(written(room, offset, octets)) as session:
             session.one('step')
             session.one('step')
             trail = session.many('trail')
@@ -45,9 +57,25 @@ def instruction(offset: int, octets: bytes) -> Event | None:
     return found if (found.segment, found.offset) == (PARAGRAPH, offset) else None
 
 
+def listed(name: str, offset: int, octets: bytes, count: int) -> Iterator[tuple[int, bytes, str]]:
+    """As many instructions of these bytes as pcprobe lists."""
+    with tempfile.TemporaryDirectory() as room:
+        words, given = written(room, offset, octets).words('')[1:], f'list {PARAGRAPH:X}:{offset:X} {count}\n'
+        done = subprocess.run(zebludor.limited([name, *words]), input=given, capture_output=True, text=True, check=False)
+    if done.returncode or 'fault' in done.stdout:
+        raise Sorry(refusal(done.returncode, done.stderr) if done.returncode else f'pcprobe refuses: {done.stdout.strip()}')
+    for line in done.stdout.splitlines():
+        place, digits, text = line.split(' ', 2)
+        yield int(place[5:], 16), bytes.fromhex(digits), NONE if text.startswith('DB ') else text
+
+
 def instructions(memory: Callable[[int, int], bytes], segment: int, offset: int, count: int) -> Iterator[tuple[int, bytes, str]]:
     """So many instructions from a place on, each with its offset, its bytes and its text; of a byte with which none begins, the
     byte alone."""
+    first, most = 16 * segment + offset, min(count, MOST_LISTED) * LONGEST
+    if (name := probe()) and count <= MOST_LISTED and offset + most <= 0x10000 and first + most <= 1 << 20:
+        yield from listed(name, offset, memory(first, most), count)
+        return
     for _ in range(count):
         octets = (
             b''.join(memory((16 * segment + (offset + it) % 0x10000) % (1 << 20), 1) for it in range(LONGEST))
@@ -55,5 +83,5 @@ def instructions(memory: Callable[[int, int], bytes], segment: int, offset: int,
             else memory(16 * segment + offset, LONGEST)
         )
         found = instruction(offset, octets)
-        yield offset, found.octets if found else octets[:1], found.text if found else 'no instruction of the 8086'
+        yield offset, found.octets if found else octets[:1], found.text if found else NONE
         offset = (offset + (len(found.octets) if found else 1)) % 0x10000

@@ -1,5 +1,6 @@
 /* The board that the page shows: how it begins, is moved and comes back; and its stops. */
 import {$, HERTZ, LAST, ask, counted, differ, number, say, time_of} from './asking.js';
+import {draw_rows} from './code.js';
 import {assembled, draw_paper, note_assembled, refused, tell_refused} from './editor.js';
 import {fields_now, isHex, note_run, runFile} from './files.js';
 import {draw_callers, draw_registers, draw_stack, draw_trail, draw_why, forget_before, forget_why} from './processor.js';
@@ -155,6 +156,7 @@ function draw_stops() {
     return row;
   }));
   draw_paper();
+  draw_rows();
 }
 export function toggle_stop(line) {
   const there = stops.find(it => it.line === line);

@@ -54,7 +54,7 @@ function drawn_label({name, line, kind, place, length, bytes}) {
   lastValues[`${name} ${place}`] = values;
   const head = document.createElement('button'), isArray = values.length > 1;
   head.textContent = name;
-  head.title = `line ${line}, ${place}`;
+  head.title = line ? `line ${line}, ${place}` : place;
   head.onclick = event => { event.preventDefault(); to_line(line); };
   const changed = values.map((it, at) => last[at] !== it);
   if (!isArray) {

@@ -1,6 +1,7 @@
 /* The editor: the source, line numbers and marks, and what is refused. Only the lines that are in sight are drawn. */
 import {$} from './asking.js';
 import {board, lines, stops, toggle_stop, view} from './board.js';
+import {show_code} from './code.js';
 import {isHex} from './files.js';
 import {touched} from './saving.js';
 import {key} from './screen.js';
@@ -108,6 +109,7 @@ function draw_refusals() {
     item.append(one);
     return item;
   }));
+  if (refused.length) show_code(false);
   if (refused.length && refused[0].line) to_line(refused[0].line);
   draw_paper();
 }

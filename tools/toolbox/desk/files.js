@@ -1,6 +1,7 @@
 /* What the page holds: a source with its name, and the run file's fields; where they come from, examples and files. */
 import {$, ask, say} from './asking.js';
 import {acts, begin, board, forget_run, view} from './board.js';
+import {show_code} from './code.js';
 import {note_grammar} from './editor.js';
 import {may_leave, note_given, offer, settle, touched} from './saving.js';
 import {show_page} from './tabs.js';
@@ -15,6 +16,7 @@ export function put_file(name, text, fields, hex, more = {}) {
   forget_run((more.stops || []).map(place => ({place})));
   if (!isGiven && !more.example) $('example').value = '';
   settle(more.id);
+  show_code();
 }
 function put_fields(fields) {
   runFile = fields;

@@ -58,15 +58,18 @@ export function draw_trail() {
   if (list.length) list[list.length - 1].tabIndex = 0;
   if (wasIn && list.length) list[list.length - 1].focus();
 }
-$('trail').addEventListener('keydown', event => {
-  const all = [...$('trail').children], at = all.indexOf(document.activeElement);
-  const to = {ArrowDown: at + 1, ArrowUp: at - 1, Home: 0, End: all.length - 1}[event.key];
-  if (to === undefined || !all.length) return;
-  event.preventDefault();
-  const next = all[Math.min(Math.max(to, 0), all.length - 1)];
-  for (const it of all) it.tabIndex = it === next ? 0 : -1;
-  next.focus();
-});
+export function by_arrows(list) {
+  list.addEventListener('keydown', event => {
+    const all = [...list.children], at = all.indexOf(document.activeElement);
+    const to = {ArrowDown: at + 1, ArrowUp: at - 1, Home: 0, End: all.length - 1}[event.key];
+    if (to === undefined || !all.length) return;
+    event.preventDefault();
+    const next = all[Math.min(Math.max(to, 0), all.length - 1)];
+    for (const it of all) it.tabIndex = it === next ? 0 : -1;
+    next.focus();
+  });
+}
+by_arrows($('trail'));
 export function draw_stack() {
   $('stack').textContent = view.stack.slice(0, 8).map(([at, word, label]) => `${at}: ${word} ${label}`.trimEnd()).join('\n');
 }

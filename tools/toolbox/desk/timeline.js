@@ -1,6 +1,7 @@
 /* The time line: the clock, stops that were met, interrupts and the speaker. */
 import {$, ask, counted, number, say} from './asking.js';
 import {act, acts, board, go_to, running, show, view, working} from './board.js';
+import {draw_code} from './code.js';
 import {draw_data} from './data.js';
 import {draw_chips, draw_memory} from './processor.js';
 import {draw_sound, speaker} from './sound.js';
@@ -15,6 +16,7 @@ export function look_on() {
   if (!$('memory').hidden) act(draw_memory);
   if (!$('chips').hidden) act(draw_chips);
   if (!$('data').hidden) act(draw_data);
+  act(draw_code);
   const clock = view.clock, mine = board;
   ask('marks', {board}).then(answer => {
     if (answer.busy || mine !== board) { later(look_on); return; }
