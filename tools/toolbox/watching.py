@@ -7,7 +7,7 @@ from dataclasses import dataclass
 from typing import Iterator
 
 from toolbox.command import Sorry
-from toolbox.desk_data import kind_in
+from toolbox.data_labels import kind_in
 from toolbox.listing import Listing
 from toolbox.places import address_of
 from toolbox.probing import Happenings
