@@ -402,19 +402,6 @@ def _beside() -> None:
         sys.path.append(f'{TOP}/tools')
 
 
-def _probe() -> str:
-    """The probe that the tools take."""
-    _beside()
-    try:
-        from toolbox.chips import UNBUILT, probe
-    except ImportError as error:
-        raise Unfit(f"the probe is found by the tools, and {TOP}/tools hasn't them: {error}") from None
-    name = probe()
-    if not name:
-        raise Unfit(UNBUILT)
-    return name
-
-
 class Dialogue:
     """A session of `pcboard debug` by its texts: one command at a time, and its answer. The terminal's interrupt doesn't reach
     it, so that what talks with it can end a long run and go on."""
@@ -597,7 +584,7 @@ class Session:
         self.source, self._has_events = Places(source, is_hex=is_hex, symbols=symbols), probe
         with _files(source, _fields(fields)) as names:
             words = [*_hex_words(source, is_hex), *names]
-            self._dialogue = Dialogue(words, _probe()) if probe else Dialogue(['debug', *words])
+            self._dialogue = Dialogue(words, program('pcprobe')) if probe else Dialogue(['debug', *words])
             try:
                 self._dialogue.many('regs')  # behind its answer the files are read, and may go
             except BaseException:

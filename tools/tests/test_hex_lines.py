@@ -13,7 +13,6 @@ from tests.test_dap import Client
 from tests.test_gdb import GDB
 from tests.test_symbols import NASM, ROM, hex_of
 
-from toolbox.chips import probe
 from toolbox.command import Sorry
 from toolbox.places import far_of
 from toolbox.symbols import image_of, symbols_of
@@ -184,8 +183,7 @@ class Editors(Case):
         rows = client.ask('disassemble', memoryReference='0xF0000', instructionCount=1)['instructions']
         self.assertEqual((rows[0]['instruction'], rows[0]['line']), ('MOV AX,0B000h', 3))
         rows = client.ask('disassemble', memoryReference='0xF0005', instructionCount=1)['instructions']  # which hasn't run
-        if probe():
-            self.assertEqual([rows[0][it] for it in ('instruction', 'instructionBytes', 'line')], ['JMP SHORT 00005h', 'EB FE', 6])
+        self.assertEqual([rows[0][it] for it in ('instruction', 'instructionBytes', 'line')], ['JMP SHORT 00005h', 'EB FE', 6])
         self.assertIn('not the program', client.lines(f'{self.room}/other.asm', 4)[0]['message'])
 
     def test_where_the_source_stands(self) -> None:

@@ -11,7 +11,6 @@ from tests.support import STORED, TOP, ToolCase, example
 
 import toolbox  # where zebludor is found
 import zebludor
-from toolbox.chips import UNBUILT, probe
 from zebludor import Fault, Header, Session, Unfit
 
 assert toolbox
@@ -175,8 +174,6 @@ class Runs(ToolCase):
         source = pathlib.Path(example('keys')[0])
         with self.assertRaisesRegex(Unfit, 'probe=True'), Session(source) as session:
             session.events(1, 'starts')
-        if not probe():
-            self.skipTest(UNBUILT)
         with Session(source, probe=True, keys=[(1500, 0x1E)], budget=3000) as session:
             started = session.events(200, 'starts')
             self.assertEqual(

@@ -6,7 +6,6 @@ import re
 from dataclasses import dataclass
 from typing import Callable
 
-from toolbox.chips import probe
 from toolbox.command import Sorry
 from toolbox.dap_board import FLAG_BITS, Machine
 from toolbox.disassembly import LONGEST, NONE, instructions
@@ -230,7 +229,7 @@ class Disassembly:
     def row(self, address: int) -> Row:
         """The row that begins at an address, of those that follow each other: with pcprobe's text if nothing else tells one."""
         found = self.at(address)
-        if not found.text.startswith('DB ') or not probe():
+        if not found.text.startswith('DB '):
             return found
         if address not in self.listed:
             segment = self.machine.registers()['CS']

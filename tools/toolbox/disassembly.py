@@ -1,5 +1,5 @@
-"""Instructions that may never have run, by the program's own disassembler: on a board of their own pcprobe lists them; where none is
-built, each is run there, and the trail tells its bytes and its text. Nothing here decodes."""
+"""Instructions that may never have run, by the program's own disassembler: on a board of their own pcprobe lists them; if they
+wrap or are too many, each is run there, and the trail tells its bytes and its text. Nothing here decodes."""
 from __future__ import annotations
 
 import functools
@@ -11,9 +11,8 @@ from typing import Callable, Iterator
 import zebludor
 from zebludor import Event, event_of
 
-from toolbox.chips import probe
 from toolbox.command import Sorry
-from toolbox.program import Files, Session, refusal
+from toolbox.program import Files, Session, path, refusal
 from toolbox.runfile import DEFAULTS, text_of
 
 LONGEST = 16  # an instruction has at most seven prefixes and six bytes more
@@ -57,11 +56,11 @@ def instruction(offset: int, octets: bytes) -> Event | None:
     return found if (found.segment, found.offset) == (PARAGRAPH, offset) else None
 
 
-def listed(name: str, offset: int, octets: bytes, count: int) -> Iterator[tuple[int, bytes, str]]:
+def listed(offset: int, octets: bytes, count: int) -> Iterator[tuple[int, bytes, str]]:
     """As many instructions of these bytes as pcprobe lists."""
     with tempfile.TemporaryDirectory() as room:
         words, given = written(room, offset, octets).words('')[1:], f'list {PARAGRAPH:X}:{offset:X} {count}\n'
-        done = subprocess.run(zebludor.limited([name, *words]), input=given, capture_output=True, text=True, check=False)
+        done = subprocess.run(zebludor.limited([path('pcprobe'), *words]), input=given, capture_output=True, text=True, check=False)
     if done.returncode or 'fault' in done.stdout:
         raise Sorry(refusal(done.returncode, done.stderr) if done.returncode else f'pcprobe refuses: {done.stdout.strip()}')
     for line in done.stdout.splitlines():
@@ -73,8 +72,8 @@ def instructions(memory: Callable[[int, int], bytes], segment: int, offset: int,
     """So many instructions from a place on, each with its offset, its bytes and its text; of a byte with which none begins, the
     byte alone."""
     first, most = 16 * segment + offset, min(count, MOST_LISTED) * LONGEST
-    if (name := probe()) and count <= MOST_LISTED and offset + most <= 0x10000 and first + most <= 1 << 20:
-        yield from listed(name, offset, memory(first, most), count)
+    if count <= MOST_LISTED and offset + most <= 0x10000 and first + most <= 1 << 20:
+        yield from listed(offset, memory(first, most), count)
         return
     for _ in range(count):
         octets = (
