@@ -28,7 +28,7 @@ class Types:
     """A module of declarations. A type is a name or literal, a Shape, ('list', type), or ('one of', types)."""
 
     def __init__(self, text: str) -> None:
-        self.words = [it[1] for it in TOKEN.finditer(text) if it[1]]
+        self.words = [each[1] for each in TOKEN.finditer(text) if each[1]]
         self.at, self.named = 0, dict[str, Any]()
         while self.at < len(self.words):
             self.declaration()
@@ -100,11 +100,11 @@ class Types:
         if isinstance(kind, Shape):
             return self.wrong_fields(value, kind, where)
         if isinstance(kind, tuple) and kind[0] == 'one of':
-            tries = [self.wrong(value, it, where) for it in kind[1]]
+            tries = [self.wrong(value, each, where) for each in kind[1]]
             return [] if [] in tries else tries[-1]
         if isinstance(kind, tuple):
             return (
-                [bad for at, it in enumerate(value) for bad in self.wrong(it, kind[1], f'{where}[{at}]')]
+                [bad for at, each in enumerate(value) for bad in self.wrong(each, kind[1], f'{where}[{at}]')]
                 if isinstance(value, list)
                 else [f'{where} is no list']
             )
@@ -124,8 +124,8 @@ class Types:
             return [f'{where} is no object']
         missing = [f'{where} has no {name}' for name, (_, is_free) in kind.fields.items() if not is_free and name not in value]
         this = where.rpartition(' ')[2]
-        unknown = [it for it in value if it not in kind.fields and kind.others is None and this not in OPEN and (this, it) not in LATER]
-        known = [bad for name, it in value.items() if name in kind.fields for bad in self.wrong(it, kind.fields[name][0], f'{where}.{name}')]
+        unknown = [each for each in value if each not in kind.fields and kind.others is None and this not in OPEN and (this, each) not in LATER]
+        known = [bad for name, each in value.items() if name in kind.fields for bad in self.wrong(each, kind.fields[name][0], f'{where}.{name}')]
         return missing + [f'{where} has {name}, which the protocol has not' for name in unknown] + known
 
     def wrong_message(self, message: dict[str, Any]) -> list[str]:

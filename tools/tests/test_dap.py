@@ -371,10 +371,10 @@ class Sessions(ToolCase):
         client.ask('launch', program=source, run=run)
         client.ask('configurationDone')
         client.event('stopped')
-        scopes = {it['name']: it['variablesReference'] for it in client.ask('scopes', frameId=1)['scopes']}
-        told = client.ask('variables', variablesReference=scopes['Data'])['variables']
+        scopes = {one['name']: one['variablesReference'] for one in client.ask('scopes', frameId=1)['scopes']}
+        rows = client.ask('variables', variablesReference=scopes['Data'])['variables']
         self.assertEqual(
-            [(it['name'], it['type'], it['value'], it['memoryReference']) for it in told],
+            [(one['name'], one['type'], one['value'], one['memoryReference']) for one in rows],
             [
                 ('name', 'DB, 3', "48 49 00  'HI.'", '0x00400'),
                 ('count', 'DW', '0FFFFh (65535)', '0x00403'),
@@ -383,10 +383,10 @@ class Sessions(ToolCase):
                 ('over', 'DB', "041h (65) 'A'", '0x0040F'),
             ],
         )
-        parts = client.ask('variables', variablesReference=told[2]['variablesReference'], start=1, count=1)['variables']
-        self.assertEqual([(it['name'], it['value'], it['memoryReference']) for it in parts], [('[1]', '00002h (2)', '0x00407')])
-        for it in (parts[0], told[1], told[4]):
-            self.assertEqual(client.ask('evaluate', expression=it['evaluateName'], context='watch')['result'], it['value'])
+        parts = client.ask('variables', variablesReference=rows[2]['variablesReference'], start=1, count=1)['variables']
+        self.assertEqual([(one['name'], one['value'], one['memoryReference']) for one in parts], [('[1]', '00002h (2)', '0x00407')])
+        for one in (parts[0], rows[1], rows[4]):
+            self.assertEqual(client.ask('evaluate', expression=one['evaluateName'], context='watch')['result'], one['value'])
         self.assertEqual(client.variables(scopes['Stack'])['SP+0'], '1234h')
         self.assertEqual((client.variables(scopes['Board'])['state'], len(client.variables(scopes['Screen']))), ('halted', 25))
         client.refused('variables', variablesReference=99)
@@ -394,7 +394,7 @@ class Sessions(ToolCase):
         client = self.client()
         client.launch(source, run=run, stopOnEntry=True)
         client.event('stopped')
-        self.assertEqual({name for it in client.ask('variables', variablesReference=4)['variables'] for name in it} & {'type', 'memoryReference'}, set())
+        self.assertEqual({name for one in client.ask('variables', variablesReference=4)['variables'] for name in one} & {'type', 'memoryReference'}, set())
         self.assertEqual(client.leave(), 0)
 
     def test_an_edited_source(self) -> None:

@@ -647,17 +647,17 @@ class Boards(Served):
         with open(source.replace('.asm', '.hex'), encoding='utf-8') as file, open(run_file, encoding='utf-8') as fields:
             text, run = file.read(), json.load(fields)
         board = self.client.ask('open', source=text, run=run, hex=True)['board']
-        rows = [line_of(number, it) for number, it in enumerate(self.pcboard('asm', '--list', source).stdout.splitlines(), 1)]
-        placed = {'%04X:%04X' % it.address: it for it in rows if it.address and is_code(it)}
+        rows = [line_of(number, one) for number, one in enumerate(self.pcboard('asm', '--list', source).stdout.splitlines(), 1)]
+        placed = {'%04X:%04X' % one.address: one for one in rows if one.address and is_code(one)}
         for clock in (15, 200, 3000):
             view = self.client.ask('go to', board=board, clock=clock)
-            told = {it[0]: it for it in self.client.ask('code', board=board, place='')['code']}
-            self.assertIn(view['place'], told)
-            self.assertEqual((len(told), len(told.keys() & placed.keys()) > 10), (48, True))
+            shown = {one[0]: one for one in self.client.ask('code', board=board, place='')['code']}
+            self.assertIn(view['place'], shown)
+            self.assertEqual((len(shown), len(shown.keys() & placed.keys()) > 10), (48, True))
             for _, place, _, instruction, _ in view['trail']:
-                self.assertEqual(told.get(place, ['', '', '', instruction])[3], instruction)
-            for place in told.keys() & placed.keys():
-                self.assertEqual(bytes.fromhex(told[place][2]), placed[place].shown, place)
+                self.assertEqual(shown.get(place, ['', '', '', instruction])[3], instruction)
+            for place in shown.keys() & placed.keys():
+                self.assertEqual(bytes.fromhex(shown[place][2]), placed[place].shown, place)
         first = self.client.ask('code', board=board, place='FFFF:0')['code'][0]
         self.assertEqual((first[0], first[2][:2]), ('FFFF:0000', 'EA'))
         self.assertIn('is no label', self.client.ask('code', board=board, place='nowhere')['sorry'])
@@ -891,8 +891,8 @@ class Boards(Served):
         with open(program, encoding='ascii') as file:
             board = self.client.ask('open', source=file.read(), run=RUN, hex=True)['board']
         found = self.client.ask('data', board=board)['data']
-        told = [(it['name'], it['line'], it['kind'], it['place'], it['length'], it['bytes']) for it in found]
-        self.assertEqual(told, [('msg', 0, 'DB', 'F000:0007', 0x13, ROM.replace(' ', '').lower()[14 : 14 + 2 * 0x13])])
+        shown = [(one['name'], one['line'], one['kind'], one['place'], one['length'], one['bytes']) for one in found]
+        self.assertEqual(shown, [('msg', 0, 'DB', 'F000:0007', 0x13, ROM.replace(' ', '').lower()[14 : 14 + 2 * 0x13])])
 
     def test_callers(self) -> None:
         """Where the routine and the one above it return to, with label and line; none before the first call and after the last return."""

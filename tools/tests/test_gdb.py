@@ -109,7 +109,7 @@ class Flow(ToolCase):
     """Code to which no call leads."""
 
     def test_outermost(self) -> None:
-        """By jumps and what stands behind calls, from FFFF:0000 on; without what is called, also by a jump, and without handlers."""
+        """By jumps and what stands after calls, from FFFF:0000 on; without what is called, also by a jump, and without handlers."""
         lines = (
             '        CALL one\n        JMP SHORT more\n        NOP\nmore:   JZ less\n        JMP two\nless:   LOOP more\n        JMP FAR last\n'
             'one:    INC AX\n        JMP SHORT two\nhandle: IRET\ntwo:    RET\nlast:   HLT\n        JMP SHORT last'
@@ -117,7 +117,7 @@ class Flow(ToolCase):
         source, run = self.program(lines)
         found = listing_of(Files(source, run))
         first = {address: line.number for address, line in found.at.items()}
-        self.assertEqual(sorted(first[it] for it, _ in outermost(found)), [3, 4, 6, 7, 8, 9, 14, 15, 18])
+        self.assertEqual(sorted(first[one] for one, _ in outermost(found)), [3, 4, 6, 7, 8, 9, 14, 15, 18])
 
     def test_places(self) -> None:
         """As the 8086's manual has displacements: from behind the instruction on, in the same segment."""
@@ -745,18 +745,18 @@ class Gdb(ToolCase):
             'finish',
             'monitor go 0',
         ]
-        told = self.gdb(self.program(CALLS), *typed)
-        stops = [int(it) for it in re.findall(r'^(\d+)\t', told, re.M)]
+        answer = self.gdb(self.program(CALLS), *typed)
+        stops = [int(one) for one in re.findall(r'^(\d+)\t', answer, re.M)]
         self.assertEqual(stops, [34, 18, 14, 5, 24, 25, 16] if GDB else [])
         outer = '#{}  0x000f0006 in start () at it.asm:4\n'.format
         inner = '#0  again () at it.asm:18\n#1  0x000f0018 in near () at it.asm:13\n' + outer(2)
         for wanted in (inner, '#0  near () at it.asm:14\n' + outer(1), '\n#0  start () at it.asm:5\n') if GDB else ():
-            self.assertIn(wanted, told)
-        self.assertNotIn('corrupt', told)
-        told = self.gdb(example('ticks'), 'backtrace', 'break idle', 'continue', 'backtrace', 'up', 'finish', 'monitor go 0')
+            self.assertIn(wanted, answer)
+        self.assertNotIn('corrupt', answer)
+        answer = self.gdb(example('ticks'), 'backtrace', 'break idle', 'continue', 'backtrace', 'up', 'finish', 'monitor go 0')
         for wanted in ('#0  idle () at ticks.asm:38\n', 'Initial frame selected; you cannot go up', 'not meaningful in the outermost frame') if GDB else ():
-            self.assertIn(wanted, told)
-        self.assertNotIn('corrupt', told)
+            self.assertIn(wanted, answer)
+        self.assertNotIn('corrupt', answer)
 
     def test_a_watch(self) -> None:
         told = self.gdb(example('ticks'), 'watch *(char*)0xb0000', 'continue', 'continue')

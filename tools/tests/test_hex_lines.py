@@ -14,13 +14,15 @@ from tests.test_gdb import GDB
 from tests.test_symbols import NASM, ROM, hex_of
 
 from toolbox.command import Sorry
+from toolbox.data_labels import of_c
+from toolbox.listing import Line, Listing
 from toolbox.places import far_of
 from toolbox.symbols import image_of, symbols_of
 
 RUN = '{"version":1,"ram":64,"sw1":0,"sw2":0,"budget":20000,"keys":[]}'
 TO_START = ':02000002FFFFFE\n:05000000EA000000F021\n:00000001FF\n'  # the far jump to F000:0000, where the processor begins
 SOURCE = ''.join(f'{row[40:]}\n' for row in NASM.splitlines() if '<1>' not in row and row[:6] != '     7' or "'" in row)
-# By sums.map _sum stands at F000:0044 and _main at F000:0067, and by sums.lst the lines of C so many bytes behind them.
+# By sums.map _sum stands at F000:0044 and _main at F000:0067, and by sums.lst the lines of C so many bytes after them.
 LINES_OF_C = {7: 0x44, 8: 0x44 + 0xC, 9: 0x44 + 0x12, 15: 0x67}
 
 
@@ -43,7 +45,7 @@ class Case(ToolCase):
     def gdb(self, files: tuple[str, str, str], *typed: str) -> str:
         """What gdb tells."""
         program, run_file, symbols = files
-        words = [it for line in typed for it in ('-ex', line)]
+        words = [one for line in typed for one in ('-ex', line)]
         return ''.join(self.tool('gdb', program, run_file, '--symbols', symbols, '-nx', '-batch', *words))
 
     def client(self, files: tuple[str, str, str], **more: object) -> Client:
@@ -65,8 +67,8 @@ class Lines(Case):
         with open(program, encoding='ascii') as file:
             image = image_of(file.read())
         found = symbols_of(listing, image)
-        self.assertEqual({it.source for it in found.at.values()}, {f'{self.room}/rom.asm'})
-        self.assertEqual([far_of(found, it) for it in ('rom.asm:6', ':9', 'rom.asm:12')], [(0xF000, 5), (0xF000, 0x18), (0xF000, 0x18)])
+        self.assertEqual({one.source for one in found.at.values()}, {f'{self.room}/rom.asm'})
+        self.assertEqual([far_of(found, one) for one in ('rom.asm:6', ':9', 'rom.asm:12')], [(0xF000, 5), (0xF000, 0x18), (0xF000, 0x18)])
         self.file('rom.asm', SOURCE.replace('a ROM', 'another'))
         self.assertEqual(list(symbols_of(listing, image).files), ['rom.asm'])  # a name, for that file says something else
         for place in ('other.asm:1', 'rom.asm:99', 'rom.asm:0'):
@@ -78,10 +80,10 @@ class Lines(Case):
         with open(program, encoding='ascii') as file:
             image = image_of(file.read())
         found = symbols_of(symbols, image)
-        self.assertEqual({os.path.basename(it) for it in found.files}, {'sums.c', 'crt0.s'})
+        self.assertEqual({os.path.basename(one) for one in found.files}, {'sums.c', 'crt0.s'})
         self.assertEqual({number: far_of(found, f'sums.c:{number}') for number in LINES_OF_C}, {number: (0xF000, at) for number, at in LINES_OF_C.items()})
         self.assertEqual(far_of(found, 'crt0.s:8'), (0xF000, 0))  # _start: cld
-        self.assertEqual([it.text for it in found.files[f'{self.room}/sums.c'][6:9]], ['    if (n == 0)', '        return 0;', '    return n + sum(n - 1);'])
+        self.assertEqual([one.text for one in found.files[f'{self.room}/sums.c'][6:9]], ['    if (n == 0)', '        return 0;', '    return n + sum(n - 1);'])
         self.assertEqual((found.lines, found.at), ([], {}))  # what is said of assembler is not said of C
         with open(f'{self.room}/sums.lst', encoding='ascii') as file:
             listing = file.read()
@@ -92,13 +94,32 @@ class Lines(Case):
             os.remove(f'{self.room}/{name}')
         self.assertEqual(symbols_of(symbols, image).files, {})
 
+    def test_variables_of_c(self) -> None:
+        """Names that are declared outside of functions, with their types; none of what a declaration's values say."""
+        texts = (
+            'char title[] = "ticks, keys";',
+            'int ticks, *keys = 0;',
+            'long sums[3] = {1, 2, 3};',
+            'int sum(n) int n;',
+            '{',
+            '    int ticks;',
+            'static char last;',
+        )
+        lines = [Line(number, text, None, b'', 'a.c') for number, text in enumerate(texts, 1)]
+        places = {'_title': 0, '_ticks': 12, '_keys': 14, '_sums': 16, '_last': 28, '_sum': 40}
+        listing = Listing(labels={name: (0x50, at) for name, at in places.items()}, files={'a.c': lines})
+        self.assertEqual(
+            [(one.name, one.line, one.kind, one.place[1], one.length) for one in of_c(listing)],
+            [('_title', 1, 'DB', 0, 12), ('_ticks', 2, 'DW', 12, 2), ('_keys', 2, 'DW', 14, 2), ('_sums', 3, 'DD', 16, 12), ('_last', 7, 'DB', 28, 1)],
+        )
+
     def test_dbg(self) -> None:
         program, run_file, symbols = self.c()
-        told = self.tool('dbg', program, run_file, '--symbols', symbols, given='until sums.c:9\nlist\nbreak sums.c:8\ngo\ntrail 1\n')[0]
-        self.assertRegex(told, r'^clock \d+: F000:0056 _sum\+12 \| sums\.c:9: return n \+ sum\(n - 1\);\n')
-        self.assertIn('>    9 F000:0056     return n + sum(n - 1);\n', told)
-        self.assertRegex(told, r'clock \d+: F000:0050 _sum\+C \| sums\.c:8: return 0;\n')
-        self.assertRegex(told.splitlines()[-1], r'JNZ +\w+ +\| sums\.c:7: if \(n == 0\)$')
+        answer = self.tool('dbg', program, run_file, '--symbols', symbols, given='until sums.c:9\nlist\nbreak sums.c:8\ngo\ntrail 1\n')[0]
+        self.assertRegex(answer, r'^clock \d+: F000:0056 _sum\+12 \| sums\.c:9: return n \+ sum\(n - 1\);\n')
+        self.assertIn('>    9 F000:0056     return n + sum(n - 1);\n', answer)
+        self.assertRegex(answer, r'clock \d+: F000:0050 _sum\+C \| sums\.c:8: return 0;\n')
+        self.assertRegex(answer.splitlines()[-1], r'JNZ +\w+ +\| sums\.c:7: if \(n == 0\)$')
 
     def test_nasm_itself(self) -> None:
         """The example's listing, as its Makefile has it made: each line's bytes are the program's."""
@@ -111,7 +132,7 @@ class Lines(Case):
         found = symbols_of(f'{folder}/rom.lst@F600,ram=50', image)
         with open(f'{folder}/rom.asm', encoding='utf-8') as file:
             source = file.read().split('\n')
-        self.assertEqual([it.text.split() for it in found.files[f'{folder}/rom.asm']], [it.split() for it in source[:-1]])
+        self.assertEqual([one.text.split() for one in found.files[f'{folder}/rom.asm']], [one.split() for one in source[:-1]])
         self.assertEqual(far_of(found, f'rom.asm:{source.index("start:  cli") + 1}'), (0xF600, 0))
 
     def test_bcc_itself(self) -> None:
@@ -143,21 +164,21 @@ class Gdb(Case):
             self.skipTest("gdb isn't installed")
 
     def test_nasm(self) -> None:
-        told = self.gdb(self.nasm(), 'info line rom.asm:12', 'break rom.asm:4', 'continue', 'next', 'reverse-stepi', 'info source')
-        self.assertIn('Line 12 of "rom.asm" starts at address 0xf0018 <end_it', told.replace('<msg+17', '<end_it'))
+        answer = self.gdb(self.nasm(), 'info line rom.asm:12', 'break rom.asm:4', 'continue', 'next', 'reverse-stepi', 'info source')
+        self.assertIn('Line 12 of "rom.asm" starts at address 0xf0018 <end_it', answer.replace('<msg+17', '<end_it'))
         for line in ('Breakpoint 1, start () at rom.asm:4\n4\t        mov es,ax\n', '\n6\t        jmp short .loop\n', f'Located in {self.room}/rom.asm\n'):
-            self.assertIn(line, told)
+            self.assertIn(line, answer)
 
     def test_a_source_that_is_not_there(self) -> None:
         """Then gdb shows what the listing has of it."""
         for source in (None, 'something else\n'):
-            told = self.gdb(self.nasm(source), 'break rom.asm:4', 'continue', 'list 1,3')
+            answer = self.gdb(self.nasm(source), 'break rom.asm:4', 'continue', 'list 1,3')
             for line in ('\n4\t        mov es,ax\n', '\n2\t; a ROM\n3\tstart:  mov ax,0B000h\n'):
-                self.assertIn(line, told)
+                self.assertIn(line, answer)
 
     def test_c(self) -> None:
         typed = ('tbreak sums.c:9', 'continue', 'backtrace', 'step', 'finish', 'tbreak *_main', 'reverse-continue', 'list crt0.s:8,8')
-        told = self.gdb(self.c(), *typed)
+        answer = self.gdb(self.c(), *typed)
         for line in (
             '_sum () at sums.c:9\n9\t    return n + sum(n - 1);\n',
             '#0  _sum () at sums.c:9\n#1  0x000f00a1 in _main () at sums.c:17\n#2  0x000f002a in _start () at ',
@@ -165,7 +186,7 @@ class Gdb(Case):
             '_main () at sums.c:15\n15\t    for (i = 0; text[i]; i++)\n',
             '8\t_start: cld\n',
         ):
-            self.assertIn(line, re.sub(r'at \S*/(sums\.c|crt0\.s)', r'at \1', told))
+            self.assertIn(line, re.sub(r'at \S*/(sums\.c|crt0\.s)', r'at \1', answer))
 
 
 class Editors(Case):
@@ -173,8 +194,8 @@ class Editors(Case):
 
     def test_nasm(self) -> None:
         client = self.client(self.nasm())
-        told = client.lines(f'{self.room}/rom.asm', 4, 8)
-        self.assertEqual([(it['verified'], it['line'], it['instructionReference']) for it in told], [(True, 4, '0xF0003'), (True, 12, '0xF0018')])
+        answer = client.lines(f'{self.room}/rom.asm', 4, 8)
+        self.assertEqual([(one['verified'], one['line'], one['instructionReference']) for one in answer], [(True, 4, '0xF0003'), (True, 12, '0xF0018')])
         client.ask('configurationDone')
         client.event('stopped')
         self.assertEqual(client.move('continue')['reason'], 'breakpoint')
@@ -183,7 +204,7 @@ class Editors(Case):
         rows = client.ask('disassemble', memoryReference='0xF0000', instructionCount=1)['instructions']
         self.assertEqual((rows[0]['instruction'], rows[0]['line']), ('MOV AX,0B000h', 3))
         rows = client.ask('disassemble', memoryReference='0xF0005', instructionCount=1)['instructions']  # which hasn't run
-        self.assertEqual([rows[0][it] for it in ('instruction', 'instructionBytes', 'line')], ['JMP SHORT 00005h', 'EB FE', 6])
+        self.assertEqual([rows[0][one] for one in ('instruction', 'instructionBytes', 'line')], ['JMP SHORT 00005h', 'EB FE', 6])
         self.assertIn('not the program', client.lines(f'{self.room}/other.asm', 4)[0]['message'])
 
     def test_where_the_source_stands(self) -> None:
@@ -196,15 +217,15 @@ class Editors(Case):
         self.file('src/rom.asm', 'something else\n')
         client = self.client(files, sources=[source])
         self.assertIn("isn't the text of the listing: assemble it again", client.lines(source, 4)[0]['message'])
-        (told,) = client.ask('setBreakpoints', source={'name': 'rom.asm', 'sourceReference': 1}, breakpoints=[{'line': 4}])['breakpoints']
-        self.assertEqual((told['verified'], told['source']['sourceReference']), (True, 1))
-        self.assertEqual([it.split() for it in client.ask('source', sourceReference=1)['content'].split('\n')], [it.split() for it in SOURCE.split('\n')])
+        (answer,) = client.ask('setBreakpoints', source={'name': 'rom.asm', 'sourceReference': 1}, breakpoints=[{'line': 4}])['breakpoints']
+        self.assertEqual((answer['verified'], answer['source']['sourceReference']), (True, 1))
+        self.assertEqual([one.split() for one in client.ask('source', sourceReference=1)['content'].split('\n')], [one.split() for one in SOURCE.split('\n')])
         self.assertIn('no such source', client.refused('source', sourceReference=2))
 
     def test_c(self) -> None:
         """Breakpoints in two files; steps go from line to line of C, and by instructions if they are asked for."""
         client = self.client(self.c())
-        self.assertEqual([it['instructionReference'] for it in client.lines(f'{self.room}/sums.c', 9, 8)], ['0xF0056', '0xF0050'])
+        self.assertEqual([one['instructionReference'] for one in client.lines(f'{self.room}/sums.c', 9, 8)], ['0xF0056', '0xF0050'])
         self.assertTrue(client.lines(f'{self.room}/crt0.s', 8)[0]['verified'])
         client.ask('configurationDone')
         client.event('stopped')
@@ -218,7 +239,7 @@ class Editors(Case):
         client.ask('next', threadId=1, granularity='instruction')
         client.event('stopped')
         self.assertEqual(client.line(), 9)
-        names = {it['name']: it for it in client.ask('variables', variablesReference=4)['variables']}
+        names = {one['name']: one for one in client.ask('variables', variablesReference=4)['variables']}
         self.assertIn("'SUM ", names['_text']['value'])
         self.assertEqual(names['_total']['value'], '00000h (0)')
 

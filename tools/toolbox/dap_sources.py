@@ -32,15 +32,15 @@ class Sources:
 
     def __init__(self, program: str, listing: Listing, places: list[str], has_uris: bool) -> None:
         self._listing, self._has_uris, self._names = listing, has_uris, [*listing.files] or ['']
-        self._paths = {it: program if not it else it if os.path.isabs(it) else self._found(it, places) for it in self._names}
+        self._paths = {one: program if not one else one if os.path.isabs(one) else self._found(one, places) for one in self._names}
         self._kept = {path: found for path in {program, *self._paths.values()} if path and (found := kept(path))}
 
     def _found(self, name: str, places: list[str]) -> str:
         """The file of a bare name, among the places that the launch names."""
-        paths = [os.path.join(it, name) if os.path.isdir(it) else it for it in places]
+        paths = [os.path.join(one, name) if os.path.isdir(one) else one for one in places]
         lines = self._listing.files[name]
-        is_fit = (lambda it: is_of(it, lines)) if self._listing.lines else (lambda it: os.path.basename(it) == name)
-        return next((it for it in paths if os.path.isfile(it) and is_fit(it)), '')
+        is_fit = (lambda one: is_of(one, lines)) if self._listing.lines else (lambda one: os.path.basename(one) == name)
+        return next((one for one in paths if os.path.isfile(one) and is_fit(one)), '')
 
     def described(self, name: str) -> Fields:
         """A source as the protocol has it. Of one that isn't there the client asks the text."""
@@ -55,7 +55,7 @@ class Sources:
         if isinstance(number, int) and 0 < number <= len(self._names):
             return self._names[number - 1]
         real = os.path.realpath(path_in(path)) if isinstance(path, str) and path else ''
-        return next((it for it, at in self._paths.items() if at and os.path.realpath(at) == real), None)
+        return next((one for one, at in self._paths.items() if at and os.path.realpath(at) == real), None)
 
     def unlike(self, given: Fields) -> str:
         """Why a client's source is none of them."""

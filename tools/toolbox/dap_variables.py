@@ -54,12 +54,12 @@ class Variables:
         return {name: flags >> bit & 1 for name, bit in FLAG_BITS.items()}
 
     def _registers(self) -> list[Fields]:
-        told = {name: f'{it:04X}h' for name, it in self._board.registers().items()}
-        told['FL'] += f' {" ".join(name for name, it in self._flags_of().items() if it)}'.rstrip()
-        return [row(name, it, evaluateName=name) for name, it in told.items()]
+        shown = {name: f'{one:04X}h' for name, one in self._board.registers().items()}
+        shown['FL'] += f' {" ".join(name for name, one in self._flags_of().items() if one)}'.rstrip()
+        return [row(name, one, evaluateName=name) for name, one in shown.items()]
 
     def _flags(self) -> list[Fields]:
-        return [row(name, str(it), evaluateName=name) for name, it in self._flags_of().items()]
+        return [row(name, str(one), evaluateName=name) for name, one in self._flags_of().items()]
 
     def _of_board(self) -> list[Fields]:
         return [row('clock', str(self._board.clock)), row('budget', str(self._board.budget)), row('state', self._board.state())]
@@ -70,8 +70,8 @@ class Variables:
         segment, top = registers['SS'], registers['SP']
         octets = self._board.dump(physical(segment, top), min(2 * STACK_WORDS, 0x10000 - top))
         words = [int.from_bytes(octets[at : at + 2], 'little') for at in range(0, len(octets) - 1, 2)]
-        places = [(registers['CS'], it) if listing.has(physical(registers['CS'], it)) else None for it in words]
-        labels = [f' {listing.label_before(*it)}'.rstrip() if it else '' for it in places]
+        places = [(registers['CS'], one) if listing.has(physical(registers['CS'], one)) else None for one in words]
+        labels = [f' {listing.label_before(*one)}'.rstrip() if one else '' for one in places]
         return [row(f'SP+{2 * at}', f'{word:04X}h{labels[at]}', evaluateName=f'WORD SS:[SP+{2 * at}]') for at, word in enumerate(words)]
 
     def _screen(self) -> list[Fields]:
@@ -79,19 +79,19 @@ class Variables:
 
     def _labels(self) -> list[Fields]:
         """Each label: one value, or a beginning of them and the rest as parts."""
-        return [self._label(FIRST_DATUM + at, it) for at, it in enumerate(self.data())]
+        return [self._label(FIRST_DATUM + at, one) for at, one in enumerate(self.data())]
 
     def _label(self, number: int, datum: Datum) -> Fields:
         values = self._values(datum)
         if len(values) == 1:
             return self._one(datum, 0, values[0], datum.name, datum.kind)
-        octets = b''.join((it.number % (1 << 8 * it.size)).to_bytes(it.size, 'little') for it in values)
-        told = ' '.join(f'{it.number:0{2 * it.size}X}' for it in values[:8]) + (' ..' if len(values) > 8 else '')
+        octets = b''.join((one.number % (1 << 8 * one.size)).to_bytes(one.size, 'little') for one in values)
+        shown = ' '.join(f'{one.number:0{2 * one.size}X}' for one in values[:8]) + (' ..' if len(values) > 8 else '')
         if datum.kind == 'DB':
-            told += "  '" + ''.join(chr(it) if 32 <= it < 127 else '.' for it in octets[:MOST_SHOWN]) + "'"
+            shown += "  '" + ''.join(chr(one) if 32 <= one < 127 else '.' for one in octets[:MOST_SHOWN]) + "'"
         rows = datum.length // SIZES[datum.kind]
         more: Fields = {'variablesReference': number if values else 0, 'indexedVariables': len(values)}
-        return self._known(datum, 0, row(datum.name, told if values else 'no memory is there', **more), f'{datum.kind}, {rows}')
+        return self._known(datum, 0, row(datum.name, shown if values else 'no memory is there', **more), f'{datum.kind}, {rows}')
 
     def _values(self, datum: Datum) -> list[Value]:
         """What memory holds there, as far as it is shown."""
@@ -100,10 +100,10 @@ class Variables:
         return [Value(int.from_bytes(octets[at : at + size], 'little'), size, first + at) for at in range(0, len(octets) - size + 1, size)]
 
     def _elements(self, datum: Datum) -> list[Fields]:
-        return [self._one(datum, at * SIZES[datum.kind], it, f'[{at}]', datum.kind) for at, it in enumerate(self._values(datum))]
+        return [self._one(datum, at * SIZES[datum.kind], one, f'[{at}]', datum.kind) for at, one in enumerate(self._values(datum))]
 
     def _one(self, datum: Datum, at: int, value: Value, name: str, kind: str) -> Fields:
-        """One value, so many bytes behind a label."""
+        """One value, so many bytes after a label."""
         more: Fields = {}
         if value.size in EVALUATED and re.fullmatch(r'[A-Za-z_]\w*', datum.name):
             more['evaluateName'] = f'{EVALUATED[value.size]} SEG {datum.name}:[{datum.name}{f"+{at}" if at else ""}]'

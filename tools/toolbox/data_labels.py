@@ -14,6 +14,7 @@ SIZES = {'DB': 1, 'DW': 2, 'DD': 4}
 OF_NASM = re.compile(r'\s*([A-Za-z_.?@][\w.$#@~?]*)\s*:?\s+(?:times\s+\S+\s+)?(?:D|RES)([BWD])\b(?:\s+(\d+)\s*(?:;|$))?', re.I)
 LABEL_OF_NASM = re.compile(r'\s*([A-Za-z_?@][\w.$#@~?]*)\s*:')
 OF_C = re.compile(r'(?:(?:static|extern|const|unsigned|signed)\s+)*(char|int|short|long|unsigned)\b([^;()]*)[;=]')
+VALUES_OF_C = re.compile(r'"[^"]*"|\{[^}]*\}?')  # in which commas and names stand, too
 SIZES_OF_C = {'char': 'DB', 'long': 'DD'}
 # So many bytes of a label are shown; of how many more there are the page tells.
 MOST_BYTES = 1024
@@ -103,14 +104,14 @@ def of_nasm(listing: Listing) -> list[Datum]:
     """The labels before NASM's D.. and RES.., of the length that is told, else up to the next label."""
     found, above = list[Datum](), ''
     for line in listing.lines:
-        told, label = OF_NASM.match(line.text), LABEL_OF_NASM.match(line.text)
-        name = told[1] if told else label[1] if label else ''
+        match, label = OF_NASM.match(line.text), LABEL_OF_NASM.match(line.text)
+        name = match[1] if match else label[1] if label else ''
         name = above + name if name.startswith('.') else name
         above = above if name.startswith(above + '.') or not name else name
         place = listing.labels.get(name)
-        if told and place:
-            kind = f'D{told[2].upper()}'
-            count = int(told[3]) * SIZES[kind] if told[3] and 'RES' in line.text.upper() else room_behind(listing, place, SIZES[kind])
+        if match and place:
+            kind = f'D{match[2].upper()}'
+            count = int(match[3]) * SIZES[kind] if match[3] and 'RES' in line.text.upper() else room_after(listing, place, SIZES[kind])
             found.append(Datum(name, line.number, kind, place, count))
     return found
 
@@ -118,18 +119,18 @@ def of_nasm(listing: Listing) -> list[Datum]:
 def of_c(listing: Listing) -> list[Datum]:
     """The variables that C declares outside of functions: pointers and int are words."""
     found = list[Datum]()
-    for line in (it for lines in listing.files.values() for it in lines if not listing.lines and it.text[:1].strip()):
-        told = OF_C.match(line.text)
-        for star, name, array in re.findall(r'(\*?)\s*([A-Za-z_]\w*)\s*(\[?)[^,]*', told[2]) if told else []:
+    for line in (one for lines in listing.files.values() for one in lines if not listing.lines and one.text[:1].strip()):
+        match = OF_C.match(VALUES_OF_C.sub('', line.text))
+        for star, name, array in re.findall(r'(\*?)\s*([A-Za-z_]\w*)\s*(\[?)[^,]*', match[2]) if match else []:
             place = listing.labels.get(f'_{name}')
-            if told and place:
-                kind = 'DW' if star else SIZES_OF_C.get(told[1], 'DW')
-                length = room_behind(listing, place, SIZES[kind]) if array else SIZES[kind]
+            if match and place:
+                kind = 'DW' if star else SIZES_OF_C.get(match[1], 'DW')
+                length = room_after(listing, place, SIZES[kind]) if array else SIZES[kind]
                 found.append(Datum(f'_{name}', line.number, kind, place, length))
     return found
 
 
-def room_behind(listing: Listing, place: tuple[int, int], size: int) -> int:
-    """How many bytes there are from a place up to the next label of its segment, a multiple of the size; of the last label one value."""
+def room_after(listing: Listing, place: tuple[int, int], size: int) -> int:
+    """Bytes from a place up to the next label of its segment, in whole values; of the last label one value."""
     later = [offset for segment, offset in listing.labels.values() if segment == place[0] and offset > place[1]]
     return max(size, (min(later) - place[1]) // size * size) if later else size

@@ -429,10 +429,10 @@ class Board:
 
     def _code_before(self, here: Far) -> int:
         """The first offset a little before a place from which instructions can be told: a label's, a line's, or of one that ran."""
-        ran = [(it.segment, it.offset) for it in list(self.machine.known.values())]
-        lines = [it.address for them in (self.whole.at, self.whole.modules) for it in them.values() if it.address]
+        ran = [(one.segment, one.offset) for one in list(self.machine.known.values())]
+        lines = [one.address for them in (self.whole.at, self.whole.modules) for one in them.values() if one.address]
         known = (at for segment, at in (*self.listing.labels.values(), *ran, *lines) if segment == here[0])
-        return min((it for it in known if 0 <= here[1] - it <= CODE_BEFORE), default=here[1])
+        return min((one for one in known if 0 <= here[1] - one <= CODE_BEFORE), default=here[1])
 
     def _row_of_code(self, place: Far, octets: bytes, text: str) -> list[str]:
         """A row of the instructions."""
@@ -453,7 +453,7 @@ class Board:
         """The program's labels of data, with what memory holds there; of Intel HEX without their lines, which the editor hasn't."""
         if self._data is None:
             found = labels_of_data(self.files, self.whole)
-            self._data = [replace(it, line=0) for it in found] if self.is_hex else found
+            self._data = [replace(one, line=0) for one in found] if self.is_hex else found
         return {'clock': self.clock, 'data': values_of(self._data, self.machine.dump)}
 
     def why(self) -> Fields:

@@ -10,7 +10,7 @@ Far = tuple[int, int]
 RESET = 0xFFFF0
 PREFIXES = b'\x26\x2E\x36\x3E\xF0\xF2\xF3'
 SHORT, NEAR, CALLS = {*range(0x70, 0x80), *range(0xE0, 0xE4), 0xEB}, (0xE8, 0xE9), (b'\xE8', b'\x9A')
-# Behind these the next instruction isn't come to: jumps, and returns.
+# After these the next instruction isn't come to: jumps, and returns.
 ENDS = {0xEB, 0xE9, 0xEA, 0xC2, 0xC3, 0xCA, 0xCB, 0xCF}
 
 
@@ -28,14 +28,14 @@ def target_of(octets: bytes, at: Far) -> Far | None:
 
 
 def goes_on(octets: bytes) -> bool:
-    """Whether what stands behind an instruction may be come to from it."""
+    """Whether an instruction may lead on to the next one."""
     plain = octets.lstrip(PREFIXES) + b'\x90\x90'
     return plain[0] not in ENDS and not (plain[0] == 0xFF and plain[1] >> 3 & 7 in (4, 5))
 
 
 def reached(lines: dict[int, Line], order: list[int], begun: set[int]) -> set[int]:
     """The addresses of the lines that are come to from these, over calls."""
-    found, waiting = set[int](), [it for it in begun if it in lines]
+    found, waiting = set[int](), [one for one in begun if one in lines]
     while waiting:
         here = waiting.pop()
         if here in found:
@@ -44,20 +44,20 @@ def reached(lines: dict[int, Line], order: list[int], begun: set[int]) -> set[in
         line, later = lines[here], bisect_right(order, here)
         target = target_of(line.shown, line.address) if line.address and not is_call(line) else None
         next_one = order[later : later + 1] if goes_on(line.shown) else []
-        waiting += [it for it in (*next_one, *([physical(*target)] if target else [])) if it in lines]
+        waiting += [one for one in (*next_one, *([physical(*target)] if target else [])) if one in lines]
     return found
 
 
 def outermost(listing: Listing) -> list[tuple[int, int]]:
     """The parts of memory, by first address and end, whose code no call leads to."""
-    lines = {address: it for address, it in (*listing.modules.items(), *listing.at.items()) if it.shown}
+    lines = {address: one for address, one in (*listing.modules.items(), *listing.at.items()) if one.shown}
     order = sorted(lines)
     parts = [octets[RESET - first :] for first, octets in listing.parts.items() if first <= RESET < first + len(octets)]
     begin = target_of(parts[0], (0xFFFF, 0)) if parts else None
-    called = {physical(*it) for line in lines.values() if line.address and is_call(line) and (it := target_of(line.shown, line.address))}
+    called = {physical(*one) for line in lines.values() if line.address and is_call(line) and (one := target_of(line.shown, line.address))}
     own = reached(lines, order, {RESET, *([physical(*begin)] if begin else [])}) - reached(lines, order, called)
     ends = dict(zip(order, [*order[1:], 1 << 20]))
-    found = [(it, min(ends[it], it + max(8, len(lines[it].shown)))) for it in sorted(own)]
+    found = [(one, min(ends[one], one + max(8, len(lines[one].shown)))) for one in sorted(own)]
     return found if RESET in lines or not parts else [*found, (RESET, RESET + 5)]
 
 

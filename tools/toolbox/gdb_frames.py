@@ -67,7 +67,7 @@ class Frames:
         """The present frame and those above it, as far as they are known, as they stand in memory for gdb: the first is for frames of
         which nothing is known."""
         frames = self.frames(registers, trail)
-        rows = [struct.pack('<iiII', it.end, it.back_by, physical(*it.place), RECORD * (at + (not it.is_last))) for at, it in enumerate(frames, 1)]
+        rows = [struct.pack('<iiII', one.end, one.back_by, physical(*one.place), RECORD * (at + (not one.is_last))) for at, one in enumerate(frames, 1)]
         return bytes(RECORD) + b''.join(rows)
 
     def frames(self, registers: dict[str, int], trail: list[Event]) -> list[Frame]:
@@ -80,7 +80,7 @@ class Frames:
         while known and len(found) < MOST_FRAMES:
             number, at, pushed = known
             octets = self._dump(physical(segment, (stack + at) % 0x10000), 4)
-            offset, code = (int.from_bytes(octets[it : it + 2], 'little') for it in (0, 2))
+            offset, code = (int.from_bytes(octets[one : one + 2], 'little') for one in (0, 2))
             back = place[0] if pushed == 2 else code, offset
             found.append(Frame(end, at + pushed, back))
             self.returns[physical(*back)] = back
@@ -106,8 +106,8 @@ class Frames:
     def _end_of_caller(self, trail: list[Event], at: Far, back: Far, stack: int, end: int | None) -> int:
         """How far from SP the stack of a caller ends, with the last event before its call at a place: where the trail doesn't reach
         to what has called it, as it was told before, there or at the call."""
-        told = (self._ends.get((physical(*it), stack)) for it in (back, at))
-        found = end if end is not None else next((it for it in told if it is not None), None)
+        known_end = (self._ends.get((physical(*one), stack)) for one in (back, at))
+        found = end if end is not None else next((one for one in known_end if one is not None), None)
         self._ends[physical(*back), stack] = self._end(trail[-1] if trail else None, at, stack, 0) if found is None else found
         return self._ends[physical(*back), stack]
 
@@ -119,5 +119,5 @@ class Frames:
         taken = int(found[2][:-1], 16) if found[2] else 0
         if found[1] == 'RETF' and taken and self._dump(physical(here[0], here[1] - 2), 1) == INT:
             taken -= 2  # the flags
-        told = self._ends.get((physical(*here), (stack - taken) % 0x10000))
-        return (otherwise or -taken) if told is None else told - taken
+        known_end = self._ends.get((physical(*here), (stack - taken) % 0x10000))
+        return (otherwise or -taken) if known_end is None else known_end - taken

@@ -17,7 +17,7 @@ OF_C, FILE_OF_C, SECTION = re.compile(r'! (\d+) ?(.*)'), re.compile(r'# (\d+) "(
 
 def filled(lines: list[Line]) -> list[Line]:
     """A file's lines from its first on, those that no listing has blank."""
-    known = {it.number: it for it in lines}
+    known = {one.number: one for one in lines}
     return [known.get(number, Line(number, '', None, b'', lines[0].source)) for number in range(1, max(known, default=0) + 1)]
 
 
@@ -33,20 +33,20 @@ def source_beside(path: str, lines: list[Line]) -> str:
 def is_of(path: str, lines: list[Line]) -> bool:
     """Whether a file has these lines."""
     own = read_text(path).replace('\r', '').split('\n')
-    return all(it.number <= len(own) and own[it.number - 1].split() == it.text.split() for it in lines)
+    return all(one.number <= len(own) and own[one.number - 1].split() == one.text.split() for one in lines)
 
 
 def with_source(found: Listing, path: str) -> Listing:
     """A listing of NASM's with the file that its lines are of."""
     source = source_beside(path, found.lines)
-    lines = filled([replace(it, source=source) for it in found.lines])
-    return replace(found, lines=lines, at={where: replace(it, source=source) for where, it in found.at.items()}, files={source: lines})
+    lines = filled([replace(one, source=source) for one in found.lines])
+    return replace(found, lines=lines, at={where: replace(one, source=source) for where, one in found.at.items()}, files={source: lines})
 
 
 def with_modules(found: Listing, path: str, rows: list[str]) -> Listing:
     """A map of ld86's with the lines of its modules, as far as their listings stand beside it: main.lst of main."""
     modules = dict[str, dict[str, int]]()
-    for name, label, _ in filter(None, (it and it.groups() for it in map(OF_MODULE.match, rows))):
+    for name, label, _ in filter(None, (one and one.groups() for one in map(OF_MODULE.match, rows))):
         if label in found.labels:
             modules.setdefault(name, {})[label] = found.labels[label][1]
     folder, at, files = os.path.dirname(os.path.abspath(path)), dict[int, Line](), dict[str, dict[int, Line]]()
@@ -59,25 +59,25 @@ def with_modules(found: Listing, path: str, rows: list[str]) -> Listing:
                 at.setdefault(physical(*line.address), line)
                 if not files[line.source][line.number].address:
                     files[line.source][line.number] = line
-    own = {source: filled(list(them.values())) for source, them in files.items() if any(it.address for it in them.values())}
+    own = {source: filled(list(them.values())) for source, them in files.items() if any(one.address for one in them.values())}
     return replace(found, modules=at, files=own)
 
 
 def of_module(path: str, labels: dict[str, int], segment: int) -> list[Line]:
     """The lines of a module by as86's listing: of C, whose lines stand in it as comments, those of C; else the assembler's. A row of
     code belongs to the line of C above it. Offsets are counted from the module's first byte, which its labels tell."""
-    rows = [it.groups() for it in map(ROW.match, read_text(path).split('\n')) if it]
+    rows = [one.groups() for one in map(ROW.match, read_text(path).split('\n')) if one]
     base = base_of(rows, labels)
-    is_code, is_c = True, any((told := OF_C.match(text)) and FILE_OF_C.match(told[2]) for _, _, text in rows)
+    is_code, is_c = True, any((match := OF_C.match(text)) and FILE_OF_C.match(match[2]) for _, _, text in rows)
     found, now = list[Line](), Line(0, '', None, b'', named(path, os.path.basename(os.path.splitext(path)[0]) + '.s'))
     for number, (offset, octets, text) in enumerate(rows, 1):
-        told, section = OF_C.match(text), SECTION.match(text.strip())
+        match, section = OF_C.match(text), SECTION.match(text.strip())
         is_code = section[1].lower() == 'text' if section else is_code
-        begins = FILE_OF_C.match(told[2]) if told else None
+        begins = FILE_OF_C.match(match[2]) if match else None
         if begins:
             now = Line(int(begins[1]), '', None, b'', named(path, begins[2]))
-        elif told or not is_c:
-            now = Line(int(told[1]) if told else number, (told[2] if told else text).rstrip(), None, b'', now.source)
+        elif match or not is_c:
+            now = Line(int(match[1]) if match else number, (match[2] if match else text).rstrip(), None, b'', now.source)
             found.append(now)
         first = octets.split()[:1]
         if base is not None and is_code and offset.strip() and first and re.fullmatch('([0-9A-F]{2})+', first[0]):
@@ -91,9 +91,9 @@ def base_of(rows: list[tuple[str, ...]], labels: dict[str, int]) -> int | None:
     for offset, value, text in rows:
         section = SECTION.match(text.strip())
         is_code = section[1].lower() == 'text' if section else is_code
-        label, told = text.partition(':')[0], re.fullmatch(' *([0-9A-F]{8})>? *', value)
-        if is_code and label in labels and (told or offset.strip()):
-            return (labels[label] - int(told[1] if told else offset, 16)) % 0x10000
+        label, match = text.partition(':')[0], re.fullmatch(' *([0-9A-F]{8})>? *', value)
+        if is_code and label in labels and (match or offset.strip()):
+            return (labels[label] - int(match[1] if match else offset, 16)) % 0x10000
     return None
 
 
@@ -105,4 +105,4 @@ def named(listing: str, name: str) -> str:
 
 def text_of_lines(lines: list[Line]) -> str:
     """A file's text, as far as its listing has it."""
-    return ''.join(f'{it.text}\n' for it in lines)
+    return ''.join(f'{one.text}\n' for one in lines)
