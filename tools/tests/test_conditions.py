@@ -223,6 +223,7 @@ class Editors(ToolCase):
             ({'logMessage': 'now {frob}'}, 'frob is no register'),
             ({'condition': 5}, 'condition'),
         ):
+            client.is_held = 'condition' not in asked or isinstance(asked['condition'], str)
             (told,) = self.set(client, source, {'line': 4, **asked})
             self.assertFalse(told['verified'], asked)
             self.assertIn(why, told['message'])

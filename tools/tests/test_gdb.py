@@ -754,6 +754,13 @@ class Gdb(ToolCase):
             self.assertIn(wanted, answer)
         self.assertNotIn('corrupt', answer)
         answer = self.gdb(example('ticks'), 'backtrace', 'break idle', 'continue', 'backtrace', 'up', 'finish', 'monitor go 0')
+        loop = '        MOV SP,400h\n        CALL outer\n        HLT\nouter:  PUSH AX\n        CALL inner\n        POP AX\n        RET\ninner:  PUSH CX\n'
+        loop += '        MOV CX,100\nhere:   LOOP here\n        POP CX\n        RET'
+        far = self.gdb(self.program(loop, 100_000), 'break it.asm:13', 'continue', 'backtrace', 'finish', 'finish')
+        for wanted in (
+            ('#0  here () at it.asm:13\n#1  0x000f000b in outer () at it.asm:7\n#2  0x000f0006 in start () at it.asm:4', '\n8\t', '\n5\t') if GDB else ()
+        ):
+            self.assertIn(wanted, far)
         for wanted in ('#0  idle () at ticks.asm:38\n', 'Initial frame selected; you cannot go up', 'not meaningful in the outermost frame') if GDB else ():
             self.assertIn(wanted, answer)
         self.assertNotIn('corrupt', answer)

@@ -6,7 +6,8 @@ import struct
 from dataclasses import dataclass
 from typing import Callable
 
-from toolbox.listing import physical
+from toolbox.gdb_flow import Flow, target_of
+from toolbox.listing import Listing, physical
 from toolbox.places import Event, operation_of
 
 Far = tuple[int, int]
@@ -43,6 +44,16 @@ def last_call(trail: list[Event]) -> int | None:
 
 
 @dataclass(frozen=True)
+class Call:
+    """What has called a routine: the events before it, where it stands, how far from SP its return address is, and its length."""
+
+    before: list[Event]
+    place: Far
+    end: int
+    pushed: int
+
+
+@dataclass(frozen=True)
 class Frame:
     """What the rules of `gdb_cfi` ask of a frame: how far from its SP its stack ends; how far from there its caller's SP is, and the
     place to which it returns, or 0 and its own place, by which gdb ends the list."""
@@ -58,8 +69,8 @@ class Frames:
     the stack that address; else at SP. Behind a return it has to be told the end that it was told at the call, whatever arguments
     the return took."""
 
-    def __init__(self, dump: Callable[[int, int], bytes]) -> None:
-        self._dump = dump
+    def __init__(self, dump: Callable[[int, int], bytes], listing: Listing) -> None:
+        self._dump, self._flow = dump, Flow(listing)
         self.returns = dict[int, Far]()  # of the addresses that calls were told to return to, their CS:IP
         self._ends = dict[tuple[int, int], int]()  # by address and SP, the frame's end that was told there, or in what it had called
 
@@ -75,25 +86,25 @@ class Frames:
         segment, stack, place = registers['SS'], registers['SP'], (registers['CS'], registers['IP'])
         event, found = trail[-1] if trail else None, list[Frame]()
         pushed = pushed_by(event, place) if event else 0
-        known = (len(trail) - 1, 0, pushed) if pushed else self._call(trail, segment, stack)
-        end = self._ends[physical(*place), stack] = self._end(event, place, stack, known[1] if known else 0)
+        known = Call(trail[:-1], (event.segment, event.offset), 0, pushed) if event and pushed else self._call(trail, segment, stack, place)
+        end = self._ends[physical(*place), stack] = self._end(event, place, stack, known.end if known else 0)
         while known and len(found) < MOST_FRAMES:
-            number, at, pushed = known
+            at, pushed = known.end, known.pushed
             octets = self._dump(physical(segment, (stack + at) % 0x10000), 4)
             offset, code = (int.from_bytes(octets[one : one + 2], 'little') for one in (0, 2))
             back = place[0] if pushed == 2 else code, offset
             found.append(Frame(end, at + pushed, back))
             self.returns[physical(*back)] = back
-            event, trail, place, stack = trail[number], trail[:number], back, (stack + at + pushed) % 0x10000
-            known = self._call(trail, segment, stack)
-            end = self._end_of_caller(trail, (event.segment, event.offset), place, stack, known[1] if known else None)
+            trail, caller, place, stack = known.before, known.place, back, (stack + at + pushed) % 0x10000
+            known = self._call(trail, segment, stack, place)
+            end = self._end_of_caller(trail, caller, place, stack, known.end if known else None)
         return [*found, Frame(end, 0, place, True)]
 
-    def _call(self, trail: list[Event], segment: int, stack: int) -> tuple[int, int, int] | None:
-        """The event that has called the routine whose stack this is, how far from SP its return address stands, and its length."""
+    def _call(self, trail: list[Event], segment: int, stack: int, place: Far) -> Call | None:
+        """What has called the routine at a place, whose stack this is: by the trail, else by the stack."""
         number = last_call(trail)
         if number is None:
-            return None
+            return self._call_by_flow(segment, stack, place)
         event = trail[number]
         operation = operation_of(event.text) if event.entry is None else ''
         pushed = OF_AN_INTERRUPT if operation != 'CALL' else 4 if 'FAR' in event.text.split() else 2
@@ -101,7 +112,21 @@ class Frames:
         wanted = back.to_bytes(2, 'little') + (event.segment.to_bytes(2, 'little') if pushed > 2 else b'')
         octets = self._dump(physical(segment, stack), min(WORDS * 2, 0x10000 - stack))
         end = next((at for at in range(0, len(octets) - len(wanted) + 1, 2) if octets[at : at + len(wanted)] == wanted), None)
-        return None if end is None else (number, end, pushed)
+        return None if end is None else Call(trail[:number], (event.segment, event.offset), end, pushed)
+
+    def _call_by_flow(self, segment: int, stack: int, place: Far) -> Call | None:
+        """The nearest return address on the stack that stands after a CALL from whose routine jumps lead to this place."""
+        octets = self._dump(physical(segment, stack), min(WORDS * 2, 0x10000 - stack))
+        words = [int.from_bytes(octets[at : at + 2], 'little') for at in range(0, len(octets) - 1, 2)]
+        for number, word in enumerate(words):
+            codes = [(3, 2, place[0], b'\xE8'), (5, 4, words[number + 1] if number + 1 < len(words) else 0, b'\x9A')]
+            for length, pushed, code, opcode in codes if word > 4 else []:
+                caller = code, word - length
+                call = self._dump(physical(*caller), length)
+                target = target_of(call, caller) if call[:1] == opcode else None
+                if target and self._flow.leads(physical(*target), physical(*place)):
+                    return Call([], caller, 2 * number, pushed)
+        return None
 
     def _end_of_caller(self, trail: list[Event], at: Far, back: Far, stack: int, end: int | None) -> int:
         """How far from SP the stack of a caller ends, with the last event before its call at a place: where the trail doesn't reach
