@@ -1,12 +1,15 @@
 """Symbols of Intel HEX, over stored listings; and the commands of tools/dbg that step over, run to a place and disassemble."""
 from __future__ import annotations
 
+import random
 import subprocess
 import unittest
 
 from tests.support import EXAMPLES, ToolCase, example, is_there
 
+from toolbox.chips import probe
 from toolbox.command import Sorry
+from toolbox.disassembly import LONGEST, NONE, instruction, listed
 from toolbox.places import far_of
 from toolbox.symbols import image_of, symbols_of
 
@@ -207,6 +210,20 @@ class Board(ToolCase):
         self.assertIn('stop 1', told[3])
         self.assertEqual(told[4], told[0])
         self.assertIn('never there up to the end of the run', told[-1])
+
+    def test_disassembly_both_ways(self) -> None:
+        """What pcprobe lists is what runs: bytes and text of random places, also at a segment's end."""
+        name = probe()
+        if name is None:
+            print('not run: instructions as pcprobe lists them; dev/build pcprobe, or name one in PCPROBE')
+            return
+        octets = random.Random(8088).randbytes(300)
+        for offset in (0x100, 0xFF00):
+            rows = list(listed(name, offset, octets[: 0x10000 - offset], 16))
+            for at, code, text in rows:
+                alone = instruction(at, octets[at - offset : at - offset + LONGEST])
+                self.assertEqual((code, text), (alone.octets, alone.text) if alone else (octets[at - offset : at - offset + 1], NONE))
+            self.assertEqual([at for at, _, _ in rows[1:]], [at + len(code) for at, code, _ in rows[:-1]])
 
     def test_disassembly(self) -> None:
         files = self.program('        JMP SHORT over\n        REP MOVSB\n        DB 0Fh\nover:   LOOP over\n        DB 0FFh,0FFh\n        HLT')
