@@ -9,7 +9,7 @@ use Rattle.board_plain.proofs.Joining.{early_join, lengths_join, no_stop_add, se
 use Rattle.board_plain.proofs.Runs.{ran_none}
 use Rattle.debugger_meaning.specs.declared.answer.Answer.{Answer}
 use Rattle.debugger_meaning.specs.declared.fault.DebugFault.{DebugFault}
-use Rattle.debugger_meaning.specs.declared.fault.DebugFault.TheVariants.{ClockLimit, BadCommand, TooManyStops, Memory, BeforeStart}
+use Rattle.debugger_meaning.specs.declared.fault.DebugFault.TheVariants.{BadScan, StampsFall, ClockLimit, BadCommand, TooManyStops, Memory, BeforeStart}
 use Rattle.debugger_meaning.specs.Session.{FindsNoMemory, Goes, RefusesGo, RefusesRun, Runs, told_of}
 use Rattle.debugger_meaning.specs.Stands.{SessionState}
 
@@ -136,6 +136,8 @@ not_past count left piece s t few went past =
 pub refuses_go : (count left piece : ℕ) (s t u : SessionState) (fault : DebugFault) → piece ≤ left → Went count left s t → RefusesRun t.stops piece t.board u.board fault → u.stops ≡ t.stops → u.first ≡ t.first
     → RefusesGo count s u fault
 refuses_go count left piece s t u ClockLimit few went is stops first = absurd (not_past count left piece s t few went is.0)
+refuses_go count left piece s t u BadScan few went is stops first = absurd is
+refuses_go count left piece s t u StampsFall few went is stops first = absurd is
 refuses_go count left piece s t u BadCommand few went is stops first = absurd is
 refuses_go count left piece s t u TooManyStops few went is stops first = absurd is
 refuses_go count left piece s t u (Memory None) few went is stops first = absurd is

@@ -10,7 +10,7 @@ use Rattle.debugger_meaning.specs.Back.{GoesBack, GoesBackTo, RefusesBack, Refus
 use Rattle.debugger_meaning.specs.declared.answer.Answer.{Answer}
 use Rattle.debugger_meaning.specs.declared.answer.Answer.TheVariants.{Clock}
 use Rattle.debugger_meaning.specs.declared.fault.DebugFault.{DebugFault}
-use Rattle.debugger_meaning.specs.declared.fault.DebugFault.TheVariants.{ClockLimit, BadCommand, TooManyStops, Memory, BeforeStart}
+use Rattle.debugger_meaning.specs.declared.fault.DebugFault.TheVariants.{BadScan, StampsFall, ClockLimit, BadCommand, TooManyStops, Memory, BeforeStart}
 use Rattle.debugger_meaning.specs.Kept.{FindsNone, StandsNow}
 use Rattle.debugger_meaning.specs.Stands.{SessionState, StandsAt, gone}
 
@@ -58,6 +58,8 @@ lacks_back_to sought old new fault is some same = subst (RefusesBackTo sought ol
 
 pub finds_none : (sought : List Condition) (old new : SessionState) (fault : DebugFault) → FindsNone sought old fault → 1 ≤ length sought → new ≡ old → RefusesBackTo sought old new fault
 finds_none sought old new ClockLimit is some same = absurd is
+finds_none sought old new BadScan is some same = absurd is
+finds_none sought old new StampsFall is some same = absurd is
 finds_none sought old new BadCommand is some same = absurd is
 finds_none sought old new TooManyStops is some same = absurd is
 finds_none sought old new (Memory None) is some same = (some, same)

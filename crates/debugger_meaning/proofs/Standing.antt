@@ -12,7 +12,7 @@ use Rattle.board_plain.specs.Trail.{trail_in}
 use Rattle.board_plain.proofs.LastEntries.{last_within}
 use Rattle.board_plain.proofs.Runs.{ran_none, runs_join}
 use Rattle.debugger_meaning.specs.declared.fault.DebugFault.{DebugFault}
-use Rattle.debugger_meaning.specs.declared.fault.DebugFault.TheVariants.{ClockLimit, BadCommand, TooManyStops, Memory, BeforeStart}
+use Rattle.debugger_meaning.specs.declared.fault.DebugFault.TheVariants.{BadScan, StampsFall, ClockLimit, BadCommand, TooManyStops, Memory, BeforeStart}
 use Rattle.debugger_meaning.specs.Kept.{AreKept, IsSession, StandsNow}
 use Rattle.debugger_meaning.specs.Session.{RefusesRun, Runs}
 use Rattle.debugger_meaning.specs.Stands.{SessionState, Shown, shown_of, Stands, StandsAfter, StandsAt}
@@ -61,6 +61,8 @@ stands_early first k b c at early =
 
 pub stands_refused : (first : Shown) (stops : List Condition) (k : ℕ) (b c : BoardState) (fault : DebugFault) → StandsAfter first b → RefusesRun stops k b c fault → StandsAfter first c
 stands_refused first stops k b c ClockLimit at is = subst (StandsAfter first) (sym is.1) at
+stands_refused first stops k b c BadScan at is = absurd is
+stands_refused first stops k b c StampsFall at is = absurd is
 stands_refused first stops k b c BadCommand at is = absurd is
 stands_refused first stops k b c TooManyStops at is = absurd is
 stands_refused first stops k b c (Memory None) at is = absurd is

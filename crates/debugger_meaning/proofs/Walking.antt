@@ -11,7 +11,7 @@ use Rattle.debugger_meaning.specs.declared.answer.Answer.TheVariants.{StopAt}
 use Rattle.debugger_meaning.specs.declared.command.Command.{Command}
 use Rattle.debugger_meaning.specs.declared.command.Command.TheVariants as commands
 use Rattle.debugger_meaning.specs.declared.fault.DebugFault.{DebugFault}
-use Rattle.debugger_meaning.specs.declared.fault.DebugFault.TheVariants.{ClockLimit, BadCommand, TooManyStops, Memory, BeforeStart}
+use Rattle.debugger_meaning.specs.declared.fault.DebugFault.TheVariants.{BadScan, StampsFall, ClockLimit, BadCommand, TooManyStops, Memory, BeforeStart}
 use Rattle.debugger_meaning.specs.Laws.{SessionsStand, Walk}
 use Rattle.debugger_meaning.specs.Session.{Answers, AnswersStop, RefusesStep, Runs}
 use Rattle.debugger_meaning.specs.Stands.{SessionState, Shown, StandsAfter, session_about, shown_of}
@@ -43,6 +43,8 @@ of_go first n old new (Err fault) at is = same_first first old new at is.2 (stan
 
 of_no_step : (first : Shown) (old new : SessionState) (fault : DebugFault) → StandsFrom first old → RefusesStep old new fault → StandsFrom first new
 of_no_step first old new ClockLimit at is = same_state first old new at is.1
+of_no_step first old new BadScan at is = absurd is
+of_no_step first old new StampsFall at is = absurd is
 of_no_step first old new BadCommand at is = absurd is
 of_no_step first old new TooManyStops at is = absurd is
 of_no_step first old new (Memory None) at is = absurd is
@@ -55,6 +57,8 @@ of_step first old new (Err fault) at is = of_no_step first old new fault at is
 
 of_no_back : (first : Shown) (n : ℕ) (old new : SessionState) (fault : DebugFault) → StandsFrom first old → RefusesBack n old new fault → StandsFrom first new
 of_no_back first n old new ClockLimit at is = absurd is
+of_no_back first n old new BadScan at is = absurd is
+of_no_back first n old new StampsFall at is = absurd is
 of_no_back first n old new BadCommand at is = absurd is
 of_no_back first n old new TooManyStops at is = absurd is
 of_no_back first n old new (Memory None) at is = same_state first old new at is.1
@@ -67,6 +71,8 @@ of_back first n old new (Err fault) at is = of_no_back first n old new fault at 
 
 of_no_back_to : (first : Shown) (sought : List Condition) (old new : SessionState) (fault : DebugFault) → StandsFrom first old → RefusesBackTo sought old new fault → StandsFrom first new
 of_no_back_to first sought old new ClockLimit at is = absurd is
+of_no_back_to first sought old new BadScan at is = absurd is
+of_no_back_to first sought old new StampsFall at is = absurd is
 of_no_back_to first sought old new BadCommand at is = absurd is
 of_no_back_to first sought old new TooManyStops at is = absurd is
 of_no_back_to first sought old new (Memory None) at is = same_state first old new at is.1

@@ -6,7 +6,7 @@ use Rattle.std.specs.String.{string_bytes}
 use Rattle.debugger_meaning.specs.declared.answer.Answer.{Answer}
 use Rattle.debugger_meaning.specs.declared.answer.Answer.TheVariants.{Stop, Clock, StopAt, Text}
 use Rattle.debugger_meaning.specs.declared.fault.DebugFault.{DebugFault}
-use Rattle.debugger_meaning.specs.declared.fault.DebugFault.TheVariants.{ClockLimit, BadCommand, TooManyStops, Memory, BeforeStart}
+use Rattle.debugger_meaning.specs.declared.fault.DebugFault.TheVariants.{BadScan, StampsFall, ClockLimit, BadCommand, TooManyStops, Memory, BeforeStart}
 
 -- an answer, each line of it ended by a line feed
 abbrev pub answer_text : Answer → List ℕ
@@ -17,6 +17,8 @@ answer_text (StopAt number clock) =
 answer_text (Text text) = string_bytes text
 
 abbrev pub fault_number : DebugFault → ℕ
+fault_number BadScan = 33
+fault_number StampsFall = 34
 fault_number ClockLimit = 42
 fault_number BadCommand = 51
 fault_number TooManyStops = 52
@@ -24,6 +26,8 @@ fault_number (Memory clock) = 53
 fault_number BeforeStart = 54
 
 abbrev pub fault_name : DebugFault → List ℕ
+fault_name BadScan = codes "BadScan"
+fault_name StampsFall = codes "StampsFall"
 fault_name ClockLimit = codes "ClockLimit"
 fault_name BadCommand = codes "BadCommand"
 fault_name TooManyStops = codes "TooManyStops"
@@ -32,6 +36,8 @@ fault_name BeforeStart = codes "BeforeStart"
 
 -- the clock that a refusal for want of memory tells
 abbrev pub fault_clock : DebugFault → Option ℕ
+fault_clock BadScan = None
+fault_clock StampsFall = None
 fault_clock ClockLimit = None
 fault_clock BadCommand = None
 fault_clock TooManyStops = None

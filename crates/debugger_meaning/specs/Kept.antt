@@ -7,7 +7,7 @@ use Rattle.board_plain.specs.Lasts.{NoneHeld}
 use Rattle.board_plain.specs.Stops.{HasAddress}
 use Rattle.board_plain.specs.Plain.{clock_of}
 use Rattle.debugger_meaning.specs.declared.fault.DebugFault.{DebugFault}
-use Rattle.debugger_meaning.specs.declared.fault.DebugFault.TheVariants.{ClockLimit, BadCommand, TooManyStops, Memory, BeforeStart}
+use Rattle.debugger_meaning.specs.declared.fault.DebugFault.TheVariants.{BadScan, StampsFall, ClockLimit, BadCommand, TooManyStops, Memory, BeforeStart}
 use Rattle.debugger_meaning.specs.Stands.{SessionState, shown_of, StandsAfter, StandsAt, gone}
 
 -- the boards that are kept afterwards were kept before, or are copies of this one
@@ -35,6 +35,8 @@ LacksMemory fault = fault ≡ Memory None
 -- no clock is found, or there is no memory to look for it
 abbrev pub FindsNone : List Condition → SessionState → DebugFault → Type 0
 FindsNone stops s ClockLimit = ⊥
+FindsNone stops s BadScan = ⊥
+FindsNone stops s StampsFall = ⊥
 FindsNone stops s BadCommand = ⊥
 FindsNone stops s TooManyStops = ⊥
 FindsNone stops s (Memory None) = Unit {0}

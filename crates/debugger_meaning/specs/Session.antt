@@ -15,7 +15,7 @@ use Rattle.debugger_meaning.specs.declared.answer.Answer.TheVariants.{Stop, Cloc
 use Rattle.debugger_meaning.specs.declared.command.Command.{Command}
 use Rattle.debugger_meaning.specs.declared.command.Command.TheVariants as commands
 use Rattle.debugger_meaning.specs.declared.fault.DebugFault.{DebugFault}
-use Rattle.debugger_meaning.specs.declared.fault.DebugFault.TheVariants.{ClockLimit, BadCommand, TooManyStops, Memory, BeforeStart}
+use Rattle.debugger_meaning.specs.declared.fault.DebugFault.TheVariants.{BadScan, StampsFall, ClockLimit, BadCommand, TooManyStops, Memory, BeforeStart}
 use Rattle.debugger_meaning.specs.Back.{GoesBack, GoesBackTo, RefusesBack, RefusesBackTo, tell_clock}
 use Rattle.debugger_meaning.specs.Dump.{dump_text}
 use Rattle.debugger_meaning.specs.Stands.{SessionState}
@@ -52,6 +52,8 @@ pub record FindsNoMemory (stops : List Condition) (n : ℕ) (old new : BoardStat
 -- a run is refused where it would go past clock 2^40, and for want of memory
 abbrev pub RefusesRun : List Condition → ℕ → BoardState → BoardState → DebugFault → Type 0
 RefusesRun stops n old new ClockLimit = (2 ^ 40 < clock_of old.plain + n) × (new ≡ old)
+RefusesRun stops n old new BadScan = ⊥
+RefusesRun stops n old new StampsFall = ⊥
 RefusesRun stops n old new BadCommand = ⊥
 RefusesRun stops n old new TooManyStops = ⊥
 RefusesRun stops n old new (Memory None) = ⊥
@@ -91,6 +93,8 @@ pub record Steps (old new : SessionState) (answer : Answer) : Type 0 where
 -- a step is refused at the last clock, and for want of memory
 abbrev pub RefusesStep : SessionState → SessionState → DebugFault → Type 0
 RefusesStep old new ClockLimit = (clock_of old.board.plain ≡ 2 ^ 40) × (new ≡ old)
+RefusesStep old new BadScan = ⊥
+RefusesStep old new StampsFall = ⊥
 RefusesStep old new BadCommand = ⊥
 RefusesStep old new TooManyStops = ⊥
 RefusesStep old new (Memory None) = ⊥

@@ -10,6 +10,10 @@ use thiserror::Error;
 /// Why a session refuses a command.
 #[derive(Clone, Copy, Debug, PartialEq, Eq, Drop, Error)]
 pub enum DebugFault {
+    #[error("no key has this scan code")]
+    BadScan,
+    #[error("the stamp isn't above the present clock")]
+    StampsFall,
     #[error("the board can't go past clock 2^40")]
     ClockLimit,
     #[error("no such command, or not with these words")]
@@ -39,6 +43,8 @@ impl DebugFault {
         ensures { result ≡ fault_number self }
     {
         match self {
+            DebugFault::BadScan => 33,
+            DebugFault::StampsFall => 34,
             DebugFault::ClockLimit => 42,
             DebugFault::BadCommand => 51,
             DebugFault::TooManyStops => 52,
@@ -52,6 +58,8 @@ impl DebugFault {
         ensures { result.now ≡ fault_name self }
     {
         match self {
+            DebugFault::BadScan => "BadScan",
+            DebugFault::StampsFall => "StampsFall",
             DebugFault::ClockLimit => "ClockLimit",
             DebugFault::BadCommand => "BadCommand",
             DebugFault::TooManyStops => "TooManyStops",
@@ -66,7 +74,9 @@ impl DebugFault {
     {
         match self {
             DebugFault::Memory(clock) => clock,
-            DebugFault::ClockLimit
+            DebugFault::BadScan
+            | DebugFault::StampsFall
+            | DebugFault::ClockLimit
             | DebugFault::BadCommand
             | DebugFault::TooManyStops
             | DebugFault::BeforeStart => None,

@@ -5,7 +5,7 @@ use Rattle.board_plain.specs.Board.{Ran}
 use Rattle.board_plain.specs.Plain.{clock_of}
 use Rattle.debugger_meaning.specs.declared.answer.Answer.{Answer}
 use Rattle.debugger_meaning.specs.declared.fault.DebugFault.{DebugFault}
-use Rattle.debugger_meaning.specs.declared.fault.DebugFault.TheVariants.{ClockLimit, BadCommand, TooManyStops, Memory, BeforeStart}
+use Rattle.debugger_meaning.specs.declared.fault.DebugFault.TheVariants.{BadScan, StampsFall, ClockLimit, BadCommand, TooManyStops, Memory, BeforeStart}
 use Rattle.debugger_meaning.specs.Session.{IsText}
 use Rattle.debugger_meaning.specs.Stands.{SessionState, shown_of, StandsAt}
 
@@ -30,6 +30,8 @@ pub record StandsShort (n : ℕ) (old new : SessionState) (clock : ℕ) : Type 0
 -- refused past the last clock, and for want of memory
 abbrev pub RefusesMaking : ℕ → SessionState → SessionState → DebugFault → Type 0
 RefusesMaking n old new ClockLimit = (2 ^ 40 < clock_of old.board.plain + n) × (new ≡ old)
+RefusesMaking n old new BadScan = ⊥
+RefusesMaking n old new StampsFall = ⊥
 RefusesMaking n old new BadCommand = ⊥
 RefusesMaking n old new TooManyStops = ⊥
 RefusesMaking n old new (Memory None) = ⊥
