@@ -20,6 +20,7 @@ pub mod Stopped
 pub mod Idle
 pub mod Turns
 pub mod Works
+pub mod Inserting
 mod Stores
 pub mod Latest
 pub mod OneTurn

@@ -11,5 +11,6 @@ mod pass;
 mod quietly;
 mod stop;
 mod trail;
+pub mod typed;
 mod waiting;
 mod watch;

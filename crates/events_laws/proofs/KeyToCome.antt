@@ -16,7 +16,8 @@ use Rattle.board_plain.specs.Plain.{Plain, after_act, after_clock, after_clocks,
 use Rattle.board_plain.specs.Trail.{trail_in, trail_next}
 use Rattle.board_plain.proofs.Clocks.{clock_of_act, clocks_go_by}
 use Rattle.wiring.proofs.Clocks.{clock_of_arrivals}
-use Rattle.events_laws.specs.Keys.{inserted, KeyToComeWaits, KeyWasThere, ListsStay, with_key}
+use Rattle.events_laws.specs.Keys.{KeyToComeWaits, KeyWasThere, ListsStay}
+use Rattle.events_laws.specs.WithKey.{inserted, with_key}
 
 -- other clocks have the codes that they had
 

@@ -1,26 +1,19 @@
 -- A key that is still to come.
 -- Laws: claims above the definitions, each proved as the contract of a function.
-use Rattle.std.specs.Prelude.{ℕ, ◌≡◌, ◌+◌, ◌<◌, nat_le, if◌then◌else◌, List, [], ◌∷◌}
+use Rattle.std.specs.Prelude.{ℕ, ◌≡◌, ◌+◌, ◌<◌, List}
 use Rattle.board_types.specs.declared.keys.StampedKey.{StampedKey}
 use Rattle.board_plain.specs.declared.config.Config.{Config}
 use Rattle.board_plain.specs.Plain.{Plain, after_clocks, board_after, changes_in, clock_of}
 use Rattle.board_plain.specs.Trail.{trail_in}
+use Rattle.events_laws.specs.WithKey.{inserted, with_key}
 
--- one key more, after those that are not stamped later
-abbrev pub inserted : List StampedKey → StampedKey → List StampedKey
-inserted [] key = key ∷ []
-inserted (k ∷ ks) key = if nat_le k.stamp key.stamp then k ∷ inserted ks key else key ∷ k ∷ ks
-
-unfoldable pub with_key : Plain → StampedKey → Plain
-with_key s key = record s { keys = inserted s.keys key }
-
--- it changes no clock before its stamp
+-- a key that is still to come changes no clock before its stamp
 abbrev pub KeyToComeWaits : Type 0
 KeyToComeWaits =
     (s : Plain) (key : StampedKey) (n : ℕ) → clock_of s + n < key.stamp
     → after_clocks (with_key s key) n ≡ with_key (after_clocks s n) key
 
--- nor what these clocks add to the speaker's list and to the trail
+-- nor does it change what these clocks add to the speaker's list and to the trail
 abbrev pub ListsStay : Type 0
 ListsStay =
     (s : Plain) (key : StampedKey) (n : ℕ) → clock_of s + n < key.stamp

@@ -1,4 +1,4 @@
-use Rattle.std.proofs.Common.{◌≡◌, ◌+◌, ◌-◌, ◌<◌, ◌≤◌, ℕ, get_or, sym, arith}
+use Rattle.std.proofs.Common.{◌≡◌, ◌-◌, get_or, sym, arith}
 use Rattle.board.proofs.KeyOrder.{awaits_from, earlier_than, later_at}
 use Rattle.board.proofs.arrivals.count_before.Goals as goal
 

@@ -1,0 +1,13 @@
+-- A board that gets a key more.
+-- To be believed: the headline rests on it.
+use Rattle.std.specs.Prelude.{nat_le, if◌then◌else◌, List, [], ◌∷◌}
+use Rattle.board_types.specs.declared.keys.StampedKey.{StampedKey}
+use Rattle.board_plain.specs.Plain.{Plain}
+
+-- one key more, after those that are not stamped later
+abbrev pub inserted : List StampedKey → StampedKey → List StampedKey
+inserted [] key = key ∷ []
+inserted (k ∷ ks) key = if nat_le k.stamp key.stamp then k ∷ inserted ks key else key ∷ k ∷ ks
+
+unfoldable pub with_key : Plain → StampedKey → Plain
+with_key s key = record s { keys = inserted s.keys key }
