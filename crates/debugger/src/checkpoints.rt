@@ -1,14 +1,17 @@
 //! Copies of a board at some of the clocks that a session went by, from which it goes back.
-ghost use Rattle.std.specs.Prelude.{◌≡◌, ◌+◌, ◌<◌, ◌≤◌, [], All, Contains, IfOk, IfSome, length, take, None};
+ghost use Rattle.std.specs.Prelude.{◌≡◌, ◌+◌, ◌<◌, ◌≤◌, [], All, Contains, IfOk, IfSome, IsTrue, length, take, None};
 ghost use Rattle.std.specs.Result.{IfErr};
 ghost use Rattle.board_plain.specs.Plain.{clock_of};
 ghost use Rattle.debugger_meaning.specs.Kept.{AreKept};
 ghost use Rattle.debugger_meaning.specs.Stands.{shown_of};
+ghost use Rattle.debugger.specs.WithKey.{board_with, HaveKey};
 
+use crate::typed::keys_with;
 use board::board::Board;
 use board_types::clock::Clock;
+use board_types::keys::StampedKey;
 use debugger_meaning::fault::DebugFault;
-use std::alloc::Allocator;
+use std::alloc::{Allocator, Global};
 use std::marker::Model;
 
 /// How many copies are kept at most.
@@ -87,6 +90,13 @@ impl<A: Allocator> Checkpoints<A> {
             drop(self.kept.remove(thinnest));
         }
     }
+
+    /// The copies that stand before a key's stamp have it from now on. The others go, and those for whose keys there is no memory.
+    pub(crate) fn take_key(&mut self, alloc: Global, key: &StampedKey)
+        ensures { HaveKey key.now self.old self.new }
+    {
+        give_key(&mut self.kept, alloc, key);
+    }
 }
 
 /// A copy of a board, with its lists.
@@ -98,6 +108,39 @@ pub(crate) fn copy_of(board: &Board) -> Result<Board, DebugFault>
     match board.copy() {
         Ok(copy) => Ok(copy),
         Err(_) => Err(DebugFault::Memory(None)),
+    }
+}
+
+/// Those boards that stand before a key's stamp have it from now on. The others go, and those for whose keys there is no memory.
+fn give_key<A: Allocator>(boards: &mut Vec<Board, A>, alloc: Global, key: &StampedKey)
+    ensures have { HaveKey key.now boards.old.items boards.new.items }
+    ensures fewer { length boards.new.items ≤ length boards.old.items }
+{
+    let mut index = boards.len();
+    while index > 0 {
+        index -= 1;
+        if takes_key(&mut boards[index], alloc, key) {
+            continue;
+        }
+        drop(boards.remove(index));
+    }
+}
+
+/// Whether a board stands before a key's stamp, and there is memory for its keys: then it has it from now on.
+#[tactic(auto, unfolding(events_laws::specs::WithKey::with_key))]
+fn takes_key(board: &mut Board, alloc: Global, key: &StampedKey) -> bool
+    ensures early { IsTrue result → clock_of board.old.plain < key.now.stamp }
+    ensures key { IsTrue result → board.new ≡ board_with board.old key.now }
+{
+    if board.clock() >= key.stamp {
+        return false;
+    }
+    match keys_with(alloc, board, key) {
+        Ok(keys) => {
+            board.take_keys(keys);
+            true
+        }
+        Err(_) => false,
     }
 }
 

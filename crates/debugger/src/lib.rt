@@ -5,3 +5,4 @@ mod checkpoints;
 mod dump;
 pub mod session;
 mod trail_text;
+pub mod typed;

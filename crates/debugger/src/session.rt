@@ -46,9 +46,9 @@ const NEAR: u64 = 1024;
 #[derive(Drop)]
 pub struct Session<A: Allocator = Global> {
     /// The board with which the session began.
-    first: Board,
-    board: Board,
-    checkpoints: Checkpoints<A>,
+    pub(crate) first: Board,
+    pub(crate) board: Board,
+    pub(crate) checkpoints: Checkpoints<A>,
     stops: Stops,
 }
 
@@ -107,6 +107,7 @@ impl<A: Allocator> Session<A> {
     pub fn board(&self) -> &Board
         ensures board { result.now ≡ self.now.board }
         ensures few { length self.now.board.trail ≤ 32 }
+        ensures stands { Stands self.now }
     {
         &self.board
     }
