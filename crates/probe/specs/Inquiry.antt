@@ -7,7 +7,7 @@ use Rattle.debugger_meaning.specs.declared.command.Command.TheVariants.{Break}
 use Rattle.debugger_meaning.specs.Commands.{break_command, is_colon}
 use Rattle.debugger_meaning.specs.Words.{count_of, hex_number, words_of}
 use Rattle.probe.specs.declared.inquiry.Inquiry.{Inquiry}
-use Rattle.probe.specs.declared.inquiry.Inquiry.TheVariants.{Chips, List as Listing, Counts, Signals, Events}
+use Rattle.probe.specs.declared.inquiry.Inquiry.TheVariants.{Chips, List as Listing, Counts, Signals, Events, Key}
 use Rattle.probe.specs.declared.inquiry.Place.{Place}
 use Rattle.probe.specs.declared.kinds.Kind.{Kind}
 use Rattle.probe.specs.Kinds.{kinds_from}
@@ -48,19 +48,38 @@ events_of (Some count) (Some kinds) = Some (Events count (record { items = kinds
 events_of (Some count) None = None
 events_of None _ = None
 
-abbrev pub list_in : List ℕ → List ℕ → List ℕ → List (List ℕ) → Option Inquiry
-list_in name first second [] =
-    if bytes_eq name (codes "list") then list_of (place_of first) (count_of second) else None
-list_in name first second (third ∷ rest) = None
+-- a key that comes at the next clock, or at another
+abbrev pub key_of : Option ℕ → Option Inquiry
+key_of None = None
+key_of (Some code) = Some (Key code None)
+
+abbrev pub key_at : Option ℕ → Option ℕ → Option Inquiry
+key_at (Some code) (Some stamp) = Some (Key code (Some stamp))
+key_at (Some code) None = None
+key_at None _ = None
+
+-- an inquiry of a word and what follows it
+abbrev pub inquiry_with : List ℕ → List ℕ → Option Inquiry
+inquiry_with name first =
+    if bytes_eq name (codes "key") then key_of (hex_number 2 first) else run_inquiry name (count_of first)
+
+abbrev pub inquiry_with_two : List ℕ → List ℕ → List ℕ → Option Inquiry
+inquiry_with_two name first second =
+    if bytes_eq name (codes "list") then list_of (place_of first) (count_of second) else (
+    if bytes_eq name (codes "key") then key_at (hex_number 2 first) (count_of second) else None)
+
+abbrev pub inquiry_of_two : List ℕ → List ℕ → List ℕ → List (List ℕ) → Option Inquiry
+inquiry_of_two name first second [] = inquiry_with_two name first second
+inquiry_of_two name first second (third ∷ rest) = None
 
 -- the inquiry that words are, if they are one
 abbrev pub inquiry_in : List (List ℕ) → Option Inquiry
 inquiry_in [] = None
 inquiry_in (name ∷ []) = if bytes_eq name (codes "chips") then Some Chips else None
-inquiry_in (name ∷ first ∷ []) = run_inquiry name (count_of first)
+inquiry_in (name ∷ first ∷ []) = inquiry_with name first
 inquiry_in (name ∷ first ∷ second ∷ rest) =
     if bytes_eq name (codes "events") then events_of (count_of first) (kinds_from [] (second ∷ rest))
-    else list_in name first second rest
+    else inquiry_of_two name first second rest
 
 unfoldable pub inquiry_of : List ℕ → Option Inquiry
 inquiry_of line = inquiry_in (words_of line)

@@ -14,4 +14,5 @@ pub mod Kinds
 pub mod Listed
 pub mod Told
 pub mod Listing
+pub mod Typed
 pub mod Session

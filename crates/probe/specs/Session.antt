@@ -7,7 +7,7 @@ use Rattle.debugger_meaning.specs.Commands.{command_of}
 use Rattle.debugger_meaning.specs.Session.{AnswersLine, Shows}
 use Rattle.debugger_meaning.specs.Stands.{SessionState}
 use Rattle.probe.specs.declared.inquiry.Inquiry.{Inquiry}
-use Rattle.probe.specs.declared.inquiry.Inquiry.TheVariants.{Chips, List as Listing, Counts, Signals, Events}
+use Rattle.probe.specs.declared.inquiry.Inquiry.TheVariants.{Chips, List as Listing, Counts, Signals, Events, Key}
 use Rattle.probe.specs.Chips.{chips_text}
 use Rattle.probe.specs.Counts.{counts_text}
 use Rattle.probe.specs.Inquiry.{inquiry_of}
@@ -15,8 +15,10 @@ use Rattle.probe.specs.Listed.{events_text}
 use Rattle.probe.specs.Listing.{list_text}
 use Rattle.probe.specs.Making.{AnswersMaking}
 use Rattle.probe.specs.Signals.{signals_text}
+use Rattle.probe.specs.Typed.{AnswersKey}
 
--- a text is shown of the board as it stands, and nothing changes; or clocks are made, and a text of them is shown
+-- a text is shown of the board as it stands, and nothing changes; or clocks are made, and a text of them is shown; or a key is
+-- taken
 abbrev pub AnswersInquiry : Inquiry → SessionState → Result Answer DebugFault → SessionState → Type 0
 AnswersInquiry Chips old result new = Shows (chips_text old.board.plain) result × (new ≡ old)
 AnswersInquiry (Listing place count) old result new =
@@ -24,6 +26,7 @@ AnswersInquiry (Listing place count) old result new =
 AnswersInquiry (Counts n) old result new = AnswersMaking n (counts_text old.board.plain n) old result new
 AnswersInquiry (Signals n) old result new = AnswersMaking n (signals_text old.board.plain n) old result new
 AnswersInquiry (Events n kinds) old result new = AnswersMaking n (events_text kinds.items old.board.plain n) old result new
+AnswersInquiry (Key code at) old result new = AnswersKey code at old result new
 
 -- what is no inquiry is answered as the debugger answers it
 abbrev pub AnswersOr : Option Inquiry → List ℕ → SessionState → Result Answer DebugFault → SessionState → Type 0

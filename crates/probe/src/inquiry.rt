@@ -1,7 +1,7 @@
 //! Inquiries, and the reading of a line as one.
 ghost use Rattle.std.specs.Prelude.{◌≡◌, []};
-ghost use Rattle.debugger_meaning.specs.Words.{count_of, words_of};
-ghost use Rattle.probe.specs.Inquiry.{events_of, inquiry_of, list_of, place_of, run_inquiry};
+ghost use Rattle.debugger_meaning.specs.Words.{count_of, hex_number, words_of};
+ghost use Rattle.probe.specs.Inquiry.{events_of, inquiry_of, inquiry_with, inquiry_with_two, key_at, key_of, list_of, place_of, run_inquiry};
 ghost use Rattle.probe.specs.Kinds.{kinds_from};
 
 use crate::kinds::{Kinds, read_kinds};
@@ -28,6 +28,8 @@ pub enum Inquiry {
     Signals(u64),
     /// What happens, of these kinds, in so many clocks, which are made.
     Events(u64, Kinds),
+    /// A key that is typed: its code, and the clock at which it comes, which is the next one if none is given.
+    Key(u8, Option<u64>),
 }
 
 /// The inquiry that a line is, if it is one. Its words are parted by spaces, and written in lower case; a place is a
@@ -46,15 +48,55 @@ pub fn read_inquiry(line: &str) -> Option<Inquiry>
         };
     };
     let Some((second, more)) = next_word(rest) else {
-        return run_inquiry(name, first);
+        return inquiry_with(name, first);
     };
     if name == b"events".as_slice() {
         return events(first, rest);
     }
-    if next_word(more).is_some() || name != b"list".as_slice() {
-        return None;
+    match next_word(more) {
+        None => inquiry_with_two(name, first, second),
+        Some(_) => None,
     }
-    list(first, second)
+}
+
+/// An inquiry of a word and what follows it.
+fn inquiry_with(name: &[u8], first: &[u8]) -> Option<Inquiry>
+    ensures { result ≡ inquiry_with name.now first.now }
+{
+    if name == b"key".as_slice() {
+        return key(first);
+    }
+    run_inquiry(name, first)
+}
+
+/// An inquiry of a word and two that follow it.
+fn inquiry_with_two(name: &[u8], first: &[u8], second: &[u8]) -> Option<Inquiry>
+    ensures { result ≡ inquiry_with_two name.now first.now second.now }
+{
+    if name == b"list".as_slice() {
+        list(first, second)
+    } else if name == b"key".as_slice() {
+        key_at(first, second)
+    } else {
+        None
+    }
+}
+
+/// A key that comes at the next clock.
+fn key(code: &[u8]) -> Option<Inquiry>
+    ensures { result ≡ key_of (hex_number 2 code.now) }
+{
+    let code = hex_number(2, code)?;
+    Some(Inquiry::Key(code as u8, None))
+}
+
+/// A key that comes at a clock.
+fn key_at(code: &[u8], stamp: &[u8]) -> Option<Inquiry>
+    ensures { result ≡ key_at (hex_number 2 code.now) (count_of stamp.now) }
+{
+    let code = hex_number(2, code)?;
+    let stamp = count_of(stamp)?;
+    Some(Inquiry::Key(code as u8, Some(stamp)))
 }
 
 /// What happens, of the kinds that these words name, in so many clocks.

@@ -16,3 +16,4 @@ mod making;
 pub mod session;
 mod shown;
 mod signals;
+mod typed;

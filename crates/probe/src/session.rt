@@ -4,6 +4,7 @@ ghost use Rattle.probe.specs.Chips.{chips_text};
 ghost use Rattle.probe.specs.Listing.{list_text};
 ghost use Rattle.probe.specs.Session.{AnswersInquiry, AnswersProbe};
 ghost use Rattle.debugger_meaning.specs.Session.{Shows};
+ghost use Rattle.debugger_meaning.specs.Stands.{Stands};
 
 use crate::chips_text::chips_text;
 use crate::counts::tell_counts;
@@ -11,20 +12,26 @@ use crate::event_lines::tell_events;
 use crate::inquiry::{Inquiry, Place, read_inquiry};
 use crate::list_text::list_text;
 use crate::signals::tell_signals;
+use crate::typed::type_key;
 use debugger::session::Session;
 use debugger_meaning::answer::Answer;
 use debugger_meaning::fault::DebugFault;
 use std::alloc::Global;
 
 /// Does what the line commands, and answers: an inquiry by itself, and any other line as the session does. `chips` and
-/// `list` change nothing; `counts`, `signals` and `events` make clocks. Where memory is wanted, an inquiry is refused as `Memory`.
+/// `list` change nothing; `counts`, `signals` and `events` make clocks; `key` adds a key that is still to come. Where memory is
+/// wanted, an inquiry is refused as `Memory`. After each line the board stands where it stood so many clocks after the first one.
 pub fn command(session: &mut Session, alloc: Global, line: &str) -> Result<Answer, DebugFault>
-    ensures { AnswersProbe line.now session.old result session.new }
+    ensures answers { AnswersProbe line.now session.old result session.new }
+    ensures stands { Stands session.new }
 {
-    match read_inquiry(line) {
+    let answer = match read_inquiry(line) {
         None => session.command(alloc, line),
         Some(inquiry) => answer(session, alloc, inquiry),
-    }
+    };
+    // whatever the answer is, the board stands some clocks after the first one
+    let _board = session.board();
+    answer
 }
 
 fn answer(session: &mut Session, alloc: Global, inquiry: Inquiry) -> Result<Answer, DebugFault>
@@ -36,6 +43,7 @@ fn answer(session: &mut Session, alloc: Global, inquiry: Inquiry) -> Result<Answ
         Inquiry::Counts(count) => tell_counts(session, alloc, count),
         Inquiry::Signals(count) => tell_signals(session, alloc, count),
         Inquiry::Events(count, kinds) => tell_events(session, alloc, count, kinds.as_slice()),
+        Inquiry::Key(code, at) => type_key(session, alloc, code, at),
     }
 }
 
