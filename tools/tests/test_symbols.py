@@ -7,7 +7,6 @@ import unittest
 
 from tests.support import EXAMPLES, ToolCase, example, is_there
 
-from toolbox.chips import probe
 from toolbox.command import Sorry
 from toolbox.disassembly import LONGEST, NONE, instruction, listed
 from toolbox.places import far_of
@@ -213,13 +212,9 @@ class Board(ToolCase):
 
     def test_disassembly_both_ways(self) -> None:
         """What pcprobe lists is what runs: bytes and text of random places, also at a segment's end."""
-        name = probe()
-        if name is None:
-            print('not run: instructions as pcprobe lists them; dev/build pcprobe, or name one in PCPROBE')
-            return
         octets = random.Random(8088).randbytes(300)
         for offset in (0x100, 0xFF00):
-            rows = list(listed(name, offset, octets[: 0x10000 - offset], 16))
+            rows = list(listed(offset, octets[: 0x10000 - offset], 16))
             for at, code, text in rows:
                 alone = instruction(at, octets[at - offset : at - offset + LONGEST])
                 self.assertEqual((code, text), (alone.octets, alone.text) if alone else (octets[at - offset : at - offset + 1], NONE))
