@@ -396,12 +396,6 @@ def happening_of(line: str) -> Happening:
     return Happening(int(clock), what, None, int(words[0], 16) if words else None)
 
 
-def _beside() -> None:
-    """The tools' modules, which stand in the folder beside this file's, can be imported."""
-    if f'{TOP}/tools' not in sys.path:
-        sys.path.append(f'{TOP}/tools')
-
-
 class Dialogue:
     """A session of `pcboard debug` by its texts: one command at a time, and its answer. The terminal's interrupt doesn't reach
     it, so that what talks with it can end a long run and go on."""
@@ -549,8 +543,9 @@ class Places:
 
     @functools.cached_property
     def _tools(self) -> Any:
-        """The tools' modules."""
-        _beside()
+        """The tools' modules, which stand in the folder beside this file's."""
+        if f'{TOP}/tools' not in sys.path:
+            sys.path.append(f'{TOP}/tools')
         try:
             from toolbox import command, listing as listings, places, program as programs
         except ImportError as error:
@@ -698,7 +693,7 @@ class Session:
         fault = fault_in(last)
         if fault:
             raise fault
-        return [happening_of(it) for it in lines]
+        return [happening_of(each) for each in lines]
 
     def _kind(self, kind: str) -> str:
         """A kind as the probe takes it."""

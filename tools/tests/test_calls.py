@@ -1,13 +1,17 @@
 """tools/trace --calls: over random programs against single steps, and what it tells of programs by hand."""
 from __future__ import annotations
 
+import os
 import random
+import re
+import signal
 import subprocess
 import sys
 import unittest
 from dataclasses import dataclass, field
+from unittest import mock
 
-from tests.support import EXAMPLES, MEASURED, TOP, ToolCase
+from tests.support import EXAMPLES, MEASURED, RESET, SECONDS, TOP, ToolCase, children, processor_seconds, until
 
 from toolbox.calls import Calls, Following, Tally, Times
 from toolbox.events import events
@@ -144,7 +148,7 @@ def program(seed: int) -> str:
     values = {'n': dice.randrange(1, 6), 'top': f'{dice.choice((0x800, 0x400, 0)):X}h', 'ticks': dice.randrange(90, 255)}
     chosen = dice.sample(DEEDS, 6) + ([dice.choice(UNLEVEL)] if seed % 3 == 0 else [])
     dice.shuffle(chosen)
-    lines = [it if ':' in it.partition(' ')[0] else f'        {it}' for deed in chosen for it in deed]
+    lines = [each if ':' in each.partition(' ')[0] else f'        {each}' for deed in chosen for each in deed]
     tail = TAIL.format(room=dice.choice((2, 10, 40)), within=dice.choice(('NOP', 'STI', 'CALL leaf')), slow=dice.randrange(1, 30))
     return (HEAD + 'again:  INC DI\n' + '\n'.join(lines) + '\n').replace('{top}', values['top']).format(**values) + tail
 
@@ -184,7 +188,7 @@ class Stepped:
             sunk = (before['SP'] - after['SP']) % 0x10000
             if word in ('RET', 'RETF', 'IRET'):
                 top = physical(before['SS'], before['SP'])
-                call = next((it for it in reversed(self.calls) if it.place == top and it.returned is None), None)
+                call = next((each for each in reversed(self.calls) if each.place == top and each.returned is None), None)
                 self.strays += call is None
                 if call:
                     call.returned = number
@@ -197,7 +201,7 @@ class Stepped:
         """The number of the event at which its first instruction begins, if it does."""
         number = call.at + 1
         while number < len(self.events) and self.events[number].entry is not None:
-            inner = next(it for it in self.calls if it.at == number)
+            inner = next(each for each in self.calls if each.at == number)
             if inner.returned is None:
                 return None
             number = inner.returned + 1
@@ -208,25 +212,25 @@ class Stepped:
         """Its clocks, without those of the interrupts that came and went inside."""
         assert call.returned is not None
         clocks = set(range(self.clock(call.at), self.clock(call.returned)))
-        for it in self.calls:
-            if it.is_entry and it.returned is not None and call.at < it.at and it.returned < call.returned:
-                clocks -= set(range(self.clock(it.at), self.clock(it.returned + 1)))
+        for each in self.calls:
+            if each.is_entry and each.returned is not None and call.at < each.at and each.returned < call.returned:
+                clocks -= set(range(self.clock(each.at), self.clock(each.returned + 1)))
         return len(clocks)
 
     def stack(self, call: Call) -> int:
         """The bytes of stack that it used."""
         assert call.returned is not None
         at = self.registers[call.at]
-        lows = [it['SP'] or 0x10000 for it in self.registers[call.at + 1 : call.returned + 1] if it['SS'] == call.segment]
+        lows = [each['SP'] or 0x10000 for each in self.registers[call.at + 1 : call.returned + 1] if each['SS'] == call.segment]
         return (at['SP'] or 0x10000) - min(lows)
 
     def is_passed(self, call: Call) -> bool:
         """Whether something was called from above its return address, or the stack is above it at the end."""
         last = self.registers[-1]
-        later = any(it.segment == call.segment and it.pointer >= call.pointer for it in self.calls if it.at > call.at)
+        later = any(each.segment == call.segment and each.pointer >= call.pointer for each in self.calls if each.at > call.at)
         return later or last['SS'] == call.segment and (last['SP'] or 0x10000) > call.pointer
 
-    def told(self) -> dict[object, list[object]]:
+    def expected(self) -> dict[object, list[object]]:
         """Of each that is reached what is told of it: all calls, the averaged clocks, with their stack, and those apart."""
         found = dict[object, list[object]]()
         for call in self.calls:
@@ -240,19 +244,19 @@ class Stepped:
                 own.append((call.returned, self.own(call), begun))
                 stack = max(stack, self.stack(call))
             found[key] = [calls + 1, took, own, stack, otherwise, unended]
-        return {key: [it[0], tally_of(it[1]), tally_of(it[2]), it[3], it[4], it[5]] for key, it in found.items()}
+        return {key: [each[0], tally_of(each[1]), tally_of(each[2]), each[3], each[4], each[5]] for key, each in found.items()}
 
     def off(self) -> list[int]:
         """The clocks at which interrupts were turned on and off, in turn, from their being off at the beginning on."""
-        flags = [it['FL'] >> 9 & 1 for it in self.registers]
+        flags = [each['FL'] >> 9 & 1 for each in self.registers]
         return [self.clock(number) for number, (a, b) in enumerate(zip(flags, flags[1:])) if a != b]
 
 
 def tally_of(measured: object) -> list[int]:
     """How often, least, most, sum and the clock of the most, of what was measured in the order in which it ended."""
     found = sorted(measured)  # type: ignore[call-overload]
-    values = [it[1] for it in found]
-    return [len(values), min(values), max(values), sum(values), next(it[2] for it in found if it[1] == max(values))] if values else [0, 0, -1, 0, 0]
+    values = [each[1] for each in found]
+    return [len(values), min(values), max(values), sum(values), next(each[2] for each in found if each[1] == max(values))] if values else [0, 0, -1, 0, 0]
 
 
 def listed(tally: Tally) -> list[int]:
@@ -261,7 +265,7 @@ def listed(tally: Tally) -> list[int]:
 
 
 class CallsCase(ToolCase):
-    """A case that follows calls."""
+    """A case that asks pcprobe."""
 
     def followed(self, files: Files, clocks: int, first: int = 0) -> Calls:
         """What a run comes to."""
@@ -277,15 +281,15 @@ class Steps(CallsCase):
     def files(self, seed: int) -> Files:
         """A program, and a run of it."""
         dice = random.Random(-seed)
-        keys = [[it, dice.choice((0x1E, 0x9E))] for it in sorted(dice.sample(range(300, CLOCKS), 6))]
+        keys = [[each, dice.choice((0x1E, 0x9E))] for each in sorted(dice.sample(range(300, CLOCKS), 6))]
         return Files(self.file('it.asm', program(seed)), self.file('it.json', text_of(DEFAULTS | {'ram': 128, 'budget': CLOCKS, 'keys': keys})))
 
     def stepped(self, files: Files) -> Stepped:
         """The run by single steps."""
         found = list(events(files, 0, CLOCKS))
-        clocks = [*(it.clock for it in found), CLOCKS]
+        clocks = [*(each.clock for each in found), CLOCKS]
         given = ''.join(f'go {b - a}\nregs\n' for a, b in zip([0, *clocks], clocks))
-        lines = [it for it in self.pcboard(*files.words('debug'), given=given).stdout.splitlines() if '=' in it]
+        lines = [each for each in self.pcboard(*files.words('debug'), given=given).stdout.splitlines() if '=' in each]
         stepped = Stepped(found, [registers_of(lines[at : at + 2]) for at in range(0, len(lines), 2)], CLOCKS)
         self.assertEqual(len(stepped.registers), len(clocks))
         stepped.follow()
@@ -294,17 +298,17 @@ class Steps(CallsCase):
     def lines(self, stepped: Stepped, files: Files) -> list[list[object]]:
         """Of IR0 and IR1 the latencies, and the clocks at which they fell before they were taken or met a request that waited."""
         words = [path('pcprobe'), *files.words('')[1:]]
-        told = subprocess.run(words, input=f'signals {CLOCKS}\n', capture_output=True, text=True, check=True).stdout
-        happens = [(int(it[0]), 0, it[1], int(it[2])) for it in map(str.split, told.splitlines()) if it[1] in ('IR0', 'IR1')]
+        shown = subprocess.run(words, input=f'signals {CLOCKS}\n', capture_output=True, text=True, check=True).stdout
+        happens = [(int(each[0]), 0, each[1], int(each[2])) for each in map(str.split, shown.splitlines()) if each[1] in ('IR0', 'IR1')]
         for call in stepped.calls:
             if call.is_entry and call.type in (8, 9):
                 happens.append((stepped.clock(call.at), 1, f'IR{call.type - 8}', stepped.first(call) or -1))
         for number, event in enumerate(stepped.events):
             if event.text.startswith('OUT 020h') and stepped.registers[number]['AX'] & 0x10:
-                happens += [(event.clock, 2, it, 0) for it in ('IR0', 'IR1')]
+                happens += [(event.clock, 2, each, 0) for each in ('IR0', 'IR1')]
             elif event.text.startswith('IN AL,020h') and stepped.registers[number + 1]['AX'] & 0xFE == 0x80:
                 happens.append((event.clock, 2, f'IR{stepped.registers[number + 1]["AX"] & 1}', 0))
-        return [self.fate(stepped, [it for it in sorted(happens) if it[2] == name]) for name in ('IR0', 'IR1')]
+        return [self.fate(stepped, [each for each in sorted(happens) if each[2] == name]) for name in ('IR0', 'IR1')]
 
     def fate(self, stepped: Stepped, happens: list[tuple[int, int, str, int]]) -> list[object]:
         """Of one line: 0 is its level, 1 an entry with the number of the handler's first event, 2 that its rise is forgotten."""
@@ -318,7 +322,7 @@ class Steps(CallsCase):
                 if kind == 1 and waits is not None and value >= 0:
                     taken.append((value, stepped.clock(value) - waits, waits))
                 waits = None
-        return [tally_of(taken), *(Times(len(it), (it or [0])[0]) for it in (fell, met))]
+        return [tally_of(taken), *(Times(len(each), (each or [0])[0]) for each in (fell, met))]
 
     def test_random_programs(self) -> None:
         """A hundred of them: calls, stack, interrupts inside, latencies, and stretches with interrupts off."""
@@ -326,10 +330,13 @@ class Steps(CallsCase):
         for seed in range(100):
             files = self.files(seed)
             stepped, calls = self.stepped(files), self.followed(files, CLOCKS)
-            told = {key: [it.calls, listed(it.took), listed(it.own), it.stack, sorted(it.otherwise), sorted(it.unended)] for key, it in calls.routines.items()}
-            self.assertEqual(told, stepped.told(), seed)
+            shown = {
+                key: [each.calls, listed(each.took), listed(each.own), each.stack, sorted(each.otherwise), sorted(each.unended)]
+                for key, each in calls.routines.items()
+            }
+            self.assertEqual(shown, stepped.expected(), seed)
             lines = calls.requests.lines[:2]
-            self.assertEqual([[listed(it.taken), it.fell, it.met] for it in lines], self.lines(stepped, files), seed)
+            self.assertEqual([[listed(each.taken), each.fell, each.met] for each in lines], self.lines(stepped, files), seed)
             self.off(stepped, calls, seed)
             for name, count in self.counted(stepped, calls).items():
                 seen[name] = seen.get(name, 0) + count
@@ -340,23 +347,23 @@ class Steps(CallsCase):
         first, *turns = stepped.off()
         stretches = [(b - a, -a, b) for a, b in zip(turns[::2], turns[1::2])]
         longest = max(stretches, default=None)
-        told = calls.off
-        self.assertEqual(told.first and told.first[0], first, seed)
-        self.assertEqual(told.longest and told.longest[:2], longest and (-longest[1], longest[2]), seed)
-        self.assertEqual(told.since and told.since[0], turns[-1] if len(turns) % 2 else None, seed)
+        shown = calls.off
+        self.assertEqual(shown.first and shown.first[0], first, seed)
+        self.assertEqual(shown.longest and shown.longest[:2], longest and (-longest[1], longest[2]), seed)
+        self.assertEqual(shown.since and shown.since[0], turns[-1] if len(turns) % 2 else None, seed)
 
     def counted(self, stepped: Stepped, calls: Calls) -> dict[str, int]:
         """How often what is hard was there."""
         self.assertEqual(calls.strays, stepped.strays)
-        routines, done = calls.routines.values(), [it for it in stepped.calls if it.returned is not None and it.type is None]
+        routines, done = calls.routines.values(), [each for each in stepped.calls if each.returned is not None and each.type is None]
         return {
-            'apart': sum(len(it.otherwise) for it in routines),
-            'under way': sum(len(it.unended) for it in routines),
-            'interrupted': sum(it.took.sum != it.own.sum for it in routines),
+            'apart': sum(len(each.otherwise) for each in routines),
+            'under way': sum(len(each.unended) for each in routines),
+            'interrupted': sum(each.took.sum != each.own.sum for each in routines),
             'recursive': sum(a.target == b.target and a.at < b.at < (a.returned or 0) for a in done for b in done),
             'strays': stepped.strays,
-            'fell': sum(it.fell.count for it in calls.requests.lines),
-            'met': sum(it.met.count for it in calls.requests.lines),
+            'fell': sum(each.fell.count for each in calls.requests.lines),
+            'met': sum(each.met.count for each in calls.requests.lines),
         }
 
 
@@ -378,6 +385,38 @@ SEGMENT VECTORS AT 0
 """
 
 
+# Opcodes and operands that call, return and move SP, before any bytes at all.
+MOVING = bytes.fromhex('E8C3C2CBCACF9ACDCCCE5058545C559C9D8F17161F0644 4CBCFF8E81838BE489C4EC FBFAF6F7D49487')
+
+
+class AnyBytes(CallsCase):
+    """Programs of bytes by chance: SP is where the instructions bring it."""
+
+    def test_the_stack_at_the_end(self) -> None:
+        moved = 0
+        for seed in range(40):
+            dice = random.Random(seed)
+            octets = [dice.choice(MOVING) if dice.random() < 0.7 else dice.randrange(256) for _ in range(320)]
+            rows = '\n'.join(f' DB {",".join(map(str, octets[at : at + 16]))}' for at in range(0, 320, 16))
+            source = self.file(f'{seed}.asm', f'SEGMENT M AT 50h\nstart: MOV SP,800h\n{rows}\n{RESET}')
+            files = Files(source, self.file('it.json', text_of(DEFAULTS | {'budget': 4000})))
+            shown = self.pcboard(*files.words('debug'), given='go 4000\nregs\n').stdout.splitlines()
+            registers, stack = registers_of(shown[1:3]), self.followed(files, 4000).stack
+            self.assertEqual((stack.segment, stack.level % 0x10000), (registers['SS'], registers['SP']), seed)
+            moved += registers['SP'] not in (0, 0x800)
+        self.assertGreater(moved, 25)
+
+    def test_pieces(self) -> None:
+        """However long the pieces are, the same comes out."""
+        files = Files(f'{EXAMPLES}/nested.asm', f'{EXAMPLES}/nested.json')
+        whole = self.followed(files, 9000)
+        for clocks in (1, 61, 500):
+            with mock.patch('toolbox.calls.PIECE', clocks):
+                pieces = self.followed(files, 3000 if clocks == 1 else 9000)
+            wanted = self.followed(files, 3000) if clocks == 1 else whole
+            self.assertEqual((pieces.routines, pieces.requests.lines, pieces.off), (wanted.routines, wanted.requests.lines, wanted.off), clocks)
+
+
 class Told(CallsCase):
     """What the tool prints."""
 
@@ -385,7 +424,7 @@ class Told(CallsCase):
         """The finding's numbers: getc takes 48 to 378 clocks with the key's handler in it, the tick 229 to 237."""
         files = f'{EXAMPLES}/terminal/terminal.asm', f'{EXAMPLES}/terminal/terminal.json'
         out, _ = self.called('trace', '--calls', *files)
-        rows = {it[0]: it for it in map(str.split, out.splitlines()) if it}
+        rows = {each[0]: each for each in map(str.split, out.splitlines()) if each}
         self.assertEqual(rows['getc'][2:4] + rows['getc'][5:7] + rows['getc'][8:], ['48', '378', '48', '106', '20450', '14'])
         self.assertEqual(rows['tick'][4:6], ['229', '237'])
         self.assertEqual(rows['09'][:4], ['09', 'IR1', '2', '61'])
@@ -405,9 +444,26 @@ class Told(CallsCase):
         """The same calls are counted, and requests that rose before aren't averaged."""
         files = Files(f'{EXAMPLES}/nested.asm', f'{EXAMPLES}/nested.json')
         whole, late = self.followed(files, 9000), self.followed(files, 9000, 6000)
-        begun = [it.clock for it in events(files, 6000, 9000) if it.entry == 8]
-        self.assertEqual(sum(it.calls for key, it in late.routines.items() if key[0] == 8), len(begun))
+        begun = [each.clock for each in events(files, 6000, 9000) if each.entry == 8]
+        self.assertEqual(sum(each.calls for key, each in late.routines.items() if key[0] == 8), len(begun))
         self.assertEqual(late.requests.base, whole.requests.base)
+
+    def test_an_interrupt_tells_what_ran_until_then(self) -> None:
+        """The tables are those of a run that ends at the clock that is told."""
+        source, run = self.program('        MOV SP,8000h\nagain:  CALL leaf\n        JMP again\nleaf:   INC AX\n        RET', 1 << 38)
+        with subprocess.Popen(
+            [sys.executable, '-S', f'{TOP}/tools/trace', '--calls', source, run],
+            stdout=subprocess.PIPE,
+            stderr=subprocess.PIPE,
+            text=True,
+            start_new_session=True,
+        ) as process:
+            self.assertTrue(until(lambda: children(process.pid)) and until(lambda: processor_seconds(process.pid) > 1))
+            os.killpg(process.pid, signal.SIGINT)
+            out, err = process.communicate(timeout=SECONDS)
+        ended = re.search(r'^trace: ended at clock (\d+) of \d+; the tables are of the run up to there$', err, re.M)
+        self.assertTrue(process.returncode == 130 and ended, err)
+        self.assertEqual(out, self.called('trace', '--calls', '--to', ended[1] if ended else '', source, run)[0])
 
 
 class Speed(CallsCase):

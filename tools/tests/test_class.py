@@ -239,10 +239,10 @@ class Strangers(ToolCase):
         for name, (text, _) in KINDS.items():
             with open(f'{self.room}/{name}.asm', 'wb') as file:
                 file.write(text)
-        out, _ = self.called('judge', '--class', page, *(f'./{it}.asm' for it in KINDS), '--feedback', 'told', status=1)
-        marks = {row[0]: row[-2:] for row in (it.split('\t') for it in out.splitlines()[1:])}
+        out, _ = self.called('judge', '--class', page, *(f'./{each}.asm' for each in KINDS), '--feedback', 'told', status=1)
+        marks = {row[0]: row[-2:] for row in (each.split('\t') for each in out.splitlines()[1:])}
         self.assertEqual({name: marks[f'./{name}.asm'] == ['6', '6'] for name in KINDS}, {name: is_right for name, (_, is_right) in KINDS.items()})
-        self.assertEqual({it[1] for it in marks.values()}, {'6'})
+        self.assertEqual({each[1] for each in marks.values()}, {'6'})
         for name, (_, is_right) in KINDS.items():
             self.assertRegex(self.told(name), r'Mark: \d of 6')
             if not is_right:
@@ -257,8 +257,8 @@ class Strangers(ToolCase):
         for command in commands:
             out, err = self.called(*shlex.split(command), status=1)
             if command.startswith('judge'):
-                failed = [it for it in out.splitlines() if it.startswith('no')]
-                self.assertTrue(failed and all(f'  {it}\n' in text for it in failed), (name, failed))
+                failed = [each for each in out.splitlines() if each.startswith('no')]
+                self.assertTrue(failed and all(f'  {each}\n' in text for each in failed), (name, failed))
             else:
                 self.assertRegex(out + err, r'fault \d+')
         self.room = room

@@ -113,7 +113,7 @@ class Held(ToolCase):
 
     def words(self, text: str, name: str) -> list[int]:
         """A signal of many bits of a waveform, at each clock."""
-        sign = next(it.split()[3] for it in text.splitlines() if it.startswith('$var') and it.split()[4] == name)
+        sign = next(each.split()[3] for each in text.splitlines() if each.startswith('$var') and each.split()[4] == name)
         found, value = list[int](), 0
         for line in text.partition('$end\n#')[2].splitlines():
             if line.isdecimal() or line.startswith('#'):
@@ -129,12 +129,12 @@ class Held(ToolCase):
             files, first = self.files(seed), 0 if seed % 2 else 700
             rom = physical(*(listing_of(files).label_of('tick') or (0, 0)))
             places = {'0050:07FA,word': (0xCFA, 2), '400': (0x400, 1), 'tick,byte': (rom, 1)}
-            words = [word for it in places for word in ('--watch', it)]
+            words = [word for each in places for word in ('--watch', each)]
             text, _ = self.called('trace', '--vcd', '-', '--from', str(first), *words, files.file, files.run_file)
             for name, (at, size) in places.items():
                 given = ''.join(f'dump {at:X} {size}\ngo 1\n' for _ in range(CLOCKS))
-                told = [it for it in self.pcboard(*files.words('debug'), given=given).stdout.splitlines() if ':' in it]
-                held = [int.from_bytes(bytes.fromhex(it.partition(':')[2]), 'little') for it in told]
+                dumped = [each for each in self.pcboard(*files.words('debug'), given=given).stdout.splitlines() if ':' in each]
+                held = [int.from_bytes(bytes.fromhex(each.partition(':')[2]), 'little') for each in dumped]
                 self.assertEqual(self.words(text, name.partition(',')[0])[first:], held[first:], (seed, name))
                 changes += sum(a != b for a, b in zip(held, held[1:]))
         self.assertGreater(changes, 40)

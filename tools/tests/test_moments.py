@@ -202,7 +202,7 @@ class Board(ToolCase):
         source = self.file('it.asm', TWICE)
         words = (self.file('page', 'budget = 1000\nmemory 402 = 0\n'), source, '--jobs', '1', '--key', '1E', '--at', '100..900')
         out, _ = self.tool('moments', *words, '--sample', '4', '--seed', '2', status=1)
-        failing = [it.partition(':')[0] for it in out.splitlines() if it.startswith('failing')]
+        failing = [each.partition(':')[0] for each in out.splitlines() if each.startswith('failing')]
         self.assertEqual(failing, ['failing 157', 'failing 186', 'failing 193', 'failing 469'])
         for clock, told in ((157, '1E'), (193, '1E'), (211, '1E'), (212, '00'), (300, '00'), (426, '00'), (427, '1E'), (469, '1E')):
             run = self.file('it.json', f'{{"version":1,"ram":64,"sw1":0,"sw2":0,"budget":1000,"keys":[[{clock},30]]}}')
@@ -286,7 +286,7 @@ class Measured(ToolCase):
         self.assertEqual(
             self.tool('moments', *words, '52640..52656')[0].splitlines()[:3:2], ['16 of 16 moments tried, 16 came to key', 'most 330 clocks, after 52648']
         )
-        clocks = [self.clocks_to_key(it) for it in range(52640, 52656)]
+        clocks = [self.clocks_to_key(each) for each in range(52640, 52656)]
         out, _ = self.tool('moments', *words, '52640..52656')
         self.assertIn(f'least {min(clocks)} clocks, after {52640 + clocks.index(min(clocks))}\n', out)
         self.assertIn(f'most {max(clocks)} clocks, after {52640 + clocks.index(max(clocks))}\n', out)
@@ -319,22 +319,22 @@ class Measured(ToolCase):
         self.assertTrue(0 < len(lost) < len(COUNTS))
         return lost, source
 
-    def told(self, out: str) -> list[int]:
+    def failing(self, out: str) -> list[int]:
         """The counts of the failing ranges."""
         found = re.findall(r'^failing count (\d+)(?: to (\d+))?$', out, re.M)
-        return [it for first, last in found for it in range(int(first), int(last or first) + 1)]
+        return [each for first, last in found for each in range(int(first), int(last or first) + 1)]
 
     def test_first_counts(self) -> None:
         """Of a source by its constant, and of Intel HEX by its bytes."""
         lost, source = self.counts()
         page, which = self.file('page', 'memory 500 = 02\n'), ('--first-count', f'{COUNTS.start}..{COUNTS.stop}')
         out, _ = self.tool('moments', page, source, 'race.json', *which, '--poke', 'INITIAL', '--all', status=1)
-        self.assertEqual(self.told(out), lost)
+        self.assertEqual(self.failing(out), lost)
         self.tool('judge', page, 'race.failing.asm', 'race.failing.json', status=1)
-        listing, text = (self.pcboard('asm', *it, source).stdout for it in (['--list'], []))
+        listing, text = (self.pcboard('asm', *each, source).stdout for each in (['--list'], []))
         words = (self.file('race.hex', text), 'race.json', '--symbols', self.file('race.lst', listing), *which)
         out, _ = self.tool('moments', page, *words, '--poke', 'load+1,load+2', '--all', status=1)
-        self.assertEqual(self.told(out), lost)
+        self.assertEqual(self.failing(out), lost)
         self.tool('judge', page, 'race.failing.hex', 'race.failing.json', status=1)
 
     def test_counts_with_keys(self) -> None:

@@ -177,14 +177,15 @@ class Runs(ToolCase):
         with Session(source, probe=True, keys=[(1500, 0x1E)], budget=3000) as session:
             started = session.events(200, 'starts')
             self.assertEqual(
-                [(it.clock, *it.place, it.value) for it in started], [(it.clock, it.segment, it.offset, it.octets) for it in session.trail()[-len(started) :]]
+                [(each.clock, *each.place, each.value) for each in started],
+                [(each.clock, each.segment, each.offset, each.octets) for each in session.trail()[-len(started) :]],
             )
             self.assertEqual(session.clock, 200)
             found = session.events(1400, 'keys', 'entries', 'states', 'wires', 'ports=60-60')
             self.assertIn((1500, 'key', 'arrives', 0x1E), found)
             self.assertIn((1500, 'wire', 'IR1', 1), found)
-            self.assertEqual([it.value for it in found if it.what == 'entry'], [9])
-            self.assertIn(('in', 0x60, 0x1E), [it[1:] for it in found])
+            self.assertEqual([each.value for each in found if each.what == 'entry'], [9])
+            self.assertIn(('in', 0x60, 0x1E), [each[1:] for each in found])
             last = session.events(1400, 'writes=B000:0000-B000:0F9F')[-1]
             self.assertEqual((last.what, session.byte(last.place)), ('write', last.value))
             with self.assertRaisesRegex(Fault, '51 BadCommand'):
@@ -192,7 +193,7 @@ class Runs(ToolCase):
             self.assertEqual((session.clock, len(session.registers())), (3000, 14))
         ticks = '\n'.join(['SEGMENT M AT 0F000h', 'go: INC WORD [count]', ' JMP go', 'ENDS', 'SEGMENT D AT 0', ' DB 7', 'count: DW 0FFh', 'ENDS', RESET])
         with Session(ticks, probe=True) as session:
-            self.assertEqual([it[2:] for it in session.events(200, 'writes=count')][:2], [(1, 0), (1, 1)])
+            self.assertEqual([each[2:] for each in session.events(200, 'writes=count')][:2], [(1, 0), (1, 1)])
 
     def test_a_screen_that_looks_like_an_answer(self) -> None:
         """A refusal, and the end of an answer: on the screen both are text."""

@@ -1,6 +1,8 @@
 """A run's calls and interrupts, as the lines of the probe's `events` tell them, and its registers if they don't."""
 from __future__ import annotations
 
+import contextlib
+import signal
 from bisect import bisect_left
 from dataclasses import dataclass, field
 from typing import Iterator, NamedTuple
@@ -65,6 +67,8 @@ class Mark:
     def asks(self) -> bool:
         """Whether the registers after it are wanted: SS, SP and the flags, or where a call leads if an interrupt is entered there first."""
         does = self.what.effect.does if type(self.what) is Start else Does.TRAPS if type(self.what) is Entry else Does.MOVES
+        if does is Does.MOVES:
+            return False
         return does in ASKING or does in CALLING and (self.next is None or self.next[1] is None)
 
     def target(self) -> Far:
@@ -95,6 +99,9 @@ def what_in(rest: bytes) -> What | Far | None:
     return Port(int(words[1], 16), int(words[2], 16), words[0] == b'out')
 
 
+NEW = Wire(-1, False)  # in place of a line that isn't known yet
+
+
 class Marks:
     """The marks of a run's lines, each once what begins next is known."""
 
@@ -106,13 +113,12 @@ class Marks:
     def of(self, lines: list[bytes]) -> list[Mark]:
         """Those of the next lines, and of lines before that waited for what begins next."""
         known, marks, waits = self._known, self._held, self._waits
-        first = 0
+        first, get = 0, known.get
         for line in lines:
             cut = line.index(b' ')
-            rest = line[cut:]
-            if rest not in known:
-                known[rest] = what_in(rest)
-            what = known[rest]
+            what = get(line[cut:], NEW)
+            if what is NEW:
+                what = known[line[cut:]] = what_in(line[cut:])
             if type(what) is tuple:
                 if waits:
                     waits.next, waits = (int(line[:cut]), what), None
@@ -231,8 +237,8 @@ class Spans:
     def add(self, begun: int, end: int) -> None:
         """One more, which takes those in that began later."""
         while self._begun and self._begun[-1] >= begun:
-            for it in (self._begun, self._ends, self._sums):
-                it.pop()
+            for each in (self._begun, self._ends, self._sums):
+                each.pop()
         covered = end - max(begun, self._ends[-1] if self._ends else 0)
         self._begun.append(begun)
         self._ends.append(end)
@@ -368,7 +374,7 @@ class Calls:
         self.requests, self.spans = Requests(chips), Spans()
         self.off = Off(None if state.flags & INTERRUPT_FLAG else (first, None))
         self.strays = 0
-        self._stack = Stack(state.segment, state.pointer)
+        self.stack = Stack(state.segment, state.pointer)
         self._fresh: Frame | None = None
         self._open: dict[int, list[Frame]] = {}
         self._nests: dict[int, list[Frame]] = {}
@@ -389,9 +395,9 @@ class Calls:
         """An instruction."""
         does = effect.does
         if does is Does.MOVES:
-            self._stack.move(mark.clock, effect.moves)
+            self.stack.move(mark.clock, effect.moves)
         elif does is Does.CALLS:
-            self._call(mark, Frame(mark, self._stack, effect.moves, self._fresh))
+            self._call(mark, Frame(mark, self.stack, effect.moves, self._fresh))
         elif does is Does.TRAPS:
             self._trap(mark, effect)
         elif does is Does.CLEARS_IF or does is Does.SETS_IF:
@@ -404,21 +410,21 @@ class Calls:
     def _know(self, mark: Mark, effect: Effect, state: State) -> None:
         """SS, SP and the flags after an instruction are known."""
         if effect.does is not Does.MAY_TRAP:
-            self._stack.load(mark.clock, state.segment, state.pointer)
+            self.stack.load(mark.clock, state.segment, state.pointer)
             self.off.set(mark.clock, bool(state.flags & INTERRUPT_FLAG), mark.what)
-        elif signed(state.pointer - self._stack.level) == effect.moves:
+        elif signed(state.pointer - self.stack.level) == effect.moves:
             self._trap(mark, effect)
 
     def _trap(self, mark: Mark, effect: Effect) -> None:
         """An interrupt by an instruction."""
-        frame = Frame(mark, self._stack, effect.moves, self._fresh)
+        frame = Frame(mark, self.stack, effect.moves, self._fresh)
         frame.type = effect.type
         self._call(mark, frame)
         self.off.set(mark.clock, False, mark.what)
 
     def _enter(self, mark: Mark, type_: int) -> None:
         """An interrupt between two instructions, with FLAGS, CS and IP on the stack."""
-        frame = Frame(mark, self._stack, -6, self._fresh)
+        frame = Frame(mark, self.stack, -6, self._fresh)
         frame.type, frame.is_entry, frame.line = type_, True, self.requests.line_of(type_)
         if frame.line:
             frame.rise, frame.line.waits = frame.line.waits, None
@@ -445,7 +451,7 @@ class Calls:
 
     def _return(self, mark: Mark, moves: int) -> None:
         """A return, which takes its address from the top of the stack."""
-        frames = self._open.get(self._stack.place)
+        frames = self._open.get(self.stack.place)
         if not frames:
             self.strays += 1
         else:
@@ -456,7 +462,7 @@ class Calls:
             self._ends(frame, mark)
             self._fresh = frame.under
             self._begins(mark)
-        self._stack.move(mark.clock, moves)
+        self.stack.move(mark.clock, moves)
 
     def _ends(self, frame: Frame, mark: Mark) -> None:
         """A call has come to its return."""
@@ -464,7 +470,7 @@ class Calls:
         routine.calls += 1
         routine.took.add(took, frame.clock)
         routine.own.add(took - self.spans.since(frame.clock), frame.clock)
-        routine.stack = max(routine.stack, frame.above - self._stack.lowest(frame.segment, frame.clock))
+        routine.stack = max(routine.stack, frame.above - self.stack.lowest(frame.segment, frame.clock))
         if frame.is_entry and mark.next:
             self.spans.add(frame.clock, mark.next[0])
 
@@ -478,8 +484,22 @@ class Calls:
             for frame in frames:
                 routine = self.routine(frame)
                 routine.calls += 1
-                is_passed = frame.is_passed or frame.segment == self._stack.segment and frame.level < self._stack.level
+                is_passed = frame.is_passed or frame.segment == self.stack.segment and frame.level < self.stack.level
                 (routine.otherwise if is_passed else routine.unended).append(frame.clock)
+
+
+@contextlib.contextmanager
+def whole() -> Iterator[None]:
+    """An interrupt comes after what is done here."""
+    before, came = signal.getsignal(signal.SIGINT), list[int]()
+    if before is signal.default_int_handler:
+        signal.signal(signal.SIGINT, lambda number, _: came.append(number))
+    try:
+        yield
+    finally:
+        signal.signal(signal.SIGINT, before)
+    if came:
+        raise KeyboardInterrupt
 
 
 class Following:
@@ -496,15 +516,17 @@ class Following:
         return self
 
     def __exit__(self, *_: object) -> None:
-        for it in (self._events, self._states):
-            it.__exit__()
+        for each in (self._events, self._states):
+            each.__exit__()
 
     def run(self, end: int) -> Iterator[int]:
         """Follows the clocks up to the end, and tells how far it has come."""
         while self.clock < end:
             clocks = min(PIECE, end - self.clock)
-            self._follow(self._marks.of(self._events.lines(clocks, KINDS)))
-            self.clock += clocks
+            lines = self._events.lines(clocks, KINDS)
+            with whole():
+                self._follow(self._marks.of(lines))
+                self.clock += clocks
             yield self.clock
 
     def end(self) -> Calls:
@@ -515,8 +537,8 @@ class Following:
 
     def _follow(self, marks: list[Mark]) -> None:
         """Follows marks, once SS, SP and the flags are known that their bytes don't tell."""
-        asking = [it for it in marks if it.asks()]
-        for mark, state in zip(asking, self._states.states([it.clock + 1 for it in asking])):
+        asking = [each for each in marks if each.asks()]
+        for mark, state in zip(asking, self._states.states([each.clock + 1 for each in asking])):
             mark.state = state
         for mark in marks:
             self.calls.follow(mark)

@@ -56,7 +56,7 @@ class CallsTable:
 
     def _routines(self) -> Iterator[str]:
         """A line for each routine, the dearest first, and what isn't averaged."""
-        rows = sorted(self.calls.routines.items(), key=lambda it: (-it[1].took.sum, self.name(it[0])))
+        rows = sorted(self.calls.routines.items(), key=lambda each: (-each[1].took.sum, self.name(each[0])))
         yield f'{"":<24} {"":>9} {"clocks":>31}   {"without interrupts":>31}'
         yield f'{"routine":<24} {"times":>9} {NUMBERS}   {NUMBERS} {"most at":>12} {"stack":>6}'
         for key, row in rows:
@@ -107,9 +107,9 @@ class CallsTable:
     @staticmethod
     def _fate(name: str, line: Line) -> Iterator[str]:
         """What became of requests that weren't simply taken."""
-        for it, what in ((line.fell, 'fell again before it was taken'), (line.met, 'rose while a request waited already')):
-            if it.count:
-                yield f'{name}: {what} {times(it.count)}, first at {it.first}'
+        for each, what in ((line.fell, 'fell again before it was taken'), (line.met, 'rose while a request waited already')):
+            if each.count:
+                yield f'{name}: {what} {times(each.count)}, first at {each.first}'
         if line.unseen:
             yield f'{name}: entered without a rise in these clocks {times(line.unseen)}'
         if line.polled:

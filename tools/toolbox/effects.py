@@ -32,11 +32,11 @@ class Effect(NamedTuple):
 
 LOADS = Effect(Does.LOADS)
 PLAIN = {
-    **{it: Effect(Does.MOVES, -2) for it in (0x06, 0x0E, 0x16, 0x1E, 0x9C, *range(0x50, 0x58))},
-    **{it: Effect(Does.MOVES, 2) for it in (0x07, 0x1F, *range(0x58, 0x60))},
+    **{each: Effect(Does.MOVES, -2) for each in (0x06, 0x0E, 0x16, 0x1E, 0x9C, *range(0x50, 0x58))},
+    **{each: Effect(Does.MOVES, 2) for each in (0x07, 0x1F, *range(0x58, 0x60))},
     0x44: Effect(Does.MOVES, 1),
     0x4C: Effect(Does.MOVES, -1),
-    **{it: LOADS for it in (0x17, 0x5C, 0x94, 0x9D, 0xBC)},  # POP SS, POP SP, XCHG AX,SP, POPF, MOV SP
+    **{each: LOADS for each in (0x17, 0x5C, 0x94, 0x9D, 0xBC)},  # POP SS, POP SP, XCHG AX,SP, POPF, MOV SP
     0xE8: Effect(Does.CALLS, -2),
     0x9A: Effect(Does.CALLS, -4),
     0xC3: Effect(Does.RETURNS, 2),
@@ -47,8 +47,8 @@ PLAIN = {
     0xFA: Effect(Does.CLEARS_IF),
     0xFB: Effect(Does.SETS_IF),
 }
-TO_REGISTER = {*(8 * it + 3 for it in range(7)), 0x87, 0x8B, 0x8D, 0xC4, 0xC5}  # ADD r,r/m to XOR r,r/m, XCHG, MOV, LEA, LES, LDS
-TO_OPERAND = {*(8 * it + 1 for it in range(7)), 0x87, 0x89, 0x8C, 0xC7, 0xD1, 0xD3}  # ADD r/m,r to XOR r/m,r, XCHG, MOV, shifts
+TO_REGISTER = {*(8 * each + 3 for each in range(7)), 0x87, 0x8B, 0x8D, 0xC4, 0xC5}  # ADD r,r/m to XOR r,r/m, XCHG, MOV, LEA, LES, LDS
+TO_OPERAND = {*(8 * each + 1 for each in range(7)), 0x87, 0x89, 0x8C, 0xC7, 0xD1, 0xD3}  # ADD r/m,r to XOR r/m,r, XCHG, MOV, shifts
 DIVIDE_ERROR = Effect(Does.MAY_TRAP, -6, 0)
 
 

@@ -10,4 +10,4 @@ def tracefile(source: str, times: Iterable[tuple[int, int]]) -> str:
     for number, count in times:
         sums[number] = sums.get(number, 0) + count
     lines = [f'DA:{number},{count}' for number, count in sorted(sums.items())]
-    return '\n'.join(['TN:', f'SF:{source}', *lines, f'LF:{len(lines)}', f'LH:{sum(it > 0 for it in sums.values())}', 'end_of_record', ''])
+    return '\n'.join(['TN:', f'SF:{source}', *lines, f'LF:{len(lines)}', f'LH:{sum(each > 0 for each in sums.values())}', 'end_of_record', ''])

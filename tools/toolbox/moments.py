@@ -66,7 +66,7 @@ class Plan:
         self.symbols = [files.symbols, read_text(path_of(files.symbols))] if files.symbols else []
         self.listing: Listing | None = None  # where labels stand, once it was asked
         self._poked: tuple[int, Files] | None = None
-        total = math.prod(len(it.values) for it in self.axes)
+        total = math.prod(len(each.values) for each in self.axes)
         if not 0 <= sample <= total:
             raise Sorry(f'--sample {sample}: there are {total} moments')
         self.moments: Sequence[int] = sorted(random.Random(seed).sample(range(total), sample)) if sample else range(total)
@@ -112,14 +112,14 @@ class Plan:
     def words(self, room: str) -> list[str]:
         """The command line of a process that tries moments, with run files in this folder."""
         tool = os.path.join(os.path.dirname(os.path.dirname(os.path.realpath(__file__))), 'moments')
-        keys = [word for it in self.keys for word in ('--key', f'{it.code:02X}', '--at', f'{it.values.start}..{it.values.stop}')]
+        keys = [word for each in self.keys for word in ('--key', f'{each.code:02X}', '--at', f'{each.values.start}..{each.values.stop}')]
         if self.count:
             keys += ['--first-count', f'{self.count.values.start}..{self.count.values.stop}', '--poke', self.count.named]
         sample = ['--sample', str(self.sample), '--seed', str(self.seed)] if self.sample else []
         files = self.files
         form = [*(['--hex'] if files.is_hex else []), *(['--symbols', files.symbols] if files.symbols else [])]
         what = ['--measure', self.asked.place] if self.asked.place else []
-        names = [it for it in (self.asked.page, files.file, files.run_file) if it]
+        names = [each for each in (self.asked.page, files.file, files.run_file) if each]
         return [PYTHON, '-S', tool, '--worker', room, *what, *keys, *sample, *form, '--', *names]
 
     def sum(self) -> str:
@@ -133,7 +133,7 @@ class Plan:
             self.symbols,
             self.sample,
             self.seed,
-            [(it.code, it.values.start, it.values.stop) for it in self.keys],
+            [(each.code, each.values.start, each.values.stop) for each in self.keys],
             [self.count.named, self.count.values.start, self.count.values.stop] if self.count else [],
             program.st_size,
             program.st_mtime_ns,
@@ -245,10 +245,10 @@ def clocks_of(plan: Plan, files: Files, moment: int, place: str) -> int:
     far, stamp = far_of(plan.listing, place), (0, *plan.stamps(moment))[-1]
     rest = plan.fields(plan.runs[0])['budget'] - stamp
     ran = run(files.words('debug'), f'go {stamp}\nbreak {far[0]:X}:{far[1]:X}\ngo {rest}\n'.encode())
-    told = ran.out.splitlines()
-    if ran.status or len(told) != 3:
+    lines = ran.out.splitlines()
+    if ran.status or len(lines) != 3:
         raise Sorry(refusal(ran.status, ran.err))
-    return int(told[2].split()[-1]) - stamp if told[2].startswith('stop') else NEVER
+    return int(lines[2].split()[-1]) - stamp if lines[2].startswith('stop') else NEVER
 
 
 def lines_at(plan: Plan, moments: list[int], failed: dict[int, Failure]) -> dict[int, str]:
@@ -260,10 +260,10 @@ def lines_at(plan: Plan, moments: list[int], failed: dict[int, Failure]) -> dict
         for (number, *_), group in groups.items():
             files = replace(plan.files_of(group[0], room), run_file=f'{room}/run.json')
             write_run(plan, plan.runs[number], files.run_file, group[-1])
-            clocks = [plan.stamps(it)[-1] for it in group]
+            clocks = [plan.stamps(each)[-1] for each in group]
             steps = ''.join(f'go {b - a}\ntrail\n' for a, b in zip([0, *clocks], clocks))
-            told = re.split(r'^clock \d+\n', run(files.words('debug'), steps.encode()).out, flags=re.M)[1:]
-            for moment, trail in zip(group, told):
+            trails = re.split(r'^clock \d+\n', run(files.words('debug'), steps.encode()).out, flags=re.M)[1:]
+            for moment, trail in zip(group, trails):
                 plan.listing = plan.listing or listing_of(files)
                 found[moment] = last_line(plan.listing, trail)
     return found

@@ -34,7 +34,7 @@ class Probe:
             stderr=subprocess.PIPE,
             start_new_session=True,
         )  # the terminal's interrupt doesn't reach it
-        self._owed, self._told = 0, bytearray()
+        self._owed, self._heard = 0, bytearray()
 
     def __enter__(self: P) -> P:
         return self
@@ -45,9 +45,9 @@ class Probe:
 
     def answers(self, commands: list[str]) -> list[str]:
         """The lines that these are answered."""
-        return self.told(commands).decode('ascii').splitlines()
+        return self.answered(commands).decode('ascii').splitlines()
 
-    def told(self, commands: list[str]) -> bytes:
+    def answered(self, commands: list[str]) -> bytes:
         """What these are answered. An answer that an interrupt kept from being read comes before it."""
         given, out = self._process.stdin, self._process.stdout
         assert given and out
@@ -57,17 +57,16 @@ class Probe:
             given.flush()
         except BrokenPipeError:
             self._refuse()
-        while not (self._told.endswith(ENDED) and self._told.count(ENDED) == self._owed):
+        while not (self._heard.endswith(ENDED) and self._heard.count(ENDED) == self._owed):
             octets = out.read1(1 << 16)  # type: ignore[attr-defined]
             if not octets:
                 self._refuse()
-            self._told += octets
-        told = bytes(self._told).split(ENDED)[self._owed - 1]
-        self._owed, self._told = 0, bytearray()
-        fault = re.search(rb'^fault.*', told, re.M)
-        if fault:
-            raise Sorry(f'pcprobe refuses: {fault[0].decode("ascii")}')
-        return told
+            self._heard += octets
+        octets = bytes(self._heard).split(ENDED)[self._owed - 1]
+        self._owed, self._heard = 0, bytearray()
+        if octets.startswith(b'fault') or b'\nfault' in octets:
+            raise Sorry(f'pcprobe refuses: {octets[octets.index(b"fault") :].splitlines()[0].decode("ascii")}')
+        return octets
 
     def _refuse(self) -> NoReturn:
         """A sentence for a session that ended."""
@@ -149,12 +148,12 @@ class Happenings(Probe):
 
     def go_to(self, clock: int) -> None:
         """Goes on to a clock."""
-        self.told([f'go {clock - self.clock}'])
+        self.answered([f'go {clock - self.clock}'])
         self.clock = clock
 
     def lines(self, clocks: int, kinds: str) -> list[bytes]:
         """What happens in so many clocks, of these kinds: lines as `events` prints them."""
-        found = self.told([f'events {clocks} {kinds}']).split(b'\n')
+        found = self.answered([f'events {clocks} {kinds}']).split(b'\n')
         self.clock += clocks
         return found[:-2]  # but for the line that tells the clock, and what follows it: nothing
 
@@ -166,7 +165,7 @@ class Happenings(Probe):
             for clock in clocks[at : at + ASKED]:
                 commands += f'go {clock - self.clock}', 'regs'
                 self.clock = clock
-            for words in STATE.findall(self.told(commands)):
-                pointer, code, segment, offset, flags = (int(it, 16) for it in words)
+            for words in STATE.findall(self.answered(commands)):
+                pointer, code, segment, offset, flags = (int(each, 16) for each in words)
                 found.append(State(segment, pointer, flags, (code, offset)))
         return found

@@ -48,7 +48,7 @@ def watched_in(listing: Listing, texts: list[str]) -> list[Watched]:
     """All that are named."""
     if len(texts) > MOST:
         raise Sorry(f'--watch: {MOST} at most, and these are {len(texts)}')
-    return [watched_of(listing, it) for it in texts]
+    return [watched_of(listing, each) for each in texts]
 
 
 class Watching:
@@ -62,20 +62,20 @@ class Watching:
 
     def _values(self) -> Changes:
         """All values."""
-        values = (sum(self._octets[at] << 8 * place for place, at in enumerate(it.places)) for it in self._watched)
+        values = (sum(self._octets[at] << 8 * place for place, at in enumerate(each.places)) for each in self._watched)
         return tuple(enumerate(values, self._first_signal))
 
     def changes(self, first: int, end: int) -> Iterator[tuple[int, Changes | None]]:
         """The values at the first clock, and at each clock at which one is written; after a piece its clock, with none."""
         with self._session as session:
             session.go_to(first)
-            for at in sorted({at for it in self._watched for at in it.places}):
+            for at in sorted({at for each in self._watched for at in each.places}):
                 self._octets[at] = int(session.answers([f'dump {at:X} 1'])[0].split()[1], 16)
             yield first, self._values()
-            kinds = ' '.join(f'writes={it.places[0]:X}-{it.places[-1]:X}' for it in self._watched)
+            kinds = ' '.join(f'writes={each.places[0]:X}-{each.places[-1]:X}' for each in self._watched)
             while session.clock < end:
                 lines = session.lines(min(PIECE, end - session.clock), kinds)
-                for clock, group in itertools.groupby(map(bytes.split, lines), key=lambda it: int(it[0])):
+                for clock, group in itertools.groupby(map(bytes.split, lines), key=lambda each: int(each[0])):
                     for _, _, address, value in group:
                         self._write(int(address, 16), int(value, 16))
                     yield clock + 1, self._values()
