@@ -61,6 +61,7 @@ SECONDS = {
     'cached_chips': 40,
     'board_plain': 25,
     'events': 20,
+    'events_laws': 10,
     'execute_noted': 17,
     'board_lines': 17,
     'debugger_meaning': 38,
