@@ -3,6 +3,7 @@ tool, and status 2."""
 import argparse
 import contextlib
 import os
+import re
 import sys
 import threading
 import time
@@ -11,6 +12,7 @@ from typing import Callable, Iterator
 from toolbox.writing import write_whole
 
 HINT_STATUS = 2
+STARTED = 'ZEBLUDOR_STARTED'  # in the environment: how the user has started the command zebludor, by which he then knows the tools
 PYTHON = sys.executable or 'python3'  # Python knows no path of its own where it was started without PATH
 SYMBOLS = (
     "with --hex: a NASM listing or map file, or a listing of pcboard asm --list, for labels and lines; FILE@SEGMENT or "
@@ -23,12 +25,42 @@ class Sorry(Exception):
     """What was given isn't the tool's input; its text is a sentence for the user."""
 
 
+class Reader(argparse.ArgumentParser):
+    """A parser whose help names the tools as the user starts them."""
+
+    def format_help(self) -> str:
+        return named(super().format_help())
+
+    def format_usage(self) -> str:
+        return named(super().format_usage())
+
+
 def parser(doc: str) -> argparse.ArgumentParser:
     """A parser whose help is the tool's own docstring."""
-    folder, tool = os.path.split(os.path.realpath(sys.argv[0]))
-    return argparse.ArgumentParser(
-        prog=f'{os.path.basename(folder)}/{tool}', description=doc, allow_abbrev=False, formatter_class=argparse.RawDescriptionHelpFormatter
-    )
+    folder, name = os.path.split(os.path.realpath(sys.argv[0]))
+    prog = named(f'{os.path.basename(folder)}/{name}')
+    return Reader(prog=prog, description=doc, allow_abbrev=False, formatter_class=argparse.RawDescriptionHelpFormatter)
+
+
+def tool(name: str) -> str:
+    """A tool's name as the user starts it: tools/NAME, or zebludor NAME where that command was started."""
+    started = os.environ.get(STARTED)
+    return f'{started} {name}' if started else f'tools/{name}'
+
+
+def named(text: str) -> str:
+    """A text of ours, in which the tools have the names by which the user starts them. What stands in columns stays so."""
+    if not os.environ.get(STARTED):
+        return text
+    lines, shift = list[str](), 0
+    for line in text.split('\n'):
+        anew = re.sub(r'(?<![\w/])tools/(?!test|toolbox|zebludor)([a-z]+)', lambda found: tool(found[1]), line)
+        if '/' not in os.environ[STARTED]:
+            anew = re.sub(r'(?<![\w/.])\./(pcboard|pcprobe)\b', r'\1', anew)
+        is_behind = line.startswith(' ' * 10)
+        shift = shift if is_behind else len(anew) - len(line) if line.startswith('  tools/') else 0
+        lines.append(' ' * shift * is_behind + anew)
+    return '\n'.join(lines)
 
 
 @contextlib.contextmanager

@@ -10,7 +10,7 @@ from dataclasses import dataclass, replace
 from typing import Any, Callable
 
 from toolbox.chips import facts, lines_in, question
-from toolbox.command import Sorry
+from toolbox.command import Sorry, tool
 from toolbox.dap_board import ENDS, MOST_BREAKPOINTS, Machine
 from toolbox.data_labels import Datum, labels_of_data, values_of
 from toolbox.disassembly import instructions
@@ -445,7 +445,7 @@ class Board:
         clock = self.clock
         text = self._helpers.answer(*question(self.files, clock)) if clock <= FARTHEST else None
         if text is None:
-            raise Sorry('tools/dbg shows what the chips hold after so long a run: chips')
+            raise Sorry(f'{tool("dbg")} shows what the chips hold after so long a run: chips')
         lines = lines_in(text, clock)
         return {'lines': lines, 'facts': facts(lines)}
 

@@ -11,7 +11,7 @@ import threading
 from dataclasses import dataclass
 from typing import Any
 
-from toolbox.command import Sorry
+from toolbox.command import Sorry, tool
 from toolbox.runfile import DEFAULTS, text_of
 from toolbox.writing import write_whole
 
@@ -88,7 +88,7 @@ def fields_in(path: str, octets: bytes | None) -> Fields:
     try:
         fields = json.loads(octets)
     except ValueError as error:
-        raise Sorry(f'{path} is no JSON: {error} (tools/why tells more)') from None
+        raise Sorry(f'{path} is no JSON: {error} ({tool("why")} tells more)') from None
     if not isinstance(fields, dict):
         raise Sorry(f'{path} is no run file: it is no JSON object')
     return fields

@@ -8,7 +8,7 @@ from typing import Any, Callable
 from zebludor import FLAGS
 
 from toolbox.chips import Chips, chip_lines
-from toolbox.command import Sorry, read_text
+from toolbox.command import Sorry, read_text, tool
 from toolbox.events import events
 from toolbox.listing import Listing, listing_of
 from toolbox.places import address_of, far_of, number_of
@@ -336,7 +336,7 @@ def expectation_of(name: str, wanted: str, where: str, line: str, weight: int = 
     """A line of a page that is an expectation, whose words any run could be held against."""
     judge = next((it for form, it in JUDGES if re.fullmatch(form, name, re.I)), None)
     if not wanted or judge is None:
-        raise Sorry(f'{where} is no expectation: {line.strip()} (tools/judge --help)')
+        raise Sorry(f'{where} is no expectation: {line.strip()} ({tool("judge")} --help)')
     found = Expectation(name, wanted, judge, where, weight)
     place = name.split()[1] if judge is judge_memory else wanted if judge is judge_runs else None
     if place and not re.fullmatch(PLACE, place):

@@ -8,7 +8,7 @@ import re
 from typing import Any, Optional
 
 from toolbox import program
-from toolbox.command import waiting
+from toolbox.command import tool, waiting
 from toolbox.comments import handed
 from toolbox.faults import Fault, fault_in
 from toolbox.hints import hint_of
@@ -149,7 +149,9 @@ def bad_codes(keys: list[list[int]], number: int) -> list[str]:
     """The entry with no scan code, or the one whose stamp falls."""
     for place, (stamp, code) in enumerate(keys, 1):
         if number == 33 and not (1 <= code <= 83 or 129 <= code <= 211):
-            return [f'entry {place} of "keys", [{stamp},{code}]: codes are 1 to 83 (down) and 129 to 211 (up, 128 more);' ' tools/keys writes them from a text']
+            return [
+                f'entry {place} of "keys", [{stamp},{code}]: codes are 1 to 83 (down) and 129 to 211 (up, 128 more);' f' {tool("keys")} writes them from a text'
+            ]
         if number == 34 and place > 1 and stamp < keys[place - 2][0]:
             return [f'entry {place} of "keys", [{stamp},{code}], comes behind one stamped {keys[place - 2][0]}: sort them']
     return []

@@ -10,7 +10,7 @@ import shutil
 import tempfile
 from typing import Iterator
 
-from toolbox.command import Sorry
+from toolbox.command import Sorry, tool
 from toolbox.expectations import Outcome, Planned, Subject
 from toolbox.explaining import explained, of_a_report
 from toolbox.faults import Fault, fault_in
@@ -107,7 +107,7 @@ class Feedback:
         told = of_a_report(subject.report, files, 'judge') if isinstance(subject, Subject) else []
         if fault:
             told = explained(fault, self.guest.file, files.run_file, self.is_hex)
-            told += [f'tools/why --all {os.path.basename(self.folder)}/{self.name} tells every refused line'] if fault.kind.of == 'source' else []
+            told += [f'{tool("why")} --all {os.path.basename(self.folder)}/{self.name} tells every refused line'] if fault.kind.of == 'source' else []
         if told and tuple(told) not in self._known:
             self._known.add(tuple(told))
             self.tell([f'  {it}' for it in told])
@@ -120,7 +120,7 @@ def commands(folder: str, name: str, words: list[str], number: int) -> list[str]
     under = os.path.basename(folder)
     file, more = f'{under}/{name}', ''.join(f' {shlex.quote(it)}' for it in words)
     plain = ''.join(f' {shlex.quote(it)}' for it in words if not it.startswith('--memory'))
-    return [f'  tools/judge {under}/{number}.page {file} {under}/{number}.json{more}', f'  tools/try {file} --run {under}/{number}.json{plain}']
+    return [f'  {tool("judge")} {under}/{number}.page {file} {under}/{number}.json{more}', f'  {tool("try")} {file} --run {under}/{number}.json{plain}']
 
 
 def drop(folder: str, number: int) -> None:
@@ -165,5 +165,5 @@ def not_begun(folder: str, file: str) -> list[str]:
         return []
     with contextlib.suppress(OSError):
         shutil.copyfile(file, os.path.join(folder, name))
-        return [f'  tools/try {os.path.basename(folder)}/{name}']
+        return [f'  {tool("try")} {os.path.basename(folder)}/{name}']
     return []

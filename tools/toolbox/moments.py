@@ -21,7 +21,7 @@ from dataclasses import dataclass, field, replace
 from typing import Any, Iterator, Sequence
 
 from toolbox.comments import handed
-from toolbox.command import PYTHON, Sorry, read_text, write_text
+from toolbox.command import PYTHON, Sorry, read_text, tool, write_text
 from toolbox.expectations import Planned, page_of
 from toolbox.judging import fields_of, outcomes_of, subject_of
 from toolbox.listing import Listing, code_of, label_in, listing_of
@@ -229,7 +229,7 @@ def failure_of(plan: Plan, files: Files, moment: int | None) -> Failure | None:
         write_run(plan, planned, files.run_file, moment)
         subject = subject_of(files)
         if isinstance(subject, str):
-            raise Sorry(f'{files.file} is {subject} (tools/why tells more)')
+            raise Sorry(f'{files.file} is {subject} ({tool("why")} tells more)')
         subject.listing = plan.listing
         unmet = next((it for it in outcomes_of(planned, subject) if it.but is not None), None)
         plan.listing = subject.listing

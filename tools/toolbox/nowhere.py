@@ -58,6 +58,7 @@ import re
 from itertools import takewhile
 
 from toolbox.chips import chip_lines, facts
+from toolbox.command import tool
 from toolbox.doubts import decimal_call, of_a_call
 from toolbox.later import later
 from toolbox.leaving import is_left
@@ -75,7 +76,7 @@ TRAIL, LONGEST_LOOP, ZEROS, NEAR = 32, 8, 4, 32
 IF, TF = 0x200, 0x100
 SETTERS = {'STI', 'IRET', 'POPF'}
 PORTS = {0x20, 0x21, 0x40, 0x41, 0x42, 0x43, 0x60, 0x61, 0x62, 0x63, 0x3B4, 0x3B5, 0x3B8, 0x3BA}
-WITH_SERVICES = 'or let tools/try --services put such calls into ROM (docs/services.md)'
+WITH_SERVICES = f'or let {tool("try")} --services put such calls into ROM (docs/services.md)'
 NO_BIOS = f'no BIOS is here; {WITH_SERVICES}'
 SERVICES = dict.fromkeys((0x11, 0x12, 0x13, 0x14, 0x15, 0x17, 0x18, 0x19, 0x1A), NO_BIOS) | {
     0x21: f'no DOS is here: text goes to text memory at B000:0000, keys come from port 60h, HLT ends a program; {WITH_SERVICES}',

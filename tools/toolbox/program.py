@@ -12,7 +12,7 @@ from typing import Any, NoReturn
 import zebludor
 from zebludor import LAST_CLOCK, TOP, Ran, Unfit, is_hex_name, limit_memory
 
-from toolbox.command import Sorry
+from toolbox.command import Sorry, tool
 from toolbox.comments import handed
 
 __all__ = [
@@ -95,7 +95,7 @@ def refusal(status: int, err: str) -> str:
     if status < 0:
         return f'the program was ended by signal {-status} ({signal.strsignal(-status)})'
     told = err.strip() or ("a file couldn't be opened, read or written" if status == 3 else f'status {status}')
-    return f'the program refuses: {told} (tools/why tells more)'
+    return f'the program refuses: {told} ({tool("why")} tells more)'
 
 
 class Session(zebludor.Dialogue):

@@ -3,7 +3,7 @@ from __future__ import annotations
 
 from zebludor import COLUMNS, REGISTERS, ROWS, Fault, Report, Unfit, read_report, registers_of
 
-from toolbox.command import Sorry
+from toolbox.command import Sorry, tool
 
 __all__ = ['COLUMNS', 'HERTZ', 'NANOSECONDS', 'REGISTERS', 'ROWS', 'Report', 'registers_of', 'report_of']
 # The real board's clock is a third of 14.318180 MHz.
@@ -16,6 +16,6 @@ def report_of(text: str, name: str = 'standard input') -> Report:
     try:
         return read_report(text)
     except Fault as fault:
-        raise Sorry(f'{name} is a refusal and no report: {fault} (tools/why tells more)') from None
+        raise Sorry(f'{name} is a refusal and no report: {fault} ({tool("why")} tells more)') from None
     except Unfit:
         raise Sorry(f'{name} is no report of pcboard run (docs/formats.md, "Report")') from None

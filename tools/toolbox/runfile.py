@@ -11,7 +11,7 @@ from typing import Any, Iterator
 
 from zebludor import CHOICES, DEFAULTS, FIRST_CHOICES, run_file as text_of
 
-from toolbox.command import Sorry, read_text
+from toolbox.command import Sorry, read_text, tool
 from toolbox.program import Files, answer_of
 from toolbox.report import Report, report_of
 
@@ -35,7 +35,7 @@ def read_run_file(path: str) -> dict[str, Any]:
     try:
         fields = json.loads(read_text(path))
     except ValueError as error:
-        raise Sorry(f'{path} is no JSON: {error} (tools/why tells more)') from None
+        raise Sorry(f'{path} is no JSON: {error} ({tool("why")} tells more)') from None
     if not isinstance(fields, dict):
         raise Sorry(f'{path} is no run file: it is no JSON object')
     return fields
@@ -84,5 +84,5 @@ def budget_of(files: Files) -> int:
     """The run file's budget."""
     budget = read_run_file(files.run_file).get('budget')
     if isinstance(budget, bool) or not isinstance(budget, int):
-        raise Sorry(f'{files.run_file} has no budget (tools/why tells more)')
+        raise Sorry(f'{files.run_file} has no budget ({tool("why")} tells more)')
     return budget
