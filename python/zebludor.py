@@ -203,9 +203,10 @@ class Ran:
 def program(name: str = 'pcboard') -> str:
     """The program pcboard or pcprobe: the one that $PCBOARD or $PCPROBE names, else the one that the repository's launcher takes, or
     one that was built of other sources."""
-    found = os.environ.get(name.upper()) or taken(name)
+    chosen = os.environ.get(name.upper())
+    found = chosen or taken(name)
     if not os.access(found, os.X_OK):
-        raise Unfit(f"the program {found} isn't there; a first run of ./{name} builds one, or name it in {name.upper()}")
+        raise Unfit(f"the program {found}, which {name.upper()} names, isn't there" if chosen else f"the program {found} isn't there")
     return found
 
 
@@ -221,7 +222,8 @@ def taken(name: str) -> str:
     if not path:
         why = re.search(rf"^stored/{name} isn't taken: .*$", told, re.M)
         more = f' ({why[0]})' if why else ''
-        raise Unfit(f'no {name} is built here; a first run of ./{name} builds one, or name one in {name.upper()}{more}')
+        build = f'a first run of ./{name} builds one, or ' if os.path.exists(f'{TOP}/crates.txt') else ''
+        raise Unfit(f'no {name} is built here; {build}name one in {name.upper()}{more}')
     return f'{TOP}/{path[1]}'
 
 

@@ -316,8 +316,8 @@ class Stored(Repository):
         self.store()
         for text in ('\x7fELF of another machine', '#!/no/such/loader\n', '#!/bin/sh\necho "GLIBC_2.99 not found" >&2\nexit 1\n', '#!/bin/sh\nkill -ILL $$\n'):
             self.put(text)
-            self.not_taken("it doesn't start on this machine")
-        self.is_built_instead("it doesn't start on this machine")
+            self.not_taken("it doesn't start on this machine: [^\n]+")
+        self.is_built_instead("it doesn't start on this machine: [^\n]+")
 
     def test_one_that_was_built_here_goes_first(self) -> None:
         self.store()
@@ -386,7 +386,136 @@ class Stored(Repository):
             another, none = self.file('another', '#!/bin/sh\n'), f'{self.room}/none'
             os.chmod(another, 0o755)
             self.assertEqual(self.start('/usr/bin/env', f'{name.upper()}={another}', *ask[name][1:]).stdout, f'{another}\n')
-            self.assertIn(f"the program {none} isn't there", self.start('/usr/bin/env', f'{name.upper()}={none}', *ask[name][1:]).stderr)
+            self.assertIn(
+                f"the program {none}, which {name.upper()} names, isn't there", self.start('/usr/bin/env', f'{name.upper()}={none}', *ask[name][1:]).stderr
+            )
+
+    def test_the_reason_of_what_does_not_start(self) -> None:
+        """What the loader or the shell says, and that the C library is too old."""
+        self.store()
+        missing = "/lib/libc.so.6: version `GLIBC_%s' not found (required by it)"
+        for text, why in (
+            ('#!/no/such/loader\n', 'No such file or directory$|required file not found$'),
+            ('#!/bin/sh\nexit 7\n', 'it ends with status 7$'),
+            ('#!/bin/sh\n' + ''.join(f'echo "{missing % it}" >&2\n' for it in ('2.9', '2.34', '2.4')).replace('`', '\\`') + 'exit 1\n', ''),
+        ):
+            self.put(text)
+            told = self.launch(has_rt=False).stderr.splitlines()[0]
+            glibc = 'it needs glibc 2.34 or later, and here is glibc [0-9.]+; /lib/libc.so.6: version `GLIBC_2.9. not found'
+            self.assertRegex(told, why or glibc)
+
+    def test_the_real_loaders_reason(self) -> None:
+        """Of the program that is tested, made to want a later C library: its name of a version, and the sum of this name."""
+        self.store()
+        with open(program.path(), 'rb') as file:
+            octets = file.read()
+
+        def of_name(name: bytes) -> bytes:
+            found = 0
+            for it in name:
+                found = (found << 4) + it
+                high = found & 0xF0000000
+                found = (found ^ high >> 24) & ~high
+            return found.to_bytes(4, 'little')
+
+        was, now = b'GLIBC_2.34', b'GLIBC_9.99'
+        self.assertTrue(was in octets and of_name(was) in octets)
+        path = self.file('top/stored/pcboard', '')
+        with open(path, 'wb') as file:
+            file.write(octets.replace(was, now).replace(of_name(was), of_name(now)))
+        os.chmod(path, 0o755)
+        whole = self.proved(self.stored)
+        self.file('top/stored/PROVED', whole.text().replace(whole.made['pcboard'].sum, sum_of(path)))
+        self.not_taken("it doesn't start on this machine: it needs glibc 9.99 or later, and here is glibc [0-9.]+; [^\\n]*GLIBC_9.99. not found[^\\n]*")
+
+    def named(self, path: str, *words: str, name: str = 'pcboard') -> subprocess.CompletedProcess[str]:
+        """A start of the launcher, where the environment names a program."""
+        environment = {'PATH': '/usr/bin:/bin', 'XDG_CACHE_HOME': f'{self.room}/cache', name.upper(): path}
+        words = words or ('run',)
+        return subprocess.run([f'{self.top}/{name}', *words], capture_output=True, text=True, check=False, env=environment, cwd=self.room)
+
+    def test_one_that_the_environment_names(self) -> None:
+        self.store()
+        self.launch()
+        os.chmod(self.file('mine', '#!/bin/sh\necho "mine, $PCBOARD$PCPROBE $*"\n'), 0o755)
+        for path in (f'{self.room}/mine', 'mine', './mine', '../' + os.path.basename(self.room) + '/mine'):
+            for name in NAMES:
+                ran = self.named(path, name=name)
+                self.assertEqual((ran.returncode, ran.stdout, ran.stderr), (0, 'mine,  run\n', ''))
+        self.assertEqual(self.named('').stdout, AT_ONCE[1])
+        os.remove(f'{self.stored}/pcboard')  # nor is anything of the stored one wanted then
+        self.assertEqual(self.named('mine').stdout, 'mine,  run\n')
+
+    def test_one_that_leads_to_the_launcher_counts_as_none(self) -> None:
+        self.store()
+        self.launch()
+        os.symlink('top/pcboard', f'{self.room}/a link')
+        os.symlink('a link', f'{self.room}/a link to it')
+        os.link(f'{self.top}/pcboard', f'{self.room}/another name')
+        os.chmod(self.file('a script', f'#!/bin/sh\nexec "{self.top}/pcboard" "$@"\n'), 0o755)
+        for path in (f'{self.top}/pcboard', 'top/../top/pcboard', f'{self.top}/pcprobe', 'a link', 'a link to it', 'another name', 'a script'):
+            ran = self.named(path)
+            self.assertEqual((ran.returncode, ran.stdout, ran.stderr), (*AT_ONCE, ''), path)
+
+    def test_one_that_is_not_there_is_refused(self) -> None:
+        self.store()
+        self.launch()
+        self.file('no program', '')
+        for words in (('run',), ('--version',)):
+            for path, why in (('none', "isn't there"), ('none/none', "isn't there"), ('top', "can't be started"), ('no program', "can't be started")):
+                ran, shown = self.named(path, *words), path if '/' in path else f'./{path}'
+                self.assertEqual((ran.returncode, ran.stdout, ran.stderr), (127, '', f'pcboard: the program {shown}, which PCBOARD names, {why}\n'))
+
+    def test_the_version_calls_it_proved_by_its_sum_alone(self) -> None:
+        self.store()
+        self.launch()
+        shutil.copy(f'{self.stored}/pcboard', f'{self.room}/copy')
+        facts = [f'kit {KIT}', f'logic {LOGIC}']
+        told = self.named('copy', '--version').stdout.splitlines()
+        self.assertEqual((told[1:3], told[4:]), (facts, ['program ./copy, which PCBOARD names, and which was proved']))
+        with open(f'{self.room}/copy', 'ab') as file:
+            file.write(b'\n')
+        for path in ('copy', f'{self.stored}/pcprobe'):
+            told = self.named(path, '--version').stdout.splitlines()
+            self.assertEqual(told[1:], [f'program {path if "/" in path else "./copy"}, which PCBOARD names; nothing here tells that it was proved'])
+
+    def package(self) -> None:
+        """Leaves that repository as a package has it: the stored programs without the sources, and RELEASE."""
+        self.store()
+        for path in ('crates.txt', 'dev/build'):
+            os.remove(f'{self.top}/{path}')
+        shutil.rmtree(f'{self.top}/crates')
+        self.file('top/RELEASE', '')
+
+    def change(self, path: str) -> None:
+        """Changes a file as strip would."""
+        with open(path, 'a', encoding='utf-8') as file:
+            file.write('# changed\n')
+
+    def test_one_that_a_package_has_changed(self) -> None:
+        self.package()
+        self.launch()
+        self.change(f'{self.stored}/pcboard')
+        self.not_taken('its SHA-256 is another')
+        with open(f'{self.stored}/PROVED', 'a', encoding='utf-8') as file:
+            file.write(f'changed pcboard {sum_of(f"{self.stored}/pcboard")}\n')
+        self.assertEqual(self.launch(has_rt=False).stdout, AT_ONCE[1])
+        lines = self.launch('--version').stdout.splitlines()
+        self.assertEqual(lines[1:3] + lines[4:], [f'kit {KIT}', f'logic {LOGIC}', 'program stored/pcboard, proved elsewhere and changed by the package'])
+        self.assertEqual(self.launch('--version', name='pcprobe').stdout.splitlines()[4], 'program stored/pcprobe, proved elsewhere')
+        self.assertEqual(self.proved(self.stored).kit, KIT)
+        shutil.rmtree(f'{self.room}/cache')
+        self.assertIn(f'with {KIT}, and the package has changed them since, as strip does; RELEASE has', self.launch().stderr)
+        self.change(f'{self.stored}/pcboard')
+        self.not_taken('its SHA-256 is another')
+
+    def test_a_clone_takes_none_that_is_changed(self) -> None:
+        self.store()
+        self.launch()
+        self.change(f'{self.stored}/pcboard')
+        with open(f'{self.stored}/PROVED', 'a', encoding='utf-8') as file:
+            file.write(f'changed pcboard {sum_of(f"{self.stored}/pcboard")}\n')
+        self.not_taken('its SHA-256 is another')
 
     def test_a_proof_here_is_compared(self) -> None:
         for name in NAMES:

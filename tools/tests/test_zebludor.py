@@ -79,7 +79,7 @@ class Texts(unittest.TestCase):
         with self.assertRaisesRegex(TypeError, 'budgt is no field'):
             zebludor.run('', budgt=5)
         words = [sys.executable, '-c', 'import zebludor; zebludor.run("")']
-        for changed, wanted in (({'PCBOARD': '/none'}, "the program /none isn't there"), ({'ZEBLUDOR_CHIPS': '/none.a'}, '')):
+        for changed, wanted in (({'PCBOARD': '/none'}, "the program /none, which PCBOARD names, isn't there"), ({'ZEBLUDOR_CHIPS': '/none.a'}, '')):
             environment = os.environ | {'PYTHONPATH': f'{TOP}/python', 'PYTHONDONTWRITEBYTECODE': '1'} | changed
             if not wanted:
                 words[2], wanted = 'import zebludor; zebludor.Pit()', "the chips' library /none.a isn't there"

@@ -18,7 +18,7 @@ PROGRAMS = ('pcboard', 'pcprobe')  # which are stored together
 STORED = f'{TOP}/stored'
 REMEMBERED = f'{CACHE}/zebludor/verdicts'
 VERDICT = 'logic=proved '
-TEXT = re.compile(r'kit (\S+)\nlogic (\S+)\n((?:made \S+ \S+ sources \S+\n)*)((?:\w+: .*\n)*)')
+TEXT = re.compile(r'kit (\S+)\nlogic (\S+)\n((?:made \S+ \S+ sources \S+\n)*)((?:\w+: .*\n)*)(?:changed \S+ \S+\n)*')
 
 
 @dataclass(frozen=True)
