@@ -29,7 +29,9 @@ from typing import IO, TYPE_CHECKING, Any, Iterator, NamedTuple, NoReturn, Seque
 if TYPE_CHECKING:
     import ctypes  # else imported where the chips are loaded: what only runs programs begins sooner without it
 
-TOP = os.path.dirname(os.path.dirname(os.path.realpath(__file__)))
+HERE = os.path.dirname(os.path.realpath(__file__))
+# The repository or the release; of a wheel, its files stand beside this one.
+TOP = f'{HERE}/zebludor_files' if os.path.isdir(f'{HERE}/zebludor_files') else os.path.dirname(HERE)
 LAST_CLOCK = 1 << 40
 MEMORY = 1 << 20
 # The chips' library of a release, else the one that dev/build leaves.

@@ -1,11 +1,12 @@
-"""The server of tools/desk: one page with its modules and one place to ask, on 127.0.0.1 alone, for who has the token. What isn't
-the page's own request is refused: another host or origin, no token, any other path, too much at once."""
+"""The server of tools/desk: one page with its modules and one place to ask, on 127.0.0.1 alone unless another address is said, for who
+has the token. What isn't the page's own request is refused: another host or origin, no token, any other path, too much at once."""
 from __future__ import annotations
 
 import base64
 import hashlib
 import hmac
 import http.server
+import ipaddress
 import json
 import re
 import secrets
@@ -54,26 +55,45 @@ class Server(http.server.ThreadingHTTPServer):
 
     daemon_threads, block_on_close, request_queue_size = True, False, 128
 
-    def __init__(self, page: str, modules: dict[str, str], answer: Callable[[Fields], Fields], port: int = 0) -> None:
-        self.answer = answer
+    def __init__(self, page: str, modules: dict[str, str], answer: Callable[[Fields], Fields], port: int = 0, host: str = HOST) -> None:
+        self.answer, self.host, self.page, self.modules = answer, host, page, tuple(modules)
+        self.address_family = socket.AF_INET6 if ':' in host else socket.AF_INET
         self.token = secrets.token_urlsafe(24)
         self.seconds_of_a_request, self.seconds_of_silence = float(SECONDS_OF_A_REQUEST), float(SECONDS_OF_SILENCE)
         self.seconds_of_a_stranger, self.seconds_of_a_refusal = float(SECONDS_OF_A_STRANGER), float(SECONDS_OF_A_REFUSAL)
         self._lock, self._reading = threading.Lock(), dict[Any, float]()
         self._strangers, self._known = dict[Any, float](), set[Any]()
-        super().__init__((HOST, port), Handler)
-        self.policy = policy_of(page, [self.address + name for name in modules])
+        super().__init__((host, port), Handler)
         self.parts = {'': ('text/html', page.encode())} | {name: ('text/javascript', text.encode()) for name, text in modules.items()}
+
+    def named(self, host: str) -> str:
+        """An address with the port, as requests name it."""
+        return f'[{host}]:{self.server_address[1]}' if ':' in host else f'{host}:{self.server_address[1]}'
 
     @property
     def own_host(self) -> str:
-        """The only host that a request may name."""
-        return f'{HOST}:{self.server_address[1]}'
+        """The host in the address that is printed: of one that stands for all of a machine's, its own."""
+        return self.named(HOST if ipaddress.ip_address(self.host).is_unspecified else self.host)
+
+    def hosts(self, reached: str) -> set[str]:
+        """The hosts that a request may name, that comes to this address of the machine: no names but localhost, so that no other site's
+        name leads here. Who listens elsewhere may be reached through a forwarded port too, at the user's own machine."""
+        if self.host == HOST:
+            return {self.own_host}
+        return {self.own_host, self.named(reached.removeprefix('::ffff:')), self.named(HOST), self.named('localhost')}
 
     @property
     def address(self) -> str:
         """The page's address, with the token."""
-        return f'http://{self.own_host}/{self.token}/'
+        return self.address_at(self.own_host)
+
+    def address_at(self, host: str) -> str:
+        """The page's address at one of its hosts."""
+        return f'http://{host}/{self.token}/'
+
+    def policy(self, host: str) -> str:
+        """The page's policy, where it was asked for at this host."""
+        return policy_of(self.page, [self.address_at(host) + name for name in self.modules])
 
     def process_request(self, request: Any, client_address: Any) -> None:
         """Begins a connection's thread. Until it shows the token it is a stranger, and makes room for others."""
@@ -178,7 +198,7 @@ class Handler(http.server.BaseHTTPRequestHandler):
             return
         self.server.reads(self.connection, False)
         kind, text = self.server.parts[name]
-        self._reply(200, f'{kind}; charset=utf-8', text, (('Content-Security-Policy', self.server.policy),))
+        self._reply(200, f'{kind}; charset=utf-8', text, (('Content-Security-Policy', self.server.policy(self.headers['Host'])),))
 
     def do_POST(self) -> None:  # pylint: disable=invalid-name
         """A question."""
@@ -197,11 +217,11 @@ class Handler(http.server.BaseHTTPRequestHandler):
 
     def _checked(self, is_asking: bool) -> str:
         """What is asked for, behind the token. What isn't the page's own request is refused."""
-        server, own = self.server, f'http://{self.server.own_host}'
-        if self.headers.get_all('Host') != [server.own_host]:
+        server, hosts = self.server, self.headers.get_all('Host') or []
+        if len(hosts) != 1 or hosts[0] not in server.hosts(self.connection.getsockname()[0]):
             raise Refused(403, 'another host')
         origins = self.headers.get_all('Origin') or []
-        if origins != [own] and (is_asking or origins):
+        if origins != [f'http://{hosts[0]}'] and (is_asking or origins):
             raise Refused(403, 'another origin')
         _, token, *_ = f'{self.requestline.split()[1]}/'.split('/', 2)  # of which the standard library takes slashes
         if not hmac.compare_digest(token.encode(), server.token.encode()):

@@ -1,17 +1,19 @@
-"""What a release has, what has to be there for it, and its archive, whose bytes are the same whenever it is made of the same files."""
+"""What a release has, what has to be there for it, and its archive, wheel, Debian package and Containerfile, whose bytes are the same
+whenever they are made of the same files."""
 from __future__ import annotations
 
 import gzip
 import hashlib
 import io
 import os
+import re
 import shutil
 import subprocess
 import tarfile
 import tempfile
 from typing import Iterator
 
-from toolbox import proved
+from toolbox import debian, proved, wheel
 from toolbox.command import Sorry
 from toolbox.crates import TOP, Crates
 from toolbox.proved import PROGRAMS, STORED, Made, Proved
@@ -36,6 +38,19 @@ Version: {version}
 Cflags: -I${{includedir}}
 Libs: -L${{libdir}} {libraries}
 """
+CONTAINER = """# Zebludor {version} for machines without Linux, as docs/install.md tells. In the folder that has it and {package}:
+#   docker build -f Containerfile -t zebludor .
+FROM docker.io/library/debian:bookworm-slim
+COPY {package} /
+RUN apt-get update \\
+ && apt-get install -y --no-install-recommends /{package} gdb \\
+ && rm -rf /{package} /var/lib/apt/lists/* \\
+ && mkdir -m 1777 /work
+ENV HOME=/work
+WORKDIR /work
+EXPOSE 8800
+CMD ["bash"]
+"""
 
 
 def version() -> str:
@@ -59,7 +74,7 @@ def lacking() -> list[str]:
     crates = Crates()
     found = [f"{it} isn't there" for it in (*FILES, *FOLDERS) if not os.path.exists(f'{TOP}/{it}')]
     found += filter(None, (*(of_program(crates, it) for it in PROGRAMS), *(of_library(crates, it) for it in LIBRARIES)))
-    found += [f'{it}, which makes the libraries, is not on the path' for it in ('cc', 'ar') if not shutil.which(it)]
+    found += [f'{it}, which makes libraries and packages, is not on the path' for it in ('cc', 'ar', 'strip') if not shutil.which(it)]
     return found + [f"{it} isn't as it was committed; a release has what a commit has" for it in uncommitted()]
 
 
@@ -182,6 +197,9 @@ def contents() -> dict[str, tuple[bytes, bool]]:
     for path, source in taken.items():
         with open(source, 'rb') as file:
             found[path] = file.read(), not path.startswith('lib/') and os.access(source, os.X_OK)
+    for path, (octets, _) in found.items():
+        if path.endswith('.md'):
+            found[path] = linked(path, octets.decode(), found).encode(), False
     found[SHARED] = shared(archive_of(crates, 'zebludor_chips')), False
     found[MEMORY] = memory(), False
     found['RELEASE'] = verdicts_of(crates).encode(), False
@@ -190,6 +208,20 @@ def contents() -> dict[str, tuple[bytes, bool]]:
     sums = (f'{hashlib.sha256(octets).hexdigest()}  {path}\n' for path, (octets, _) in sorted(found.items()))
     found['SHA256SUMS'] = ''.join(sums).encode(), False
     return found
+
+
+def linked(page: str, text: str, found: dict[str, tuple[bytes, bool]]) -> str:
+    """A page's text, in which the links into what only a clone has are plain words."""
+    there = {*found, *(folder for it in found for folder in folders_of(it))}
+    made = {'RELEASE', 'SHA256SUMS'}
+
+    def kept(link: re.Match[str]) -> str:
+        path = link[2].partition('#')[0]
+        target = os.path.normpath(os.path.join(os.path.dirname(page), path))
+        return link[0] if not path or ':' in path or target in there or target in made else link[1]
+
+    parts = re.split(r'(^```.*?^```)', text, flags=re.M | re.S)
+    return ''.join(it if it.startswith('```') else re.sub(r'(?<!!)\[([^][]*)\]\(([^()\s]+)\)', kept, it) for it in parts)
 
 
 def folders_of(path: str) -> Iterator[str]:
@@ -210,14 +242,28 @@ def members(found: dict[str, tuple[bytes, bool]]) -> Iterator[tuple[tarfile.TarI
         yield entry, octets
 
 
-def make(folder: str) -> tuple[str, str]:
-    """Writes the archive into a folder, in one go; returns its path and its SHA-256."""
+def archive(found: dict[str, tuple[bytes, bool]]) -> bytes:
+    """The archive."""
     written = io.BytesIO()
-    with gzip.GzipFile('', 'wb', 9, written, mtime=0) as packed, tarfile.open(fileobj=packed, mode='w', format=tarfile.USTAR_FORMAT) as archive:
-        for entry, octets in members(contents()):
-            archive.addfile(entry, io.BytesIO(octets))
-    path = f'{folder}/{name()}.tar.gz'
-    with open(f'{path}.new', 'wb') as file:
-        file.write(written.getvalue())
-    os.replace(f'{path}.new', path)
-    return path, sum_of(path)
+    with gzip.GzipFile('', 'wb', 9, written, mtime=0) as packed, tarfile.open(fileobj=packed, mode='w', format=tarfile.USTAR_FORMAT) as whole:
+        for entry, octets in members(found):
+            whole.addfile(entry, io.BytesIO(octets))
+    return written.getvalue()
+
+
+def make(folder: str, maintainer: str) -> list[tuple[str, str]]:
+    """Writes all four into a folder, or none of them; returns their paths and their SHA-256."""
+    found, now = contents(), version()
+    package = debian.name(now)
+    made = {
+        f'{name()}.tar.gz': archive(found),
+        wheel.name(now): wheel.made(found, now),
+        package: debian.made(found, now, maintainer),
+        'Containerfile': CONTAINER.format(version=now, package=package).encode(),
+    }
+    for short, octets in made.items():
+        with open(f'{folder}/{short}.new', 'wb') as file:
+            file.write(octets)
+    for short in made:
+        os.replace(f'{folder}/{short}.new', f'{folder}/{short}')
+    return [(f'{folder}/{short}', sum_of(f'{folder}/{short}')) for short in made]

@@ -1,0 +1,393 @@
+"""The wheel and the Debian package of dev/release, installed and used: the wheel in a venv, the package in a folder, and in a bare
+Debian where ZEBLUDOR_CHROOT names one, as root; and the Containerfile."""
+from __future__ import annotations
+
+import email.parser
+import hashlib
+import io
+import os
+import re
+import shutil
+import signal
+import stat
+import subprocess
+import sys
+import tarfile
+import unittest
+import urllib.request
+import zipfile
+from typing import Any, Callable
+
+from tests.support import SECONDS, is_there
+from tests.test_release import MADE, PYTHON, RUN, Unpacked
+from toolbox import debian, manual, release, wheel
+
+WHEEL, PACKAGE = MADE[1], MADE[2]
+README = re.compile(r'^```\n\./pcboard run .*\n```\n\nprints\n\n```\n(.*?)^```', re.M | re.S)
+GDB = ('--batch', '-ex', 'stepi', '-ex', 'info registers ax')
+C = """#include <zebludor.h>
+int main(void) { zebludor_pit pit = {0}; zebludor_pit_power_on(&pit); return 0; }
+"""
+
+
+class Installed(Unpacked):
+    """What every way of installing has to give: `bin` is where the commands are, and `files` where the release is."""
+
+    def command(self, *words: str, given: str = '', status: int = 0) -> str:
+        """What a command prints, in a folder of the user's own."""
+        ran = self.runs(*words, given=given)
+        self.assertEqual(ran.returncode, status, f'{words}: {ran.stdout}{ran.stderr}')
+        self.assertNotIn('Traceback', ran.stderr)
+        return ran.stdout
+
+    def runs(self, *words: str, given: str = '') -> subprocess.CompletedProcess[str]:
+        """A command of what is installed."""
+        raise NotImplementedError
+
+    def check_commands(self, examples: str, printed: str) -> None:
+        """README's first command, and a tool of each kind."""
+        hello = [f'{examples}/hello.asm', f'{examples}/hello.json']
+        self.assertEqual(self.command('pcboard', 'run', *hello).rstrip(), printed.rstrip())
+        self.assertIn('processor running busy 0', self.command('pcprobe', *hello, given='chips\n'))
+        self.assertIn('1 1 2 3 5 8 13 21', self.command('zebludor', 'try', f'{examples}/fibonacci.asm'))
+        self.assertIn('clock 100: F000:0017', self.command('zebludor', 'dbg', *hello, given='go 100\nquit\n'))
+        self.assertIn('[[2000,30],[2500,158]]', self.command('zebludor', 'keys', 'a'))
+        self.assertIn('STOSW', self.command('zebludor', 'trace', *hello))
+        self.assertIn('(zebludor keys --help)', self.runs('zebludor', 'keys').stderr)
+        self.assertIn('HI', self.command('zebludor', 'why', 'run', *hello))
+        for name in manual.names():
+            self.assertNotIn('tools/', self.command('zebludor', name, '--help'), name)
+
+
+def printed_by_readme(found: dict[str, bytes]) -> str:
+    """What README shows of its first command."""
+    text = found['README.md'].decode()
+    shown = README.search(text)
+    assert shown
+    return shown[1]
+
+
+def dead_links(found: dict[str, bytes]) -> list[str]:
+    """The links in pages that lead nowhere."""
+    there = {*found, *('/'.join(it.split('/')[:at]) for it in found for at in range(1, it.count('/') + 1))}
+    dead = []
+    for page, octets in found.items():
+        if page.endswith('.md'):
+            text = re.sub(r'^```.*?^```', '', octets.decode(), flags=re.M | re.S)
+            for link in re.findall(r'\]\(([^)\s#:]+)[^)]*\)', text):
+                target = os.path.normpath(os.path.join(os.path.dirname(page), link))
+                dead += [] if target in there else [f'{page}: {link}']
+    return dead
+
+
+class Wheel(Installed):
+    """The wheel."""
+
+    def setUp(self) -> None:
+        super().setUp()
+        self.path = f'{self.room}/{WHEEL}'
+        octets = self.octets(WHEEL)
+        with open(self.path, 'wb') as file:
+            file.write(octets)
+        with zipfile.ZipFile(self.path) as whole:
+            self.inside = {it: whole.read(it) for it in whole.namelist()}
+            self.modes = {it.filename: it.external_attr >> 16 for it in whole.infolist()}
+
+    def test_its_records(self) -> None:
+        """Each file but the list itself is listed with its sum and size, and the names and tags agree."""
+        info = f'zebludor-{release.version()}.dist-info'
+        listed = [line.split(',') for line in self.inside[f'{info}/RECORD'].decode().splitlines()]
+        self.assertEqual({it[0] for it in listed}, set(self.inside))
+        for path, its_sum, size in listed[:-1]:
+            self.assertEqual((its_sum, size), (wheel.digest(self.inside[path]), str(len(self.inside[path]))), path)
+        self.assertEqual(listed[-1], [f'{info}/RECORD', '', ''])
+        told = email.parser.Parser().parsestr(self.inside[f'{info}/METADATA'].decode())
+        self.assertEqual((told['Name'], told['Version'], told['Requires-Python']), ('zebludor', release.version(), '>=3.10'))
+        self.assertIn(f'Tag: {wheel.TAG}\n', self.inside[f'{info}/WHEEL'].decode())
+        for path in ('pcboard', 'pcprobe', 'stored/pcboard', 'tools/zebludor'):
+            self.assertEqual(self.modes[f'zebludor_files/{path}'], stat.S_IFREG | 0o755, path)
+
+    def test_links_lead_somewhere(self) -> None:
+        pages = {it.removeprefix('zebludor_files/'): octets for it, octets in self.inside.items() if it.startswith('zebludor_files/')}
+        self.assertIn('docs/install.md', pages)
+        self.assertEqual(dead_links(pages), [])
+
+    def venv(self) -> str:
+        """A venv that has it, or nothing where none can be made."""
+        made = subprocess.run([sys.executable, '-m', 'venv', f'{self.room}/venv'], capture_output=True, text=True, check=False)
+        if made.returncode:
+            print('not run: the wheel in a venv; apt install python3-venv', flush=True)
+            return ''
+        pip = [f'{self.room}/venv/bin/pip', '--disable-pip-version-check', 'install', '--quiet', '--no-index', self.path]
+        done = subprocess.run(pip, capture_output=True, text=True, check=False, env={'PATH': '/usr/bin:/bin', 'HOME': self.room})
+        self.assertEqual((done.returncode, done.stdout), (0, ''), done.stderr)
+        return f'{self.room}/venv'
+
+    def runs(self, *words: str, given: str = '') -> subprocess.CompletedProcess[str]:
+        environment = {'PATH': f'{self.room}/venv/bin:/usr/bin:/bin', 'HOME': self.room}
+        return subprocess.run(words, input=given, capture_output=True, text=True, check=False, env=environment, cwd=self.room, timeout=SECONDS)
+
+    def test_in_a_venv(self) -> None:
+        top = self.venv()
+        if not top:
+            return
+        files = {it.removeprefix('zebludor_files/'): octets for it, octets in self.inside.items()}
+        folder = os.path.dirname(self.command('zebludor', '--pages').strip())
+        self.assertTrue(folder.startswith(f'{os.path.realpath(top)}/') and folder.endswith('/zebludor_files'), folder)
+        self.check_commands(f'{folder}/examples', printed_by_readme(files))
+        self.assertEqual(self.command('python', '-c', PYTHON).split(), ['5', '3', '4'] if self.is_real else ['0', '0', '0'])
+        code = 'import zebludor, sys; print(zebludor.__version__, zebludor.run(open(sys.argv[1]).read(), budget=100).screen[0].strip())'
+        self.assertEqual(self.command('python', '-c', code, f'{folder}/examples/hello.asm'), f'{release.version()} HI\n')
+        self.assertIn('program stored/pcboard, proved elsewhere', self.command('zebludor', '--version'))
+        ran = subprocess.run([f'{top}/bin/zebludor', 'keys'], capture_output=True, text=True, check=False, env={'PATH': '/usr/bin:/bin'})
+        self.assertEqual(ran.stderr, f'keys: there is no text to type ({top}/bin/zebludor keys --help)\n')
+        self.by_gdb(folder)
+        self.desk(folder)
+        self.by_pytest(folder)
+        self.command('pip', '--disable-pip-version-check', 'uninstall', '--quiet', '--yes', 'zebludor')
+        left = [f'{it}/{name}' for it, _, names in os.walk(top) for name in names if 'zebludor' in f'{it}/{name}'.removeprefix(top)]
+        self.assertEqual(left, [])
+
+    def test_a_command_of_it_that_PCBOARD_names(self) -> None:
+        """Leads back to the launcher, which counts as none."""
+        if not self.venv():
+            return
+        environment = {'PATH': f'{self.room}/venv/bin:/usr/bin:/bin', 'HOME': self.room, 'PCBOARD': f'{self.room}/venv/bin/pcboard'}
+        self.command('pcboard', '--version')  # which says once where it was proved
+        ran = subprocess.run(['pcboard', '--help'], capture_output=True, text=True, check=False, env=environment, timeout=SECONDS)
+        self.assertEqual((ran.returncode, ran.stdout.splitlines()[0][:21]), (0, 'An IBM PC 5150 board.'))
+
+    def by_gdb(self, folder: str) -> None:
+        """gdb over it, where gdb is."""
+        if is_there('gdb', 'gdb over the wheel', 'gdb'):
+            hello = [f'{folder}/examples/{it}' for it in ('hello.asm', 'hello.json')]
+            self.assertRegex(self.command('zebludor', 'gdb', *hello, *GDB), r'\nax +0x')
+
+    def desk(self, folder: str) -> None:
+        """The desk gives its page."""
+        environment = {'PATH': f'{self.room}/venv/bin:/usr/bin:/bin', 'HOME': self.room}
+        with subprocess.Popen(
+            ['zebludor', 'desk', '--no-open', f'{folder}/examples/hello.asm'],
+            stdout=subprocess.PIPE,
+            stderr=subprocess.PIPE,
+            text=True,
+            env=environment,
+            cwd=self.room,
+        ) as process:
+            assert process.stdout
+            address = re.search(r'http://\S+', process.stdout.readline())
+            try:
+                assert address
+                with urllib.request.urlopen(address[0], timeout=SECONDS) as page:
+                    self.assertIn(b'<html', page.read())
+                with urllib.request.urlopen(f'{address[0]}asking.js', timeout=SECONDS) as module:
+                    self.assertIn(b'start zebludor desk again', module.read())
+            finally:
+                process.send_signal(signal.SIGINT)
+                process.communicate(timeout=SECONDS)
+
+    def by_pytest(self, folder: str) -> None:
+        """A test of one's own, where pytest is."""
+        if not is_there('pytest', 'pytest over the wheel', 'python3-pytest'):
+            return
+        self.file(
+            'test_mine.py', f"import zebludor\n\ndef test_hi():\n    assert zebludor.run(open('{folder}/examples/hello.asm').read(), budget=100).text == 'HI'\n"
+        )
+        site = os.path.dirname(folder)
+        ran = subprocess.run(
+            ['pytest', '-q', 'test_mine.py'],
+            cwd=self.room,
+            capture_output=True,
+            text=True,
+            check=False,
+            env=os.environ | {'PYTHONPATH': site, 'HOME': self.room},
+        )
+        self.assertEqual(ran.returncode, 0, ran.stdout)
+
+
+def parts_of(octets: bytes) -> dict[str, bytes]:
+    """The parts of a file that ar has packed."""
+    found, at = {}, 8
+    while at < len(octets):
+        head, size = octets[at : at + 60].decode(), int(octets[at + 48 : at + 58])
+        found[head[:16].strip()] = octets[at + 60 : at + 60 + size]
+        at += 60 + size + size % 2
+    return found
+
+
+class Package(Installed):
+    """The Debian package, unpacked, or in a bare Debian."""
+
+    def setUp(self) -> None:
+        super().setUp()
+        octets = self.octets(PACKAGE)
+        self.path = f'{self.room}/{PACKAGE}'
+        with open(self.path, 'wb') as file:
+            file.write(octets)
+        self.assertEqual(octets[:8], b'!<arch>\n')
+        self.parts = parts_of(octets)
+
+    def opened(self, part: str) -> tarfile.TarFile:
+        return tarfile.open(fileobj=io.BytesIO(self.parts[part]))
+
+    def content(self) -> dict[str, bytes]:
+        """Its files below /usr/lib/zebludor."""
+        found = {}
+        with self.opened('data.tar.gz') as data:
+            for it in data.getmembers():
+                file = data.extractfile(it) if it.isfile() else None
+                if file and it.name.startswith('./usr/lib/zebludor/'):
+                    found[it.name.removeprefix('./usr/lib/zebludor/')] = file.read()
+        return found
+
+    def test_its_parts(self) -> None:
+        self.assertEqual(list(self.parts), ['debian-binary', 'control.tar.gz', 'data.tar.gz'])
+        self.assertEqual(self.parts['debian-binary'], b'2.0\n')
+        with self.opened('control.tar.gz') as control:
+            text = control.extractfile('./control')
+            assert text
+            told = email.parser.Parser().parsestr(text.read().decode())
+            sums = control.extractfile('./md5sums')
+            assert sums
+            listed = dict(line.split('  ')[::-1] for line in sums.read().decode().splitlines())
+        self.assertEqual((told['Package'], told['Version'], told['Architecture']), ('zebludor', release.version(), 'amd64'))
+        with self.opened('data.tar.gz') as data:
+            names = data.getnames()
+            self.assertEqual(names, sorted(names))
+            for it in data.getmembers():
+                self.assertEqual((it.mtime, it.uid, it.gid, it.uname, it.gname), (debian.TIME, 0, 0, 'root', 'root'), it.name)
+                file = data.extractfile(it) if it.isfile() else None
+                if file:
+                    self.assertEqual(listed.pop(it.name[2:]), hashlib.md5(file.read()).hexdigest())
+                if it.issym():
+                    target = os.path.normpath(os.path.join(os.path.dirname(it.name), it.linkname))
+                    self.assertTrue(f'./{target}' in names, f'{it.name} leads to {it.linkname}')
+        self.assertEqual(listed, {})
+        self.assertEqual(sorted(os.path.basename(it) for it in names if it.startswith('./usr/bin/')), ['pcboard', 'pcprobe', 'zebludor'])
+        pages = {it.rpartition('/')[2] for it in names if '/man1/' in it}
+        self.assertEqual(pages, {f'{it}.1.gz' for it in ('pcboard', 'pcprobe', 'zebludor', *(f'zebludor-{it}' for it in manual.names()))})
+
+    def test_links_lead_somewhere(self) -> None:
+        self.assertEqual(dead_links(self.content()), [])
+
+    def test_unpacked(self) -> None:
+        """Where dpkg isn't wanted: the tools beside each other, and the stripped program, which says so."""
+        top = f'{self.room}/root'
+        with self.opened('data.tar.gz') as data:
+            data.extractall(top)
+        environment = {'PATH': f'{top}/usr/bin:/usr/bin:/bin', 'HOME': self.room}
+        shown = subprocess.run(['pcboard', '--version'], capture_output=True, text=True, check=True, env=environment).stdout
+        self.assertIn('program stored/pcboard, proved elsewhere and changed by the package\n', shown)
+        self.assertLess(os.path.getsize(f'{top}/usr/lib/zebludor/stored/pcboard'), os.path.getsize(f'{self.top}/stored/pcboard'))
+        python = ['#!/usr/bin/python3\n'] * len(manual.names())
+        heads = []
+        for name in manual.names():
+            with open(f'{top}/usr/lib/zebludor/tools/{name}', encoding='utf-8') as file:
+                heads.append(file.readline())
+        self.assertEqual(heads, python)
+        ran = subprocess.run(['pcboard', 'run', *RUN.split()], cwd=f'{top}/usr/lib/zebludor', capture_output=True, text=True, check=True, env=environment)
+        self.assertEqual(ran.stdout.rstrip(), printed_by_readme(self.content()).rstrip())
+
+    def test_dpkg_and_lintian(self) -> None:
+        if is_there('dpkg-deb', "dpkg's look at the Debian package", 'dpkg'):
+            told = subprocess.run(['dpkg-deb', '--info', self.path], capture_output=True, text=True, check=True)
+            self.assertIn(' Package: zebludor\n', told.stdout)
+            listed = subprocess.run(['dpkg-deb', '--contents', self.path], capture_output=True, text=True, check=True).stdout
+            self.assertIn(' ./usr/bin/zebludor -> ../lib/zebludor/tools/zebludor\n', listed)
+        if is_there('lintian', 'lintian over the Debian package', 'lintian'):
+            ran = subprocess.run(['lintian', '--fail-on', 'none', '--tag-display-limit', '0', self.path], capture_output=True, text=True, check=False)
+            errors = [line for line in ran.stdout.splitlines() if line.startswith('E:')]
+            self.assertEqual((errors, ran.returncode), ([], 0), ran.stderr)
+
+    def bare(self) -> str:
+        """A bare Debian, where one is named and may be used."""
+        folder = os.environ.get('ZEBLUDOR_CHROOT', '')
+        if not folder or os.getuid() != 0:
+            print(
+                'not run: the Debian package in a bare Debian; as root, debootstrap --variant=minbase --include=python3,gcc,libc6-dev,pkg-config,'
+                'python3-pytest bookworm FOLDER makes one, to which apt-get adds gdb, and ZEBLUDOR_CHROOT=FOLDER names it',
+                flush=True,
+            )
+            return ''
+        self.root = folder
+        return folder
+
+    def runs(self, *words: str, given: str = '') -> subprocess.CompletedProcess[str]:
+        environment = {'PATH': '/usr/sbin:/usr/bin:/sbin:/bin', 'HOME': '/root', 'LC_ALL': 'C.UTF-8', 'DEBIAN_FRONTEND': 'noninteractive'}
+        done = ['chroot', self.root, *words]
+        return subprocess.run(done, input=given, capture_output=True, text=True, check=False, env=environment, timeout=SECONDS)
+
+    def files(self) -> dict[str, Any]:
+        """All files there, but for what dpkg and the system write of their own, as what Python keeps of gdb's modules."""
+        found = {}
+        for folder, folders, names in os.walk(self.root):
+            folders[:] = [
+                it
+                for it in folders
+                if f'{folder}/{it}'.removeprefix(self.root) not in ('/proc', '/sys', '/dev', '/var/lib/dpkg', '/var/log', '/var/cache', '/root')
+            ]
+            for name in (*names, *folders) if 'zebludor' in folder or not folder.endswith('/__pycache__') else ():
+                path = f'{folder}/{name}'
+                found[path] = os.readlink(path) if os.path.islink(path) else os.path.isdir(path) or os.path.getsize(path)
+        return found
+
+    def with_package(self, path: str, do: Callable[[], None]) -> None:
+        """Installs a package there, does something, and puts it away again."""
+        shutil.copy(path, f'{self.root}/it.deb')
+        try:
+            self.command('dpkg', '-i', '/it.deb')
+            do()
+        finally:
+            os.remove(f'{self.root}/it.deb')
+
+    def test_in_a_bare_debian(self) -> None:
+        """Installed, used as root and as another, replaced by itself, and purged, which leaves nothing."""
+        if not self.bare():
+            return
+        before = self.files()
+        try:
+            self.with_package(self.path, self.use)
+            self.with_package(self.path, lambda: self.assertIn('HI', self.command('zebludor', 'try', '/usr/share/doc/zebludor/examples/hello.asm')))
+        finally:
+            self.command('dpkg', '--purge', 'zebludor')
+        after = self.files()
+        self.assertEqual(sorted(it for it in {*before, *after} if before.get(it) != after.get(it) and not it.endswith('/__pycache__')), [])
+        self.assertEqual([it for it in after if 'zebludor' in it], [])
+
+    def use(self) -> None:
+        """What is used there."""
+        examples = '/usr/share/doc/zebludor/examples'
+        self.check_commands(examples, printed_by_readme(self.content()))
+        code = f'import zebludor; print(zebludor.__version__, zebludor.run(open("{examples}/hello.asm").read(), budget=100).text)'
+        self.assertEqual(self.command('python3', '-c', code), f'{release.version()} HI\n')
+        self.assertEqual(self.command('python3', '-c', PYTHON).split(), ['5', '3', '4'] if self.is_real else ['0', '0', '0'])
+        another = self.command(
+            'setpriv', '--reuid=65534', '--regid=65534', '--clear-groups', 'env', 'HOME=/tmp/none', 'zebludor', 'try', f'{examples}/hello.asm'
+        )
+        self.command('rm', '-r', '/tmp/none')  # a user's own notes, which are no business of the package
+        self.assertIn('HI', another)
+        if os.path.exists(f'{self.root}/usr/bin/gdb'):
+            self.assertRegex(self.command('zebludor', 'gdb', f'{examples}/hello.asm', f'{examples}/hello.json', *GDB), r'\nax +0x')
+        if os.path.exists(f'{self.root}/usr/bin/pkg-config') and os.path.exists(f'{self.root}/usr/bin/cc'):
+            words = 'cat > /tmp/it.c && cc -o /tmp/it /tmp/it.c $(pkg-config --cflags --libs zebludor_chips) && /tmp/it && rm /tmp/it /tmp/it.c'
+            self.command('sh', '-c', words, given=C)
+        if os.path.exists(f'{self.root}/usr/bin/pytest-3'):
+            test = f"import zebludor\n\ndef test_hi():\n    assert zebludor.run(open('{examples}/hello.asm').read(), budget=100).text == 'HI'\n"
+            self.command('sh', '-c', 'mkdir /tmp/t && cd /tmp/t && cat > test_it.py && pytest-3 -q -p no:cacheprovider; rm -r /tmp/t', given=test)
+        words = 'zebludor desk --no-open --port 8807 > /tmp/said & sleep 1; until grep -q http /tmp/said; do sleep 1; done; '
+        fetch = 'import re, urllib.request; print(urllib.request.urlopen(re.search(r"http://\\S+", open("/tmp/said").read())[0]).status)'
+        self.assertEqual(self.command('sh', '-c', f"{words} python3 -c '{fetch}'; kill -INT $!; kill $!; wait; rm /tmp/said; rm -rf /tmp/desk*"), '200\n')
+
+
+class Container(Unpacked):
+    """The Containerfile, of which no image is built here."""
+
+    def test_it_names_the_package(self) -> None:
+        text = self.octets('Containerfile').decode()
+        self.assertEqual(set(re.findall(r'zebludor_[\w.]+\.deb', text)), {PACKAGE})
+        self.assertRegex(text, r'(?m)^FROM docker\.io/library/debian:bookworm-slim$')
+        print('not run: an image of the Containerfile, which wants podman or docker and the network', flush=True)
+
+
+if __name__ == '__main__':
+    unittest.main()

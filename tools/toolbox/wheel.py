@@ -1,0 +1,88 @@
+"""A release as a wheel: all of it in the folder zebludor_files, the module zebludor beside that, and the commands pcboard, pcprobe
+and zebludor."""
+from __future__ import annotations
+
+import base64
+import hashlib
+import io
+import zipfile
+
+TAG = 'py3-none-manylinux_2_34_x86_64'  # the programs need glibc 2.34
+TIME = (1980, 1, 1, 0, 0, 0)
+FILES = 'zebludor_files'
+START = '''"""The commands pcboard, pcprobe and zebludor."""
+import os
+import sys
+
+TOP = os.path.join(os.path.dirname(os.path.realpath(__file__)), 'zebludor_files')
+
+
+def _begin():
+    """Tells the tools how the user has started them: by name alone where that is found on the path."""
+    folder = os.path.dirname(sys.argv[0])
+    paths = os.environ.get('PATH', '').split(os.pathsep)
+    is_found = any(it and os.path.isdir(it) and os.path.samefile(it, folder or '.') for it in paths)
+    os.environ['ZEBLUDOR_STARTED'] = 'zebludor' if is_found else os.path.join(folder, 'zebludor')
+
+
+def pcboard():
+    """The launcher of pcboard."""
+    _begin()
+    os.execv(f'{TOP}/pcboard', [f'{TOP}/pcboard', *sys.argv[1:]])
+
+
+def pcprobe():
+    """The launcher of pcprobe."""
+    _begin()
+    os.execv(f'{TOP}/pcprobe', [f'{TOP}/pcprobe', *sys.argv[1:]])
+
+
+def zebludor():
+    """The command over the tools."""
+    _begin()
+    os.execv(sys.executable, [sys.executable, f'{TOP}/tools/zebludor', *sys.argv[1:]])
+'''
+COMMANDS = '[console_scripts]\n' + ''.join(f'{it} = zebludor_start:{it}\n' for it in ('pcboard', 'pcprobe', 'zebludor'))
+METADATA = """Metadata-Version: 2.1
+Name: zebludor
+Version: {version}
+Summary: Proved emulator of the IBM PC 5150, with assembler and debugger
+License: MIT OR Apache-2.0
+Requires-Python: >=3.10
+Classifier: Environment :: Console
+Classifier: License :: OSI Approved :: Apache Software License
+Classifier: License :: OSI Approved :: MIT License
+Classifier: Operating System :: POSIX :: Linux
+Classifier: Topic :: System :: Emulators
+"""
+
+
+def name(version: str) -> str:
+    """The wheel's file name."""
+    return f'zebludor-{version}-{TAG}.whl'
+
+
+def digest(octets: bytes) -> str:
+    """A file's sum as RECORD has it."""
+    return 'sha256=' + base64.urlsafe_b64encode(hashlib.sha256(octets).digest()).rstrip(b'=').decode()
+
+
+def made(found: dict[str, tuple[bytes, bool]], version: str) -> bytes:
+    """The wheel of a release's files."""
+    info = f'zebludor-{version}.dist-info'
+    files = {f'{FILES}/{path}': it for path, it in sorted(found.items())}
+    files['zebludor.py'] = found['python/zebludor.py'][0], False
+    files['zebludor_start.py'] = START.encode(), False
+    files |= {f'{info}/{it}': (found[it][0], False) for it in ('LICENSE-APACHE', 'LICENSE-MIT')}
+    files[f'{info}/METADATA'] = METADATA.format(version=version).encode(), False
+    files[f'{info}/WHEEL'] = f'Wheel-Version: 1.0\nGenerator: dev/release\nRoot-Is-Purelib: false\nTag: {TAG}\n'.encode(), False
+    files[f'{info}/entry_points.txt'] = COMMANDS.encode(), False
+    record = ''.join(f'{path},{digest(octets)},{len(octets)}\n' for path, (octets, _) in files.items())
+    files[f'{info}/RECORD'] = f'{record}{info}/RECORD,,\n'.encode(), False
+    written = io.BytesIO()
+    with zipfile.ZipFile(written, 'w') as whole:
+        for path, (octets, is_program) in files.items():
+            entry = zipfile.ZipInfo(path, TIME)
+            entry.create_system, entry.external_attr = 3, (0o100755 if is_program else 0o100644) << 16
+            whole.writestr(entry, octets, zipfile.ZIP_DEFLATED, 9)
+    return written.getvalue()
