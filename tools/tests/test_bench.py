@@ -58,7 +58,9 @@ class Count(ToolCase):
 
     def count(self, *words: str, status: int = 0) -> tuple[str, str]:
         """What bench/count prints, where the only commands are those of the case's folder and the shell's."""
-        with patch.dict(os.environ, {'PATH': self.room}):
+        from toolbox import program
+
+        with patch.dict(os.environ, {'PCBOARD': program.path(), 'PATH': self.room}):
             return self.tool('bench/count', *words, status=status)
 
     def with_valgrind(self) -> None:

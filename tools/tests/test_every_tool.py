@@ -82,6 +82,7 @@ class EveryTool(ToolCase):
                 self.fail(f'{line}: it goes on for {SECONDS} seconds')
         for sign in ('Traceback', 'Exception ignored'):
             self.assertNotIn(sign, told, line)
+        self.assertNotRegex(told, r'(?<!:)//', line)  # a path below nothing
         self.assertFalse(os.path.exists(f'{self.room}/.cache'), line)
         return process.returncode, printed, told
 
@@ -114,6 +115,16 @@ class EveryTool(ToolCase):
             self.assertIn(os.path.basename(tool), told, tool)
 
         self.each(check, tools())
+
+    def test_without_rattle(self) -> None:
+        """What proves says so in a sentence, and begins nothing."""
+        from toolbox.crates import NO_RATTLE
+
+        def check(line: str) -> None:
+            status, printed, told = self.run_tool(line)
+            self.assertEqual((status, printed, told), (2, '', f'{line.split()[0].rpartition("/")[2]}: {NO_RATTLE}\n'), line)
+
+        self.each(check, ['dev/build pcboard', 'dev/build zebludor_chips', 'dev/build --verdicts', 'dev/refused isa'])
 
     def test_a_closed_pipe(self) -> None:
         def check(tool: str) -> None:

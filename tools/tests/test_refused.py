@@ -41,6 +41,9 @@ class Edits(ToolCase):
     """The repository's own edits."""
 
     def test_each_text_stands_in_its_source_once(self) -> None:
+        if not shutil.which('rt'):
+            print("not run: wrong bodies by the gate's own words, which Rattle's rt has", flush=True)
+            return
         rt = judge()
         for name in sorted(os.listdir(f'{TOP}/crates')):
             for edit in edits_of(name):

@@ -4,10 +4,19 @@ from __future__ import annotations
 import os
 import shutil
 
+from toolbox.command import Sorry
+
 TOP = os.path.dirname(os.path.dirname(os.path.dirname(os.path.realpath(__file__))))
 KIT = os.path.dirname(os.path.dirname(os.path.realpath(shutil.which('rt') or '/')))
 RATTLE = f'{KIT}/bin/rattle'
+NO_RATTLE = "Rattle's rt isn't on the path, without which nothing is proved (README.md, 'What is proved')"
 CACHE = os.environ.get('XDG_CACHE_HOME') or os.path.expanduser('~/.cache')  # what is kept there may be removed at any time
+
+
+def want_rattle() -> None:
+    """Refuses where Rattle isn't there."""
+    if not shutil.which('rt'):
+        raise Sorry(NO_RATTLE)
 
 
 class Crates:

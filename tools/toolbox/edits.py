@@ -16,13 +16,14 @@ import types
 from collections.abc import Callable, Iterator
 from dataclasses import dataclass
 
-from toolbox.crates import KIT, TOP, Crates
+from toolbox.crates import KIT, TOP, Crates, want_rattle
 
 FOLDERS = ('must-fail', 'refused')
 
 
 def judge() -> types.ModuleType:
     """The module of `rt` itself, so that an edit is read and judged by the gate's own words."""
+    want_rattle()
     sys.path.insert(0, f'{KIT}/bin')
     loader = importlib.machinery.SourceFileLoader('rt_of_the_kit', f'{KIT}/bin/rt')
     spec = importlib.util.spec_from_loader(loader.name, loader)

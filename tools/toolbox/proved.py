@@ -11,7 +11,7 @@ from dataclasses import dataclass
 from typing import Iterable
 
 from toolbox.command import Sorry, write_text
-from toolbox.crates import CACHE, TOP, Crates
+from toolbox.crates import CACHE, TOP, Crates, want_rattle
 from toolbox.sources import files, stamps, sum_of, sum_of_sources
 
 PROGRAMS = ('pcboard', 'pcprobe')  # which are stored together
@@ -71,6 +71,7 @@ def out(name: str) -> str:
 
 def version() -> tuple[str, str]:
     """The kit that is here, and its logic."""
+    want_rattle()
     told = subprocess.run(['rt', 'version'], stdin=subprocess.DEVNULL, stdout=subprocess.PIPE, text=True, check=False).stdout.split()
     if len(told) != 3:
         raise Sorry("'rt version' tells no kit and logic")

@@ -1,0 +1,122 @@
+"""tools/test where Rattle isn't: what it runs, what its last lines say, and that nothing lands so; and the cases over the program that
+is here, which it finds wrong where they are."""
+from __future__ import annotations
+
+import os
+import shutil
+import subprocess
+import unittest
+
+from tests.support import TOP, ToolCase
+from toolbox import program, stored_cases
+
+HELLO = 'SEGMENT M AT 0F000h|go: HLT|ENDS|SEGMENT R AT 0FFFFh| JMP FAR go|ENDS|'
+RUN = '{"version":1,"ram":64,"sw1":0,"sw2":0,"budget":0,"keys":[]}'
+FILES = f'words asm a.asm ;; file a.asm {HELLO}'
+# The image's HEX text by hand: F4 at F0000, EA 0000 F000 at FFFF0; the sums make each record 0 modulo 256.
+HEX = ':02000002F0000C|:01000000F40B|:05FFF000EA000000F032|:00000001FF|'
+RUNS = (
+    (f'{FILES} ;; status 0 ;; out {HEX}', None),
+    (f'{FILES} ;; status 0 ;; begins :02', None),
+    (f'{FILES} ;; status 1 ;; out {HEX}', 'status 0'),
+    (f'{FILES} ;; status 0 ;; out {HEX}|', 'what is printed'),
+    (f'{FILES} ;; status 0 ;; begins :03', 'what is printed'),
+    (f'{FILES} ;; status 0 ;; out {HEX} ;; err x', 'what is told'),
+    ('words asm a.asm ;; file a.asm FROB| ;; status 1 ;; err fault\\204 UnknownName\\_01line 1|', None),
+    ('words asm a.asm ;; file a.asm FROB| ;; status 1 ;; err fault 4 UnknownName line 2|', 'what is told'),
+    ('words asm a.asm ;; status 3', None),
+    ('words frob ;; status 2 ;; usage Usage: pcboard', None),
+    ('words frob ;; status 2 ;; usage nothing such', 'what is told'),
+)
+LINES = (
+    ('NOP => 90', None),
+    ('MOV AX,five => B80500', None),
+    ('JMP SHORT fore => EB3E', None),
+    (' => none', None),
+    ('FROB => fault 4', None),
+    ('back: NOP => fault 6', None),
+    ('NOP => 91', '90'),
+    ('front 0 => front', None),
+)
+MODULE = 'import unittest\n\n\nclass It(unittest.TestCase):\n    def test_it(self) -> None:\n        self.assertTrue(True)\n'
+
+
+class Cases(ToolCase):
+    """Single cases."""
+
+    def test_runs(self) -> None:
+        for case, why in RUNS:
+            self.assertEqual(stored_cases.amiss_in_a_run(case), why, case)
+
+    def test_lines(self) -> None:
+        for case, answer in LINES:
+            found = stored_cases.amiss_in_a_line(case)
+            self.assertEqual(found, answer, case)
+
+    def test_which_are_left(self) -> None:
+        for case, is_taken in (('words ;; reads 1 ;; status 3', False), ('words ;; each ;; status 0', True), ('words ;; writes 0 ;; status 3', False)):
+            self.assertEqual(stored_cases.is_a_run(case), is_taken)
+        for case, is_taken in (
+            ('NOP => 90', True),
+            ('front 3 => front', True),
+            ('FROB => alone 3', False),
+            ('back none 00 1 => same 5', False),
+            ('hex: : => 21', False),
+            ('run: {} => 32', False),
+            ('read: 1 2 3 => 1 1', False),
+        ):
+            self.assertEqual(stored_cases.is_of_the_assembler(case), is_taken, case)
+
+    def test_spelling(self) -> None:
+        self.assertEqual(stored_cases.spelled('a|\\41\\_03b\\FF'), b'a\nA   b\xff')
+
+
+class Whole(ToolCase):
+    """tools/test in a repository of a test and a few cases."""
+
+    def setUp(self) -> None:
+        super().setUp()
+        self.top = f'{self.room}/top'
+        ignored = shutil.ignore_patterns('tests', '__pycache__')
+        for folder in ('tools', 'python', '.ci'):
+            shutil.copytree(f'{TOP}/{folder}', f'{self.top}/{folder}', ignore=ignored)
+        os.makedirs(f'{self.top}/tools/tests')
+        self.file('top/tools/tests/__init__.py', '')
+        self.file('top/tools/tests/test_it.py', MODULE)
+        self.file('top/crates.txt', '')
+        for crate, lines in (('program_cases', RUNS[:2]), ('source_cases', LINES[:4])):
+            os.makedirs(f'{self.top}/crates/{crate}/src')
+            self.file(f'top/crates/{crate}/stdin', '# a remark\n' + ''.join(f'{case}\n' for case, _ in lines))
+        os.makedirs(f'{self.top}/crates/isa_cases')
+        self.file('top/crates/isa_cases/stdin', '# a remark\n90 => NOP\n91 => XCHG\n')
+
+    def run_it(self, *words: str) -> subprocess.CompletedProcess[str]:
+        environment = {'PATH': '/usr/bin:/bin', 'HOME': self.room, 'PCBOARD': program.path()}
+        return subprocess.run(words, cwd=self.top, capture_output=True, text=True, check=False, env=environment)
+
+    def test_all_that_needs_no_proof(self) -> None:
+        ran = self.run_it('tools/test')
+        lines = ran.stdout.splitlines()
+        self.assertEqual((ran.returncode, lines[-1]), (0, '7 passed, 0 failed'), ran.stdout + ran.stderr)
+        self.assertIn('nothing was proved here', lines[-2])
+        self.assertEqual(lines[-3], '2 runs and 4 sources; not run: 2 other cases, which call crates')
+
+    def test_a_case_that_differs(self) -> None:
+        self.file('top/crates/source_cases/stdin', 'NOP => 91\n')
+        ran = self.run_it('tools/test')
+        self.assertEqual((ran.returncode, ran.stdout.splitlines()[-1]), (1, '3 passed, 1 failed'))
+        self.assertIn('source_cases: NOP => 91: 90\n', ran.stdout)
+
+    def test_the_tools_alone(self) -> None:
+        ran = self.run_it('tools/test', '--tools')
+        self.assertEqual((ran.returncode, ran.stdout.splitlines()[-1]), (0, '1 passed, 0 failed'))
+        self.assertNotIn('proved', ran.stdout)
+
+    def test_nothing_lands_so(self) -> None:
+        ran = self.run_it('.ci/run')
+        self.assertEqual((ran.returncode, ran.stdout.splitlines()[-1]), (1, '0 passed, 1 failed'))
+        self.assertIn("rt isn't on the path", ran.stdout)
+
+
+if __name__ == '__main__':
+    unittest.main()
