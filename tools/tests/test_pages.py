@@ -92,6 +92,10 @@ class Links(unittest.TestCase):
                 if anchor:
                     self.assertIn(anchor, anchors(target), f'{page}: {link}')
 
+    def test_readme_is_read_in_ten_minutes(self) -> None:
+        with open(f'{TOP}/README.md', encoding='utf-8') as file:
+            self.assertLessEqual(len(file.read().split()), 2300)
+
     def test_names_are_in_lower_case(self) -> None:
         for name in os.listdir(f'{TOP}/docs'):
             self.assertRegex(name, r'\A[a-z0-9-]+(\.md)?\Z')
