@@ -51,6 +51,17 @@ class Build(Repository):
         self.assertIn('crate 2 of 2: pcboard', first.stderr)
         self.assertEqual((then.returncode, then.stdout, then.stderr), (0, 'it runs run\n', ''))
 
+    def test_a_crate_that_is_no_program_is_proved_alone(self) -> None:
+        """It and those below it; nothing is left in the repository, and what builds the program then begins above it."""
+        ran = self.start(f'{self.room}/top/dev/build', 'low')
+        self.assertEqual((ran.returncode, ran.stdout), (0, ''), ran.stderr)
+        self.assertRegex(ran.stderr, r'\Alow: proving 1 crates, once: some \d+ minutes; .*\n(?s:.*)low: proved in \d+ s\n\Z')
+        self.assertFalse(os.path.exists(f'{self.room}/top/crates/low/out'))
+        self.launch()
+        with open(f'{self.room}/bin/proved', encoding='utf-8') as file:
+            self.assertEqual(file.read().split(), ['low', 'pcboard'])
+        self.assertIn('crates.txt lists no none', self.start(f'{self.room}/top/dev/build', 'none').stderr)
+
     def test_what_the_program_is_made_of_is_looked_at_and_nothing_else(self) -> None:
         self.launch()
         self.change_text('crates/other/src/lib.rt')

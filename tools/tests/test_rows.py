@@ -1,14 +1,18 @@
-"""The encoding table as code, and CONTRIBUTING's list for adding an instruction, followed in a copy with a made-up row."""
+"""The encoding table as code, and CONTRIBUTING's list for adding an instruction, followed in a copy with a made-up row.
+
+  python3 -m tests.test_rows --write     in tools/: writes FIRST, and the number of rows wherever it stands, as the rows are"""
 from __future__ import annotations
 
 import os
 import re
 import shutil
 import subprocess
+import sys
 import unittest
 from collections.abc import Iterable
 
 from tests.support import TOP, ToolCase
+from toolbox.command import write_text
 
 ROW = re.compile(r'^    row!\(\w+::\w+ 0x([0-9A-F]{2})(?: / \d)?, (\w+) (\w+), ', re.M)
 WIDTH = 99  # of a line; rt fmt lays it out anew
@@ -64,21 +68,40 @@ def stored_index(top: str) -> str:
     return found[1]
 
 
+def write(top: str) -> list[str]:
+    """Makes the index, and each place that has the number of rows, those of the table's rows; returns the files that changed."""
+    count, changed = len(rows(top)), list[str]()
+    for path, form, now in (
+        (INDEX, r'(?s)(?<=^static FIRST: \[u8; 256\] = \[\n).*?(?=\n\];$)', index(top)),
+        (TABLE, r'(?<=^static ROWS: \[Row; )\d+(?=\] = \[)', str(count)),
+        ('docs/machine.md', r'(?<=\bthe )\d+(?= rows of)', str(count)),
+        ('CONTRIBUTING.md', r'(?<=`\[Row; )\d+(?=\]`)', str(count)),
+    ):
+        if not os.path.exists(f'{top}/{path}'):
+            continue
+        text = read(f'{top}/{path}')
+        anew, found = re.subn(form, lambda _, now=now: now, text, flags=re.M)
+        assert found == 1, path
+        if anew.split() != text.split():
+            write_text(f'{top}/{path}', anew)
+            changed.append(path)
+    return changed
+
+
 class Rows(ToolCase):
     """The table, its length and its index."""
 
     maxDiff = None
 
     def test_the_index_is_the_tables(self) -> None:
-        wanted = index(TOP)
-        self.assertEqual(stored_index(TOP).split(), wanted.split(), f'FIRST in {INDEX} must be\n{wanted}')
+        is_so = stored_index(TOP).split() == index(TOP).split()
+        self.assertTrue(is_so, f'FIRST in {INDEX} is of other rows; python3 -m tests.test_rows --write, in tools/, writes it')
 
     def test_its_length(self) -> None:
         count = len(rows(TOP))
         self.assertLessEqual(count, 255)
-        self.assertIn(f'static ROWS: [Row; {count}] = [', read(f'{TOP}/{TABLE}'))
-        self.assertIn(f'the {count} rows of', read(f'{TOP}/docs/machine.md'))
-        self.assertIn(f'`[Row; {count}]`', read(f'{TOP}/CONTRIBUTING.md'))
+        for path, text in ((TABLE, f'static ROWS: [Row; {count}] = ['), ('docs/machine.md', f'the {count} rows of'), ('CONTRIBUTING.md', f'`[Row; {count}]`')):
+            self.assertTrue(text in read(f'{TOP}/{path}'), f'{path} has no "{text}"; python3 -m tests.test_rows --write, in tools/, writes it')
 
     def test_contributing_names_these_places(self) -> None:
         page = read(f'{TOP}/CONTRIBUTING.md')
@@ -102,10 +125,21 @@ class MadeUpRow(ToolCase):
             text = read(f'{self.room}/{path}')
             self.assertEqual(text.count(behind), 1, behind)
             self.file(path, text.replace(behind, behind + new))
-        table = read(f'{self.room}/{TABLE}')
-        count = len(rows(TOP))
-        self.file(TABLE, table.replace(f'[Row; {count}]', f'[Row; {count + 1}]'))
-        self.file(INDEX, read(f'{self.room}/{INDEX}').replace(stored_index(self.room), index(self.room)))
+        os.mkdir(f'{self.room}/docs')
+        for path in ('CONTRIBUTING.md', 'docs/machine.md'):
+            shutil.copy(f'{TOP}/{path}', f'{self.room}/{path}')
+        self.changed = write(self.room)
+
+    def test_what_is_written(self) -> None:
+        """The numbers behind the new row shift by one, and nothing else changes; written once more, nothing does."""
+        count = len(rows(TOP)) + 1
+        self.assertEqual(self.changed, [INDEX, TABLE, 'docs/machine.md', 'CONTRIBUTING.md'])
+        before, after = ([int(it.strip(',')) for it in stored_index(top).split()] for top in (TOP, self.room))
+        place = next(at for at, row in enumerate(rows(self.room)) if row[0] == 'D6')
+        self.assertEqual(after, [place if at == 0xD6 else number + (number >= place) for at, number in enumerate(before)])
+        self.assertIn(f'`[Row; {count}]`', read(f'{self.room}/CONTRIBUTING.md'))
+        self.assertEqual(write(self.room), [])
+        self.assertEqual(write(TOP), [])
 
     def test_isa_is_proved(self) -> None:
         """No two rows fit the same bytes, and the index leads to the first. That digest and decode, which stand on it, are proved
@@ -121,4 +155,7 @@ class MadeUpRow(ToolCase):
 
 
 if __name__ == '__main__':
+    if sys.argv[1:] == ['--write']:
+        print(*write(TOP) or ['nothing changed'], sep='\n')
+        sys.exit()
     unittest.main()
