@@ -1,5 +1,5 @@
 """Programs as DOS and a BIOS load them, in the memory of a board: .COM, .EXE, a diskette's first sector, and a source of the
-dialect; each with the services before it (services/)."""
+dialect; each with the services before it (services/). And those that need none: ROMs, and the first two with examples/archive."""
 from __future__ import annotations
 
 import os
@@ -7,10 +7,10 @@ import struct
 from dataclasses import dataclass
 
 from toolbox import services
-from toolbox.command import Sorry
+from toolbox.command import Sorry, tool
 from toolbox.comments import handed
 from toolbox.listing import line_of, physical
-from toolbox.program import answer_of
+from toolbox.program import TOP, answer_of
 from toolbox.services import LEAST_RAM, MOST_RAM, SPAN
 from toolbox.symbols import image_of
 
@@ -18,6 +18,7 @@ PSP, ENVIRONMENT = 0x100, 0xE0  # paragraphs; a header of a paragraph stands bef
 ROOM_BEFORE = PSP - ENVIRONMENT + 1
 MOST_OF_COM, TAIL, SECTOR = 0xFF00, 126, 0x7C00
 END = ':00000001FF\n'
+ROMS = (8192, 16384, 32768, 65536)  # bytes
 BLOCK, RESET, ROM, SERVICES = 0xFFFE0, 0xFFFF0, 0xF0000, 0xF6000
 HEADER = struct.Struct('<14H')
 SERVICES_OWN = SPAN // 16  # paragraphs of RAM at its end
@@ -82,12 +83,57 @@ def served(image: dict[int, int], start: tuple[int, int], is_dos: bool = True) -
     return Loaded(image, names, [f'{start[0]:04X}:{start[1]:04X} start', *(it for name in names for it in services.labels_of(name))])
 
 
-def com(name: str, octets: bytes, args: str) -> Loaded:
-    """A .COM program."""
+def check_com(name: str, octets: bytes) -> None:
+    """Refuses what is no .COM program."""
     if not octets:
         raise Sorry(f'{name} is empty')
     if len(octets) > MOST_OF_COM:
         raise Sorry(f'{name} has {len(octets):,} bytes, and a .COM program has at most {MOST_OF_COM:,}')
+
+
+def bare_com(name: str, octets: bytes) -> tuple[dict[int, int], list[str]]:
+    """A .COM program that needs no services."""
+    check_com(name, octets)
+    if octets[:2] in (b'MZ', b'ZM'):
+        raise Sorry(f'{name} begins with MZ, so it is an .EXE program: {tool("try")} runs it')
+    return placed(16 * PSP + 0x100, octets) | archive('com'), []
+
+
+def bare_sector(name: str, octets: bytes) -> tuple[dict[int, int], list[str]]:
+    """A first sector that needs no services."""
+    if len(octets) != 512:
+        raise Sorry(f'{name} has {len(octets):,} bytes, and a first sector has 512' + (f': head -c 512 {name} > first.bin' if len(octets) > 512 else ''))
+    ends = octets[-2:].hex(' ').upper()
+    return placed(SECTOR, octets) | archive('sector'), [] if ends == '55 AA' else [
+        f'{name} ends in {ends}; a BIOS starts no sector that ends in anything but 55 AA'
+    ]
+
+
+def bare_rom(name: str, octets: bytes) -> tuple[dict[int, int], list[str]]:
+    """A ROM at the end of memory, where the processor begins, sixteen bytes before the end."""
+    size = len(octets)
+    if size not in ROMS:
+        last = f'; tail -c 65536 {name} > last.bin gives the last 64 KB' if size > ROMS[-1] else ''
+        raise Sorry(f'{name} has {size:,} bytes, and a ROM has {", ".join(f"{it:,}" for it in ROMS[:-1])} or {ROMS[-1]:,}{last}')
+    first = octets[-16:-11]
+    if set(octets[-16:]) in ({0}, {0xFF}):
+        raise Sorry(f'{name} has nothing 16 bytes before its end, where the processor begins: it is no ROM, or not all of it')
+    image = placed((1 << 20) - size, octets)
+    if first[0] != 0xEA:
+        return image, [f'{name} has {first[0]:02X} 16 bytes before its end, where the processor begins; a ROM of a PC has EA there, a far jump']
+    offset, segment = struct.unpack('<HH', first[1:])
+    is_inside = physical(segment, offset) in image
+    return image, [] if is_inside else [f'the far jump at the end of {name} leads to {segment:04X}:{offset:04X}, where it has no byte']
+
+
+def archive(name: str) -> dict[int, int]:
+    """The bytes of examples/archive that set the registers before a program."""
+    return image_of(answer_of(['asm', '--', f'{TOP}/examples/archive/{name}.asm']))
+
+
+def com(name: str, octets: bytes, args: str) -> Loaded:
+    """A .COM program."""
+    check_com(name, octets)
     at = 16 * PSP
     image = prefix_of(PSP, ENVIRONMENT, name, args) | placed(at + 0x100, octets) | placed(at + 0xFFFE, b'\0\0')
     return served(image | begins(PSP, (PSP, 0x100), (PSP, 0xFFFE), ENVIRONMENT), (PSP, 0x100))

@@ -1,0 +1,108 @@
+"""tools/judge --seal and --sealed: a report that is edited is found, also where its sums are made anew."""
+from __future__ import annotations
+
+import hashlib
+import json
+import os
+import unittest
+from typing import Any
+
+from tests.support import ToolCase, example
+from toolbox import program, sealing
+
+NOT_ASCII = 'SEGMENT M AT 0F000h\ngo: HLT ; \xe9\nENDS\nSEGMENT R AT 0FFFFh\n JMP FAR go\nENDS\n'
+
+
+class Sealing(ToolCase):
+    """Over the built program."""
+
+    def seal(self, *words: str) -> dict[str, Any]:
+        """A seal that is written."""
+        printed = self.called('judge', '--seal', 'it.seal', *words)[0]
+        with open(f'{self.room}/it.seal', encoding='utf-8') as file:
+            found: dict[str, Any] = json.load(file)
+        sums = [f'{hashlib.sha256(found["texts"][it].encode()).hexdigest()}  {it}' for it in ('program', 'run file', 'report')]
+        self.assertEqual(printed.splitlines(), sums)
+        return found
+
+    def checked(self, sealed: dict[str, Any], status: int = 0) -> list[str]:
+        """What a check of these words prints."""
+        self.file('it.seal', json.dumps(sealed))
+        return self.called('judge', '--sealed', 'it.seal', status=status)[0].splitlines()
+
+    def renewed(self, sealed: dict[str, Any], name: str, old: str, new: str) -> dict[str, Any]:
+        """A seal in which a text is edited, and its sum made anew."""
+        self.assertIn(old, sealed['texts'][name])
+        text = sealed['texts'][name].replace(old, new)
+        return sealed | {'texts': sealed['texts'] | {name: text}, 'sums': sealed['sums'] | {name: hashlib.sha256(text.encode()).hexdigest()}}
+
+    def test_one_that_is_whole(self) -> None:
+        source, run = example('hello')
+        sealed = self.seal(source, run)
+        with open(source, encoding='utf-8') as file, open(run, encoding='utf-8') as other:
+            self.assertEqual((sealed['texts']['program'], sealed['texts']['run file']), (file.read(), other.read()))
+        self.assertEqual(sealed['texts']['report'], self.pcboard('run', source, run).stdout)
+        with open(program.path(), 'rb') as answering:
+            self.assertEqual(sealed['board']['sum'], hashlib.sha256(answering.read()).hexdigest())
+        self.assertEqual((sealed['name'], sealed['hex']), ('hello.asm', False))
+        lines = self.checked(sealed)
+        self.assertEqual(lines[-2:], ['ok  the program here is the sealed one', '5 met, 0 not'])
+        self.assertIn('is there already', self.called('judge', '--seal', 'it.seal', source, run, status=2)[1])
+
+    def test_one_that_is_edited(self) -> None:
+        sealed = self.seal(*example('hello'))
+        for name, old, new in (('report', 'HI', 'HO'), ('report', 'lost 0', 'lost 1'), ('program', '0748h', '0749h'), ('run file', '100', '60')):
+            lines = self.checked(self.renewed(sealed, name, old, new), status=1)
+            self.assertEqual([it[:2] for it in lines[:-1]], ['ok', 'ok', 'ok', 'no', 'ok'], lines)
+        lines = self.checked(self.renewed(sealed, 'report', 'HI', 'HO'), status=1)
+        self.assertEqual(lines[3], "no  the report is what this board answers, to the byte: line 8: sealed 'HO', here 'HI'")
+        lines = self.checked(sealed | {'texts': sealed['texts'] | {'report': sealed['texts']['report'] + ' '}}, status=1)
+        self.assertEqual([it[:2] for it in lines[:-1]], ['ok', 'ok', 'no', 'no', 'ok'])
+        lines = self.checked(self.renewed(sealed, 'program', 'SEGMENT', 'SEGMINT'), status=1)
+        self.assertIn('here \'the program refuses: fault', lines[3])
+
+    def test_the_board_that_answers(self) -> None:
+        sealed = self.seal(*example('hello'))
+        lines = self.checked(sealed | {'board': sealed['board'] | {'sum': 64 * '0'}})
+        self.assertTrue(lines[4].startswith(f'ok  another program answers here: {sealed["board"]["sum"]}, and sealed it was 0000'))
+        lines = self.checked(sealed | {'board': sealed['board'] | {'kit': 'rattle-kit-0', 'verdicts': {'isa': 'logic=proved'}}}, status=1)
+        self.assertEqual(lines[4], 'no  the program here is the sealed one: but the kit and the verdicts that PROVED tells of it')
+
+    def test_what_is_proved_stands_in_it(self) -> None:
+        """Of a program of which PROVED tells nothing, nothing is sealed but its sum."""
+        another = f'{self.room}/another'
+        with open(program.path(), 'rb') as file, open(another, 'wb') as to:
+            to.write(file.read() + b'\n')
+        os.chmod(another, 0o755)
+        held = os.environ.get('PCBOARD')
+        os.environ['PCBOARD'] = another
+        try:
+            self.assertEqual(set(sealing.board()), {'version', 'sum'})
+        finally:
+            os.environ.pop('PCBOARD')
+            os.environ.update({} if held is None else {'PCBOARD': held})
+
+    def test_each_kind_of_program(self) -> None:
+        for words in (example('monitor'), (self.file('it.asm', NOT_ASCII),)):
+            sealed = self.seal(*words)
+            self.assertEqual('\xe9' in sealed['texts']['program'], words[0].endswith('it.asm'))
+            self.assertEqual(self.called('judge', '--sealed', 'it.seal')[0].splitlines()[-1], '5 met, 0 not')
+            os.remove(f'{self.room}/it.seal')
+        with open(f'{self.room}/it.com', 'wb') as file:
+            file.write(bytes.fromhex('B409BA0901CD21C3') + b'\x90Hello$')
+        sealed = self.seal('it.com')
+        self.assertEqual((sealed['name'], sealed['hex']), ('it.com', True))
+        self.assertIn('Hello', sealed['texts']['report'])
+        self.assertEqual(self.checked(sealed)[-1], '5 met, 0 not')
+
+    def test_what_is_none(self) -> None:
+        for text in ('', '{}', '[]', '{"kind":"zebludor sealed report 1"}', '[' * 100_000, 'clock 100\n'):
+            self.file('x', text)
+            self.assertEqual(self.called('judge', '--sealed', 'x', status=2)[1], 'judge: x is no sealed report\n')
+        for words in (('--seal', 'x'), ('--sealed', 'x', 'y'), ('--seal', 'x', '--sealed', 'x', 'y'), ('--seal', 'x', 'a', 'b', 'c')):
+            self.assertIn('stand FILE and perhaps RUN', self.called('judge', *words, status=2)[1])
+        self.assertIn('required: PATH', self.called('judge', status=2)[1])
+
+
+if __name__ == '__main__':
+    unittest.main()

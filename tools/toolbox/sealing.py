@@ -1,0 +1,112 @@
+"""Sealed reports: one file with a program, its run file and its report, their sums, and what was proved of the board that answered.
+Who checks one runs it again, so that a report that was edited is found, whatever sums stand beside it."""
+from __future__ import annotations
+
+import hashlib
+import json
+import os
+import tempfile
+from typing import Any
+
+import zebludor
+
+from toolbox import program, proved
+from toolbox.command import Sorry, read_text, write_bytes
+from toolbox.expectations import Outcome
+from toolbox.program import Files
+from toolbox.sources import sum_of
+
+TEXTS = ('program', 'run file', 'report')
+KIND = 'zebludor sealed report 1'
+
+
+def read_exactly(path: str) -> str:
+    """A file's text, of which each byte comes back."""
+    try:
+        with open(path, 'rb') as file:
+            return file.read().decode('utf-8', 'surrogateescape')
+    except OSError as error:
+        raise Sorry(f"{path} can't be read: {error.strerror}") from None
+
+
+def octets_of(text: str) -> bytes:
+    return text.encode('utf-8', 'surrogateescape')
+
+
+def digest(text: str) -> str:
+    """A text's SHA-256."""
+    return hashlib.sha256(octets_of(text)).hexdigest()
+
+
+def board() -> dict[str, Any]:
+    """The board that answers here: its version and the SHA-256 of the program, and what PROVED tells of it, if that is its sum."""
+    path = program.path()
+    its_sum = sum_of(path)
+    found: dict[str, Any] = {'version': zebludor.__version__, 'sum': its_sum}
+    for folder in (os.path.dirname(path), proved.STORED):
+        told = proved.read(folder)
+        made = next((it for it in told.made.values() if it.sum == its_sum), None) if told else None
+        if told and made:
+            return found | {'kit': told.kit, 'logic': told.logic, 'sources': made.sources, 'verdicts': told.verdicts}
+    return found
+
+
+def seal(files: Files, path: str, name: str) -> list[str]:
+    """Runs a program, and writes its seal where no file is; returns what to print."""
+    if os.path.lexists(path):
+        raise Sorry(f'{path} is there already')
+    texts = dict(zip(TEXTS, (read_exactly(files.file), read_exactly(files.run_file), program.answer_of(files.words('run')))))
+    sealed = {'kind': KIND, 'name': os.path.basename(name), 'hex': files.is_hex, 'board': board()}
+    sealed |= {'sums': {it: digest(text) for it, text in texts.items()}, 'texts': texts}
+    write_bytes(path, (json.dumps(sealed, indent=1) + '\n').encode())
+    return [f'{digest(text)}  {it}' for it, text in texts.items()]
+
+
+def read(path: str) -> dict[str, Any]:
+    """A seal, as far as its form goes."""
+    try:
+        sealed = json.loads(read_text(path))
+        texts, sums, of_board = sealed['texts'], sealed['sums'], sealed['board']
+        is_one = sealed['kind'] == KIND and isinstance(sealed['hex'], bool) and isinstance(of_board['sum'], str)
+        is_one = is_one and all(isinstance(them[it], str) for them in (texts, sums) for it in TEXTS)
+        for it in TEXTS:
+            octets_of(texts[it])
+    except (ValueError, KeyError, TypeError, RecursionError):
+        is_one = False
+    if not is_one:
+        raise Sorry(f'{path} is no sealed report')
+    return sealed  # type: ignore[no-any-return]
+
+
+def outcomes(path: str) -> list[Outcome]:
+    """What comes of checking a seal: its sums, and its report against what this board answers."""
+    sealed = read(path)
+    found = [
+        Outcome(f'sum of the {it}', None if digest(text) == sealed['sums'][it] else f'is {digest(text)}') for it, text in sealed['texts'].items() if it in TEXTS
+    ]
+    with tempfile.TemporaryDirectory() as room:
+        files = Files(f'{room}/program', f'{room}/run.json', sealed['hex'])
+        for to, it in ((files.file, 'program'), (files.run_file, 'run file')):
+            write_bytes(to, octets_of(sealed['texts'][it]))
+        ran = program.run(files.words('run'))
+    answer = ran.out if ran.status == 0 else program.refusal(ran.status, ran.err)
+    return [*found, Outcome('the report is what this board answers, to the byte', differing(sealed['texts']['report'], answer)), of_verdicts(sealed['board'])]
+
+
+def differing(sealed: str, answer: str) -> str | None:
+    """In which line a report differs from another."""
+    if sealed == answer:
+        return None
+    ours, here = sealed.split('\n'), answer.split('\n')
+    at = next((at for at, (one, other) in enumerate(zip(ours, here)) if one != other), min(len(ours), len(here)))
+    shown = [(it[at].rstrip() if at < len(it) else 'nothing') for it in (ours, here)]
+    return f'line {at + 1}: sealed {shown[0]!r}, here {shown[1]!r}'
+
+
+def of_verdicts(sealed: dict[str, Any]) -> Outcome:
+    """Whether the board here is the sealed one, and then, whether what was proved of it is as sealed."""
+    here = board()
+    if sealed['sum'] != here['sum']:
+        return Outcome(f'another program answers here: {here["sum"]}, and sealed it was {sealed["sum"]}', None)
+    what = [it for it in ('version', 'kit', 'logic', 'sources', 'verdicts') if sealed.get(it) != here.get(it)]
+    return Outcome('the program here is the sealed one', f'but the {" and the ".join(what)} that PROVED tells of it' if what else None)
