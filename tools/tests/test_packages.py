@@ -341,18 +341,26 @@ class Package(Installed):
             os.remove(f'{self.root}/it.deb')
 
     def test_in_a_bare_debian(self) -> None:
-        """Installed, used as root and as another, replaced by itself, and purged, which leaves nothing."""
+        """Installed, used as root and as another, replaced by a later one, and purged, which leaves nothing."""
         if not self.bare():
             return
         before = self.files()
         try:
             self.with_package(self.path, self.use)
-            self.with_package(self.path, lambda: self.assertIn('HI', self.command('zebludor', 'try', '/usr/share/doc/zebludor/examples/hello.asm')))
+            self.file('top/VERSION', '99.0.0\n')
+            os.mkdir(f'{self.room}/later')
+            self.assertEqual(self.release(f'{self.room}/later').returncode, 0)
+            self.with_package(f'{self.room}/later/{debian.name("99.0.0")}', self.use_later)
         finally:
             self.command('dpkg', '--purge', 'zebludor')
         after = self.files()
         self.assertEqual(sorted(it for it in {*before, *after} if before.get(it) != after.get(it) and not it.endswith('/__pycache__')), [])
         self.assertEqual([it for it in after if 'zebludor' in it], [])
+
+    def use_later(self) -> None:
+        """What shows that a later one is there, and works."""
+        self.assertIn('pcboard 99.0.0\n', self.command('zebludor', '--version'))
+        self.assertIn('HI', self.command('zebludor', 'try', '/usr/share/doc/zebludor/examples/hello.asm'))
 
     def use(self) -> None:
         """What is used there."""
