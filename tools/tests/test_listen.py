@@ -118,9 +118,9 @@ class Started(ToolCase):
         for words, is_told in (((), False), (('--listen', '127.0.0.2'), False), (('--listen', '0.0.0.0'), True)):
             process, address = self.begin(*words)
             status = subprocess.run([sys.executable, '-c', FETCH, address], capture_output=True, text=True, check=True).stdout
-            told = self.end(process)
+            said = self.end(process)
             self.assertEqual(status, '200\n')
-            self.assertEqual('desk: who reaches 0.0.0.0, port ' in told, is_told, told)
+            self.assertEqual('desk: who reaches 0.0.0.0, port ' in said, is_told, said)
 
     def test_what_is_no_address(self) -> None:
         for word in ('localhost', 'evil.example', '', '1.2.3', '127.0.0.1:80'):

@@ -69,7 +69,7 @@ def printed_by_readme(found: dict[str, bytes]) -> str:
 
 def dead_links(found: dict[str, bytes]) -> list[str]:
     """The links in pages that lead nowhere."""
-    there = {*found, *('/'.join(it.split('/')[:at]) for it in found for at in range(1, it.count('/') + 1))}
+    there = {*found, *('/'.join(each.split('/')[:at]) for each in found for at in range(1, each.count('/') + 1))}
     dead = []
     for page, octets in found.items():
         if page.endswith('.md'):
@@ -90,25 +90,25 @@ class Wheel(Installed):
         with open(self.path, 'wb') as file:
             file.write(octets)
         with zipfile.ZipFile(self.path) as whole:
-            self.inside = {it: whole.read(it) for it in whole.namelist()}
-            self.modes = {it.filename: it.external_attr >> 16 for it in whole.infolist()}
+            self.inside = {each: whole.read(each) for each in whole.namelist()}
+            self.modes = {each.filename: each.external_attr >> 16 for each in whole.infolist()}
 
     def test_its_records(self) -> None:
         """Each file but the list itself is listed with its sum and size, and the names and tags agree."""
         info = f'zebludor-{release.version()}.dist-info'
         listed = [line.split(',') for line in self.inside[f'{info}/RECORD'].decode().splitlines()]
-        self.assertEqual({it[0] for it in listed}, set(self.inside))
+        self.assertEqual({each[0] for each in listed}, set(self.inside))
         for path, its_sum, size in listed[:-1]:
             self.assertEqual((its_sum, size), (wheel.digest(self.inside[path]), str(len(self.inside[path]))), path)
         self.assertEqual(listed[-1], [f'{info}/RECORD', '', ''])
-        told = email.parser.Parser().parsestr(self.inside[f'{info}/METADATA'].decode())
-        self.assertEqual((told['Name'], told['Version'], told['Requires-Python']), ('zebludor', release.version(), '>=3.10'))
+        said = email.parser.Parser().parsestr(self.inside[f'{info}/METADATA'].decode())
+        self.assertEqual((said['Name'], said['Version'], said['Requires-Python']), ('zebludor', release.version(), '>=3.10'))
         self.assertIn(f'Tag: {wheel.TAG}\n', self.inside[f'{info}/WHEEL'].decode())
         for path in ('pcboard', 'pcprobe', 'stored/pcboard', 'tools/zebludor'):
             self.assertEqual(self.modes[f'zebludor_files/{path}'], stat.S_IFREG | 0o755, path)
 
     def test_links_lead_somewhere(self) -> None:
-        pages = {it.removeprefix('zebludor_files/'): octets for it, octets in self.inside.items() if it.startswith('zebludor_files/')}
+        pages = {each.removeprefix('zebludor_files/'): octets for each, octets in self.inside.items() if each.startswith('zebludor_files/')}
         self.assertIn('docs/install.md', pages)
         self.assertEqual(dead_links(pages), [])
 
@@ -131,7 +131,7 @@ class Wheel(Installed):
         top = self.venv()
         if not top:
             return
-        files = {it.removeprefix('zebludor_files/'): octets for it, octets in self.inside.items()}
+        files = {each.removeprefix('zebludor_files/'): octets for each, octets in self.inside.items()}
         folder = os.path.dirname(self.command('zebludor', '--pages').strip())
         self.assertTrue(folder.startswith(f'{os.path.realpath(top)}/') and folder.endswith('/zebludor_files'), folder)
         self.check_commands(f'{folder}/examples', printed_by_readme(files))
@@ -145,7 +145,7 @@ class Wheel(Installed):
         self.desk(folder)
         self.by_pytest(folder)
         self.command('pip', '--disable-pip-version-check', 'uninstall', '--quiet', '--yes', 'zebludor')
-        left = [f'{it}/{name}' for it, _, names in os.walk(top) for name in names if 'zebludor' in f'{it}/{name}'.removeprefix(top)]
+        left = [f'{each}/{name}' for each, _, names in os.walk(top) for name in names if 'zebludor' in f'{each}/{name}'.removeprefix(top)]
         self.assertEqual(left, [])
 
     def test_a_command_of_it_that_PCBOARD_names(self) -> None:
@@ -160,7 +160,7 @@ class Wheel(Installed):
     def by_gdb(self, folder: str) -> None:
         """gdb over it, where gdb is."""
         if is_there('gdb', 'gdb over the wheel', 'gdb'):
-            hello = [f'{folder}/examples/{it}' for it in ('hello.asm', 'hello.json')]
+            hello = [f'{folder}/examples/{each}' for each in ('hello.asm', 'hello.json')]
             self.assertRegex(self.command('zebludor', 'gdb', *hello, *GDB), r'\nax +0x')
 
     def desk(self, folder: str) -> None:
@@ -234,10 +234,10 @@ class Package(Installed):
         """Its files below /usr/lib/zebludor."""
         found = {}
         with self.opened('data.tar.gz') as data:
-            for it in data.getmembers():
-                file = data.extractfile(it) if it.isfile() else None
-                if file and it.name.startswith('./usr/lib/zebludor/'):
-                    found[it.name.removeprefix('./usr/lib/zebludor/')] = file.read()
+            for each in data.getmembers():
+                file = data.extractfile(each) if each.isfile() else None
+                if file and each.name.startswith('./usr/lib/zebludor/'):
+                    found[each.name.removeprefix('./usr/lib/zebludor/')] = file.read()
         return found
 
     def test_its_parts(self) -> None:
@@ -246,26 +246,26 @@ class Package(Installed):
         with self.opened('control.tar.gz') as control:
             text = control.extractfile('./control')
             assert text
-            told = email.parser.Parser().parsestr(text.read().decode())
+            said = email.parser.Parser().parsestr(text.read().decode())
             sums = control.extractfile('./md5sums')
             assert sums
             listed = dict(line.split('  ')[::-1] for line in sums.read().decode().splitlines())
-        self.assertEqual((told['Package'], told['Version'], told['Architecture']), ('zebludor', release.version(), 'amd64'))
+        self.assertEqual((said['Package'], said['Version'], said['Architecture']), ('zebludor', release.version(), 'amd64'))
         with self.opened('data.tar.gz') as data:
             names = data.getnames()
             self.assertEqual(names, sorted(names))
-            for it in data.getmembers():
-                self.assertEqual((it.mtime, it.uid, it.gid, it.uname, it.gname), (debian.TIME, 0, 0, 'root', 'root'), it.name)
-                file = data.extractfile(it) if it.isfile() else None
+            for each in data.getmembers():
+                self.assertEqual((each.mtime, each.uid, each.gid, each.uname, each.gname), (debian.TIME, 0, 0, 'root', 'root'), each.name)
+                file = data.extractfile(each) if each.isfile() else None
                 if file:
-                    self.assertEqual(listed.pop(it.name[2:]), hashlib.md5(file.read()).hexdigest())
-                if it.issym():
-                    target = os.path.normpath(os.path.join(os.path.dirname(it.name), it.linkname))
-                    self.assertTrue(f'./{target}' in names, f'{it.name} leads to {it.linkname}')
+                    self.assertEqual(listed.pop(each.name[2:]), hashlib.md5(file.read()).hexdigest())
+                if each.issym():
+                    target = os.path.normpath(os.path.join(os.path.dirname(each.name), each.linkname))
+                    self.assertTrue(f'./{target}' in names, f'{each.name} leads to {each.linkname}')
         self.assertEqual(listed, {})
-        self.assertEqual(sorted(os.path.basename(it) for it in names if it.startswith('./usr/bin/')), ['pcboard', 'pcprobe', 'zebludor'])
-        pages = {it.rpartition('/')[2] for it in names if '/man1/' in it}
-        self.assertEqual(pages, {f'{it}.1.gz' for it in ('pcboard', 'pcprobe', 'zebludor', *(f'zebludor-{it}' for it in manual.names()))})
+        self.assertEqual(sorted(os.path.basename(each) for each in names if each.startswith('./usr/bin/')), ['pcboard', 'pcprobe', 'zebludor'])
+        pages = {each.rpartition('/')[2] for each in names if '/man1/' in each}
+        self.assertEqual(pages, {f'{each}.1.gz' for each in ('pcboard', 'pcprobe', 'zebludor', *(f'zebludor-{each}' for each in manual.names()))})
 
     def test_links_lead_somewhere(self) -> None:
         self.assertEqual(dead_links(self.content()), [])
@@ -290,8 +290,8 @@ class Package(Installed):
 
     def test_dpkg_and_lintian(self) -> None:
         if is_there('dpkg-deb', "dpkg's look at the Debian package", 'dpkg'):
-            told = subprocess.run(['dpkg-deb', '--info', self.path], capture_output=True, text=True, check=True)
-            self.assertIn(' Package: zebludor\n', told.stdout)
+            said = subprocess.run(['dpkg-deb', '--info', self.path], capture_output=True, text=True, check=True)
+            self.assertIn(' Package: zebludor\n', said.stdout)
             listed = subprocess.run(['dpkg-deb', '--contents', self.path], capture_output=True, text=True, check=True).stdout
             self.assertIn(' ./usr/bin/zebludor -> ../lib/zebludor/tools/zebludor\n', listed)
         if is_there('lintian', 'lintian over the Debian package', 'lintian'):
@@ -322,9 +322,9 @@ class Package(Installed):
         found = {}
         for folder, folders, names in os.walk(self.root):
             folders[:] = [
-                it
-                for it in folders
-                if f'{folder}/{it}'.removeprefix(self.root) not in ('/proc', '/sys', '/dev', '/var/lib/dpkg', '/var/log', '/var/cache', '/root')
+                each
+                for each in folders
+                if f'{folder}/{each}'.removeprefix(self.root) not in ('/proc', '/sys', '/dev', '/var/lib/dpkg', '/var/log', '/var/cache', '/root')
             ]
             for name in (*names, *folders) if 'zebludor' in folder or not folder.endswith('/__pycache__') else ():
                 path = f'{folder}/{name}'
@@ -354,8 +354,8 @@ class Package(Installed):
         finally:
             self.command('dpkg', '--purge', 'zebludor')
         after = self.files()
-        self.assertEqual(sorted(it for it in {*before, *after} if before.get(it) != after.get(it) and not it.endswith('/__pycache__')), [])
-        self.assertEqual([it for it in after if 'zebludor' in it], [])
+        self.assertEqual(sorted(each for each in {*before, *after} if before.get(each) != after.get(each) and not each.endswith('/__pycache__')), [])
+        self.assertEqual([each for each in after if 'zebludor' in each], [])
 
     def use_later(self) -> None:
         """What shows that a later one is there, and works."""

@@ -152,8 +152,8 @@ class Unpacked(Repository):
         """The path of an archive that is made, beside which the others are."""
         ran = self.release(into)
         self.assertEqual((ran.returncode, ran.stderr), (0, ''))
-        paths = [f'{into or self.room}/{it}' for it in MADE]
-        self.assertEqual(ran.stdout, ''.join(f'{sum_of(it)}  {it}\n' for it in paths))
+        paths = [f'{into or self.room}/{name}' for name in MADE]
+        self.assertEqual(ran.stdout, ''.join(f'{sum_of(path)}  {path}\n' for path in paths))
         return paths[0]
 
     def octets(self, name: str) -> bytes:

@@ -21,7 +21,7 @@ class Sealing(ToolCase):
         printed = self.called('judge', '--seal', 'it.seal', *words)[0]
         with open(f'{self.room}/it.seal', encoding='utf-8') as file:
             found: dict[str, Any] = json.load(file)
-        sums = [f'{hashlib.sha256(found["texts"][it].encode()).hexdigest()}  {it}' for it in ('program', 'run file', 'report')]
+        sums = [f'{hashlib.sha256(found["texts"][each].encode()).hexdigest()}  {each}' for each in ('program', 'run file', 'report')]
         self.assertEqual(printed.splitlines(), sums)
         return found
 
@@ -53,11 +53,11 @@ class Sealing(ToolCase):
         sealed = self.seal(*example('hello'))
         for name, old, new in (('report', 'HI', 'HO'), ('report', 'lost 0', 'lost 1'), ('program', '0748h', '0749h'), ('run file', '100', '60')):
             lines = self.checked(self.renewed(sealed, name, old, new), status=1)
-            self.assertEqual([it[:2] for it in lines[:-1]], ['ok', 'ok', 'ok', 'no', 'ok'], lines)
+            self.assertEqual([each[:2] for each in lines[:-1]], ['ok', 'ok', 'ok', 'no', 'ok'], lines)
         lines = self.checked(self.renewed(sealed, 'report', 'HI', 'HO'), status=1)
         self.assertEqual(lines[3], "no  the report is what this board answers, to the byte: line 8: sealed 'HO', here 'HI'")
         lines = self.checked(sealed | {'texts': sealed['texts'] | {'report': sealed['texts']['report'] + ' '}}, status=1)
-        self.assertEqual([it[:2] for it in lines[:-1]], ['ok', 'ok', 'no', 'no', 'ok'])
+        self.assertEqual([each[:2] for each in lines[:-1]], ['ok', 'ok', 'no', 'no', 'ok'])
         lines = self.checked(self.renewed(sealed, 'program', 'SEGMENT', 'SEGMINT'), status=1)
         self.assertIn('here \'the program refuses: fault', lines[3])
 

@@ -64,12 +64,12 @@ class Starting(Command):
 
     def test_a_word_that_is_no_tool(self) -> None:
         for word in ('test', 'toolbox', 'zebludor', 'nothing', '../tools/try'):
-            printed, told = self.zebludor(word, status=2)
+            printed, said = self.zebludor(word, status=2)
             self.assertEqual(printed, '')
-            self.assertRegex(told, rf'\Azebludor: {re.escape(word)} is no tool: dap, dbg, desk, .*, why\n\Z')
+            self.assertRegex(said, rf'\Azebludor: {re.escape(word)} is no tool: dap, dbg, desk, .*, why\n\Z')
 
     def test_all_tools_are_listed(self) -> None:
-        executable = {it for it in os.listdir(TOOLS) if os.path.isfile(f'{TOOLS}/{it}') and os.access(f'{TOOLS}/{it}', os.X_OK)}
+        executable = {each for each in os.listdir(TOOLS) if os.path.isfile(f'{TOOLS}/{each}') and os.access(f'{TOOLS}/{each}', os.X_OK)}
         listed = re.findall(r'^  (\w+) {2,}\S', self.zebludor('--help')[0].partition('\ntools:\n')[2], re.M)
         self.assertEqual(set(listed), executable - {'test', 'zebludor'})
         self.assertEqual(self.zebludor()[0], self.zebludor('--help')[0])
@@ -84,11 +84,11 @@ class Names(Command):
     """How it names the tools."""
 
     def test_by_its_name_on_the_path(self) -> None:
-        for words, told in (
+        for words, said in (
             (('keys',), 'keys: there is no text to type (zebludor keys --help)\n'),
             (('try', '--nonsense', HELLO[0]), 'zebludor try: error: unrecognized arguments: --nonsense\n'),
         ):
-            self.assertTrue(self.zebludor(*words, status=2)[1].endswith(told), words)
+            self.assertTrue(self.zebludor(*words, status=2)[1].endswith(said), words)
 
     def test_by_its_path_and_by_the_tools_own(self) -> None:
         path = os.path.relpath(f'{TOOLS}/zebludor', self.room)
@@ -99,18 +99,18 @@ class Names(Command):
         """Those that judge a class are processes of their own, and write to files."""
         page, bad = self.file('it.page', 'shows = HI\n'), self.file('bad.asm', 'SEGMENT MAIN AT 0F000h\n MOV AX\nENDS\n')
         self.zebludor('judge', '--class', page, bad, '--feedback', 'said', status=1)
-        told = ''
+        said = ''
         for folder, _, files in os.walk(f'{self.room}/said'):
             for name in files:
                 with open(f'{folder}/{name}', encoding='utf-8', errors='replace') as file:
-                    told += file.read()
-        self.assertRegex(told, r'zebludor (why --all|try) ')
-        self.assertNotIn('tools/', told)
+                    said += file.read()
+        self.assertRegex(said, r'zebludor (why --all|try) ')
+        self.assertNotIn('tools/', said)
 
     def test_in_hints(self) -> None:
         source, run = self.program('MOV AH,9\nINT 21h\nHLT')
-        told = self.zebludor('why', 'run', source, run)[1]
-        self.assertIn('or let zebludor try --services put such calls into ROM', told)
+        said = self.zebludor('why', 'run', source, run)[1]
+        self.assertIn('or let zebludor try --services put such calls into ROM', said)
 
     def test_what_the_user_calls_so_keeps_its_name(self) -> None:
         self.assertEqual(self.zebludor('table', 'tools/try', status=2)[1], "table: tools/try can't be read: No such file or directory\n")
@@ -123,8 +123,8 @@ class Names(Command):
             anew = re.sub(r'\bzebludor (?=(' + '|'.join(manual.names()) + r')\b)', 'tools/', by_it)
             self.assertEqual(re.sub(r'(?<=\s)\./(?=pc)', '', own).split(), anew.split(), name)
         lines = self.zebludor('judge', '--help')[0].splitlines()
-        behind = next(it for it in lines if it.strip().startswith('write the rows'))
-        self.assertEqual(behind.index('write'), next(it.index('judges many') for it in lines if 'judges many' in it))
+        behind = next(each for each in lines if each.strip().startswith('write the rows'))
+        self.assertEqual(behind.index('write'), next(each.index('judges many') for each in lines if 'judges many' in each))
 
 
 class Manual(Command):
@@ -134,8 +134,8 @@ class Manual(Command):
         """In their order, up to the options, and each option with its words."""
         for name in manual.names():
             shown = ' '.join(self.plain(manual.page(name)).split())
-            told = self.zebludor(name, '--help')[0].partition('\n\n')[2]
-            text, _, words = re.sub(r'\n(positional arguments|options):\n', '\0', told).partition('\0')
+            said = self.zebludor(name, '--help')[0].partition('\n\n')[2]
+            text, _, words = re.sub(r'\n(positional arguments|options):\n', '\0', said).partition('\0')
             self.assertIn(' '.join(text.split()), shown, name)
             for word in words.replace('\0', ' ').split():
                 self.assertIn(word, shown, f'{name}: {word}')
@@ -144,8 +144,8 @@ class Manual(Command):
         """A page's text without what man reads."""
         page = re.sub(r'\\f[BIR]|\\&', '', page)
         page = re.sub(r'^\.(SH|TP|PP|EX|EE|TH|BR)\b.*\n?', '', page, flags=re.M)
-        for sign, told in {r'\-': '-', r'\(ga': '`', r'\(aq': "'", r'\(ha': '^', r'\(ti': '~', r'\e': '\\'}.items():
-            page = page.replace(sign, told)
+        for sign, said in {r'\-': '-', r'\(ga': '`', r'\(aq': "'", r'\(ha': '^', r'\(ti': '~', r'\e': '\\'}.items():
+            page = page.replace(sign, said)
         return page
 
     def test_programs(self) -> None:
@@ -184,13 +184,13 @@ class Completion(Command):
         found |= {('zebludor', name): self.options_in(self.help_of(name)) for name in manual.names()}
         for name, tasks in manual.PROGRAMS.items():
             for task in tasks:
-                told = subprocess.run([f'{TOP}/{name}', *filter(None, (task,)), '--help'], capture_output=True, text=True, check=True).stdout
-                found[(name, task) if task else (name,)] = self.options_in(told) | ({'--version'} if not task else set())
+                said = subprocess.run([f'{TOP}/{name}', *filter(None, (task,)), '--help'], capture_output=True, text=True, check=True).stdout
+                found[(name, task) if task else (name,)] = self.options_in(said) | ({'--version'} if not task else set())
         return found
 
-    def options_in(self, told: str) -> set[str]:
+    def options_in(self, said: str) -> set[str]:
         """The options that a help lists."""
-        return set(re.findall(r'^ +(?:-\w(?: \S+)?, )?(--[\w-]+)', told, re.M))
+        return set(re.findall(r'^ +(?:-\w(?: \S+)?, )?(--[\w-]+)', said, re.M))
 
     def script(self, shell: str) -> str:
         return self.file(shell, self.zebludor('--completion', shell)[0])
@@ -225,9 +225,9 @@ class Completion(Command):
         words = ['zsh', '-f', '-c', ZSH, '', self.script('zsh')]
         for before, options in self.wanted().items():
             specs = self.offered(words, *before, 'x', '--') if len(before) == 1 else self.offered(words, *before, '--')
-            self.assertEqual({it.partition('[')[0] for it in specs if it.startswith('--')}, options, before)
+            self.assertEqual({each.partition('[')[0] for each in specs if each.startswith('--')}, options, before)
         tasks = self.offered(words, 'zebludor', '')
-        self.assertLessEqual(set(manual.names()), {it.partition(':')[0] for it in tasks})
+        self.assertLessEqual(set(manual.names()), {each.partition(':')[0] for each in tasks})
         self.assertIn('--timer[the timer\\: 8253, or 8254 with its read-back]:8253|8254:(8253 8254)', self.offered(words, 'zebludor', 'runfile', '--'))
 
     def test_fish(self) -> None:
@@ -235,10 +235,10 @@ class Completion(Command):
             return
         words = ['fish', '--no-config', '-c', FISH, self.script('fish')]
         for before, options in self.wanted().items():
-            told = self.offered(words, ' '.join((*before, '--')))
-            self.assertEqual({it.partition('\t')[0] for it in told}, options, before)
-        self.assertEqual([it.partition('\t')[0] for it in self.offered(words, 'zebludor tr')], ['trace', 'try'])
-        self.assertEqual([it.partition('\t')[0] for it in self.offered(words, 'zebludor runfile --timer ')], ['8253', '8254'])
+            said = self.offered(words, ' '.join((*before, '--')))
+            self.assertEqual({each.partition('\t')[0] for each in said}, options, before)
+        self.assertEqual([each.partition('\t')[0] for each in self.offered(words, 'zebludor tr')], ['trace', 'try'])
+        self.assertEqual([each.partition('\t')[0] for each in self.offered(words, 'zebludor runfile --timer ')], ['8253', '8254'])
 
     def test_it_needs_no_environment(self) -> None:
         """And leaves none behind."""

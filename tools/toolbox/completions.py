@@ -86,14 +86,14 @@ def short(text: str) -> str:
     return re.split(r'; | \(', text)[0].strip()
 
 
-def is_file(it: Option) -> bool:
+def is_file(each: Option) -> bool:
     """Whether an option, or a word in a place, is a file."""
-    return not it.choices and bool(FILES.search(it.takes))
+    return not each.choices and bool(FILES.search(each.takes))
 
 
 def flags(options: list[Option]) -> list[str]:
     """The options that begin with a hyphen, the long ones where there are two."""
-    return [it.names[-1] for it in options if it.names]
+    return [each.names[-1] for each in options if each.names]
 
 
 def bash() -> str:
@@ -101,9 +101,9 @@ def bash() -> str:
     lines = list[str]()
     for command, task, options in places():
         at = f'{command} {task}'.strip()
-        first = [*(tasks_of(command) if not task else ()), *(word for it in options if not it.names for word in it.choices)]
+        first = [*(tasks_of(command) if not task else ()), *(word for each in options if not each.names for word in each.choices)]
         lines.append(f"    '{at}') echo '{' '.join([*first, *flags(options)])}' ;;\n")
-        lines += [f"    '{at} {it.names[-1]}') echo '{' '.join(it.choices)}' ;;\n" for it in options if it.names and it.choices]
+        lines += [f"    '{at} {each.names[-1]}') echo '{' '.join(each.choices)}' ;;\n" for each in options if each.names and each.choices]
     return BASH % ''.join(lines)
 
 
@@ -113,19 +113,19 @@ def zsh() -> str:
     def quoted(text: str) -> str:
         return re.sub(r'([\[\]:\\])', r'\\\1', text).replace("'", "'\\''")
 
-    def spec(it: Option) -> str:
-        value = f'({" ".join(it.choices)})' if it.choices else '_files' if is_file(it) else ' '
-        if not it.names:
-            return f"'*:{quoted(it.takes.split()[0].strip('[]'))}:{value if it.choices else '_files'}'" if it.takes else ''
-        takes = f':{quoted(it.takes.split()[0].strip("[]"))}:{value}' if it.takes else ''
-        return f"'{it.names[-1]}[{quoted(short(it.help))}]{takes}'"
+    def spec(each: Option) -> str:
+        value = f'({" ".join(each.choices)})' if each.choices else '_files' if is_file(each) else ' '
+        if not each.names:
+            return f"'*:{quoted(each.takes.split()[0].strip('[]'))}:{value if each.choices else '_files'}'" if each.takes else ''
+        takes = f':{quoted(each.takes.split()[0].strip("[]"))}:{value}' if each.takes else ''
+        return f"'{each.names[-1]}[{quoted(short(each.help))}]{takes}'"
 
     tasks, options = '', ''
     for command in ('zebludor', *PROGRAMS):
         known = ' '.join(f"'{name}:{quoted(short(what))}'" for name, what in tasks_of(command).items())
         tasks += f'    {command}) tasks=({known}) ;;\n'
     for command, task, them in places():
-        specs = [spec(it) for it in them if it.names] + ["'*:FILE:_files'"]
+        specs = [spec(each) for each in them if each.names] + ["'*:FILE:_files'"]
         options += f"    '{f'{command} {task}'.strip()}') _arguments {' '.join(specs)} ;;\n"
     return ZSH % (tasks, options)
 
@@ -141,10 +141,10 @@ def fish() -> str:
         if not task:
             lines += [f"complete -c {command} -n __zebludor_first -f -a {name} -d '{quoted(short(what))}'" for name, what in tasks_of(command).items()]
         condition = f'-n "__zebludor_at {task}"' if task else '-n __zebludor_first' if tasks_of(command) else ''
-        for it in (it for it in options if it.names):
-            name = it.names[-1]
-            value = f" -x -a '{' '.join(it.choices)}'" if it.choices else ' -r' if is_file(it) else ' -x' if it.takes else ''
-            lines.append(f"complete -c {command} {condition} -l {name.removeprefix('--')}{value} -d '{quoted(short(it.help))}'".replace('  ', ' '))
+        for each in (each for each in options if each.names):
+            name = each.names[-1]
+            value = f" -x -a '{' '.join(each.choices)}'" if each.choices else ' -r' if is_file(each) else ' -x' if each.takes else ''
+            lines.append(f"complete -c {command} {condition} -l {name.removeprefix('--')}{value} -d '{quoted(short(each.help))}'".replace('  ', ' '))
     return FISH + '\n'.join(lines) + '\n'
 
 

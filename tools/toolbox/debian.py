@@ -103,9 +103,9 @@ def for_debian(octets: bytes) -> bytes:
 
 def programs(found: Files) -> Files:
     """The stored programs, stripped, and PROVED, which tells so."""
-    made: Files = {f'stored/{it}': (stripped(found[f'stored/{it}'][0], '--remove-section=.comment'), True) for it in PROGRAMS}
-    told = ''.join(f'changed {it} {hashlib.sha256(made[f"stored/{it}"][0]).hexdigest()}\n' for it in PROGRAMS)
-    return made | {'stored/PROVED': (found['stored/PROVED'][0] + told.encode(), False)}
+    made: Files = {f'stored/{each}': (stripped(found[f'stored/{each}'][0], '--remove-section=.comment'), True) for each in PROGRAMS}
+    said = ''.join(f'changed {each} {hashlib.sha256(made[f"stored/{each}"][0]).hexdigest()}\n' for each in PROGRAMS)
+    return made | {'stored/PROVED': (found['stored/PROVED'][0] + said.encode(), False)}
 
 
 def library_files(found: Files) -> Files:
@@ -141,17 +141,17 @@ def share_files(found: Files, version: str, maintainer: str) -> Files:
 
 def links() -> dict[str, str]:
     """The package's links, and where they lead."""
-    made = {f'usr/bin/{it}': f'../lib/zebludor/{it}' for it in PROGRAMS} | {'usr/bin/zebludor': '../lib/zebludor/tools/zebludor'}
-    made |= {f'usr/share/bash-completion/completions/{it}': 'zebludor' for it in PROGRAMS}
+    made = {f'usr/bin/{each}': f'../lib/zebludor/{each}' for each in PROGRAMS} | {'usr/bin/zebludor': '../lib/zebludor/tools/zebludor'}
+    made |= {f'usr/share/bash-completion/completions/{each}': 'zebludor' for each in PROGRAMS}
     made['usr/lib/python3/dist-packages/zebludor.py'] = '../../zebludor/python/zebludor.py'
     made['usr/include/zebludor.h'] = '../lib/zebludor/c/zebludor.h'
     made[f'{ROOM}/pcprobe'] = 'pcboard'
-    return made | {f'{DOCS}/{it}': f'../../../lib/zebludor/{it}' for it in LINKED}
+    return made | {f'{DOCS}/{each}': f'../../../lib/zebludor/{each}' for each in LINKED}
 
 
 def tar_of(files: Files, to: dict[str, str]) -> bytes:
     """Files, links and the folders that they are in, as tar and gzip pack them, root's."""
-    folders = {folder for it in (*files, *to) for folder in above(it)}
+    folders = {folder for each in (*files, *to) for folder in above(each)}
     written = io.BytesIO()
     with tarfile.open(fileobj=written, mode='w', format=tarfile.GNU_FORMAT) as whole:
         for path in sorted({*files, *to, *folders}):
@@ -180,7 +180,7 @@ def ar_of(parts: dict[str, bytes]) -> bytes:
 
 def made(found: Files, version: str, maintainer: str) -> bytes:
     """The package of a release's files."""
-    kept = {path: it for path, it in found.items() if path not in ('SHA256SUMS', 'pcprobe') and not path.endswith(('.a', '.pc'))} | programs(found)
+    kept = {path: each for path, each in found.items() if path not in ('SHA256SUMS', 'pcprobe') and not path.endswith(('.a', '.pc'))} | programs(found)
     files = {f'{ROOM}/{path}': (for_debian(octets), is_program) for path, (octets, is_program) in kept.items()}
     files |= library_files(found) | share_files(found, version, maintainer)
     size = sum(-(-len(octets) // 1024) for octets, _ in files.values())

@@ -51,8 +51,8 @@ class Option:
 
 def names() -> list[str]:
     """The tools that zebludor starts."""
-    found = (it for it in sorted(os.listdir(TOOLS)) if it not in NOT_OURS and os.path.isfile(f'{TOOLS}/{it}'))
-    return [it for it in found if os.access(f'{TOOLS}/{it}', os.X_OK)]
+    found = (each for each in sorted(os.listdir(TOOLS)) if each not in NOT_OURS and os.path.isfile(f'{TOOLS}/{each}'))
+    return [each for each in found if os.access(f'{TOOLS}/{each}', os.X_OK)]
 
 
 def doc(name: str) -> str:
@@ -97,8 +97,8 @@ def options_of(reader: argparse.ArgumentParser) -> list[Option]:
         if action.help is argparse.SUPPRESS:
             continue
         takes = '' if action.nargs == 0 else (form._format_args(action, action.metavar or action.dest.upper()))  # type: ignore[arg-type]
-        told = named(form._expand_help(action)) if action.help else ''
-        found.append(Option(tuple(action.option_strings), takes, tuple(map(str, action.choices or ())), told))
+        said = named(form._expand_help(action)) if action.help else ''
+        found.append(Option(tuple(action.option_strings), takes, tuple(map(str, action.choices or ())), said))
     return found
 
 
@@ -122,13 +122,13 @@ def program_help(name: str, task: str) -> str:
 def program_options(name: str, task: str) -> list[Option]:
     """The options in that text; and those of the launcher, which has no task."""
     lines = re.findall(r'^ +(?:(-\w), )?(--\w+) {2,}(.*)$', program_help(name, task), re.M)
-    found = [Option(tuple(filter(None, (short, long))), '', (), told) for short, long, told in lines]
+    found = [Option(tuple(filter(None, (short, long))), '', (), said) for short, long, said in lines]
     return found + ([] if task else [Option(('--version',), '', (), 'Print version, kit and logic, and which program answers')])
 
 
 def plain(text: str) -> str:
     """A text as man shows it unchanged."""
-    text = ''.join(SIGNS.get(it, it) for it in text)
+    text = ''.join(SIGNS.get(each, each) for each in text)
     return re.sub(r"^(?=[.'])", r'\\&', text, flags=re.M)
 
 
@@ -145,11 +145,11 @@ def body(text: str) -> str:
     for part in text.strip('\n').split('\n\n'):
         made.append('.PP')
         for line in part.split('\n'):
-            command, _, told = line.strip().partition('  ')
+            command, _, said = line.strip().partition('  ')
             if line.startswith(' ' * 10):
                 made.append(plain(line.strip()))
             elif line.startswith('  '):
-                made += ['.TP', f'\\fB{plain(command)}\\fR', *([plain(told.strip())] if told else [])]
+                made += ['.TP', f'\\fB{plain(command)}\\fR', *([plain(said.strip())] if said else [])]
             else:
                 made.append(plain(line))
     return '\n'.join(made) + '\n'
@@ -158,9 +158,9 @@ def body(text: str) -> str:
 def listed(options: list[Option]) -> str:
     """The section of words."""
     made = list[str]()
-    for it in options:
-        heads = ', '.join(f'\\fB{plain(name)}\\fR' for name in it.names)
-        made += ['.TP', ' '.join(filter(None, (heads, f'\\fI{plain(it.takes)}\\fR' if it.takes else ''))), plain(it.help)]
+    for each in options:
+        heads = ', '.join(f'\\fB{plain(name)}\\fR' for name in each.names)
+        made += ['.TP', ' '.join(filter(None, (heads, f'\\fI{plain(each.takes)}\\fR' if each.takes else ''))), plain(each.help)]
     return '.SH OPTIONS\n' + '\n'.join(filter(None, made)) + '\n'
 
 
@@ -171,9 +171,9 @@ def tool_page(name: str) -> str:
     first, _, rest = text.partition('\n\n')
     page = heading(own, summary(name)) + f'.SH DESCRIPTION\n{body(first)}{body(rest) if rest else ""}' + listed(list(tool_options(name)))
     others = names() if name == 'zebludor' else []
-    page += '.SH TOOLS\n' + ''.join(f'.TP\n\\fB{it}\\fR\n{plain(summary(it))}\n' for it in others) if others else ''
-    also = ('zebludor', *PROGRAMS, *(f'zebludor-{it}' for it in others))
-    return page + '.SH SEE ALSO\n' + ', '.join(f'{plain(it)}(1)' for it in also if it != own) + '\n'
+    page += '.SH TOOLS\n' + ''.join(f'.TP\n\\fB{each}\\fR\n{plain(summary(each))}\n' for each in others) if others else ''
+    also = ('zebludor', *PROGRAMS, *(f'zebludor-{each}' for each in others))
+    return page + '.SH SEE ALSO\n' + ', '.join(f'{plain(each)}(1)' for each in also if each != own) + '\n'
 
 
 def program_page(name: str) -> str:

@@ -212,7 +212,7 @@ def contents() -> dict[str, tuple[bytes, bool]]:
 
 def linked(page: str, text: str, found: dict[str, tuple[bytes, bool]]) -> str:
     """A page's text, in which the links into what only a clone has are plain words."""
-    there = {*found, *(folder for it in found for folder in folders_of(it))}
+    there = {*found, *(folder for path in found for folder in folders_of(path))}
     made = {'RELEASE', 'SHA256SUMS'}
 
     def kept(link: re.Match[str]) -> str:
@@ -221,7 +221,7 @@ def linked(page: str, text: str, found: dict[str, tuple[bytes, bool]]) -> str:
         return link[0] if not path or ':' in path or target in there or target in made else link[1]
 
     parts = re.split(r'(^```.*?^```)', text, flags=re.M | re.S)
-    return ''.join(it if it.startswith('```') else re.sub(r'(?<!!)\[([^][]*)\]\(([^()\s]+)\)', kept, it) for it in parts)
+    return ''.join(part if part.startswith('```') else re.sub(r'(?<!!)\[([^][]*)\]\(([^()\s]+)\)', kept, part) for part in parts)
 
 
 def folders_of(path: str) -> Iterator[str]:

@@ -44,10 +44,10 @@ def board() -> dict[str, Any]:
     its_sum = sum_of(path)
     found: dict[str, Any] = {'version': zebludor.__version__, 'sum': its_sum}
     for folder in (os.path.dirname(path), proved.STORED):
-        told = proved.read(folder)
-        made = next((it for it in told.made.values() if it.sum == its_sum), None) if told else None
-        if told and made:
-            return found | {'kit': told.kit, 'logic': told.logic, 'sources': made.sources, 'verdicts': told.verdicts}
+        said = proved.read(folder)
+        made = next((each for each in said.made.values() if each.sum == its_sum), None) if said else None
+        if said and made:
+            return found | {'kit': said.kit, 'logic': said.logic, 'sources': made.sources, 'verdicts': said.verdicts}
     return found
 
 
@@ -57,9 +57,9 @@ def seal(files: Files, path: str, name: str) -> list[str]:
         raise Sorry(f'{path} is there already')
     texts = dict(zip(TEXTS, (read_exactly(files.file), read_exactly(files.run_file), program.answer_of(files.words('run')))))
     sealed = {'kind': KIND, 'name': os.path.basename(name), 'hex': files.is_hex, 'board': board()}
-    sealed |= {'sums': {it: digest(text) for it, text in texts.items()}, 'texts': texts}
+    sealed |= {'sums': {each: digest(text) for each, text in texts.items()}, 'texts': texts}
     write_bytes(path, (json.dumps(sealed, indent=1) + '\n').encode())
-    return [f'{digest(text)}  {it}' for it, text in texts.items()]
+    return [f'{digest(text)}  {each}' for each, text in texts.items()]
 
 
 def read(path: str) -> dict[str, Any]:
@@ -68,9 +68,9 @@ def read(path: str) -> dict[str, Any]:
         sealed = json.loads(read_text(path))
         texts, sums, of_board = sealed['texts'], sealed['sums'], sealed['board']
         is_one = sealed['kind'] == KIND and isinstance(sealed['hex'], bool) and isinstance(of_board['sum'], str)
-        is_one = is_one and all(isinstance(them[it], str) for them in (texts, sums) for it in TEXTS)
-        for it in TEXTS:
-            octets_of(texts[it])
+        is_one = is_one and all(isinstance(them[each], str) for them in (texts, sums) for each in TEXTS)
+        for each in TEXTS:
+            octets_of(texts[each])
     except (ValueError, KeyError, TypeError, RecursionError):
         is_one = False
     if not is_one:
@@ -82,12 +82,14 @@ def outcomes(path: str) -> list[Outcome]:
     """What comes of checking a seal: its sums, and its report against what this board answers."""
     sealed = read(path)
     found = [
-        Outcome(f'sum of the {it}', None if digest(text) == sealed['sums'][it] else f'is {digest(text)}') for it, text in sealed['texts'].items() if it in TEXTS
+        Outcome(f'sum of the {each}', None if digest(text) == sealed['sums'][each] else f'is {digest(text)}')
+        for each, text in sealed['texts'].items()
+        if each in TEXTS
     ]
     with tempfile.TemporaryDirectory() as room:
         files = Files(f'{room}/program', f'{room}/run.json', sealed['hex'])
-        for to, it in ((files.file, 'program'), (files.run_file, 'run file')):
-            write_bytes(to, octets_of(sealed['texts'][it]))
+        for to, each in ((files.file, 'program'), (files.run_file, 'run file')):
+            write_bytes(to, octets_of(sealed['texts'][each]))
         ran = program.run(files.words('run'))
     answer = ran.out if ran.status == 0 else program.refusal(ran.status, ran.err)
     return [*found, Outcome('the report is what this board answers, to the byte', differing(sealed['texts']['report'], answer)), of_verdicts(sealed['board'])]
@@ -99,7 +101,7 @@ def differing(sealed: str, answer: str) -> str | None:
         return None
     ours, here = sealed.split('\n'), answer.split('\n')
     at = next((at for at, (one, other) in enumerate(zip(ours, here)) if one != other), min(len(ours), len(here)))
-    shown = [(it[at].rstrip() if at < len(it) else 'nothing') for it in (ours, here)]
+    shown = [(each[at].rstrip() if at < len(each) else 'nothing') for each in (ours, here)]
     return f'line {at + 1}: sealed {shown[0]!r}, here {shown[1]!r}'
 
 
@@ -108,5 +110,5 @@ def of_verdicts(sealed: dict[str, Any]) -> Outcome:
     here = board()
     if sealed['sum'] != here['sum']:
         return Outcome(f'another program answers here: {here["sum"]}, and sealed it was {sealed["sum"]}', None)
-    what = [it for it in ('version', 'kit', 'logic', 'sources', 'verdicts') if sealed.get(it) != here.get(it)]
+    what = [each for each in ('version', 'kit', 'logic', 'sources', 'verdicts') if sealed.get(each) != here.get(each)]
     return Outcome('the program here is the sealed one', f'but the {" and the ".join(what)} that PROVED tells of it' if what else None)

@@ -53,11 +53,11 @@ def amiss_in_a_run(case: str) -> str | None:
     """What isn't as a case of program_cases says, or nothing."""
     parts = parts_of(case)
     with tempfile.TemporaryDirectory() as room:
-        for it in parts.get('file', []):
-            name, _, text = it.partition(' ')
+        for each in parts.get('file', []):
+            name, _, text = each.partition(' ')
             with open(os.path.join(room.encode(), spelled(name)), 'wb') as file:
                 file.write(spelled(text))
-        words = [spelled(it) for it in parts.get('words', [''])[0].split()]
+        words = [spelled(each) for each in parts.get('words', [''])[0].split()]
         given = spelled(parts.get('input', [''])[0])
         ran = subprocess.run([program.path(), *words], input=given, capture_output=True, cwd=room, check=False)
     return amiss_in(parts, ran.returncode, ran.stdout, ran.stderr)
@@ -79,8 +79,8 @@ def amiss_in(parts: dict[str, list[str]], status: int, out: bytes, err: bytes) -
 def assembled(source: str, form: Callable[[dict[int, int]], str], fault: Callable[[str, str | None], str]) -> str:
     """What the assembler makes of a source: its bytes by their addresses, or its fault's number and line."""
     ran = subprocess.run([program.path(), 'asm', '/dev/stdin'], input=source.encode('utf-8', 'surrogateescape'), capture_output=True, check=False)
-    told = re.fullmatch(r'fault (\d+) \w+(?: line (\d+))?\n', ran.stderr.decode())
-    return fault(told[1], told[2]) if told else form(bytes_of(ran.stdout.decode()))
+    said = re.fullmatch(r'fault (\d+) \w+(?: line (\d+))?\n', ran.stderr.decode())
+    return fault(said[1], said[2]) if said else form(bytes_of(ran.stdout.decode()))
 
 
 def bytes_of(text: str) -> dict[int, int]:
@@ -90,7 +90,7 @@ def bytes_of(text: str) -> dict[int, int]:
         octets = bytes.fromhex(line[1:])
         offset, kind, data = int.from_bytes(octets[1:3], 'big'), octets[3], octets[4:-1]
         bank = int.from_bytes(data, 'big') << 4 if kind == 2 else bank
-        found.update({bank + offset + at: it for at, it in enumerate(data)} if kind == 0 else {})
+        found.update({bank + offset + at: each for at, each in enumerate(data)} if kind == 0 else {})
     return found
 
 
@@ -150,13 +150,13 @@ def is_of_the_assembler(case: str) -> bool:
 def lines_of(crate: str) -> list[str]:
     """The cases of a crate, a line each."""
     with open(f'{TOP}/crates/{crate}/stdin', encoding='utf-8', newline='\n') as file:
-        return [it for it in file.read().split('\n') if it and not it.startswith('#')]
+        return [each for each in file.read().split('\n') if each and not each.startswith('#')]
 
 
 def judged(crate: str, is_taken: Callable[[str], bool], amiss: Callable[[str], str | None]) -> Count:
     """Judges a crate's cases, and prints those that aren't so."""
     lines = lines_of(crate)
-    taken = [it for it in lines if is_taken(it)]
+    taken = [each for each in lines if is_taken(each)]
     count = Count(left=len(lines) - len(taken))
     with futures.ThreadPoolExecutor(LANES) as pool:
         for case, why in zip(taken, pool.map(amiss, taken)):
@@ -169,8 +169,8 @@ def judged(crate: str, is_taken: Callable[[str], bool], amiss: Callable[[str], s
 
 def others() -> int:
     """How many cases other crates have."""
-    names = sorted(it for it in os.listdir(f'{TOP}/crates') if it.endswith('_cases') and it not in ('program_cases', 'source_cases'))
-    return sum(len(lines_of(it)) for it in names if os.path.isfile(f'{TOP}/crates/{it}/stdin'))
+    names = sorted(each for each in os.listdir(f'{TOP}/crates') if each.endswith('_cases') and each not in ('program_cases', 'source_cases'))
+    return sum(len(lines_of(each)) for each in names if os.path.isfile(f'{TOP}/crates/{each}/stdin'))
 
 
 def run() -> tuple[int, int]:

@@ -21,7 +21,7 @@ def _begin():
     """Tells the tools how the user has started them: by name alone where that is found on the path."""
     folder = os.path.dirname(sys.argv[0])
     paths = os.environ.get('PATH', '').split(os.pathsep)
-    is_found = any(it and os.path.isdir(it) and os.path.samefile(it, folder or '.') for it in paths)
+    is_found = any(path and os.path.isdir(path) and os.path.samefile(path, folder or '.') for path in paths)
     os.environ['ZEBLUDOR_STARTED'] = 'zebludor' if is_found else os.path.join(folder, 'zebludor')
 
 
@@ -42,7 +42,7 @@ def zebludor():
     _begin()
     os.execv(sys.executable, [sys.executable, f'{TOP}/tools/zebludor', *sys.argv[1:]])
 '''
-COMMANDS = '[console_scripts]\n' + ''.join(f'{it} = zebludor_start:{it}\n' for it in ('pcboard', 'pcprobe', 'zebludor'))
+COMMANDS = '[console_scripts]\n' + ''.join(f'{each} = zebludor_start:{each}\n' for each in ('pcboard', 'pcprobe', 'zebludor'))
 METADATA = """Metadata-Version: 2.1
 Name: zebludor
 Version: {version}
@@ -70,10 +70,10 @@ def digest(octets: bytes) -> str:
 def made(found: dict[str, tuple[bytes, bool]], version: str) -> bytes:
     """The wheel of a release's files."""
     info = f'zebludor-{version}.dist-info'
-    files = {f'{FILES}/{path}': it for path, it in sorted(found.items())}
+    files = {f'{FILES}/{path}': each for path, each in sorted(found.items())}
     files['zebludor.py'] = found['python/zebludor.py'][0], False
     files['zebludor_start.py'] = START.encode(), False
-    files |= {f'{info}/{it}': (found[it][0], False) for it in ('LICENSE-APACHE', 'LICENSE-MIT')}
+    files |= {f'{info}/{each}': (found[each][0], False) for each in ('LICENSE-APACHE', 'LICENSE-MIT')}
     files[f'{info}/METADATA'] = METADATA.format(version=version).encode(), False
     files[f'{info}/WHEEL'] = f'Wheel-Version: 1.0\nGenerator: dev/release\nRoot-Is-Purelib: false\nTag: {TAG}\n'.encode(), False
     files[f'{info}/entry_points.txt'] = COMMANDS.encode(), False
