@@ -18,8 +18,8 @@ import urllib.request
 import zipfile
 from typing import Any, Callable
 
-from tests.support import SECONDS, is_there
-from tests.test_release import MADE, PYTHON, RUN, Unpacked
+from tests.support import SECONDS, but_progress, is_there
+from tests.test_release import MADE, PYTHON, RUN, Unpacked, shown_by_readme
 from toolbox import debian, manual, release, wheel
 
 WHEEL, PACKAGE = MADE[1], MADE[2]
@@ -57,6 +57,16 @@ class Installed(Unpacked):
         self.assertIn('HI', self.command('zebludor', 'why', 'run', *hello))
         for name in manual.names():
             self.assertNotIn('tools/', self.command('zebludor', name, '--help'), name)
+
+    def check_readme(self, examples: str, folder: str) -> None:
+        """README's other commands, with the tools by the names that they have here, in a folder that is made and removed."""
+        self.command('sh', '-c', f'mkdir {folder} && ln -s {examples} {folder}/examples')
+        shown = shown_by_readme('zebludor ', 'pcboard')
+        self.assertGreater(len(shown), 2)
+        for line, typed, printed in shown:
+            out = self.command('sh', '-c', f'cd {folder} && {{ {line}; }} 2>&1', given=typed)
+            self.assertEqual(but_progress(out).rstrip(), printed, line)
+        self.command('rm', '-r', folder)
 
 
 def printed_by_readme(found: dict[str, bytes]) -> str:
@@ -135,6 +145,7 @@ class Wheel(Installed):
         folder = os.path.dirname(self.command('zebludor', '--pages').strip())
         self.assertTrue(folder.startswith(f'{os.path.realpath(top)}/') and folder.endswith('/zebludor_files'), folder)
         self.check_commands(f'{folder}/examples', printed_by_readme(files))
+        self.check_readme(f'{folder}/examples', f'{self.room}/work')
         self.assertEqual(self.command('python', '-c', PYTHON).split(), ['5', '3', '4'] if self.is_real else ['0', '0', '0'])
         code = 'import zebludor, sys; print(zebludor.__version__, zebludor.run(open(sys.argv[1]).read(), budget=100).screen[0].strip())'
         self.assertEqual(self.command('python', '-c', code, f'{folder}/examples/hello.asm'), f'{release.version()} HI\n')
@@ -310,6 +321,9 @@ class Package(Installed):
             )
             return ''
         self.root = folder
+        if not os.path.exists(f'{folder}/proc/self'):  # without which no command there has its standard input as a file
+            subprocess.run(['mount', '-t', 'proc', 'proc', f'{folder}/proc'], check=True)
+            self.addCleanup(subprocess.run, ['umount', f'{folder}/proc'], check=False)
         return folder
 
     def runs(self, *words: str, given: str = '') -> subprocess.CompletedProcess[str]:
@@ -366,6 +380,7 @@ class Package(Installed):
         """What is used there."""
         examples = '/usr/share/doc/zebludor/examples'
         self.check_commands(examples, printed_by_readme(self.content()))
+        self.check_readme(examples, '/tmp/work')
         code = f'import zebludor; print(zebludor.__version__, zebludor.run(open("{examples}/hello.asm").read(), budget=100).text)'
         self.assertEqual(self.command('python3', '-c', code), f'{release.version()} HI\n')
         self.assertEqual(self.command('python3', '-c', PYTHON).split(), ['5', '3', '4'] if self.is_real else ['0', '0', '0'])

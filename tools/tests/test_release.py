@@ -14,7 +14,8 @@ import tarfile
 import unittest
 
 from tests.repository import KIT, LOGIC, Repository
-from tests.support import SECONDS, TOP, is_there
+from tests.support import SECONDS, TOP, but_progress, is_there
+from tests.test_pages import blocks, commands
 from toolbox import debian, program, release, wheel
 from toolbox.crates import Crates
 from toolbox.proved import PROGRAMS, Made, Proved
@@ -75,6 +76,12 @@ WORDS = (
     ('tools/table -', 'REPORT', '\t100\thalted\t'),
     ('tools/sound OUT', 'REPORT', ''),
 )
+
+
+def shown_by_readme(prefix: str, launcher: str) -> list[tuple[str, str, str]]:
+    """README's commands, each with what is typed and what is printed; a tool's name begins with the prefix, and pcboard's is said."""
+    found = [one for block in blocks('README.md') for one in commands(block)]
+    return [(re.sub(r'\btools/', prefix, line).replace('./pcboard', launcher), typed, printed.rstrip()) for line, typed, printed in found]
 
 
 class Unpacked(Repository):
@@ -298,6 +305,13 @@ class Release(Unpacked):
                 ),
             )
             self.assertIn(f'Usage: {name}', self.run_in(top, f'./{name}', '--help')[1])
+        folder = f'{self.room}/work'
+        os.mkdir(folder)
+        os.chmod(folder, 0o777)
+        os.symlink(f'{top}/examples', f'{folder}/examples')
+        for line, typed, printed in shown_by_readme(f"'{top}'/tools/", f"'{top}'/pcboard"):
+            status, out, _ = self.run_in(folder, 'sh', '-c', f'{{ {line}; }} 2>&1 | grep -v "proved elsewhere"', given=typed)
+            self.assertEqual((status if printed else 0, but_progress(out).rstrip()), (0, printed), line)
 
     def test_each_tool(self) -> None:
         top = self.unpacked()
