@@ -100,6 +100,7 @@ boot: floppy
 log: {image}.log
 megs: 16
 clock: sync=none
+sound: driver=dummy
 """
 # What follows Bochs' own words when 60,000,000 instructions have run. Without a hard disk mformat's sector asks for the next try at once.
 SECTORS = {
