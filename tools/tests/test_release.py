@@ -110,6 +110,7 @@ class Unpacked(Repository):
             for part in ('src', 'out'):
                 os.makedirs(f'{self.top}/crates/{name}/{part}')
             self.file(f'top/crates/{name}/src/lib.rt', '// nothing\n')
+        self.file('top/crates/low/src/lib.rt', '/// Nothing.\npub fn program() -> u8\n    ensures { result ≤ 3 }\n{\n    0\n}\n')
         self.is_real = self.put_libraries()
         for names in (PROGRAMS, *((it,) for it in LIBRARIES)):
             self.note(*names)
@@ -249,6 +250,8 @@ class Release(Unpacked):
             'LICENSE-MIT',
             'RELEASE',
             'SHA256SUMS',
+            'docs/book.html',
+            'docs/book.txt',
             'lib/libzebludor_chips.a',
             'lib/libzebludor_chips.so',
             'lib/pkgconfig/zebludor_run.pc',

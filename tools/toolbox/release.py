@@ -13,9 +13,12 @@ import tarfile
 import tempfile
 from typing import Iterator
 
-from toolbox import debian, proved, wheel
+from toolbox import proved
+from toolbox.book import Book, text_of
+from toolbox.book_page import page_of
 from toolbox.command import Sorry
 from toolbox.crates import TOP, Crates
+from toolbox.definitions import Definitions
 from toolbox.proved import PROGRAMS, STORED, Made, Proved
 from toolbox.sources import sum_of, sum_of_sources
 
@@ -203,6 +206,8 @@ def contents() -> dict[str, tuple[bytes, bool]]:
     found[SHARED] = shared(archive_of(crates, 'zebludor_chips')), False
     found[MEMORY] = memory(), False
     found['RELEASE'] = verdicts_of(crates).encode(), False
+    book = Book(Definitions(), ['program'])
+    found['docs/book.html'], found['docs/book.txt'] = (page_of(book).encode(), False), (text_of(book).encode(), False)
     for crate in LIBRARIES:
         found[f'lib/pkgconfig/{crate}.pc'] = package(crate).encode(), False
     sums = (f'{hashlib.sha256(octets).hexdigest()}  {path}\n' for path, (octets, _) in sorted(found.items()))
