@@ -7,6 +7,30 @@ import sys
 import unittest
 
 from tests.support import TOOLS, TOP, ToolCase
+from toolbox.definitions import items
+from toolbox.one_sided import function_of, worst_of
+
+# Words of the row that are no such function.
+OTHERS = {'None', 'slot_for', 'Other', 'dev/contracts --one-sided', 'slot_for.rt', 'parts.rt'}
+# Functions without a body, and what each may always answer.
+FORMS = (
+    ('fn a(&self) -> bool\n    ensures { IsTrue result → IsQuiet self.now }\n', 'false'),
+    ('fn a(&self) -> bool\n    ensures { IsTrue result ↔ IsQuiet self.now }\n', None),
+    (
+        'fn a(&mut self) -> bool\n    ensures made { IsTrue result → Goes self.old self.new }\n    ensures kept { ¬ (IsTrue result) → self.new ≡ self.old }\n',
+        'false',
+    ),
+    ('fn a(&mut self) -> bool\n    ensures made { IsTrue result → Goes self.old self.new }\n    ensures why { ¬ (IsTrue result) → IsDue self.old }\n', None),
+    ('fn a(&self) -> bool\n    ensures { ¬ (IsTrue result) → IsFree self.now }\n', 'true'),
+    ('fn a(&self) -> Option<u8>\n    ensures { IfSome result (λ n. n ≡ 3) }\n', 'None'),
+    ('fn a(&self) -> Option<u8>\n    ensures { IfSome result (λ n. n ≡ 3) }\n    ensures none { IfNone result (IsEmpty self.now) }\n', None),
+    ('fn a(&self) -> u64\n    ensures { result ≤ 8 }\n', '0'),
+    ('fn a(&self) -> u64\n    ensures { 1 ≤ result }\n', None),
+    ('fn a(&mut self)\n    ensures { self.new ≡ self.old }\n', 'nothing'),
+    ('fn a(&mut self)\n    requires { Agrees self.old }\n    ensures { Agrees self.new }\n', 'nothing'),
+    ('fn a(&mut self)\n    ensures { self.new ≡ after self.old }\n', None),
+    ('fn a(&self) -> u64 {\n    1\n}\n', 'anything'),
+)
 
 
 class Contracts(ToolCase):
@@ -54,6 +78,23 @@ class Contracts(ToolCase):
             self.assertEqual(source.count(old), 1)
             self.file('crates/bus/src/lib.rt', source.replace(old, new))
             self.assertIn(seen, self.run_it())
+
+    def test_the_page_names_each_function_that_may_know_nothing(self) -> None:
+        with open(f'{TOP}/docs/proofs.md', encoding='utf-8') as file:
+            rows = file.read().partition('# What no clause says')[2].partition('\n# ')[0]
+        row = next(line for line in rows.splitlines() if line.startswith('|**that what may know nothing'))
+        false, none, zero, true, nothing = re.split(r'Always `None` may be|Always 0 may be|Always true may be|nothing need be done', row)
+        of = {'false': false, 'None': none, '0': zero, 'true': true, 'nothing': nothing, 'anything': rows}
+        printed = [re.fullmatch(r'(\w+): crates/(\w+)/src/(\w+)\.rt: (.*)', line) for line in self.tool('dev/contracts', '--one-sided')[0].splitlines()]
+        found = [(it[1], it[2], it[3], name) for it in printed if it for name in it[4].split(', ')]
+        self.assertGreater(len(found), 100)
+        for worst, _, file, name in found:
+            self.assertTrue(f'`{name}`' in of[worst] or f'`{file}.rt`' in of[worst] or f'`{name}`' in rows.replace(row, ''), (worst, file, name))
+        self.assertEqual(set(re.findall(r'`([^`]+)`', row)) - {name for _, _, _, name in found}, OTHERS)
+
+    def test_forms_of_clauses(self) -> None:
+        for text, worst in FORMS:
+            self.assertEqual(worst_of(function_of('', '', items(text)[0])), worst, text)
 
     def test_words(self) -> None:
         self.assertIn('CRATE', self.tool('dev/contracts', '--help')[0])

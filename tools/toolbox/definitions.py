@@ -216,9 +216,10 @@ def said_of(text: str, start: int) -> str:
 
 def signature(member: str) -> tuple[str, str]:
     """The part of a function before its body, and the body."""
-    end = re.search(r'^\s*\{|^(?!\s*(?:requires|ensures)\b).*\{$|\Z', member, re.M)
+    end = re.search(r'^\s*(\{)|^(?!\s*(?:requires|ensures)\b).*(\{)$|\Z', member, re.M)
     assert end
-    return member[: end.start()], member[end.start() :]
+    start = max(end.start(1), end.start(2)) if end[0] else len(member)
+    return member[:start], member[start:]
 
 
 def modules(crate: str) -> list[tuple[Path, bool]]:
