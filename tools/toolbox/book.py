@@ -87,7 +87,7 @@ class Book:
         self.entries = [it for part in self.parts for chapter in part.chapters for it in chapter.entries]
 
     def title(self) -> str:
-        return 'What ' + ', '.join(f'{it.call}' for it in self.calls) + (' rests on' if len(self.calls) == 1 else ' rest on')
+        return 'What ' + ', '.join(f'`{it.call}`' for it in self.calls) + (' rests on' if len(self.calls) == 1 else ' rest on')
 
     def ordered(self, reached: list[Node]) -> Iterator[Node]:
         """The nodes in the order of the book: by crates, in each the types and then the files, and each of these as it stands."""
@@ -185,7 +185,8 @@ def text_of(book: Book) -> str:
 
 
 def text_lines(book: Book) -> Iterator[str]:
-    yield from (title_line(book.title(), '='), *first_chapter(book), '')
+    yield from (title_line(book.title(), '='), *first_chapter(book))
+    yield from (title_line('Contents'), *rows_of([(f'[{it.chapters[0].entries[0].number}] {it.crate}', it.about) for it in book.parts]), '')
     yield title_line('The contract' if len(book.calls) == 1 else 'The contracts')
     for call in book.calls:
         yield from (*contract_lines(call), '', *below('names', book.led_to(call.nodes), book), '')
