@@ -4,10 +4,11 @@ from __future__ import annotations
 
 import re
 import textwrap
-from collections.abc import Iterable, Iterator
+from collections.abc import Iterable, Iterator, Sequence
 from typing import NamedTuple
 
 from toolbox import book_words
+from toolbox.command import Sorry
 from toolbox.definitions import CRATES, Definition, Definitions, Node, Root, first_sentence, opening, read
 
 CLASS = (' To be believed', ' Laws:', ' For proofs alone:')  # how the line of a head begins that says what rests on its file
@@ -75,10 +76,13 @@ class Count(NamedTuple):
 class Book:
     """The book of some calls."""
 
-    def __init__(self, found: Definitions, names: Iterable[str]) -> None:
+    def __init__(self, found: Definitions, names: Sequence[str]) -> None:
         self.found = found
-        self.calls = [it for it in found.wanted(names) if it.text]
-        reached = found.reached(self.calls)
+        wanted = found.wanted(names)
+        self.calls = [it for it in wanted if re.match(r'\s*(?:[\w()":]+ )*fn ', it.text)]
+        if not self.calls:
+            raise Sorry(f'{", ".join(names)} has no public call')
+        reached = found.reached(wanted)
         self.nodes = {it for it in reached if it in found.texts}
         self.kit = sorted({it for it in reached if it[0] not in found.crates})
         self.numbers = {node: number for number, node in enumerate(self.ordered(reached), 1)}

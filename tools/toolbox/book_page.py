@@ -7,7 +7,7 @@ from collections.abc import Iterator
 
 from toolbox import book_words
 from toolbox.book import Book, Chapter, Entry, contract_lines, headings_of, index, source_of, ways, where
-from toolbox.definitions import Scope, meant
+from toolbox.definitions import Root, Scope, meant
 
 TOKEN = re.compile(r'(\s+--.*$|^--.*$|\s*//.*$)|([^\s(){}\[\];,«»:&<>]+)|([\s\S])', re.M)
 STYLE = """
@@ -37,9 +37,9 @@ def body(book: Book) -> Iterator[str]:
     yield from contents(book)
     yield f'<h2 class="p" id="contracts">{"The contract" if len(book.calls) == 1 else "The contracts"}</h2>'
     for call in book.calls:
-        yield f'<section class="d" id="{anchor(call.call)}"><pre>{code(book, contract_lines(call), call.scope, 0, call.call.rpartition("::")[2])}</pre></section>'
+        yield f'<section class="d" id="{anchor_of(book, call)}"><pre>{code(book, contract_lines(call), call.scope, 0, call.call.rpartition("::")[2])}</pre></section>'
     for part in book.parts:
-        yield f'<h2 id="{anchor(part.crate)}">{part.crate}</h2>\n<p>{prose(part.about)}</p>'
+        yield f'<h2 id="{part.crate}">{part.crate}</h2>\n<p>{prose(part.about)}</p>'
         for chapter in part.chapters:
             yield from chapter_of(book, chapter)
     yield '<h2 id="kit">Names of the kit\'s library</h2>\n' + table(book_words.kit_of(book.kit))
@@ -49,9 +49,9 @@ def body(book: Book) -> Iterator[str]:
     yield '</ul>'
 
 
-def anchor(word: str) -> str:
-    """The place of a crate or a contract in the page."""
-    return 'at-' + word.replace('::', '-')
+def anchor_of(book: Book, call: Root) -> str:
+    """The place of a contract in the page: two may have one name."""
+    return f'c{next(number for number, it in enumerate(book.calls, 1) if it is call)}'
 
 
 def prose(text: str) -> str:
@@ -73,12 +73,12 @@ def first_chapter(book: Book) -> Iterator[str]:
 
 def contents(book: Book) -> Iterator[str]:
     yield '<h2 class="p">Contents</h2>\n<p>' + ', '.join(
-        f'<a href="#{anchor(it.call)}">the contract of <code>{it.call}</code></a>' for it in book.calls
+        f'<a href="#{anchor_of(book, it)}">the contract of <code>{it.call}</code></a>' for it in book.calls
     ) + '</p>\n<table>'
     for part in book.parts:
         first = part.chapters[0].entries[0].number
         files = ', '.join(f'<a href="#d{it.entries[0].number}">{it.entries[0].definition.node[1] or "types"}</a>' for it in part.chapters)
-        yield f'<tr><td>{first}<td><a href="#{anchor(part.crate)}">{part.crate}</a><td>{prose(part.about)} <span class="s">{files}</span>'
+        yield f'<tr><td>{first}<td><a href="#{part.crate}">{part.crate}</a><td>{prose(part.about)} <span class="s">{files}</span>'
     yield '</table>\n<p><a href="#kit">Names of the kit\'s library</a>, <a href="#index">index</a></p>'
 
 
@@ -93,7 +93,7 @@ def chapter_of(book: Book, chapter: Chapter) -> Iterator[str]:
 
 def said_below(book: Book, chapter: Chapter, entry: Entry) -> str:
     """Who names a definition, and which manual is cited for it."""
-    callers = [f'<a href="#{anchor(it.call)}">the contract of {it.call}</a>' for it in book.callers(entry)]
+    callers = [f'<a href="#{anchor_of(book, it)}">the contract of {it.call}</a>' for it in book.callers(entry)]
     named_by = ', '.join([*callers, *(link(book.entries[it - 1], book.entries[it - 1].name) for it in entry.named_by)])
     cited = '; '.join(source_of(chapter, entry))
     return f'named by {named_by or "itself"}' + (f'<br>source: {html.escape(cited, quote=False)}' if cited else '')
