@@ -114,6 +114,9 @@ Index
 -----
 Level  [2] wire
 level  [1] lamp/Level, [3] wire/Level
+Cases of types, and who names them
+----------------------------------
+High  [2] Level: level [3]
 """
 COUNT = """9 lines of definitions: 2 in 2 files; 5 of the lines are comments
 5 lines of types: 1
@@ -225,6 +228,11 @@ class Books(ToolCase):
         nodes = {it.definition.node for it in book.entries}
         self.assertEqual([node for _, of in book_words.WAYS for node in of if node not in nodes], [])
         self.assertEqual([name for name, _ in book_words.kit_of(book.kit) if name not in book_words.KIT], [])
+
+    def test_cases_lead_to_who_names_them(self) -> None:
+        text = text_of(Book(self.found, ['program']))
+        self.assertRegex(text, r'\nSti  \[\d+\] Processor: shadow_of \[\d+\], after_flag_operation ')
+        self.assertRegex(text, r'\nSquareWave  \[\d+\] Mode: out_at_load ')
 
     def test_manuals_are_cited(self) -> None:
         page = page_of(Book(self.found, ['program']))

@@ -9,7 +9,7 @@ from typing import NamedTuple
 
 from toolbox import book_words
 from toolbox.command import Sorry
-from toolbox.definitions import CRATES, Definition, Definitions, Node, Root, first_sentence, opening, read
+from toolbox.definitions import COMMENT, CRATES, NOTE, WORD, Definition, Definitions, Node, Root, constructors, first_sentence, meant, opening, read
 
 CLASS = (' To be believed', ' Laws:', ' For proofs alone:')  # how the line of a head begins that says what rests on its file
 WORKS = (
@@ -32,6 +32,14 @@ class Entry(NamedTuple):
     @property
     def name(self) -> str:
         return self.definition.node[2]
+
+
+class Case(NamedTuple):
+    """A constructor: its name, its type, and the definitions that name it."""
+
+    name: str
+    type: Entry
+    named_by: list[Entry]
 
 
 class Chapter(NamedTuple):
@@ -125,6 +133,17 @@ class Book:
         """The contracts that name it themselves."""
         return [it for it in self.calls if entry.number in self.led_to(it.nodes)]
 
+    def cases(self) -> list[Case]:
+        """The constructors of its types by their names, each with the definitions that name it."""
+        of_type = {(it.definition.node, name): Case(name, it, []) for it in self.entries for name in constructors(it.definition)}
+        for entry in self.entries:
+            for word in dict.fromkeys(WORD.findall(NOTE.sub('', COMMENT.sub('', '\n'.join(entry.definition.lines))))):
+                node = meant(word, entry.definition.scope)
+                case = of_type.get((self.found.stands_for(node), word.rpartition('.')[2])) if node else None
+                if case and case.type != entry and entry not in case.named_by:
+                    case.named_by.append(entry)
+        return sorted((it for it in of_type.values() if it.named_by), key=lambda it: (it.name.lower(), it.type.number))
+
     def count(self) -> Count:
         chapters = [it for part in self.parts for it in part.chapters]
         files = [it for it in chapters if it.entries[0].definition.node[1]]
@@ -200,6 +219,7 @@ def text_lines(book: Book) -> Iterator[str]:
             yield from chapter_lines(book, chapter)
     yield title_line("Names of the kit's library")
     yield from (*rows_of(book_words.kit_of(book.kit)), '', title_line('Index'), *index_lines(book))
+    yield from ('', title_line(book_words.CASES), *(line for case in book.cases() for line in case_lines(case)))
 
 
 def title_line(title: str, mark: str = '-') -> str:
@@ -256,6 +276,11 @@ def below(word: str, numbers: list[int], book: Book, calls: Iterable[str] = ()) 
 def index_lines(book: Book) -> Iterator[str]:
     for name, of_name in index(book):
         yield f'{name}  ' + ', '.join(f'[{it.number}] {where(it)}' for it in of_name)
+
+
+def case_lines(case: Case) -> list[str]:
+    named_by = ', '.join(f'{it.name} [{it.number}]' for it in case.named_by)
+    return textwrap.wrap(f'{case.name}  [{case.type.number}] {case.type.name}: {named_by}', WIDTH, subsequent_indent='    ')
 
 
 def where(entry: Entry) -> str:

@@ -46,6 +46,9 @@ def body(book: Book) -> Iterator[str]:
     yield '<h2 class="p" id="index">Index</h2>\n<ul class="i">'
     for name, of_name in index(book):
         yield f'<li><code>{html.escape(name)}</code> ' + ', '.join(f'{link(it, str(it.number))} {where(it)}' for it in of_name) + '</li>'
+    yield f'</ul>\n<h2 class="p" id="cases">{book_words.CASES}</h2>\n<ul class="i">'
+    for case in book.cases():
+        yield f'<li><code>{html.escape(case.name)}</code> {link(case.type, case.type.name)}: ' + ', '.join(link(it, it.name) for it in case.named_by) + '</li>'
     yield '</ul>'
 
 
@@ -79,7 +82,7 @@ def contents(book: Book) -> Iterator[str]:
         first = part.chapters[0].entries[0].number
         files = ', '.join(f'<a href="#d{it.entries[0].number}">{it.entries[0].definition.node[1] or "types"}</a>' for it in part.chapters)
         yield f'<tr><td>{first}<td><a href="#{part.crate}">{part.crate}</a><td>{prose(part.about)} <span class="s">{files}</span>'
-    yield '</table>\n<p><a href="#kit">Names of the kit\'s library</a>, <a href="#index">index</a></p>'
+    yield '</table>\n<p><a href="#kit">Names of the kit\'s library</a>, <a href="#index">index</a>, <a href="#cases">cases of types</a></p>'
 
 
 def chapter_of(book: Book, chapter: Chapter) -> Iterator[str]:

@@ -11,6 +11,7 @@ if TYPE_CHECKING:
 
 Rows = list[tuple[str, str]]
 WHERE = 'Where it is said'
+CASES = 'Cases of types, and who names them'
 CONTRACT: Rows = [
     ('requires { P }', 'what the caller owes. Without it the call may always be made'),
     ('ensures name { P }', 'what is proved of each call, under this name'),
@@ -232,7 +233,7 @@ def chapter(title: str, count: Count, ways: list[tuple[str, list[Entry]]]) -> li
         'proved, is on the page docs/proofs.md.',
         'The contract comes first. Then come the crates: what is asked, printed and refused, sessions, the board, the processor with its instructions, '
         'the assembler, the chips. Each file of definitions is a chapter, in its own order, most often the simple before what is made of it. Each '
-        'definition has a number, and below it stands who names it. The index is at the end.',
+        'definition has a number, and below it stands who names it. The index is at the end, with a second one of the cases of types, as instructions and modes.',
     ]
     found: list[tuple[str, list[str | Rows]]] = [('What is claimed', claimed), ('How to read a contract', [CONTRACT]), ('How to read a definition', [NOTATION])]
     where: Rows = [(question, ', '.join(f'{it.name} [{it.number}]' for it in entries)) for question, entries in ways]

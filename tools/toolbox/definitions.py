@@ -286,9 +286,10 @@ def named(text: str, scope: Scope) -> set[Node]:
 
 
 def constructors(it: Definition) -> list[str]:
-    """The constructors of a type that is defined by them."""
-    found = (re.match(r'\s+(?:pub )?(\S+) :', line) for line in it.lines[1:])
-    return [name[1] for name in found if name] if re.match(r'(?:pub )?data ', it.lines[0]) else []
+    """The constructors of a type that is defined by them, or the variants of one of the code."""
+    forms = ((r'(?:pub )?data ', r'\s+(?:pub )?(\S+) :'), (r'pub enum |enum ', r' {4}([A-Z]\w*)[^\w]'))
+    cases = next((case for head, case in forms if re.match(head, it.lines[0])), r'(?!)()')
+    return [name[1] for name in (re.match(cases, line) for line in it.lines[1:]) if name]
 
 
 def definitions_in(text: str, place: Node, scope: Scope) -> list[Definition]:
