@@ -170,42 +170,42 @@ class Books(ToolCase):
         for call in NAMES:
             with self.subTest(call):
                 book = Book(self.found, [call])
-                reached = [it for it in self.found.reached(self.found.wanted([call])) if it in self.found.texts]
+                reached = [each for each in self.found.reached(self.found.wanted([call])) if each in self.found.texts]
                 self.assertEqual(len(reached), len(set(reached)))
-                self.assertEqual(sorted(it.definition.node for it in book.entries), sorted(reached))
-                self.assertEqual([it.number for it in book.entries], list(range(1, len(reached) + 1)))
-                numbers = [int(it) for it in re.findall(r'^\[(\d+)\]$', text_of(book), re.M)]
-                self.assertEqual(numbers, [it.number for it in book.entries])
+                self.assertEqual(sorted(each.definition.node for each in book.entries), sorted(reached))
+                self.assertEqual([each.number for each in book.entries], list(range(1, len(reached) + 1)))
+                numbers = [int(each) for each in re.findall(r'^\[(\d+)\]$', text_of(book), re.M)]
+                self.assertEqual(numbers, [each.number for each in book.entries])
 
     def test_believed_starts_at_the_same_call(self) -> None:
         """It lists the files in the order of the book's chapters."""
         for call in ('program', 'Session::command', 'probe::command'):
             listed = self.tool('dev/believed', '--order', call)[0].splitlines()
             text = self.tool('dev/book', call, '--text')[0]
-            self.assertEqual([f'crates/{it}' for it in re.findall(r'^# (\w+/specs/\w+\.antt)$', text, re.M)], listed)
+            self.assertEqual([f'crates/{each}' for each in re.findall(r'^# (\w+/specs/\w+\.antt)$', text, re.M)], listed)
 
     def test_each_link_leads_to_a_place(self) -> None:
         for call in NAMES:
             with self.subTest(call):
                 book = Book(self.found, [call])
                 page = Page(page_of(book))
-                self.assertEqual(page.sources[len(book.calls) :], ['\n'.join([*it.definition.comment, *it.definition.lines]) for it in book.entries])
-                self.assertEqual([it for it, count in page.places.items() if count > 1], [])
+                self.assertEqual(page.sources[len(book.calls) :], ['\n'.join([*each.definition.comment, *each.definition.lines]) for each in book.entries])
+                self.assertEqual([each for each, count in page.places.items() if count > 1], [])
                 self.assertGreater(len(page.links), 1000)
-                self.assertEqual([it for it in page.links if not it.startswith('#') or it[1:] not in page.places], [])
+                self.assertEqual([each for each in page.links if not each.startswith('#') or each[1:] not in page.places], [])
                 self.assertEqual(page.loaded, [])
 
     def test_names_and_named_by_are_one_relation(self) -> None:
         book = Book(self.found, ['program'])
-        names = {(it.number, other) for it in book.entries for other in it.names}
-        self.assertEqual(names, {(other, it.number) for it in book.entries for other in it.named_by})
-        for it in book.entries:
-            self.assertTrue(it.named_by or book.callers(it), it.name)
+        names = {(each.number, other) for each in book.entries for other in each.names}
+        self.assertEqual(names, {(other, each.number) for each in book.entries for other in each.named_by})
+        for each in book.entries:
+            self.assertTrue(each.named_by or book.callers(each), each.name)
 
     def test_names_are_those_of_the_files_that_are_used(self) -> None:
         """`after_write` is a word of each chip."""
         book = Book(self.found, ['program'])
-        by_node = {it.definition.node: it for it in book.entries}
+        by_node = {each.definition.node: each for each in book.entries}
         writes = [
             by_node[crate, file, 'after_write'].number for crate, file in (('pic8259', 'Pic'), ('pit8253', 'Pit'), ('ppi8255', 'Ppi'), ('mda_text', 'Mda'))
         ]
@@ -225,7 +225,7 @@ class Books(ToolCase):
 
     def test_what_readers_ask_first_and_the_names_of_the_kit(self) -> None:
         book = Book(self.found, CALLS)
-        nodes = {it.definition.node for it in book.entries}
+        nodes = {each.definition.node for each in book.entries}
         self.assertEqual([node for _, of in book_words.WAYS for node in of if node not in nodes], [])
         self.assertEqual([name for name, _ in book_words.kit_of(book.kit) if name not in book_words.KIT], [])
 

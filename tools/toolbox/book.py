@@ -87,30 +87,35 @@ class Book:
     def __init__(self, found: Definitions, names: Sequence[str]) -> None:
         self.found = found
         wanted = found.wanted(names)
-        self.calls = [it for it in wanted if re.match(r'\s*(?:[\w()":]+ )*fn ', it.text)]
+        self.calls = [each for each in wanted if re.match(r'\s*(?:[\w()":]+ )*fn ', each.text)]
         if not self.calls:
             raise Sorry(f'{", ".join(names)} has no public call')
         reached = found.reached(wanted)
-        self.nodes = {it for it in reached if it in found.texts}
-        self.kit = sorted({it for it in reached if it[0] not in found.crates})
+        self.nodes = {each for each in reached if each in found.texts}
+        self.kit = sorted({each for each in reached if each[0] not in found.crates})
         self.numbers = {node: number for number, node in enumerate(self.ordered(reached), 1)}
         self.leads = {node: self.led_to(found.edges[node], node) for node in self.numbers}
-        self.parts = [self.part(crate) for crate in found.crates if any(it[0] == crate for it in self.nodes)]
-        self.entries = [it for part in self.parts for chapter in part.chapters for it in chapter.entries]
+        self.parts = [self.part(crate) for crate in found.crates if any(each[0] == crate for each in self.nodes)]
+        self.entries = [each for part in self.parts for chapter in part.chapters for each in chapter.entries]
+
+    def called(self) -> str:
+        """Its calls in a few words."""
+        names = [f'`{root.call}`' for root in self.calls]
+        return ', '.join(names) if len(names) <= 6 else f'{len(names)} calls'
 
     def title(self) -> str:
-        return 'What ' + ', '.join(f'`{it.call}`' for it in self.calls) + (' rests on' if len(self.calls) == 1 else ' rest on')
+        return f'What {self.called()} ' + ('rests on' if len(self.calls) == 1 else 'rest on')
 
     def ordered(self, reached: list[Node]) -> Iterator[Node]:
         """The nodes in the order of the book: by crates, in each the types and then the files, and each of these as it stands."""
         places = self.found.places(reached)
         for crate in self.found.crates:
-            own = [(crate, ''), *(it for it in places if it[0] == crate)]
+            own = [(crate, ''), *(each for each in places if each[0] == crate)]
             yield from (node for place in own for node in self.found.texts if node[:2] == place and node in self.nodes)
 
     def led_to(self, nodes: Iterable[Node], itself: Node | None = None) -> list[int]:
         """The numbers of what some nodes stand for."""
-        return sorted({self.numbers[it] for it in map(self.found.stands_for, nodes) if it in self.numbers and it != itself})
+        return sorted({self.numbers[each] for each in map(self.found.stands_for, nodes) if each in self.numbers and each != itself})
 
     def part(self, crate: str) -> Part:
         """The chapters of a crate."""
@@ -126,39 +131,39 @@ class Book:
 
     def entry(self, node: Node) -> Entry:
         number = self.numbers[node]
-        named_by = [self.numbers[it] for it, leads in self.leads.items() if number in leads]
+        named_by = [self.numbers[each] for each, leads in self.leads.items() if number in leads]
         return Entry(number, self.found.texts[node], self.leads[node], named_by)
 
     def callers(self, entry: Entry) -> list[Root]:
         """The contracts that name it themselves."""
-        return [it for it in self.calls if entry.number in self.led_to(it.nodes)]
+        return [each for each in self.calls if entry.number in self.led_to(each.nodes)]
 
     def cases(self) -> list[Case]:
         """The constructors of its types by their names, each with the definitions that name it."""
-        of_type = {(it.definition.node, name): Case(name, it, []) for it in self.entries for name in constructors(it.definition)}
+        of_type = {(each.definition.node, name): Case(name, each, []) for each in self.entries for name in constructors(each.definition)}
         for entry in self.entries:
             for word in dict.fromkeys(WORD.findall(NOTE.sub('', COMMENT.sub('', '\n'.join(entry.definition.lines))))):
                 node = meant(word, entry.definition.scope)
                 case = of_type.get((self.found.stands_for(node), word.rpartition('.')[2])) if node else None
                 if case and case.type != entry and entry not in case.named_by:
                     case.named_by.append(entry)
-        return sorted((it for it in of_type.values() if it.named_by), key=lambda it: (it.name.lower(), it.type.number))
+        return sorted((each for each in of_type.values() if each.named_by), key=lambda each: (each.name.lower(), each.type.number))
 
     def count(self) -> Count:
-        chapters = [it for part in self.parts for it in part.chapters]
-        files = [it for it in chapters if it.entries[0].definition.node[1]]
-        of_files = [line for it in files for line in [*it.head, *lines_of(it.entries)]]
-        of_types = [line for it in chapters if it not in files for line in lines_of(it.entries)]
+        chapters = [each for part in self.parts for each in part.chapters]
+        files = [each for each in chapters if each.entries[0].definition.node[1]]
+        of_files = [line for each in files for line in [*each.head, *lines_of(each.entries)]]
+        of_types = [line for each in chapters if each not in files for line in lines_of(each.entries)]
         comments = [line for line in of_files if line.lstrip().startswith('--')]
-        heads = sum(len(it.head) for it in files)
-        contracts = [line for it in self.calls for line in contract_lines(it)]
+        heads = sum(len(each.head) for each in files)
+        contracts = [line for each in self.calls for line in contract_lines(each)]
         return Count(
             len(of_files),
             len(comments) + heads,
-            sum(len(it.entries) for it in files),
+            sum(len(each.entries) for each in files),
             len(files),
             len(of_types),
-            sum(len(it.entries) for it in chapters if it not in files),
+            sum(len(each.entries) for each in chapters if each not in files),
             len(contracts),
             len(self.calls),
         )
@@ -166,7 +171,7 @@ class Book:
 
 def cited_in(text: str) -> list[str]:
     """The manuals that a comment cites, with the headings in them."""
-    return [' '.join(it.split()) for it in CITED.findall(text)]
+    return [' '.join(each.split()) for each in CITED.findall(text)]
 
 
 def source_of(chapter: Chapter, entry: Entry) -> list[str]:
@@ -174,25 +179,27 @@ def source_of(chapter: Chapter, entry: Entry) -> list[str]:
     for lines in (entry.definition.comment, entry.definition.heading):
         said = ' '.join(line.lstrip('-/ ') for line in lines)
         own = cited_in(said)
-        headings = HEADING.findall(said) if chapter.cited else []
-        if own or headings:
-            return own or [f'{re.match(WORKS, chapter.cited[0])[0]}, {" and ".join(headings)}']  # type: ignore[index]
+        if own:
+            return own
+        work = re.match(WORKS, chapter.cited[0]) if chapter.cited else None
+        if work and HEADING.search(said):
+            return [f'{work[0]}, {" and ".join(HEADING.findall(said))}']
     return chapter.cited
 
 
 def headings_of(entries: list[Entry]) -> Iterator[tuple[str, ...]]:
-    """The heading that stands above each entry; where it is that of the entry before, none."""
+    """The heading that stands above each entry; if it is that of the entry before, none."""
     last: tuple[str, ...] = ()
-    for it in entries:
-        heading = it.definition.heading
+    for each in entries:
+        heading = each.definition.heading
         yield heading if heading != last else ()
         last = heading or last
 
 
 def lines_of(entries: list[Entry]) -> Iterator[str]:
     """The lines of some entries, with the headings above them."""
-    for it, heading in zip(entries, headings_of(entries)):
-        yield from (*heading, *it.definition.comment, *it.definition.lines)
+    for each, heading in zip(entries, headings_of(entries)):
+        yield from (*heading, *each.definition.comment, *each.definition.lines)
 
 
 def contract_lines(call: Root) -> list[str]:
@@ -209,7 +216,7 @@ def text_of(book: Book) -> str:
 
 def text_lines(book: Book) -> Iterator[str]:
     yield from (title_line(book.title(), '='), *first_chapter(book))
-    yield from (title_line('Contents'), *rows_of([(f'[{it.chapters[0].entries[0].number}] {it.crate}', it.about) for it in book.parts]), '')
+    yield from (title_line('Contents'), *rows_of([(f'[{each.chapters[0].entries[0].number}] {each.crate}', each.about) for each in book.parts]), '')
     yield title_line('The contract' if len(book.calls) == 1 else 'The contracts')
     for call in book.calls:
         yield from (*contract_lines(call), '', *below('names', book.led_to(call.nodes), book), '')
@@ -239,47 +246,47 @@ def rows_of(table: list[tuple[str, str]]) -> Iterator[str]:
 
 def first_chapter(book: Book) -> Iterator[str]:
     """What is claimed, and how to read it."""
-    for title, paragraphs in book_words.chapter(book.title(), book.count(), [*ways(book)]):
+    for title, paragraphs in book_words.chapter(book.called(), book.count(), [*ways(book)]):
         yield title_line(title)
-        for it in paragraphs:
-            if isinstance(it, str):
-                yield from (*wrapped(it), '')
+        for each in paragraphs:
+            if isinstance(each, str):
+                yield from (*wrapped(each), '')
             else:
-                yield from rows_of(it)
+                yield from rows_of(each)
                 yield ''
 
 
 def ways(book: Book) -> Iterator[tuple[str, list[Entry]]]:
     """Where things are said that readers ask first, of those that this book has."""
-    by_node = {it.definition.node: it for it in book.entries}
+    by_node = {each.definition.node: each for each in book.entries}
     for question, nodes in book_words.WAYS:
-        if all(it in by_node for it in nodes):
-            yield question, [by_node[it] for it in nodes]
+        if all(each in by_node for each in nodes):
+            yield question, [by_node[each] for each in nodes]
 
 
 def chapter_lines(book: Book, chapter: Chapter) -> Iterator[str]:
     yield f'# {chapter.title}'
     yield from (*wrapped(' '.join(chapter.head)), '') if chapter.head else ('',)
-    for it, heading in zip(chapter.entries, headings_of(chapter.entries)):
+    for each, heading in zip(chapter.entries, headings_of(chapter.entries)):
         yield from (*heading, '') if heading else ()
-        yield f'[{it.number}]'
-        yield from (*it.definition.comment, *it.definition.lines)
-        yield from (*below('names', it.names, book), *below('named by', it.named_by, book, [call.call for call in book.callers(it)]), '')
+        yield f'[{each.number}]'
+        yield from (*each.definition.comment, *each.definition.lines)
+        yield from (*below('names', each.names, book), *below('named by', each.named_by, book, [call.call for call in book.callers(each)]), '')
 
 
 def below(word: str, numbers: list[int], book: Book, calls: Iterable[str] = ()) -> list[str]:
     """The lines below a definition that name others, by their numbers."""
-    named = [*(f'the contract of {it}' for it in calls), *(f'{book.entries[it - 1].name} [{it}]' for it in numbers)]
+    named = [*(f'the contract of {each}' for each in calls), *(f'{book.entries[each - 1].name} [{each}]' for each in numbers)]
     return textwrap.wrap(f'    {word}: {", ".join(named)}', WIDTH, subsequent_indent='      ', break_long_words=False, break_on_hyphens=False) if named else []
 
 
 def index_lines(book: Book) -> Iterator[str]:
     for name, of_name in index(book):
-        yield f'{name}  ' + ', '.join(f'[{it.number}] {where(it)}' for it in of_name)
+        yield f'{name}  ' + ', '.join(f'[{each.number}] {where(each)}' for each in of_name)
 
 
 def case_lines(case: Case) -> list[str]:
-    named_by = ', '.join(f'{it.name} [{it.number}]' for it in case.named_by)
+    named_by = ', '.join(f'{each.name} [{each.number}]' for each in case.named_by)
     return textwrap.wrap(f'{case.name}  [{case.type.number}] {case.type.name}: {named_by}', WIDTH, subsequent_indent='    ')
 
 
@@ -292,6 +299,6 @@ def where(entry: Entry) -> str:
 def index(book: Book) -> list[tuple[str, list[Entry]]]:
     """The entries by their names."""
     by_name: dict[str, list[Entry]] = {}
-    for it in book.entries:
-        by_name.setdefault(it.name, []).append(it)
+    for each in book.entries:
+        by_name.setdefault(each.name, []).append(each)
     return sorted(by_name.items(), key=lambda item: (item[0].strip('◌').lower(), item[0]))

@@ -45,16 +45,18 @@ def body(book: Book) -> Iterator[str]:
     yield '<h2 id="kit">Names of the kit\'s library</h2>\n' + table(book_words.kit_of(book.kit))
     yield '<h2 class="p" id="index">Index</h2>\n<ul class="i">'
     for name, of_name in index(book):
-        yield f'<li><code>{html.escape(name)}</code> ' + ', '.join(f'{link(it, str(it.number))} {where(it)}' for it in of_name) + '</li>'
+        yield f'<li><code>{html.escape(name)}</code> ' + ', '.join(f'{link(each, str(each.number))} {where(each)}' for each in of_name) + '</li>'
     yield f'</ul>\n<h2 class="p" id="cases">{book_words.CASES}</h2>\n<ul class="i">'
     for case in book.cases():
-        yield f'<li><code>{html.escape(case.name)}</code> {link(case.type, case.type.name)}: ' + ', '.join(link(it, it.name) for it in case.named_by) + '</li>'
+        yield f'<li><code>{html.escape(case.name)}</code> {link(case.type, case.type.name)}: ' + ', '.join(
+            link(each, each.name) for each in case.named_by
+        ) + '</li>'
     yield '</ul>'
 
 
 def anchor_of(book: Book, call: Root) -> str:
     """The place of a contract in the page: two may have one name."""
-    return f'c{next(number for number, it in enumerate(book.calls, 1) if it is call)}'
+    return f'c{next(number for number, each in enumerate(book.calls, 1) if each is call)}'
 
 
 def prose(text: str) -> str:
@@ -67,37 +69,37 @@ def table(rows: list[tuple[str, str]]) -> str:
 
 
 def first_chapter(book: Book) -> Iterator[str]:
-    for title, paragraphs in book_words.chapter(book.title(), book.count(), []):
+    for title, paragraphs in book_words.chapter(book.called(), book.count(), []):
         yield f'<h2>{prose(title)}</h2>'
-        yield from (f'<p>{prose(it)}</p>' if isinstance(it, str) else table(it) for it in paragraphs)
-    rows = (f'<tr><td>{prose(question)}<td>' + ', '.join(f'{link(it, it.name)}' for it in entries) for question, entries in ways(book))
+        yield from (f'<p>{prose(each)}</p>' if isinstance(each, str) else table(each) for each in paragraphs)
+    rows = (f'<tr><td>{prose(question)}<td>' + ', '.join(f'{link(each, each.name)}' for each in entries) for question, entries in ways(book))
     yield f'<h2>{book_words.WHERE}</h2>\n<table>\n' + '\n'.join(rows) + '\n</table>'
 
 
 def contents(book: Book) -> Iterator[str]:
     yield '<h2 class="p">Contents</h2>\n<p>' + ', '.join(
-        f'<a href="#{anchor_of(book, it)}">the contract of <code>{it.call}</code></a>' for it in book.calls
+        f'<a href="#{anchor_of(book, each)}">the contract of <code>{each.call}</code></a>' for each in book.calls
     ) + '</p>\n<table>'
     for part in book.parts:
         first = part.chapters[0].entries[0].number
-        files = ', '.join(f'<a href="#d{it.entries[0].number}">{it.entries[0].definition.node[1] or "types"}</a>' for it in part.chapters)
+        files = ', '.join(f'<a href="#d{each.entries[0].number}">{each.entries[0].definition.node[1] or "types"}</a>' for each in part.chapters)
         yield f'<tr><td>{first}<td><a href="#{part.crate}">{part.crate}</a><td>{prose(part.about)} <span class="s">{files}</span>'
     yield '</table>\n<p><a href="#kit">Names of the kit\'s library</a>, <a href="#index">index</a>, <a href="#cases">cases of types</a></p>'
 
 
 def chapter_of(book: Book, chapter: Chapter) -> Iterator[str]:
     yield f'<h3>{chapter.title}</h3>' + (f'\n<p>{prose(" ".join(chapter.head))}</p>' if chapter.head else '')
-    for it, heading in zip(chapter.entries, headings_of(chapter.entries)):
+    for each, heading in zip(chapter.entries, headings_of(chapter.entries)):
         yield from [f'<p class="h">{prose(" ".join(line.strip("- ") for line in heading))}</p>'] if heading else []
-        lines = [*it.definition.comment, *it.definition.lines]
-        yield f'<section class="d" id="d{it.number}"><span class="n">{it.number}</span><pre>{code(book, lines, it.definition.scope, it.number, it.name)}</pre>'
-        yield f'<p class="s">{said_below(book, chapter, it)}</p></section>'
+        lines = [*each.definition.comment, *each.definition.lines]
+        yield f'<section class="d" id="d{each.number}"><span class="n">{each.number}</span><pre>{code(book, lines, each.definition.scope, each.number, each.name)}</pre>'
+        yield f'<p class="s">{said_below(book, chapter, each)}</p></section>'
 
 
 def said_below(book: Book, chapter: Chapter, entry: Entry) -> str:
     """Who names a definition, and which manual is cited for it."""
-    callers = [f'<a href="#{anchor_of(book, it)}">the contract of {it.call}</a>' for it in book.callers(entry)]
-    named_by = ', '.join([*callers, *(link(book.entries[it - 1], book.entries[it - 1].name) for it in entry.named_by)])
+    callers = [f'<a href="#{anchor_of(book, each)}">the contract of {each.call}</a>' for each in book.callers(entry)]
+    named_by = ', '.join([*callers, *(link(book.entries[each - 1], book.entries[each - 1].name) for each in entry.named_by)])
     cited = '; '.join(source_of(chapter, entry))
     return f'named by {named_by or "itself"}' + (f'<br>source: {html.escape(cited, quote=False)}' if cited else '')
 

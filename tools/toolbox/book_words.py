@@ -41,7 +41,7 @@ NOTATION: Rows = [
     ('P → Q, P ↔ Q', '`Q`, if `P`; each, if the other'),
     ('(n : ℕ) → P, (n : ℕ) × P', '`P` for every `n`; `P` for some `n`. `{n : ℕ}` before an arrow is an argument that isn\'t written'),
     ('⊤, ⊥', 'the claim that always holds; the one that never does'),
-    ('pit.after_write', 'behind a file\'s name: that file\'s definition of this word, which other chips have too. Behind a value\'s name it is a field'),
+    ('pit.after_write', 'after a file\'s name: that file\'s definition of this word, which other chips have too. After a value\'s name it is a field'),
     ('◌', 'in a name: where an argument goes, as in `◌>>=◌`, written `a >>= f`'),
 ]
 # A question, and the definitions that answer it, in the order to read them in.
@@ -185,7 +185,7 @@ KIT: dict[str, str] = {
     'slice_index_or': '`slice_index_or xs i d`: element `i`, or `d` past the end',
     'slice_set': '`slice_set xs i x`: the list with `x` as element `i`',
     'string_bytes': 'the bytes of a text of the code',
-    'subcommand_of': "the subcommand that a program's words name, with what `clap` found behind it",
+    'subcommand_of': "the subcommand that a program's words name, with what `clap` found after it",
     'suc': '`suc n`: the number after `n`',
     'sum': 'the sum of the elements',
     'sum_by': 'the sum of what a function makes of the elements',
@@ -221,14 +221,13 @@ PLAIN = (
 )  # said with others
 
 
-def chapter(title: str, count: Count, ways: list[tuple[str, list[Entry]]]) -> list[tuple[str, list[str | Rows]]]:
-    """The first chapter: titles, each with paragraphs and tables."""
+def chapter(called: str, count: Count, ways: list[tuple[str, list[Entry]]]) -> list[tuple[str, list[str | Rows]]]:
+    """The first chapter of the book of these calls: titles, each with paragraphs and tables."""
     claimed: list[str | Rows] = [
         'Zebludor is an IBM PC 5150 as a program. A proof checker has verified that its public calls keep their contracts, for all states and inputs '
-        'that the caller\'s conditions admit. This book has the contract'
-        + (' of one call' if count.contracts == 1 else f's of {count.contracts} calls')
-        + f', in its own clauses, and then everything that the clauses say it by: {count.definitions:,} definitions and {count.types} types, each once. If '
-        'they say what you mean, the code does what you mean. You need not read the code: nothing that it caches, postpones or leaves out is in here.',
+        f"that the caller's conditions admit. This book has the contract{'s' if count.contracts > 1 else ''} of {called}, clause by clause, and then "
+        f'everything that the clauses say it by: {count.definitions:,} definitions and {count.types} types, each once. If they say what you mean, the code '
+        'does what you mean. You need not read the code: nothing that it caches, postpones or leaves out is in here.',
         'What is taken for granted besides, as the checker and the kit\'s library, what is only tested, and in which ways a wrong body could still be '
         'proved, is on the page docs/proofs.md.',
         'The contract comes first. Then come the crates: what is asked, printed and refused, sessions, the board, the processor with its instructions, '
@@ -236,7 +235,7 @@ def chapter(title: str, count: Count, ways: list[tuple[str, list[Entry]]]) -> li
         'definition has a number, and below it stands who names it. The index is at the end, with a second one of the cases of types, as instructions and modes.',
     ]
     found: list[tuple[str, list[str | Rows]]] = [('What is claimed', claimed), ('How to read a contract', [CONTRACT]), ('How to read a definition', [NOTATION])]
-    where: Rows = [(question, ', '.join(f'{it.name} [{it.number}]' for it in entries)) for question, entries in ways]
+    where: Rows = [(question, ', '.join(f'{each.name} [{each.number}]' for each in entries)) for question, entries in ways]
     return [*found, *([(WHERE, [where])] if where else [])]  # type: ignore[list-item]
 
 

@@ -95,14 +95,14 @@ class Definitions:
         scope = scope_of(COMMENT.sub('', text), crate)
         self.edges.update({(crate, file.stem, name): {node} for name, node in scope.items()})
         self.heads[crate, file.stem] = opening(text, '--')
-        found = {it.node[2]: it for it in definitions_in(text, (crate, file.stem), scope)}
-        scope.update({name: it.node for name, it in found.items()})
-        self.edges.update({it.node: named(COMMENT.sub('', '\n'.join(it.lines)), scope) for it in found.values()})
-        self.edges.update({(crate, file.stem, name): {it.node} for it in found.values() for name in constructors(it)})
-        self.texts.update({it.node: it for it in found.values()})
+        found = {each.node[2]: each for each in definitions_in(text, (crate, file.stem), scope)}
+        scope.update({name: each.node for name, each in found.items()})
+        self.edges.update({each.node: named(COMMENT.sub('', '\n'.join(each.lines)), scope) for each in found.values()})
+        self.edges.update({(crate, file.stem, name): {each.node} for each in found.values() for name in constructors(each)})
+        self.texts.update({each.node: each for each in found.values()})
 
     def stands_for(self, node: Node) -> Node:
-        """The definition that a name stands for: where a file passes it on, another's, and of a constructor its type."""
+        """The definition that a name stands for: another file's, if a file passes it on, and of a constructor its type."""
         while node not in self.texts and len(self.edges.get(node, ())) == 1:
             node = next(iter(self.edges[node]))
         return node
@@ -110,10 +110,10 @@ class Definitions:
     def read_library(self, crate: str) -> None:
         """Adds a library's types, and as roots what a caller of it reaches."""
         parts = [(file, is_open, read(file)) for file, is_open in modules(crate)]
-        public = {it.name for _, is_open, text in parts for it in items(text) if is_open and it.is_pub and it.kind in TYPES}
+        public = {each.name for _, is_open, text in parts for each in items(text) if is_open and each.is_pub and each.kind in TYPES}
         for file, is_open, text in parts:
             is_law = file.stem == 'laws' or crate.endswith('_laws')
-            own = {it.name: (crate, '', it.name) for it in items(text) if it.kind in TYPES}
+            own = {each.name: (crate, '', each.name) for each in items(text) if each.kind in TYPES}
             scope = scope_of(NOTE.sub('', text), crate) | own
             for item in items(text):
                 if item.kind in TYPES or item.trait == 'Model':
@@ -126,23 +126,23 @@ class Definitions:
         node: Node = (crate, '', item.name)
         members = items(item.text, '    ')
         if item.trait == 'Model':
-            value = next(it for it in members if it.name == 'Value')
+            value = next(each for each in members if each.name == 'Value')
             lines = [*(f'    //{line}' for line in value.comment.splitlines()), f'    {" ".join(value.text.split())}']
             was = self.texts[node]
             self.texts[node] = was._replace(lines=(was.lines[0].removesuffix('{').removesuffix(';').rstrip(), *lines), scope=was.scope | scope)
-            self.views[node] = self.edges[node] | named(NOTE.sub('', ' '.join(it.text for it in members if it.name == 'view')), scope)
+            self.views[node] = self.edges[node] | named(NOTE.sub('', ' '.join(each.text for each in members if each.name == 'view')), scope)
             self.edges[node] = named(value.text, scope)
             return
         comment = tuple(f'///{line}' for line in item.comment.splitlines())
         lines = [line for line in item.text.splitlines() if line.strip() and not line.lstrip().startswith('#[')]
         self.texts[node] = Definition(node, (), comment, tuple(lines), scope)
-        seen = (NOTE.sub('', seen_of(it)) for it in members if it.name not in UNSEEN) if item.kind == 'trait' else [capitals(NOTE.sub('', item.text))]
+        seen = (NOTE.sub('', seen_of(each)) for each in members if each.name not in UNSEEN) if item.kind == 'trait' else [capitals(NOTE.sub('', item.text))]
         self.edges[node] = named(' '.join(seen), scope)
 
     def wanted(self, names: Iterable[str]) -> list[Root]:
         """What callers reach of these names."""
         names = list(names)
-        unknown = sorted(it for it in names if it not in self.crates and not any(root.is_named(it) for root in self.roots))
+        unknown = sorted(each for each in names if each not in self.crates and not any(root.is_named(each) for root in self.roots))
         if unknown:
             raise Sorry(f'there is no crate and no public call {", ".join(unknown)}')
         return self.called(names)
@@ -150,12 +150,12 @@ class Definitions:
     def called(self, names: Iterable[str]) -> list[Root]:
         """What callers reach of those of these names that there are, in the order of `crates`."""
         names = list(names)
-        return sorted((it for it in self.roots if any(map(it.is_named, names))), key=lambda it: self.crates.index(it.crate))
+        return sorted((each for each in self.roots if any(map(each.is_named, names))), key=lambda each: self.crates.index(each.crate))
 
     def reached(self, roots: Iterable[Root], views: bool = False) -> list[Node]:
         """The nodes that the clauses of some lead to, each once: those that they name, then those that these name, and so on. With
         `views`, from a type to its view too."""
-        todo, seen = [node for it in roots for node in sorted(it.nodes)], dict[Node, None]()
+        todo, seen = [node for each in roots for node in sorted(each.nodes)], dict[Node, None]()
         while todo:
             seen.update(dict.fromkeys(todo))
             leads = ([*sorted(self.edges.get(node, ())), *(sorted(self.views.get(node, ())) if views else ())] for node in todo)
@@ -183,7 +183,7 @@ def opening(text: str, mark: str) -> list[str]:
 def first_sentence(text: str) -> str:
     """The first sentence of a comment, with its lines joined."""
     joined = ' '.join(text.split())
-    for end in (it.end() for it in re.finditer(r'\.(?= [A-Z`]|$)', joined)):
+    for end in (each.end() for each in re.finditer(r'\.(?= [A-Z`]|$)', joined)):
         if joined.count('(', 0, end) == joined.count(')', 0, end) and joined.count('`', 0, end) % 2 == 0:
             return joined[:end]
     return joined
@@ -204,9 +204,12 @@ def comment_above(text: str, start: int, mark: str) -> str:
 def items(text: str, indent: str = '') -> list[Item]:
     """The items of a source, or the members of one, each without what stands above the next."""
     found = list(re.finditer(ITEM.format(indent), text, re.M))
-    ends = [it.start() for it in found[1:]] + [len(text)]
+    ends = [each.start() for each in found[1:]] + [len(text)]
     above = re.compile(rf'(?:\n{indent}(?://|#\[).*|\n[ ]*)*\Z')
-    return [Item(above.sub('\n', text[it.start() : end]), said_of(text, it.start()), bool(it[1]), it[2], it[3] or '', it[4]) for it, end in zip(found, ends)]
+    return [
+        Item(above.sub('\n', text[each.start() : end]), said_of(text, each.start()), bool(each[1]), each[2], each[3] or '', each[4])
+        for each, end in zip(found, ends)
+    ]
 
 
 def said_of(text: str, start: int) -> str:
@@ -227,7 +230,7 @@ def modules(crate: str) -> list[tuple[Path, bool]]:
     files = [(CRATES / crate / 'src/lib.rt', True)]
     for file, is_open in files:
         inner = file.parent if file.stem == 'lib' else file.parent / file.stem
-        files += [(inner / f'{it.name}.rt', is_open and it.is_pub) for it in items(read(file)) if it.kind == 'mod']
+        files += [(inner / f'{each.name}.rt', is_open and each.is_pub) for each in items(read(file)) if each.kind == 'mod']
     return files
 
 
@@ -247,13 +250,13 @@ def seen_of(item: Item) -> str:
 def roots_of(crate: str, item: Item, scope: Scope, is_law: bool) -> Iterator[Root]:
     """What callers reach of an item that is public."""
     of_trait = item.kind == 'trait' or bool(item.trait)
-    for it in items(item.text, '    ') if item.kind in ('impl', 'trait') else [item]:
-        if of_trait or it.is_pub:
-            text, body = signature(it.text)
-            nodes = named(seen_of(it), scope) if it.name not in UNSEEN else set()
-            nodes |= {(crate, '', it.name)} if it.kind in TYPES else set()
-            call = f'{item.name}::{it.name}' if item.kind in ('impl', 'trait') else it.name
-            yield Root(crate, call, is_law or body.strip().startswith('{}'), frozenset(nodes), it.comment, text.rstrip(), scope)
+    for each in items(item.text, '    ') if item.kind in ('impl', 'trait') else [item]:
+        if of_trait or each.is_pub:
+            text, body = signature(each.text)
+            nodes = named(seen_of(each), scope) if each.name not in UNSEEN else set()
+            nodes |= {(crate, '', each.name)} if each.kind in TYPES else set()
+            call = f'{item.name}::{each.name}' if item.kind in ('impl', 'trait') else each.name
+            yield Root(crate, call, is_law or body.strip().startswith('{}'), frozenset(nodes), each.comment, text.rstrip(), scope)
 
 
 def scope_of(text: str, crate: str) -> Scope:
@@ -285,11 +288,11 @@ def named(text: str, scope: Scope) -> set[Node]:
     return nodes | {node for node in (meant(word, scope) for word in words) if node}
 
 
-def constructors(it: Definition) -> list[str]:
+def constructors(each: Definition) -> list[str]:
     """The constructors of a type that is defined by them, or the variants of one of the code."""
     forms = ((r'(?:pub )?data ', r'\s+(?:pub )?(\S+) :'), (r'pub enum |enum ', r' {4}([A-Z]\w*)[^\w]'))
-    cases = next((case for head, case in forms if re.match(head, it.lines[0])), r'(?!)()')
-    return [name[1] for name in (re.match(cases, line) for line in it.lines[1:]) if name]
+    cases = next((case for head, case in forms if re.match(head, each.lines[0])), r'(?!)()')
+    return [name[1] for name in (re.match(cases, line) for line in each.lines[1:]) if name]
 
 
 def definitions_in(text: str, place: Node, scope: Scope) -> list[Definition]:

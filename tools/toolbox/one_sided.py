@@ -14,7 +14,7 @@ CLAUSE = re.compile(r'^\s*(requires|ensures)\*?(?: \w+)? \{(.*?)\}[;,]?\s*(?=^\s
 ANSWER = re.compile(r'->\s*(.*?)\s*(?:\bwhere\b.*)?;?\s*\Z', re.S)
 STAYS = r'\(?([^()]+)\.new(\.\w+)? ≡ \1\.old(?:\2)?\)?'
 PREMISES = r'(?:.* → )?'
-# What each clause that speaks of the answer says, of functions with these answers, where the worst one meets it.
+# What each clause that speaks of the answer says, of functions with these answers, if the worst one meets it.
 MET: dict[str, tuple[str, tuple[str, ...]]] = {
     'false': ('bool', (rf'{PREMISES}IsTrue result → .*', rf'¬ \(IsTrue result\) → {STAYS}')),
     'None': (r'Option<.*', (rf'{PREMISES}(?:IfSome|OnSome) result .*', rf'IfNone result {STAYS}')),
@@ -51,35 +51,32 @@ def functions() -> Iterator[Function]:
     """Those of all libraries that the programs are made of, private ones too."""
     crates = Crates()
     made_of = set().union(*map(crates.below, PROGRAMS))
-    for crate in (it for it in crates.named if it in made_of):
+    for crate in (each for each in crates.named if each in made_of):
         for file in sorted((CRATES / crate / 'src').glob('**/*.rt')):
             for item in items(read(file)):
-                for it in items(item.text, '    ') if item.kind in ('impl', 'trait') else [item]:
-                    if it.kind == 'fn' and not item.trait:  # of a trait's function the trait has the clauses
-                        yield function_of(crate, file.stem, it)
+                for each in items(item.text, '    ') if item.kind in ('impl', 'trait') else [item]:
+                    if each.kind == 'fn' and not item.trait:  # of a trait's function the trait has the clauses
+                        yield function_of(crate, file.stem, each)
 
 
-def function_of(crate: str, file: str, it: Item) -> Function:
-    told = NOTE.sub('', signature(it.text)[0])
-    head = re.split(r'^\s*(?:requires|ensures|ghost)\b', told, flags=re.M)[0]
-    answer = ANSWER.search(head)
-    clauses = [(kind, ' '.join(clause.split())) for kind, clause in CLAUSE.findall(told)]
+def function_of(crate: str, file: str, item: Item) -> Function:
+    whole = NOTE.sub('', signature(item.text)[0])
+    answer = ANSWER.search(re.split(r'^\s*(?:requires|ensures|ghost)\b', whole, flags=re.M)[0])
+    clauses = [(kind, ' '.join(clause.split())) for kind, clause in CLAUSE.findall(whole)]
     ensures, requires = ([clause for kind, clause in clauses if kind == wanted] for wanted in ('ensures', 'requires'))
-    return Function(crate, file, it.name, ' '.join(answer[1].split()) if answer else '', ensures, requires)
+    return Function(crate, file, item.name, ' '.join(answer[1].split()) if answer else '', ensures, requires)
 
 
-def worst_of(it: Function) -> str | None:
+def worst_of(function: Function) -> str | None:
     """The answer that a body may always give, if its clauses have this form."""
-    if it.answer and not it.ensures:
+    if function.answer and not function.ensures:
         return 'anything'
-    told = [clause for clause in it.ensures if re.search(r'\bresult\b', clause)] if it.answer else it.ensures
-    told = [clause for clause in told if clause.replace('.new', '.old') not in it.requires]  # what holds before, and stays so
+    of_answer = [clause for clause in function.ensures if re.search(r'\bresult\b', clause) or not function.answer]
+    promised = [clause for clause in of_answer if clause.replace('.new', '.old') not in function.requires]  # the others hold before
+    if function.answer and not promised or not function.ensures:
+        return None
     for worst, (answer, forms) in MET.items():
-        if (
-            (told or it.ensures and not it.answer)
-            and re.fullmatch(answer, it.answer)
-            and all(any(re.fullmatch(form, clause) for form in forms) for clause in told)
-        ):
+        if re.fullmatch(answer, function.answer) and all(any(re.fullmatch(form, clause) for form in forms) for clause in promised):
             return worst
     return None
 
@@ -87,8 +84,8 @@ def worst_of(it: Function) -> str | None:
 def one_sided() -> dict[str, list[Function]]:
     """Those functions, by what they may always answer."""
     found: dict[str, list[Function]] = {worst: [] for worst in (*MET, 'anything')}
-    for it in functions():
-        worst = worst_of(it)
+    for each in functions():
+        worst = worst_of(each)
         if worst:
-            found[worst].append(it)
+            found[worst].append(each)
     return found
