@@ -160,16 +160,22 @@ class Books(ToolCase):
     """Books of the repository's own calls."""
 
     found: Definitions
+    books: dict[tuple[str, ...], Book] = {}  # which are made once
 
     @classmethod
     def setUpClass(cls) -> None:
         super().setUpClass()
         cls.found = Definitions()
 
+    def book(self, *calls: str) -> Book:
+        if calls not in self.books:
+            self.books[calls] = Book(self.found, calls)
+        return self.books[calls]
+
     def test_each_definition_reached_stands_once_and_no_other(self) -> None:
         for call in NAMES:
             with self.subTest(call):
-                book = Book(self.found, [call])
+                book = self.book(call)
                 reached = [each for each in self.found.reached(self.found.wanted([call])) if each in self.found.texts]
                 self.assertEqual(len(reached), len(set(reached)))
                 self.assertEqual(sorted(each.definition.node for each in book.entries), sorted(reached))
@@ -187,7 +193,7 @@ class Books(ToolCase):
     def test_each_link_leads_to_a_place(self) -> None:
         for call in NAMES:
             with self.subTest(call):
-                book = Book(self.found, [call])
+                book = self.book(call)
                 page = Page(page_of(book))
                 self.assertEqual(page.sources[len(book.calls) :], ['\n'.join([*each.definition.comment, *each.definition.lines]) for each in book.entries])
                 self.assertEqual([each for each, count in page.places.items() if count > 1], [])
@@ -196,7 +202,7 @@ class Books(ToolCase):
                 self.assertEqual(page.loaded, [])
 
     def test_names_and_named_by_are_one_relation(self) -> None:
-        book = Book(self.found, ['program'])
+        book = self.book('program')
         names = {(each.number, other) for each in book.entries for other in each.names}
         self.assertEqual(names, {(other, each.number) for each in book.entries for other in each.named_by})
         for each in book.entries:
@@ -204,7 +210,7 @@ class Books(ToolCase):
 
     def test_names_are_those_of_the_files_that_are_used(self) -> None:
         """`after_write` is a word of each chip."""
-        book = Book(self.found, ['program'])
+        book = self.book('program')
         by_node = {each.definition.node: each for each in book.entries}
         writes = [
             by_node[crate, file, 'after_write'].number for crate, file in (('pic8259', 'Pic'), ('pit8253', 'Pit'), ('ppi8255', 'Ppi'), ('mda_text', 'Mda'))
@@ -217,25 +223,25 @@ class Books(ToolCase):
     def test_the_contract_stands_with_its_own_clauses(self) -> None:
         with open(f'{TOP}/crates/pcboard_program/src/program.rt', encoding='utf-8') as file:
             clauses = re.findall(r'ensures \w+ \{', file.read().partition('pub fn program_of')[0])
-        text = text_of(Book(self.found, ['program']))
+        text = text_of(self.book('program'))
         self.assertEqual(re.findall(r'^    (ensures \w+ \{)', text, re.M), clauses)
         self.assertIn('/// Does what `words`, those after the program', text)
         self.assertNotIn('ghost view', text)
-        self.assertIn('    ghost Value = { List (ℕ × ℕ) };', text_of(Book(self.found, ['run_image'])))
+        self.assertIn('    ghost Value = { List (ℕ × ℕ) };', text_of(self.book('run_image')))
 
     def test_what_readers_ask_first_and_the_names_of_the_kit(self) -> None:
-        book = Book(self.found, CALLS)
+        book = self.book(*CALLS)
         nodes = {each.definition.node for each in book.entries}
         self.assertEqual([node for _, of in book_words.WAYS for node in of if node not in nodes], [])
         self.assertEqual([name for name, _ in book_words.kit_of(book.kit) if name not in book_words.KIT], [])
 
     def test_cases_lead_to_who_names_them(self) -> None:
-        text = text_of(Book(self.found, ['program']))
+        text = text_of(self.book('program'))
         self.assertRegex(text, r'\nSti  \[\d+\] Processor: shadow_of \[\d+\], after_flag_operation ')
         self.assertRegex(text, r'\nSquareWave  \[\d+\] Mode: out_at_load ')
 
     def test_manuals_are_cited(self) -> None:
-        page = page_of(Book(self.found, ['program']))
+        page = page_of(self.book('program'))
         for cited in ('source: Intel 8259A data sheet, "Priority Resolver"', 'source: IBM PC Technical Reference, "Speaker Interface"'):
             self.assertIn(cited, page)
 
