@@ -28,7 +28,7 @@ ul.i { columns: 3; list-style: none; padding: 0; font-size: 13px } ul.i li { bre
 def page_of(book: Book) -> str:
     """The page."""
     title = book.title()
-    head = f'<meta charset="utf-8">\n<title>{html.escape(title.replace("`", ""))}</title>\n<style>{STYLE}</style>'
+    head = f'<meta charset="utf-8">\n<meta name="viewport" content="width=device-width">\n<title>{html.escape(title.replace("`", ""))}</title>\n<style>{STYLE}</style>'
     return f'<!DOCTYPE html>\n<html lang="en">\n{head}\n<h1>{prose(title)}</h1>\n' + '\n'.join(body(book)) + '\n</html>\n'
 
 
