@@ -133,6 +133,8 @@ class Definitions:
             self.views[node] = self.edges[node] | named(NOTE.sub('', ' '.join(each.text for each in members if each.name == 'view')), scope)
             self.edges[node] = named(value.text, scope)
             return
+        if node in self.texts and not item.is_pub:
+            return  # a private type of another module, that has the name too
         comment = tuple(f'///{line}' for line in item.comment.splitlines())
         lines = [line for line in item.text.splitlines() if line.strip() and not line.lstrip().startswith('#[')]
         self.texts[node] = Definition(node, (), comment, tuple(lines), scope)
