@@ -227,7 +227,7 @@ def chapter(called: str, count: Count, ways: list[tuple[str, list[Entry]]]) -> l
         'Zebludor is an IBM PC 5150 as a program. A proof checker has verified that its public calls keep their contracts, for all states and inputs '
         f"that the caller's conditions admit. This book has the contract{'s' if count.contracts > 1 else ''} of {called}, clause by clause, and then "
         f'everything that the clauses say it by: {count.definitions:,} definitions and {count.types} types, each once. If they say what you mean, the code '
-        'does what you mean. You need not read the code: nothing that it caches, postpones or leaves out is in here.',
+        'does what you mean, and you need not read it.',
         'What is taken for granted besides, as the checker and the kit\'s library, what is only tested, and in which ways a wrong body could still be '
         'proved, is on the page docs/proofs.md.',
         'The contract comes first. Then come the crates: what is asked, printed and refused, sessions, the board, the processor with its instructions, '
