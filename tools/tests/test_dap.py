@@ -450,10 +450,10 @@ class Sessions(ToolCase):
         self.assertEqual(client.leave(), 0)
 
     def test_a_pause_on_a_long_way_back(self) -> None:
-        slow = self.file('pcboard', SLOW)
+        slow = self.file('pcprobe', SLOW)
         os.chmod(slow, 0o755)
         program = self.file('it.hex', ':00000001FF\n')
-        with unittest.mock.patch.dict(os.environ, {'PCBOARD': slow}):
+        with unittest.mock.patch.dict(os.environ, {'PCPROBE': slow}):
             client = self.client()
         client.launch(program, budget=5000, stopOnEntry=True)
         client.event('stopped')
@@ -617,10 +617,10 @@ class Sessions(ToolCase):
 
     def test_a_board_that_dies(self) -> None:
         pid = f'{self.room}/pid'
-        killed = self.file('pcboard', f'#!/bin/sh\ncase $1 in debug) echo $$ > {pid};; esac\nexec {path()} "$@"\n')
+        killed = self.file('pcprobe', f'#!/bin/sh\necho $$ > {pid}\nexec {path("pcprobe")} "$@"\n')
         os.chmod(killed, 0o755)
         client, (source, run) = None, example('hello')
-        with unittest.mock.patch.dict(os.environ, {'PCBOARD': killed}):
+        with unittest.mock.patch.dict(os.environ, {'PCPROBE': killed}):
             client = self.client()
         client.launch(source, run=run, stopOnEntry=True)
         client.event('stopped')

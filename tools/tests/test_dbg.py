@@ -97,9 +97,9 @@ class Sessions(ToolCase):
     def test_a_session_goes_back_by_itself(self) -> None:
         """It is begun anew where a stop is cleared, and for a later clock past stops."""
         count = self.file('count', '')
-        counted = self.file('pcboard', f'#!/bin/sh\ncase $1 in debug) echo >> {count};; esac\nexec {path()} "$@"\n')
+        counted = self.file('pcprobe', f'#!/bin/sh\necho >> {count}\nexec {path("pcprobe")} "$@"\n')
         os.chmod(counted, 0o755)
-        with mock.patch.dict(os.environ, {'PCBOARD': counted}):
+        with mock.patch.dict(os.environ, {'PCPROBE': counted}):
             for commands, wanted in (
                 (('to 1797', 'back', 'to 3', 'back 9'), 1),
                 (('break tick', 'go', 'go', 'last', 'back', 'to 3'), 1),

@@ -24,7 +24,7 @@ from tests.support import EXAMPLES, SECONDS, TOOLS, TOP, ToolCase, children, exa
 from tests.test_symbols import NASM, ROM, hex_of
 
 from toolbox import desk_board, desk_http, desk_words, desk_work
-from toolbox.chips import chip_lines, lines_in
+from toolbox.chips import chip_lines
 from toolbox.command import Sorry
 from toolbox.dap_values import is_code
 from toolbox.desk_drafts import Drafts
@@ -713,6 +713,38 @@ class Boards(Served):
         self.assertEqual(self.client.ask('drop keys', board=board, keys=[0, 1, 2])['keys'][0][1], 'n')
         self.repeated(board, self.client.ask('look', board=board))
 
+    def test_a_key_repeats_no_run(self) -> None:
+        """Behind a long busy run it costs the board nothing, comes at its stamp, and again on a way back and on."""
+        board = self.client.ask('open', source=FOREVER, run=RUN)['board']
+        here = self.client.ask('go to', board=board, clock=400_000_000)['clock']
+        them, process = children(os.getpid()), self.desk._boards[board].machine._session._process.pid  # type: ignore[union-attr]
+        before = processor_seconds(process)
+        for count in range(1, 21):
+            typed = self.client.ask('type', board=board, codes=[30, 158])
+            self.assertEqual((typed['clock'], len(typed['keys'])), (here, 2 * count))
+        self.assertLess(processor_seconds(process) - before, 0.2)
+        self.assertEqual(children(os.getpid()), them)
+        stamps = [it[0] for it in typed['keys']]
+        self.assertEqual(stamps, [here + 1000 * it for it in range(1, 41)])
+        for clock, waiting in ((stamps[0] - 1, 0), (stamps[0], 1), (stamps[2], 3), (stamps[-1], 16)) * 2:
+            self.client.ask('go to', board=board, clock=clock)
+            lost = 40 - 16 if clock == stamps[-1] else 0
+            keyboard = f'keyboard latch none lost {lost} waiting {" ".join((["1E", "9E"] * 8)[:waiting])}'.rstrip()
+            self.assertIn(keyboard, self.client.ask('chips', board=board)['lines'])
+
+    def test_keys_change_what_was_known(self) -> None:
+        """What was known of a clock isn't, once a key comes before it; and a key that is dropped comes no more."""
+        board = self.client.open('keys', keys=[], budget=0)['board']
+        shown = self.client.ask('go to', board=board, clock=20_000)
+        self.client.ask('go to', board=board, clock=5000)
+        self.client.ask('type', board=board, codes=[30])
+        changed = self.client.ask('go to', board=board, clock=20_000)
+        self.assertNotEqual(changed['trail'], shown['trail'])
+        self.repeated(board, changed)
+        self.client.ask('drop keys', board=board, keys=[0])
+        again = self.client.ask('look', board=board)
+        self.assertEqual((again['clock'], again['registers'], again['trail']), (20_000, shown['registers'], shown['trail']))
+
     def test_a_halt_that_nothing_ends(self) -> None:
         """A step of it stays where it is, and so does the way of the keys that are typed then."""
         board = self.client.open('keys', keys=[], budget=0)['board']
@@ -1003,8 +1035,6 @@ class Beside(unittest.TestCase):
         for words, told in ((['/'], "/ can't be started"), (['/bin/sh', '-c', 'echo it >&2; exit 2'], 'it')):
             with self.assertRaisesRegex(Sorry, told):
                 helpers.answer(words)
-        with self.assertRaisesRegex(Sorry, 'it answers nothing'):
-            lines_in('', 5)
 
 
 class Begun(ToolCase):

@@ -436,9 +436,9 @@ class Served(ToolCase):
 
     def test_an_interrupt_on_a_long_way_back(self) -> None:
         """A way back can't be ended; so another board takes the place of one that is on it."""
-        slow = self.file('pcboard', SLOW)
+        slow = self.file('pcprobe', SLOW)
         os.chmod(slow, 0o755)
-        with unittest.mock.patch.dict(os.environ, {'PCBOARD': slow}):
+        with unittest.mock.patch.dict(os.environ, {'PCPROBE': slow}):
             client = self.client(self.file('it.hex', ':00000001FF\n'), self.file('long.json', LONG), '--hex')
         self.assertEqual(client.monitor('go 5000'), 'clock 5000\n')
         first = self.board_of()
@@ -457,9 +457,9 @@ class Served(ToolCase):
 
     def test_an_interrupt_on_a_very_long_way_back(self) -> None:
         """Where the other board is still far from the clock, it stays where it has come to."""
-        slow = self.file('pcboard', SLOW.replace('clock += int(more[0])', 'clock += int(more[0]); time.sleep(6 * (clock == 1 << 20))'))
+        slow = self.file('pcprobe', SLOW.replace('clock += int(more[0])', 'clock += int(more[0]); time.sleep(6 * (clock == 1 << 20))'))
         os.chmod(slow, 0o755)
-        with unittest.mock.patch.dict(os.environ, {'PCBOARD': slow}):
+        with unittest.mock.patch.dict(os.environ, {'PCPROBE': slow}):
             client = self.client(self.file('it.hex', ':00000001FF\n'), self.file('long.json', LONG), '--hex')
         client.monitor('go 1000000000')
         client.ask('Z0,500,1')
@@ -595,7 +595,7 @@ class Gdb(ToolCase):
 
     def test_nothing_is_left(self) -> None:
         """Whichever of the two others is killed."""
-        for name in ('gdb', 'pcboard') if GDB else ():
+        for name in ('gdb', 'pcprobe') if GDB else ():
             with self.subTest(name):
                 tool = self.started()
                 theirs = {name_of(it): it for it in children(tool.pid)}

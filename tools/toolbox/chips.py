@@ -12,26 +12,16 @@ from toolbox.program import Files, path, refusal
 END_OF_INTERRUPT = 'no end of interrupt (20h to port 20h)'
 
 
-def question(files: Files, clock: int) -> tuple[list[str], bytes]:
-    """What is run to be told what the chips hold at a clock: the probe's words, and its commands."""
-    return [path('pcprobe'), *files.words('')[1:]], f'go {clock}\nchips\n'.encode()
-
-
-def lines_in(answer: str, clock: int) -> list[str]:
-    """A line for each chip and counter, of what the probe printed."""
-    clock_line, *lines = answer.splitlines() or ['it answers nothing']
-    if clock_line != f'clock {clock}' or not lines or lines[0].startswith('fault'):
-        raise Sorry(f'pcprobe refuses: {(lines or [clock_line])[0]}')
-    return lines
-
-
 def chip_lines(files: Files, clock: int) -> list[str]:
     """What the chips hold at a clock, a line for each chip and counter."""
-    words, given = question(files, clock)
+    words, given = [path('pcprobe'), *files.words('')[1:]], f'go {clock}\nchips\n'.encode()
     done = subprocess.run(zebludor.limited(words), input=given, capture_output=True, check=False)
     if done.returncode:
         raise Sorry(refusal(done.returncode, done.stderr.decode('utf-8', 'replace')))
-    return lines_in(done.stdout.decode('utf-8', 'replace'), clock)
+    clock_line, *lines = done.stdout.decode('utf-8', 'replace').splitlines() or ['it answers nothing']
+    if clock_line != f'clock {clock}' or not lines or lines[0].startswith('fault'):
+        raise Sorry(f'pcprobe refuses: {(lines or [clock_line])[0]}')
+    return lines
 
 
 def values_of(name: str, words: list[str]) -> dict[str, str]:

@@ -1,4 +1,4 @@
-"""The Debug Adapter Protocol's requests, answered by a session of `pcboard debug`."""
+"""The Debug Adapter Protocol's requests, answered by a session of pcprobe."""
 from __future__ import annotations
 
 import base64

@@ -1,5 +1,5 @@
 """The board as an editor's debugger moves it: by instructions, over calls and halts, and out of routines, forth and back. It decides
-nothing: each place is that of a session of `pcboard debug`."""
+nothing: each place is that of a session of pcprobe."""
 from __future__ import annotations
 
 from typing import Callable, Collection

@@ -9,8 +9,8 @@ import time
 from dataclasses import dataclass, replace
 from typing import Any, Callable
 
-from toolbox.chips import facts, lines_in, question
-from toolbox.command import Sorry, tool
+from toolbox.chips import facts
+from toolbox.command import Sorry
 from toolbox.dap_board import ENDS, MOST_BREAKPOINTS, Machine
 from toolbox.data_labels import Datum, labels_of_data, values_of
 from toolbox.disassembly import instructions
@@ -81,43 +81,38 @@ class Board:
         self.room, self.is_hex, self.symbols, self.used = room, is_hex, symbols, time.monotonic()
         self.source, self._fields = source, {name: it for name, it in fields.items() if name != 'keys'}
         given = fields.get('keys')
-        self._raw_keys: Any = given
         self.keys = [Key(stamp, code) for stamp, code in given] if is_key_list(given) else []
         self._lock, self._marking = threading.Lock(), threading.Lock()
         self._job: Job | None = None
         self._is_ended, self._until, self._count = False, float('inf'), 0
         self._screen, self._screen_number, self._rows = (list[str](), b''), 0, list[list[tuple[str, int]]]()
         self._vectors, self._helpers = b'', Helpers()
-        self._of_the_run: tuple[tuple[str, int], Fields] = (('', 0), {})
-        self._beside: Machine | None = None
+        self._of_the_run: tuple[tuple[int, int], Fields] = ((0, 0), {})
         self.stops, self._held = list[str](), (-1, list[str]())
         self.furthest, self._was_at, self._turn, self._began_at = 0, 0, 0, 0
         self._looks = 0
         self._data: list[Datum] | None = None
         self._speaker = Speaker([], 0)
-        self.files = self._written(self.keys if is_key_list(given) else None)
-        self.whole = listing_of(self.files)
+        file = os.path.join(room, 'it.hex' if is_hex else 'it.asm')
+        with open(file, 'w', encoding='utf-8', errors='surrogatepass', newline='') as to:
+            to.write(source)
+        files = Files(file, self._run_file({} if given is None else {'keys': given}), is_hex, symbols)
+        self.whole = listing_of(files)
         self.listing = labels_alone(self.whole) if is_hex else self.whole
-        self.machine = self._machine(self.files)
+        self.machine = Machine(files, self.listing, 0, self._poll)
+        self._helpers.add(self.machine)
 
-    def _written(self, keys: list[Key] | None) -> Files:
-        """The files, with these keys; without, as the page gave them, for the program to judge."""
+    def _run_file(self, keys: Fields) -> str:
+        """A run file with these keys; the first one's are as the page gave them, for the program to judge."""
         self._count += 1
-        file = os.path.join(self.room, 'it.hex' if self.is_hex else 'it.asm')
-        run_file = os.path.join(self.room, f'run{self._count}.json')
-        if self._count == 1:
-            with open(file, 'w', encoding='utf-8', errors='surrogatepass', newline='') as to:
-                to.write(self.source)
-        listed = [[it.stamp, it.code] for it in keys] if keys is not None else self._raw_keys
-        with open(run_file, 'w', encoding='utf-8') as to:
-            to.write(text_of(self._fields | ({} if listed is None else {'keys': listed})))
-        return Files(file, run_file, self.is_hex, self.symbols)
+        with open(os.path.join(self.room, f'run{self._count}.json'), 'w', encoding='utf-8') as to:
+            to.write(text_of(self._fields | keys))
+        return to.name
 
-    def _machine(self, files: Files) -> Machine:
-        """A session on these files, at clock 0."""
-        machine = Machine(files, self.listing, 0, self._poll)
-        self._helpers.add(machine)
-        return machine
+    @property
+    def files(self) -> Files:
+        """The board's files. The run file has all keys."""
+        return self.machine.files
 
     @property
     def clock(self) -> int:
@@ -161,8 +156,7 @@ class Board:
         if job is None:
             raise Sorry('nothing is under way')
         if not job.over.wait(seconds):
-            beside = self._beside
-            return {'working': True, 'clock': beside.clock if beside else self.clock, 'catches up': beside is not None, 'to': self.clock if beside else None}
+            return {'working': True, 'clock': self.clock}
         return job.result()
 
     def pause(self) -> None:
@@ -441,12 +435,8 @@ class Board:
         return ['%04X:%04X' % place, ' '.join(labels[:1]), octets.hex().upper(), text, self.whole.told(line) if line else '']
 
     def chips(self) -> Fields:
-        """What the chips hold, by a run of pcprobe up to this clock, and what in them keeps an interrupt or a key away."""
-        clock = self.clock
-        text = self._helpers.answer(*question(self.files, clock)) if clock <= FARTHEST else None
-        if text is None:
-            raise Sorry(f'{tool("dbg")} shows what the chips hold after so long a run: chips')
-        lines = lines_in(text, clock)
+        """What the chips hold, and what in them keeps an interrupt or a key away."""
+        lines = self.machine.chips()
         return {'lines': lines, 'facts': facts(lines)}
 
     def data(self) -> Fields:
@@ -507,34 +497,31 @@ class Board:
         """Codes typed now, each so many clocks behind the one before. Keys that come later are dropped."""
         kept = [it for it in self.keys if not self._comes_later(it)]
         stamp = max(self.clock + AHEAD, kept[-1].stamp + GAP if kept else 0)
-        added = list[Key]()
+        if stamp + sum(pauses) > LAST_CLOCK:
+            raise Sorry('the last key would lie past clock 2^40')
+        if kept != self.keys and self.with_keys(kept, seen)['why'] == 'paused':
+            return self.view('paused', seen)
         for code, pause in zip(codes, pauses):
             stamp += pause
-            added.append(Key(stamp, code, self._turn))
-        return self.with_keys(kept + added, seen)
+            self.keys.append(Key(self.machine.type(code, stamp), code, self._turn))
+        self._are(self.keys)
+        return self.view('there', seen)
 
     def with_keys(self, keys: list[Key], seen: int) -> Fields:
-        """The board at the same clock with other keys, of which none may have come yet or they are to count from now on: a
-        session's keys are fixed, so that one is begun anew beside the one that is shown, which stays until it has caught up."""
-        if keys and keys[-1].stamp > LAST_CLOCK:
-            raise Sorry('the last key would lie past clock 2^40')
-        begun, files, clock = time.monotonic(), self._written(keys), self.clock
-        beside = self._machine(files)
-        self._beside = beside
+        """The board at the same clock with these of its keys alone. A session gives no key back: one is begun anew, and that which is
+        shown stays until the other has caught up."""
+        run_file = self._run_file({'keys': [[it.stamp, it.code] for it in keys]})
         try:
-            beside.go_to(clock)
-        except BaseException as error:
-            self._beside = None
-            self._helpers.drop(beside)
-            os.remove(files.run_file)
-            if isinstance(error, Paused):
-                return self.view('paused', seen)
-            raise
-        old, gone = self.machine, self.files.run_file
-        self.machine, self.files, self.keys, self._beside, self.furthest = beside, files, keys, None, clock
-        self._helpers.drop(old)
-        os.remove(gone)
-        return self.view('there', seen) | {'caught up': round(time.monotonic() - begun, 3)}
+            self.machine.begin_anew((), self.clock, replace(self.files, run_file=run_file))
+        except Paused:
+            return self.view('paused', seen)
+        self._are(keys)
+        return self.view('there', seen)
+
+    def _are(self, keys: list[Key]) -> None:
+        """These are the keys now: what was known of later clocks is known no more."""
+        self.keys, self.furthest, self._count = keys, self.clock, self._count + 1
+        self._held = (-1, []) if self._held[0] > self.clock else self._held
 
     # Of the whole run
 
@@ -550,7 +537,7 @@ class Board:
             return {'busy': True}
         try:
             clock, until = self.clock, max(self.furthest, self.clock)
-            now, run = self.report(clock), (self.files.run_file, until)
+            run, now = (self._count, until), self.report(clock)
             if self._of_the_run[0] != run:
                 whole = now if now is None or until == clock else self.report(until)
                 self._speaker = Speaker(whole.changes if whole else [], until)
@@ -574,7 +561,7 @@ class Board:
         """The speaker's samples from one clock to another, as text; none where it doesn't move. The other clock may lie ahead: with
         the keys that there are, what comes is determined."""
         speaker = self._speaker
-        if speaker.until < end or self._of_the_run[0][0] != self.files.run_file:
+        if speaker.until < end or self._of_the_run[0][0] != self._count:
             report = self.report(min(end, LAST_CLOCK))
             if report is None:
                 return {'begin': begin, 'end': begin, 'samples': ''}

@@ -20,6 +20,7 @@ __all__ = [
     'LAST_CLOCK',
     'TOP',
     'Files',
+    'ProbeSession',
     'Ran',
     'Session',
     'answer_of',
@@ -101,9 +102,10 @@ def refusal(status: int, err: str) -> str:
 class Session(zebludor.Dialogue):
     """A session of `pcboard debug` on files."""
 
+    name, task = 'pcboard', ['debug']
+
     def __init__(self, files: Files) -> None:
-        path()
-        super().__init__(files.words('debug'))
+        super().__init__([*self.task, *files.words('')[1:]], path(self.name))
 
     def started(self, words: list[str], **how: Any) -> subprocess.Popen[bytes]:
         """Its process. One that a thread starts, as the desk's do, ends with this one, however that ends."""
@@ -141,3 +143,9 @@ class Session(zebludor.Dialogue):
             told = self.one(f'back {self.clock - clock}' if clock < self.clock else f'go {clock - self.clock}')
             if told.startswith('fault'):
                 raise Sorry(f'the debugger refuses: {told}')
+
+
+class ProbeSession(Session):
+    """A session of pcprobe, which also takes typed keys and tells what the chips hold."""
+
+    name, task = 'pcprobe', []

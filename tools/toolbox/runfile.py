@@ -20,6 +20,7 @@ __all__ = [
     'CHOICES',
     'DEFAULTS',
     'FIRST_CHOICES',
+    'add_keys',
     'budget_of',
     'chosen',
     'read_run_file',
@@ -72,6 +73,15 @@ def with_budget(files: Files, budget: int) -> Iterator[Files]:
         yield Files(files.file, name, files.is_hex)
     finally:
         os.remove(name)
+
+
+def add_keys(path: str, keys: list[tuple[int, int]]) -> None:
+    """Puts keys that were typed, stamps and codes, into a run file: each behind those of its stamp that are there."""
+    fields = read_run_file(path)
+    fields['keys'] = sorted([*fields['keys'], *keys], key=lambda it: it[0])
+    with open(f'{path}.new', 'w', encoding='utf-8') as file:
+        file.write(text_of(fields))
+    os.replace(file.name, path)
 
 
 def report_at(files: Files, clock: int) -> Report:

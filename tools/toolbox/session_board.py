@@ -1,16 +1,19 @@
-"""The board at a clock, over sessions of `pcboard debug`: what tools/dbg, tools/gdb, editors and the desk share of stops, ways to a
+"""The board at a clock, over sessions of pcprobe: what tools/dbg, tools/gdb, editors and the desk share of stops, ways to a
 clock, and beginnings anew. It decides nothing: each place is that of a session."""
 from __future__ import annotations
 
+import threading
 import time
 from typing import TYPE_CHECKING, Callable, Collection, Iterable, TypeVar
 
 from toolbox.command import Sorry
 from toolbox.listing import physical
 from toolbox.places import Event, event_of, operation_of
-from toolbox.program import CLOCKS_OF_A_TRAIL, Files, Session
+from toolbox.faults import fault_in
+from toolbox.program import CLOCKS_OF_A_TRAIL, Files, ProbeSession
 from toolbox.report import registers_of
 from toolbox.returns import Far
+from toolbox.runfile import add_keys
 from toolbox.way_back import last_stop, paced
 
 if TYPE_CHECKING:
@@ -22,6 +25,12 @@ FIRST_PIECE = 1 << 16
 BEFORE_START = 'fault 54 BeforeStart'
 T = TypeVar('T')
 HLT, ROM = b'\xF4', 0xF0000  # from there on no byte changes
+KEY_REFUSED = {
+    33: 'no key sends {code:02X}: 01 to 53 are keys that go down, 81 to D3 keys that come up',
+    34: 'a key comes at a later clock than the present one, {clock}',
+    42: 'no run goes beyond clock 2^40, and no key comes there',
+    53: 'there is no memory for one more key, and none was typed',
+}
 
 
 class Gone(Sorry):
@@ -58,26 +67,39 @@ def place_of(stop: str) -> Far | None:
 class SessionBoard:
     """A board. A stop is the debugger's command that sets it. Those of a session can't be taken out: places that nobody wants any
     more are passed, and where they are many, or the sixteen used up, a session is begun anew. `poll` is called between the pieces
-    of a run, and raises Paused to end it."""
+    of a run, and raises Paused to end it. Where keys are typed, the run file is a copy."""
 
     def __init__(self, files: Files, budget: int, poll: Callable[[], None] = lambda: None) -> None:
-        self.files, self.budget, self.poll = files, budget, poll
+        self._files, self.budget, self.poll = files, budget, poll
+        self._typed, self._typing = list[tuple[int, int]](), threading.Lock()  # keys that the run file hasn't yet
         self._stops, self._piece = list[str](), FIRST_PIECE
         self.asked: dict[str, list[Asked]] = {}  # what stops ask besides
         self._halts = dict[int, bool]()  # whether HLT stands at an address of ROM
-        # The registers and the trail are asked for once at each clock: what a board holds there is determined.
-        self._registers, self._trail = (-1, dict[str, int]()), (-1, list[Event]())
-        self._session = Session(files)
+        self._forget()
+        self._session = ProbeSession(files)
         try:
             self._session.many('regs')
         except BaseException:
             self._session.close()
             raise
 
+    def _forget(self) -> None:
+        """The registers and the trail are asked for once at each clock: what a board holds there is determined, until keys change."""
+        self._registers, self._trail = (-1, dict[str, int]()), (-1, list[Event]())
+
     @property
     def clock(self) -> int:
         """Where the board stands."""
         return self._session.clock
+
+    @property
+    def files(self) -> Files:
+        """The board's files. The run file has the keys that were typed, so that what is begun anew of it has them."""
+        with self._typing:
+            if self._typed:
+                add_keys(self._files.run_file, self._typed)
+                self._typed = []
+        return self._files
 
     def close(self) -> None:
         """Ends the session."""
@@ -129,6 +151,12 @@ class SessionBoard:
             self._trail = self.clock, [event_of(it) for it in self.many('trail')]
         return self._trail[1]
 
+    def chips(self) -> list[str]:
+        """What the chips hold, a line for each chip and counter."""
+        lines = self.many('chips')
+        refused(lines[0])
+        return lines
+
     @property
     def is_halted(self) -> bool:
         """Whether the processor is halted, behind its HLT: nothing comes then but an interrupt, which would be in the trail."""
@@ -153,12 +181,27 @@ class SessionBoard:
         self.go_to(here)
         return 'jammed' if is_jammed else 'running'
 
+    def type(self, code: int, clock: int | None = None) -> int:
+        """Types a key, which comes at this clock, else at the next one; returns its stamp."""
+        answer = self.answer(f'key {code:X}' if clock is None else f'key {code:X} {clock}')
+        fault = fault_in(answer)
+        if fault and fault.number in KEY_REFUSED:
+            raise Sorry(KEY_REFUSED[fault.number].format(code=code, clock=self.clock))
+        stamp = int(refused(answer).split()[2])
+        with self._typing:
+            self._typed.append((stamp, code))
+        self._forget()
+        return stamp
+
     # Stops
 
-    def begin_anew(self, stops: Iterable[str] = (), clock: int | None = None) -> None:
-        """A session at this clock, else at the present one, with these stops alone. They are set there, so that none is met on the
-        way. Until it stands there, the old one stays; if the way is ended beyond that one's clock, it is the new one's."""
-        to, them, session, ended = self.clock if clock is None else clock, list(stops), Session(self.files), None
+    def begin_anew(self, stops: Iterable[str] = (), clock: int | None = None, files: Files | None = None) -> None:
+        """A session at this clock, else at the present one, with these stops alone; of other files, if they are given. The stops are set
+        there, so that none is met on the way. Until it stands there, the old one stays; if the way is ended beyond that one's clock, it
+        is the new one's."""
+        to, them, ended = self.clock if clock is None else clock, list(stops), None
+        files = files or self.files
+        session = ProbeSession(files)
         try:
             try:
                 while session.clock < to:
@@ -173,7 +216,8 @@ class SessionBoard:
         except BaseException:
             session.close()
             raise
-        old, self._session, self._stops = self._session, session, them
+        old, self._session, self._stops, self._files = self._session, session, them, files
+        self._forget()
         old.close()
         if ended:
             raise ended
@@ -195,7 +239,7 @@ class SessionBoard:
 
     # Ways
 
-    def _run_a_piece(self, session: Session, end: int) -> str:
+    def _run_a_piece(self, session: ProbeSession, end: int) -> str:
         """What answers a piece of a run, at most to this clock. The next one is as long as suits."""
         begun = time.monotonic()
         answer = refused(self._talk(lambda: session.go(min(self._piece, end - session.clock))))

@@ -19,7 +19,7 @@ export async function followed(answer) {
   const told = $('said').textContent, isGood = $('said').className === 'good';
   let far = '';
   while (answer.working) {
-    far = answer['catches up'] ? `catching up with the key: clock ${number(answer.clock)} of ${number(answer.to)}; Pause drops the key` : `at clock ${number(answer.clock)}; Pause ends it`;
+    far = `at clock ${number(answer.clock)}; Pause ends it`;
     say(far, true);
     working = true;
     draw_run();

@@ -22,6 +22,7 @@ export function draw_screen(rows) {
 }
 
 /* Keys. A key's code is by its place. */
+const AS_THEY_WERE = 'Paused: the keys are as they were.';
 const PLACES = {Escape: 1, Minus: 12, Equal: 13, Backspace: 14, BracketLeft: 26, BracketRight: 27, Enter: 28, ControlLeft: 29, ControlRight: 29, Semicolon: 39, Quote: 40, Backquote: 41, ShiftLeft: 42, Backslash: 43, Comma: 51, Period: 52, Slash: 53, NumpadDivide: 53, ShiftRight: 54, PrintScreen: 55, NumpadMultiply: 55, AltLeft: 56, AltRight: 56, Space: 57, CapsLock: 58, NumLock: 69, ScrollLock: 70, Home: 71, Numpad7: 71, ArrowUp: 72, Numpad8: 72, PageUp: 73, Numpad9: 73, NumpadSubtract: 74, ArrowLeft: 75, Numpad4: 75, Numpad5: 76, ArrowRight: 77, Numpad6: 77, NumpadAdd: 78, End: 79, Numpad1: 79, ArrowDown: 80, Numpad2: 80, PageDown: 81, Numpad3: 81, Insert: 82, Numpad0: 82, Delete: 83, NumpadDecimal: 83, NumpadEnter: 28};
 for (let n = 1; n <= 10; n++) { PLACES[`Digit${n % 10}`] = n + 1; PLACES[`F${n}`] = 58 + n; }
 [['QWERTYUIOP', 16], ['ASDFGHJKL', 30], ['ZXCVBNM', 44]].forEach(([row, first]) => [...row].forEach((it, at) => { PLACES[`Key${it}`] = first + at; }));
@@ -44,13 +45,13 @@ export async function send_keys(more = {}) {
   }
   if (answer.gone) { await come_back(answer.gone); return false; }
   if (answer.sorry) { say(answer.sorry); return false; }
-  if (answer.why === 'paused') { pause_here(); drop_codes(); show(answer); say('The key was dropped before the run had caught up.'); return false; }
+  if (answer.why === 'paused') { pause_here(); drop_codes(); show(answer); say(AS_THEY_WERE); return false; }
   if (answer.registers) {
     forget_marks();
     show(answer, Boolean(running));
     if (running) { draw_keys(); }
-    const took = answer['caught up'], stamp = answer.keys.length ? answer.keys[answer.keys.length - 1][0] : 0;
-    say(took > .5 ? `stamped ${number(stamp)}; caught up in ${took} s` : running ? '' : `stamped ${number(stamp)}; run on to see its effect`, true);
+    const stamp = answer.keys.length ? answer.keys[answer.keys.length - 1][0] : 0;
+    say(running ? '' : `stamped ${number(stamp)}; run on to see its effect`, true);
   }
   return true;
 }
@@ -144,8 +145,13 @@ $('type').onclick = () => {
   if (text) type_text(text);
 };
 $('text').addEventListener('keydown', event => { if (event.key === 'Enter') $('type').click(); });
-$('keys-drop').onclick = () => acts(() => move('drop keys', {keys: view.keys.map((_, at) => at)}));
-$('keys-drop-later').onclick = () => acts(() => move('drop keys', {keys: view.keys.map((it, at) => it[0] > view.clock ? at : -1).filter(it => it >= 0)}));
+/* Takes keys out of the list. The board is run anew without them, which may be paused. */
+const drop_keys = isGone => acts(async () => {
+  const answer = await move('drop keys', {keys: view.keys.flatMap((it, at) => isGone(it) ? [at] : [])});
+  if (answer.why === 'paused') say(AS_THEY_WERE);
+});
+$('keys-drop').onclick = () => drop_keys(() => true);
+$('keys-drop-later').onclick = () => drop_keys(it => it[0] > view.clock);
 
 /* The screen's type is as large as 80 columns fit. */
 export function fit() {
