@@ -577,10 +577,10 @@ class Session:
     """A session of the debugger, as a context manager: a board at clock 0 that goes forth and back. Stops are numbered from 1,
     and stay for the whole session; what goes to a stop answers the number of the one that holds, or None. Its commands are
     those of docs/debugger.md; a refused one is raised as Fault. `source` tells where labels and lines stand. With `probe` it is
-    one of pcprobe, which has `events`."""
+    one of pcprobe, which has `events` and `key`."""
 
     def __init__(self, source: Source, *, is_hex: bool = False, symbols: str | os.PathLike | None = None, probe: bool = False, **fields: Any) -> None:
-        self.source, self._has_events = Places(source, is_hex=is_hex, symbols=symbols), probe
+        self.source, self._is_probe = Places(source, is_hex=is_hex, symbols=symbols), probe
         with _files(source, _fields(fields)) as names:
             words = [*_hex_words(source, is_hex), *names]
             self._dialogue = Dialogue(words, program('pcprobe')) if probe else Dialogue(['debug', *words])
@@ -691,13 +691,27 @@ class Session:
         """Goes on by so many clocks, whatever stops hold, and tells what happens in them, of kinds of docs/probe.md: `starts`,
         `entries`, `writes`, `ports`, `states`, `keys`, `wires`. Labels and other places of `source` may stand in the ranges of
         writes, as in `writes=ticks` or `writes=first-last`."""
-        if not self._has_events:
-            raise Unfit('events are told by a session of the probe: Session(source, probe=True)')
+        self._of_the_probe('events')
         *lines, last = self._dialogue.happenings(f'events {clocks} {" ".join(map(self._kind, kinds))}')
         fault = fault_in(last)
         if fault:
             raise fault
         return [happening_of(each) for each in lines]
+
+    def key(self, code: int, at: int | None = None) -> int:
+        """Types a key by its scan code: it comes at clock `at`, above the present one, or at the next clock, which is answered, as if the
+        run had had it from the start. Going back leaves it: on the way on it comes again."""
+        self._of_the_probe('key')
+        answer = self._dialogue.one(f'key {code:X}' if at is None else f'key {code:X} {at}')
+        fault = fault_in(answer)
+        if fault:
+            raise fault
+        return int(answer.split()[2])
+
+    def _of_the_probe(self, name: str) -> None:
+        """Refuses what `pcboard debug` hasn't."""
+        if not self._is_probe:
+            raise Unfit(f'a session of the probe has {name}: Session(source, probe=True)')
 
     def _kind(self, kind: str) -> str:
         """A kind as the probe takes it."""

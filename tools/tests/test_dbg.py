@@ -1,4 +1,5 @@
 """tools/dbg, over the built program; and what it knows of places."""
+import json
 import os
 import pty
 import select
@@ -9,12 +10,14 @@ import time
 import unittest
 from unittest import mock
 
-from tests.support import SECONDS, TOOLS, ToolCase, example, is_at_work
+from tests.support import SECONDS, SLOW, TOOLS, ToolCase, example, is_at_work
 
 from toolbox.command import Sorry
 from toolbox.listing import Line, Listing, code_of, label_in, line_of
 from toolbox.places import address_of, event_of, far_of, line_at, number_of
 from toolbox.program import path
+from toolbox.report import report_of
+from toolbox.runfile import DEFAULTS, text_of
 
 
 class Places(unittest.TestCase):
@@ -110,6 +113,50 @@ class Sessions(ToolCase):
                 self.dbg('ticks', *commands)
                 with open(count, encoding='ascii') as file:
                     self.assertEqual(len(file.readlines()), wanted, commands)
+
+    def test_keys_that_are_typed(self) -> None:
+        """They come at their stamps, also after a way back and where the session is begun anew; a report has them; what is written
+        repeats the run."""
+        run = self.file('none.json', text_of(DEFAULTS | {'budget': 9000}))
+        out = f'{self.room}/typed.json'
+        lines = ['to 2999', 'key 23', 'key i 5,000', 'key a3 4000', 'to 0', 'to 9000', 'screen', 'break key', 'to 4100', 'clear 1', 'to 9000']
+        told = self.tool('dbg', example('keys')[0], run, given='\n'.join([*lines, 'screen', 'keys', f'keys {out}', 'state']))[0].splitlines()
+        self.assertEqual(told[1:4], ['key 23 at clock 3000', 'key 17 at clock 5000, 97 at clock 5500', 'key A3 at clock 4000'])
+        stamps = [[3000, 0x23], [4000, 0xA3], [5000, 0x17], [5500, 0x97]]
+        with open(out, encoding='utf-8') as file:
+            self.assertEqual(json.load(file), DEFAULTS | {'budget': 9000, 'keys': stamps})
+        report = report_of(self.pcboard('run', example('keys')[0], out).stdout)
+        self.assertEqual(([it for it in told if it == 'HI'], report.text), (['HI'] * 2, 'HI'))
+        self.assertIn('        3000 23 h down', told)
+        self.assertIn('        5500 97 i up', told)
+        self.assertIn(f'clock 9000: {report.state}', next(it for it in told if it.startswith('clock 9000: halted since')))
+
+    def test_keys_that_are_refused(self) -> None:
+        """Each in a sentence, and nothing changes."""
+        told = self.dbg(
+            'keys', 'to 700', 'key', 'key 54', 'key zz', 'key \u00e4', 'key 1E 700', 'key a 700', 'key 1E x', 'key 1E 1099511627777', 'key a 1099511627776'
+        )
+        told += self.dbg('keys', 'to 700', 'key f1', 'key 1 2,000', 'key 01 3000', 'key I 5000')
+        self.assertEqual(
+            [it.partition(':')[0] for it in told if not it.startswith('clock')],
+            [
+                'use',
+                'no key sends 54',
+                'zz is no key',
+                '\u00e4 is no key',
+                *['a key comes at a later clock than the present one, 700'] * 2,
+                'x is no clock',
+                *['no run goes beyond clock 2^40, and no key comes there'] * 2,
+                'key 3B at clock 701, BB at clock 1201',
+                'key 02 at clock 2000, 82 at clock 2500',
+                'key 01 at clock 3000',
+                'key 2A at clock 5000, 17 at clock 5001, 97 at clock 5501, AA at clock 5502',
+            ],
+        )
+        memory = self.file('pcprobe', SLOW.replace("word == 'break'", "word == 'key'").replace("'stop 1'", "'fault 53 Memory'"))
+        os.chmod(memory, 0o755)
+        with mock.patch.dict(os.environ, {'PCPROBE': memory}):
+            self.assertEqual(self.dbg('keys', 'key 1E', 'keys')[0], 'there is no memory for one more key, and none was typed')
 
     def test_goes_to_the_end(self) -> None:
         told = self.dbg('hello', 'go', 'screen', 'state', 'go')

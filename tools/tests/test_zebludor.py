@@ -195,6 +195,27 @@ class Runs(ToolCase):
         with Session(ticks, probe=True) as session:
             self.assertEqual([each[2:] for each in session.events(200, 'writes=count')][:2], [(1, 0), (1, 1)])
 
+    def test_keys_that_are_typed(self) -> None:
+        """The board is that of a run with these keys; each refusal is raised, and changes nothing."""
+        source = pathlib.Path(example('keys')[0])
+        with self.assertRaisesRegex(Unfit, 'probe=True'), Session(source) as session:
+            session.key(0x23)
+        with Session(source, probe=True) as session:
+            session.go(2999)
+            self.assertEqual((session.key(0x23), session.key(0xA3, 5000), session.key(0x17, 5000)), (3000, 5000, 5000))
+            for refused, number in (((0x54,), 33), ((0x23, 2999), 34), ((0x23, (1 << 40) + 1), 42), ((0x100,), 51)):
+                with self.assertRaises(Fault) as caught:
+                    session.key(*refused)
+                self.assertEqual((caught.exception.number, session.clock), (number, 2999))
+            session.back(2000)
+            self.assertEqual(session.key(0x9E, 1500), 1500)
+            for _ in range(2):
+                session.go(9000 - session.clock)
+                report = zebludor.run(source, keys=[(1500, 0x9E), (3000, 0x23), (5000, 0xA3), (5000, 0x17)], budget=9000)
+                self.assertEqual((session.registers(), session.screen()), (report.registers, report.screen))
+                session.back(8000)
+        self.assertEqual(report.text, 'HI')
+
     def test_a_screen_that_looks_like_an_answer(self) -> None:
         """A refusal, and the end of an answer: on the screen both are text."""
         for text in ('fault 51 BadCommand', 'clock ' + 74 * '7', 'clock 12'):

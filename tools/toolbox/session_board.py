@@ -10,7 +10,7 @@ from toolbox.command import Sorry
 from toolbox.listing import physical
 from toolbox.places import Event, event_of, operation_of
 from toolbox.faults import fault_in
-from toolbox.program import CLOCKS_OF_A_TRAIL, Files, ProbeSession
+from toolbox.program import CLOCKS_OF_A_TRAIL, LAST_CLOCK, Files, ProbeSession
 from toolbox.report import registers_of
 from toolbox.returns import Far
 from toolbox.runfile import add_keys
@@ -192,6 +192,12 @@ class SessionBoard:
             self._typed.append((stamp, code))
         self._forget()
         return stamp
+
+    def type_all(self, keys: list[tuple[int, int]]) -> list[tuple[int, int]]:
+        """Types codes at clocks that rise; none of them, if the last one comes too late."""
+        if keys[-1][0] > LAST_CLOCK:
+            raise Sorry(KEY_REFUSED[42])
+        return [(self.type(code, stamp), code) for stamp, code in keys]
 
     # Stops
 
