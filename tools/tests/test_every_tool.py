@@ -37,6 +37,7 @@ WORDS = (
     'dev/release --into {}',
     'tools/dbg hello.asm {}',
     'tools/desk hello.asm {}',
+    'tools/term hello.asm {}',
     'bench/count {} --steps',
 )
 MAY_SUCCEED = {'tools/why fault', 'tools/trace --vcd', 'tools/try hello.asm --write'}
