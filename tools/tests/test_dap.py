@@ -468,6 +468,27 @@ class Sessions(ToolCase):
         self.assertEqual(client.end(), 0)  # one that goes on the way
         self.assertEqual(os.listdir(f'{self.room}/tmp'), [])
 
+    def test_keys_of_the_console(self) -> None:
+        """They come at their stamps; a label of this name is none."""
+        client = self.client()
+        source, run = example('keys')
+        client.launch(source, 40, run=run, stopOnEntry=True)
+        client.event('stopped')
+
+        def told(text: str) -> str:
+            return client.ask('evaluate', expression=text, context='repl')['result']  # type: ignore[no-any-return]
+
+        self.assertEqual(told('key h 900'), 'key 23 at clock 900, A3 at clock 1400')
+        self.assertIn('         900 23 h down', told('keys'))
+        self.assertIn('0005Ch', told('key'))
+        self.assertIn('keyboard latch', told('chips'))
+        self.assertIn('no key sends 54', client.refused('evaluate', expression='key 54', context='repl'))
+        for clock in (1300, 800, 1300):
+            client.ask('toClock', clock=clock)
+            client.event('stopped')
+            self.assertEqual(told('screen')[:1], 'H' if clock == 1300 else '')
+        self.assertEqual(client.leave(), 0)
+
     def test_to_a_clock(self) -> None:
         """By the console and by a request, earlier and later, past breakpoints; a way that lasts is paused where it is."""
         client = self.client()

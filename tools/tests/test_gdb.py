@@ -292,6 +292,30 @@ class Served(ToolCase):
         self.assertEqual(client.monitor('go x'), 'fault 51 BadCommand\n')
         self.assertIn("gdb's own quit", client.monitor('quit'))
 
+    def test_keys_of_monitor(self) -> None:
+        """A key comes at its stamp, after a way back and in a session that is begun anew too; what the probe runs is none of gdb's."""
+        client = self.client(*example('keys'))
+        self.assertEqual(client.monitor('go 700'), 'clock 700\n')
+        self.assertEqual(client.monitor('key h 900'), 'key 23 at clock 900, A3 at clock 1400\n')
+        self.assertEqual(client.monitor('key 23'), 'key 23 at clock 701\n')
+        for command, told in (
+            ('key', 'use: key CODE'),
+            ('key 54', 'no key sends 54'),
+            ('key 23 700', 'a key comes at a later clock'),
+            ('events 5 starts', 'passes'),
+        ):
+            self.assertIn(told, client.monitor(command))
+        self.assertEqual(client.monitor('clock'), 'clock 700\n')
+        self.assertIn('         900 23 h down\n', client.monitor('keys'))
+        self.assertIn('keyboard latch', client.monitor('chips'))
+        screens = list[str]()
+        for commands in (('go 900',), ('back 1500', 'go 1500'), ('byte B0000 48', 'to 0', 'to 1600')):
+            for command in commands:
+                client.monitor(command)
+            screens.append(client.monitor('screen').split('\n')[0])
+            self.assertEqual(client.monitor('clock'), 'clock 1600\n')
+        self.assertEqual(screens, ['HH'] * 3)
+
     def test_more_stops_than_sixteen(self) -> None:
         client = self.client(*example('fibonacci'))
         for place in range(40):

@@ -16,6 +16,7 @@ from toolbox.dap_values import Disassembly, Expression, is_code
 from toolbox.dap_variables import Variables
 from toolbox.data_labels import labels_of_data
 from toolbox.framing import Broken, Read
+from toolbox.keying import key_lines, type_words
 from toolbox.listing import Line, Listing, listing_of, physical
 from toolbox.places import far_of
 from toolbox.program import LAST_CLOCK, TOP, Files, copied, is_hex_name
@@ -43,7 +44,7 @@ CAPABILITIES = {
     'supportsLogPoints': True,
     'exceptionBreakpointFilters': [{'filter': name, 'label': label, 'default': False} for name, label in FILTERS.items()],
 }
-SHOWING = ('regs', 'screen', 'dump', 'trail')
+SHOWING = ('regs', 'screen', 'dump', 'trail', 'chips')
 READ_ONLY = "the board's answers are those of its source: registers and memory can't be written"
 BESIDE_A_RUN = (
     'pause',
@@ -589,13 +590,23 @@ class Adapter:
 
         return {}, go
 
+    @staticmethod
+    def console(board: Machine, text: str) -> str | None:
+        """The answer to a command of the console; of an expression nothing."""
+        name, *words = text.split() or ['']
+        if name == 'key' and words:
+            return type_words(board, words)
+        if text == 'keys':
+            return '\n'.join(key_lines(board)) or 'no keys'
+        return '\n'.join(it.rstrip() for it in board.many(text)).rstrip() if name in SHOWING and '\n' not in text else None
+
     def on_evaluate(self, given: Fields) -> Fields | tuple[Fields, Callable[[], tuple[str, str]]]:
         text, board = field(given, 'expression', str).strip(), self.board()
         if given.get('context') == 'repl' and (found := re.fullmatch(r'to\s+([\d,_]+)', text)):
             body, then = self.on_toClock({'clock': int(re.sub('[,_]', '', found[1]) or -1)})
             return {'result': f'to clock {found[1]}', 'variablesReference': 0}, then
-        if given.get('context') == 'repl' and text.partition(' ')[0] in SHOWING and '\n' not in text:
-            return {'result': '\n'.join(it.rstrip() for it in board.many(text)).rstrip(), 'variablesReference': 0}
+        if given.get('context') == 'repl' and (told := self.console(board, text)) is not None:
+            return {'result': told, 'variablesReference': 0}
         value = Expression(board, board.listing, text).value()
         at = {} if value.address is None else {'memoryReference': f'0x{value.address:05X}'}
         return {'result': value.shown(), 'variablesReference': 0} | at

@@ -11,6 +11,7 @@ from toolbox.gdb_bytecode import Condition
 from toolbox.gdb_features import FIRST_OWN, OWN, UNKNOWN, WORD_OF_FRAMES, description, without_value
 from toolbox.gdb_frames import RECORD, RECORDS, Frames
 from toolbox.gdb_wire import MOST_BYTES, Wire
+from toolbox.keying import key_lines, type_words
 from toolbox.listing import Listing, physical
 from toolbox.program import LAST_CLOCK
 from toolbox.session_board import MOST_STOPS, Gone, Paused, SessionBoard, break_at
@@ -21,6 +22,7 @@ SEGMENT_OF = {'SP': 'SS', 'BP': 'SS', 'IP': 'CS'}
 INTERRUPTED, ILLEGAL, TRAP, TIME_IS_UP = 2, 4, 5, 24  # signals, by gdb's own numbers
 MOST_MEMORY = MOST_BYTES // 4
 STOPS, MOVES = ('break', 'byte', 'sound', 'halted'), ('to', 'go', 'step', 'back')
+RUNS = ('counts', 'signals', 'events')  # of the probe, which pass breakpoints
 READ_ONLY = "E.the board's answers are those of its source: nothing is written"
 
 
@@ -288,7 +290,7 @@ class Stub:
             return 'E.no command of the debugger'
         words = command.split() or ['']
         if words[0] in ('', 'help') or not command.isprintable():
-            self.tell('commands: ' + ', '.join((*STOPS, *MOVES, 'clock', 'regs', 'screen', 'dump', 'trail')) + ' (docs/debugger.md)')
+            self.tell('commands: ' + ', '.join((*STOPS, *MOVES, 'clock', 'key', 'keys', 'regs', 'screen', 'dump', 'trail', 'chips')) + ' (docs/debugger.md)')
         elif words[0] == 'quit':
             self.tell("gdb's own quit ends the session")
         elif words == ['exit']:
@@ -299,9 +301,25 @@ class Stub:
             self.tell(self._moved(words))
         elif words == ['clock']:
             self.tell(f'clock {self._board.clock}')
+        elif words[0] == 'key':
+            self.tell(self._typed(words[1:]))
+        elif words == ['keys']:
+            self.tell('\n'.join(key_lines(self._board)) or 'no keys')
+        elif words[0] in RUNS:
+            self.tell(f"{words[0]} passes gdb's breakpoints: ./pcprobe FILE RUN answers it")
         else:
             self.tell('\n'.join(it.rstrip() for it in self._board.many(command)))
         return 'OK'
+
+    def _typed(self, words: list[str]) -> str:
+        """The answer to `key`: when the codes come, or why none does. What is known of a later clock isn't known any more."""
+        self._records = (-1, b'')
+        try:
+            return type_words(self._board, words)
+        except Gone:
+            raise
+        except Sorry as sorry:
+            return str(sorry)
 
     def _moved(self, words: list[str]) -> str:
         """The answer to a command that moves the board. Breakpoints are gdb's: here they are passed."""
