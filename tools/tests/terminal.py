@@ -92,7 +92,7 @@ class Grid:
         _, words, last = found.groups()
         if last is None:
             return
-        numbers = [int(it or 0) for it in words.split(';')] if words else [0]
+        numbers = [int(each or 0) for each in words.split(';')] if words else [0]
         one = max(1, numbers[0])
         column = min(self.column, self.columns - 1)
         if last == 'H':

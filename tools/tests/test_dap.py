@@ -475,18 +475,18 @@ class Sessions(ToolCase):
         client.launch(source, 40, run=run, stopOnEntry=True)
         client.event('stopped')
 
-        def told(text: str) -> str:
+        def answer(text: str) -> str:
             return client.ask('evaluate', expression=text, context='repl')['result']  # type: ignore[no-any-return]
 
-        self.assertEqual(told('key h 900'), 'key 23 at clock 900, A3 at clock 1400')
-        self.assertIn('         900 23 h down', told('keys'))
-        self.assertIn('0005Ch', told('key'))
-        self.assertIn('keyboard latch', told('chips'))
+        self.assertEqual(answer('key h 900'), 'key 23 at clock 900, A3 at clock 1400')
+        self.assertIn('         900 23 h down', answer('keys'))
+        self.assertIn('0005Ch', answer('key'))
+        self.assertIn('keyboard latch', answer('chips'))
         self.assertIn('no key sends 54', client.refused('evaluate', expression='key 54', context='repl'))
         for clock in (1300, 800, 1300):
             client.ask('toClock', clock=clock)
             client.event('stopped')
-            self.assertEqual(told('screen')[:1], 'H' if clock == 1300 else '')
+            self.assertEqual(answer('screen')[:1], 'H' if clock == 1300 else '')
         self.assertEqual(client.leave(), 0)
 
     def test_to_a_clock(self) -> None:

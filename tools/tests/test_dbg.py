@@ -120,25 +120,25 @@ class Sessions(ToolCase):
         run = self.file('none.json', text_of(DEFAULTS | {'budget': 9000}))
         out = f'{self.room}/typed.json'
         lines = ['to 2999', 'key 23', 'key i 5,000', 'key a3 4000', 'to 0', 'to 9000', 'screen', 'break key', 'to 4100', 'clear 1', 'to 9000']
-        told = self.tool('dbg', example('keys')[0], run, given='\n'.join([*lines, 'screen', 'keys', f'keys {out}', 'state']))[0].splitlines()
-        self.assertEqual(told[1:4], ['key 23 at clock 3000', 'key 17 at clock 5000, 97 at clock 5500', 'key A3 at clock 4000'])
+        found = self.tool('dbg', example('keys')[0], run, given='\n'.join([*lines, 'screen', 'keys', f'keys {out}', 'state']))[0].splitlines()
+        self.assertEqual(found[1:4], ['key 23 at clock 3000', 'key 17 at clock 5000, 97 at clock 5500', 'key A3 at clock 4000'])
         stamps = [[3000, 0x23], [4000, 0xA3], [5000, 0x17], [5500, 0x97]]
         with open(out, encoding='utf-8') as file:
             self.assertEqual(json.load(file), DEFAULTS | {'budget': 9000, 'keys': stamps})
         report = report_of(self.pcboard('run', example('keys')[0], out).stdout)
-        self.assertEqual(([it for it in told if it == 'HI'], report.text), (['HI'] * 2, 'HI'))
-        self.assertIn('        3000 23 h down', told)
-        self.assertIn('        5500 97 i up', told)
-        self.assertIn(f'clock 9000: {report.state}', next(it for it in told if it.startswith('clock 9000: halted since')))
+        self.assertEqual(([line for line in found if line == 'HI'], report.text), (['HI'] * 2, 'HI'))
+        self.assertIn('        3000 23 h down', found)
+        self.assertIn('        5500 97 i up', found)
+        self.assertIn(f'clock 9000: {report.state}', next(line for line in found if line.startswith('clock 9000: halted since')))
 
     def test_keys_that_are_refused(self) -> None:
         """Each in a sentence, and nothing changes."""
-        told = self.dbg(
+        found = self.dbg(
             'keys', 'to 700', 'key', 'key 54', 'key zz', 'key \u00e4', 'key 1E 700', 'key a 700', 'key 1E x', 'key 1E 1099511627777', 'key a 1099511627776'
         )
-        told += self.dbg('keys', 'to 700', 'key f1', 'key 1 2,000', 'key 01 3000', 'key I 5000')
+        found += self.dbg('keys', 'to 700', 'key f1', 'key 1 2,000', 'key 01 3000', 'key I 5000')
         self.assertEqual(
-            [it.partition(':')[0] for it in told if not it.startswith('clock')],
+            [line.partition(':')[0] for line in found if not line.startswith('clock')],
             [
                 'use',
                 'no key sends 54',

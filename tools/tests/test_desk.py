@@ -489,7 +489,9 @@ class Boards(Served):
             self.assertEqual((shown['clock'], text_of_screen(shown['screen']), shown['registers']), (report.clock, report.screen, report.registers), it.name)
             marks = self.client.ask('marks', board=board)
             self.assertEqual(
-                (marks['state'], marks['lost'], [tuple(change) for change in marks['changes']]), (report.state, report.lost, report.changes), it.name
+                (shown['state'].removesuffix(' for good'), shown['lost'], [tuple(change) for change in marks['changes']]),
+                (report.state, report.lost, report.changes),
+                it.name,
             )
             self.assertTrue(shown['state'].startswith(report.state), it.name)
             entries = [[one.clock, one.entry] for one in events(Files(*example(it.name)), 0, report.clock) if one.entry is not None]
@@ -717,15 +719,17 @@ class Boards(Served):
         """Behind a long busy run it costs the board nothing, comes at its stamp, and again on a way back and on."""
         board = self.client.ask('open', source=FOREVER, run=RUN)['board']
         here = self.client.ask('go to', board=board, clock=400_000_000)['clock']
+        self.client.ask('marks', board=board)
         them, process = children(os.getpid()), self.desk._boards[board].machine._session._process.pid  # type: ignore[union-attr]
-        before = processor_seconds(process)
+        before, ended = processor_seconds(process), sum(os.times()[2:4])
         for count in range(1, 21):
             typed = self.client.ask('type', board=board, codes=[30, 158])
             self.assertEqual((typed['clock'], len(typed['keys'])), (here, 2 * count))
-        self.assertLess(processor_seconds(process) - before, 0.2)
+        self.client.ask('marks', board=board)
+        self.assertLess(processor_seconds(process) - before + sum(os.times()[2:4]) - ended, 0.2)
         self.assertEqual(children(os.getpid()), them)
-        stamps = [it[0] for it in typed['keys']]
-        self.assertEqual(stamps, [here + 1000 * it for it in range(1, 41)])
+        stamps = [each[0] for each in typed['keys']]
+        self.assertEqual(stamps, [here + 1000 * each for each in range(1, 41)])
         for clock, waiting in ((stamps[0] - 1, 0), (stamps[0], 1), (stamps[2], 3), (stamps[-1], 16)) * 2:
             self.client.ask('go to', board=board, clock=clock)
             lost = 40 - 16 if clock == stamps[-1] else 0
@@ -740,10 +744,25 @@ class Boards(Served):
         self.client.ask('type', board=board, codes=[30])
         changed = self.client.ask('go to', board=board, clock=20_000)
         self.assertNotEqual(changed['trail'], shown['trail'])
+        self.assertEqual([each[1] for each in self.client.ask('marks', board=board)['interrupts']], [9])
         self.repeated(board, changed)
         self.client.ask('drop keys', board=board, keys=[0])
         again = self.client.ask('look', board=board)
         self.assertEqual((again['clock'], again['registers'], again['trail']), (20_000, shown['registers'], shown['trail']))
+        self.assertEqual(self.client.ask('marks', board=board)['interrupts'], [])
+
+    def test_marks_up_to_a_key(self) -> None:
+        """They are those of a board that has stood there first."""
+        for name in ('tone', 'ticks'):
+            board, other = (self.client.open(name, keys=[])['board'] for _ in range(2))
+            for clock in (9000, 3001):
+                self.client.ask('go to', board=board, clock=clock)
+                self.client.ask('marks', board=board)
+            self.client.ask('go to', board=other, clock=3001)
+            self.client.ask('type', board=board, codes=[30])
+            marks = self.client.ask('marks', board=board)
+            self.assertEqual(marks, self.client.ask('marks', board=other))
+            self.assertTrue(marks['changes'] or marks['interrupts'], name)
 
     def test_a_halt_that_nothing_ends(self) -> None:
         """A step of it stays where it is, and so does the way of the keys that are typed then."""

@@ -298,13 +298,13 @@ class Served(ToolCase):
         self.assertEqual(client.monitor('go 700'), 'clock 700\n')
         self.assertEqual(client.monitor('key h 900'), 'key 23 at clock 900, A3 at clock 1400\n')
         self.assertEqual(client.monitor('key 23'), 'key 23 at clock 701\n')
-        for command, told in (
+        for command, answer in (
             ('key', 'use: key CODE'),
             ('key 54', 'no key sends 54'),
             ('key 23 700', 'a key comes at a later clock'),
             ('events 5 starts', 'passes'),
         ):
-            self.assertIn(told, client.monitor(command))
+            self.assertIn(answer, client.monitor(command))
         self.assertEqual(client.monitor('clock'), 'clock 700\n')
         self.assertIn('         900 23 h down\n', client.monitor('keys'))
         self.assertIn('keyboard latch', client.monitor('chips'))

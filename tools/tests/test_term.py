@@ -49,7 +49,7 @@ stay:   JMP SHORT stay
 cells:  DB {cells}
 ENDS
 """
-SHOWN = SHOW.format(count=len(CELLS), cursor=80 + len(CELLS), cells=','.join(str(it) for cell in CELLS for it in cell)) + RESET.removeprefix('ENDS\n')
+SHOWN = SHOW.format(count=len(CELLS), cursor=80 + len(CELLS), cells=','.join(str(each) for cell in CELLS for each in cell)) + RESET.removeprefix('ENDS\n')
 # It writes all cells again and again.
 BUSY = f"""SEGMENT MAIN AT 0F000h
 start:  MOV AX,0B000h
@@ -92,17 +92,17 @@ class Keys(unittest.TestCase):
             (curses.KEY_F0 + 13, (0x2A, 0x3B)),
             (curses.KEY_BTAB, (0x2A, 0x0F)),
         ):
-            self.assertEqual([it.codes for it in strokes_of_keys([key])[0]], [codes], key)
+            self.assertEqual([each.codes for each in strokes_of_keys([key])[0]], [codes], key)
 
     def test_alt(self) -> None:
         """Escape with a sign at once behind it is Alt; one alone, and one before another, is itself."""
         strokes, odd = strokes_of_keys(['\x1b', 'x', '\x1b', '\x1b', curses.KEY_F0 + 1, '\x1b'])
-        self.assertEqual([it.codes for it in strokes], [(0x38, 0x2D), (0x01,), (0x38, 0x3B), (0x01,)])
+        self.assertEqual([each.codes for each in strokes], [(0x38, 0x2D), (0x01,), (0x38, 0x3B), (0x01,)])
         self.assertEqual(odd, [])
 
     def test_what_no_key_types(self) -> None:
         strokes, odd = strokes_of_keys(['\u00fc', 'a', curses.KEY_F0 + 40, curses.KEY_MOUSE])
-        self.assertEqual([it.codes for it in strokes], [(0x1E,)])
+        self.assertEqual([each.codes for each in strokes], [(0x1E,)])
         self.assertEqual(odd, ['\u00fc', 'that', 'that'])
 
 
@@ -124,8 +124,8 @@ class Screen(ToolCase):
         self.assertEqual(pieces(look.octets[:10]), [('A', 7), ('B', 15), ('C', 1), ('D', 9), ('E', 0x70)])
 
     def test_signs_of_other_character_sets(self) -> None:
-        self.assertEqual(''.join(plain(it, 'ascii') for it in 'A\u2554\u2550\u2502\u2588\u2592\u00e4\u263a\u00bd'), 'A+-|##a..')
-        self.assertEqual(''.join(plain(it, 'iso8859-1') for it in '\u00e4\u2554\u00bd'), '\u00e4+\u00bd')
+        self.assertEqual(''.join(plain(each, 'ascii') for each in 'A\u2554\u2550\u2502\u2588\u2592\u00e4\u263a\u00bd'), 'A+-|##a..')
+        self.assertEqual(''.join(plain(each, 'iso8859-1') for each in '\u00e4\u2554\u00bd'), '\u00e4+\u00bd')
 
 
 class Pace(ToolCase):
@@ -193,16 +193,16 @@ class Terminals(ToolCase):
         terminal = Terminal([sys.executable, '-S', f'{TOOLS}/term', *words], rows, columns, charset, **more)
         self.addCleanup(terminal.close)
         if rows > 25:
-            self.assertTrue(terminal.until(lambda it: 'Ctrl+]: prompt' in it.lines()[-1]), terminal.grid.lines())
+            self.assertTrue(terminal.until(lambda each: 'Ctrl+]: prompt' in each.lines()[-1]), terminal.grid.lines())
         return terminal
 
-    def ask(self, terminal: Terminal, command: str, told: str) -> str:
+    def ask(self, terminal: Terminal, command: str, said: str) -> str:
         """Types a command at the prompt, and returns the line that answers it, which has a text in it."""
         if not terminal.grid.lines()[-1].startswith('term>'):
             terminal.type(PROMPT)
-            self.assertTrue(terminal.until(lambda it: it.lines()[-1] == 'term>'), terminal.grid.lines())
+            self.assertTrue(terminal.until(lambda each: each.lines()[-1] == 'term>'), terminal.grid.lines())
         terminal.type(command + ENTER)
-        self.assertTrue(terminal.until(lambda it: told in it.lines()[-2] and it.lines()[-1] == 'term>'), (command, terminal.grid.lines()))
+        self.assertTrue(terminal.until(lambda each: said in each.lines()[-2] and each.lines()[-1] == 'term>'), (command, terminal.grid.lines()))
         return terminal.grid.lines()[-2]
 
     def leave(self, terminal: Terminal) -> str:
@@ -217,37 +217,37 @@ class Terminals(ToolCase):
         source = example('keys')[0]
         run = self.file('run.json', text_of(DEFAULTS | {'keys': [[9000, 0x14], [9500, 0x94]], 'ram': 128}))
         terminal = self.begin(source, run, '--save', self.out)
-        self.assertTrue(terminal.until(lambda it: it.lines()[0] == 'T'))
+        self.assertTrue(terminal.until(lambda each: each.lines()[0] == 'T'))
         terminal.type('hi there')
-        self.assertTrue(terminal.until(lambda it: it.lines()[0] == 'THI THERE'), terminal.grid.lines())
+        self.assertTrue(terminal.until(lambda each: each.lines()[0] == 'THI THERE'), terminal.grid.lines())
         terminal.type(PROMPT)
-        self.assertTrue(terminal.until(lambda it: it.lines()[-1] == 'term>'))
+        self.assertTrue(terminal.until(lambda each: each.lines()[-1] == 'term>'))
         terminal.type('regs' + ENTER)
-        self.assertTrue(terminal.until(lambda it: 'a key goes on' in '\n'.join(it.lines())))
+        self.assertTrue(terminal.until(lambda each: 'a key goes on' in '\n'.join(each.lines())))
         registers = terminal.grid.lines()[:2]
         terminal.type(ENTER)
-        self.assertTrue(terminal.until(lambda it: it.lines()[0] == 'THI THERE' and it.lines()[-1] == 'term>'), terminal.grid.lines())
+        self.assertTrue(terminal.until(lambda each: each.lines()[0] == 'THI THERE' and each.lines()[-1] == 'term>'), terminal.grid.lines())
         screen = terminal.grid.lines()[:25]
-        told = self.leave(terminal)
-        self.assertIn(f'./pcboard run {source} {self.out}'.replace('\n', ''), told.replace('\n', ''))
+        said = self.leave(terminal)
+        self.assertIn(f'./pcboard run {source} {self.out}'.replace('\n', ''), said.replace('\n', ''))
         with open(self.out, encoding='utf-8') as file:
             fields = json.load(file)
         self.assertEqual((fields['ram'], len(fields['keys'])), (128, 2 + 2 * len('hi there')))
         ran = self.pcboard('run', source, self.out).stdout
-        self.assertEqual([it.rstrip() for it in report_of(ran).screen], screen)
+        self.assertEqual([each.rstrip() for each in report_of(ran).screen], screen)
         self.assertEqual(ran.splitlines()[1:3], registers)
-        self.assertIn(f'clock {fields["budget"]:,}, {2 * len("hi there")} key codes typed', told)
+        self.assertIn(f'clock {fields["budget"]:,}, {2 * len("hi there")} key codes typed', said)
 
     def test_looks_and_signs(self) -> None:
         source = self.file('it.asm', SHOWN)
         terminal = self.begin(source)
-        self.assertTrue(terminal.until(lambda it: it.lines()[1] == SIGNS), terminal.grid.lines())
+        self.assertTrue(terminal.until(lambda each: each.lines()[1] == SIGNS), terminal.grid.lines())
         for column, wanted in enumerate(STYLES):
             self.assertEqual(terminal.grid.style_at(1, column), wanted, SIGNS[column])
-        self.assertTrue(terminal.until(lambda it: (it.row, it.column, it.is_cursor_shown) == (1, len(CELLS), True)))
+        self.assertTrue(terminal.until(lambda each: (each.row, each.column, each.is_cursor_shown) == (1, len(CELLS), True)))
         self.assertIn('no run file was written', self.leave(terminal))
         terminal = self.begin(source, charset='ascii', LC_ALL='C')
-        self.assertTrue(terminal.until(lambda it: it.lines()[1] == 'ABCDE +.a#'), terminal.grid.lines())
+        self.assertTrue(terminal.until(lambda each: each.lines()[1] == 'ABCDE +.a#'), terminal.grid.lines())
         self.leave(terminal)
 
     def test_the_prompt(self) -> None:
@@ -256,8 +256,8 @@ class Terminals(ToolCase):
         self.assertEqual(at, 'clock 0: FFFF:0000  | 51: JMP FAR start')
         self.assertEqual(self.ask(terminal, 'break tick', 'stop 1'), 'stop 1: break F600:58 tick')
         terminal.type('go' + ENTER)
-        self.assertTrue(terminal.until(lambda it: it.lines()[-2] == 'stop: break F600:58' and it.lines()[-1] == 'term>'), terminal.grid.lines())
-        for command, told in (
+        self.assertTrue(terminal.until(lambda each: each.lines()[-2] == 'stop: break F600:58' and each.lines()[-1] == 'term>'), terminal.grid.lines())
+        for command, said in (
             ('step', 'clock 1,032: F600:005D tick+5'),
             ('back', 'clock 1,009: F600:0058 tick'),
             ('to 1,500', 'clock 1,500: '),
@@ -281,15 +281,15 @@ class Terminals(ToolCase):
         ):
             if command == 'clear 2':
                 terminal.type(command + ENTER)
-                self.assertTrue(terminal.until(lambda it: it.lines()[:2] == ['stop 1: break F600:58 tick', 'stop 2: byte B0000 31']))
+                self.assertTrue(terminal.until(lambda each: each.lines()[:2] == ['stop 1: break F600:58 tick', 'stop 2: byte B0000 31']))
                 terminal.type(ENTER)
-                self.assertTrue(terminal.until(lambda it: it.lines()[-1] == 'term>'))
+                self.assertTrue(terminal.until(lambda each: each.lines()[-1] == 'term>'))
                 continue
-            self.ask(terminal, command, told)
+            self.ask(terminal, command, said)
         terminal.type('help' + ENTER)
-        self.assertTrue(terminal.until(lambda it: any(line.startswith('speed real') for line in it.lines())), terminal.grid.lines())
+        self.assertTrue(terminal.until(lambda each: any(line.startswith('speed real') for line in each.lines())), terminal.grid.lines())
         terminal.type(ENTER)
-        self.assertTrue(terminal.until(lambda it: it.lines()[-1] == 'term>'))
+        self.assertTrue(terminal.until(lambda each: each.lines()[-1] == 'term>'))
         self.ask(terminal, '\x1bOA\x1bOA', 'is in')  # the arrow calls back the last but one
         self.leave(terminal)
 
@@ -297,11 +297,11 @@ class Terminals(ToolCase):
         """Ctrl+C at the prompt ends it where it is; on the screen it is the board's."""
         terminal = self.begin(self.file('busy.asm', BUSY), '--save', self.out)
         terminal.type('\x03' + PROMPT)
-        self.assertTrue(terminal.until(lambda it: it.lines()[-1] == 'term>'))
+        self.assertTrue(terminal.until(lambda each: each.lines()[-1] == 'term>'))
         terminal.type('to 900000000000' + ENTER)
-        self.assertTrue(terminal.until(lambda it: it.lines()[-2] == 'Ctrl+C ends it'))
+        self.assertTrue(terminal.until(lambda each: each.lines()[-2] == 'Ctrl+C ends it'))
         terminal.type('\x03')
-        self.assertTrue(terminal.until(lambda it: it.lines()[-2].startswith('ended: clock ')), terminal.grid.lines())
+        self.assertTrue(terminal.until(lambda each: each.lines()[-2].startswith('ended: clock ')), terminal.grid.lines())
         self.leave(terminal)
         with open(self.out, encoding='utf-8') as file:
             self.assertEqual([code for _, code in json.load(file)['keys']], [0x1D, 0x2E, 0xAE, 0x9D])
@@ -313,7 +313,7 @@ class Terminals(ToolCase):
             with self.subTest(how):
                 terminal = self.begin(example('keys')[0])
                 terminal.type('ok')
-                self.assertTrue(terminal.until(lambda it: it.lines()[0] == 'OK'), terminal.grid.lines())
+                self.assertTrue(terminal.until(lambda each: each.lines()[0] == 'OK'), terminal.grid.lines())
                 theirs = children(terminal.pid)
                 if how == 'closed':
                     terminal.hang_up()
@@ -346,17 +346,17 @@ class Terminals(ToolCase):
         """They show the part at the cursor, in any size, and a new size is followed."""
         source = self.file('it.asm', SHOWN)
         terminal = self.begin(source, rows=6, columns=40)
-        self.assertTrue(terminal.until(lambda it: it.lines()[1] == SIGNS and it.lines()[5].startswith('smaller than 80x25')), terminal.grid.lines())
+        self.assertTrue(terminal.until(lambda each: each.lines()[1] == SIGNS and each.lines()[5].startswith('smaller than 80x25')), terminal.grid.lines())
         terminal.type('x')
-        self.assertTrue(terminal.until(lambda it: not it.lines()[5]), terminal.grid.lines())
+        self.assertTrue(terminal.until(lambda each: not each.lines()[5]), terminal.grid.lines())
         for rows, columns in ((1, 1), (2, 3), (25, 80), (24, 200), (3, 8)):
             terminal.resize(rows, columns)
             if rows > 2 and columns > 10:
-                self.assertTrue(terminal.until(lambda it: it.lines()[1] == SIGNS), (rows, columns, terminal.grid.lines()))
+                self.assertTrue(terminal.until(lambda each: each.lines()[1] == SIGNS), (rows, columns, terminal.grid.lines()))
             terminal.type(PROMPT + 'step' + ENTER + ENTER)
-        self.assertTrue(terminal.until(lambda it: any(SIGNS[-2] in line for line in it.lines())), terminal.grid.read[-3000:])
+        self.assertTrue(terminal.until(lambda each: any(SIGNS[-2] in line for line in each.lines())), terminal.grid.read[-3000:])
         terminal.resize(30, 90)
-        self.assertTrue(terminal.until(lambda it: it.lines()[1] == SIGNS and 'Ctrl+]: prompt' in it.lines()[-1]), terminal.grid.lines())
+        self.assertTrue(terminal.until(lambda each: each.lines()[1] == SIGNS and 'Ctrl+]: prompt' in each.lines()[-1]), terminal.grid.lines())
         self.leave(terminal)
 
     def test_what_it_costs(self) -> None:
@@ -364,7 +364,7 @@ class Terminals(ToolCase):
         for source, most in ((example('keys')[0], 0.05), (self.file('busy.asm', BUSY), 0.2)):
             terminal = self.begin(source)
             first, before = self.far(terminal.grid), self.spent(terminal)
-            self.assertTrue(terminal.until(lambda it, first=first: self.far(it) > first + 3 * HERTZ))
+            self.assertTrue(terminal.until(lambda each, first=first: self.far(each) > first + 3 * HERTZ))
             used = self.spent(terminal) - before
             self.assertLess(used, most * (self.far(terminal.grid) - first) / HERTZ, source)
             self.leave(terminal)
@@ -387,7 +387,7 @@ class Terminals(ToolCase):
         )
         terminal = self.begin(source, '--services', '--save', self.out)
         terminal.type('Yes')
-        self.assertTrue(terminal.until(lambda it: it.lines()[0] == 'Yes'), terminal.grid.lines())
+        self.assertTrue(terminal.until(lambda each: each.lines()[0] == 'Yes'), terminal.grid.lines())
         self.assertIn('tools/try', self.leave(terminal))
         self.assertIn('Yes', self.tool('try', source, '--run', self.out, '--services')[0])
 
@@ -396,12 +396,12 @@ class Terminals(ToolCase):
         source = example('keys')[0]
         self.assertIn('a terminal is wanted', self.tool('term', source, status=2)[1])
         self.assertIn('no such', self.tool('term', f'{self.room}/none.asm', status=2)[1].lower())
-        for words, told in (
+        for words, said in (
             (('--save', f'{self.room}/none/it'), 'is a folder, or in none'),
             (('--save', self.room), 'is a folder'),
             (('--hold', '0'), '--hold'),
         ):
-            self.assertIn(told, self.tool('term', source, *words, status=2)[1])
+            self.assertIn(said, self.tool('term', source, *words, status=2)[1])
         terminal = Terminal([sys.executable, '-S', f'{TOOLS}/term', source], TERM='nonsense')
         self.addCleanup(terminal.close)
         self.assertEqual(terminal.ended(), 2)
@@ -410,12 +410,12 @@ class Terminals(ToolCase):
         os.mkdir(folder)
         terminal = self.begin(source, '--save', f'{folder}/it.json')
         terminal.type('ok')
-        self.assertTrue(terminal.until(lambda it: it.lines()[0] == 'OK'))
+        self.assertTrue(terminal.until(lambda each: each.lines()[0] == 'OK'))
         for name in os.listdir(folder):
             os.remove(f'{folder}/{name}')
         self.assertTrue(until(lambda: not self._removed(folder)))
-        told = self.leave(terminal)
-        self.assertIn("can't be written", told)
+        said = self.leave(terminal)
+        self.assertIn("can't be written", said)
         (name,) = os.listdir(f'{self.room}/.local/state/zebludor/term')
         self.assertEqual(len(self.keys(f'{self.room}/.local/state/zebludor/term/{name}')), 4)
 

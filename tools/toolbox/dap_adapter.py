@@ -598,15 +598,15 @@ class Adapter:
             return type_words(board, words)
         if text == 'keys':
             return '\n'.join(key_lines(board)) or 'no keys'
-        return '\n'.join(it.rstrip() for it in board.many(text)).rstrip() if name in SHOWING and '\n' not in text else None
+        return '\n'.join(line.rstrip() for line in board.many(text)).rstrip() if name in SHOWING and '\n' not in text else None
 
     def on_evaluate(self, given: Fields) -> Fields | tuple[Fields, Callable[[], tuple[str, str]]]:
         text, board = field(given, 'expression', str).strip(), self.board()
         if given.get('context') == 'repl' and (found := re.fullmatch(r'to\s+([\d,_]+)', text)):
             body, then = self.on_toClock({'clock': int(re.sub('[,_]', '', found[1]) or -1)})
             return {'result': f'to clock {found[1]}', 'variablesReference': 0}, then
-        if given.get('context') == 'repl' and (told := self.console(board, text)) is not None:
-            return {'result': told, 'variablesReference': 0}
+        if given.get('context') == 'repl' and (shown := self.console(board, text)) is not None:
+            return {'result': shown, 'variablesReference': 0}
         value = Expression(board, board.listing, text).value()
         at = {} if value.address is None else {'memoryReference': f'0x{value.address:05X}'}
         return {'result': value.shown(), 'variablesReference': 0} | at

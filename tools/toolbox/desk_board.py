@@ -9,7 +9,7 @@ import time
 from dataclasses import dataclass, replace
 from typing import Any, Callable
 
-from toolbox.chips import facts
+from toolbox.chips import Chips, facts
 from toolbox.command import Sorry
 from toolbox.dap_board import ENDS, MOST_BREAKPOINTS, Machine
 from toolbox.data_labels import Datum, labels_of_data, values_of
@@ -19,7 +19,7 @@ from toolbox.desk_work import Fields, Helpers, Job
 from toolbox.events import commands
 from toolbox.listing import labels_alone, listing_of, physical
 from toolbox.nowhere import told_of_end
-from toolbox.places import address_of, event_of, far_of, is_repeated, line_at, number_of, operation_of
+from toolbox.places import address_of, event_of, far_of, is_repeated, line_at, number_of
 from toolbox.program import LAST_CLOCK, Files, path
 from toolbox.report import REGISTERS, Report, report_of
 from toolbox.returns import Far
@@ -34,11 +34,9 @@ AHEAD, GAP = 1000, 1000
 FARTHEST = 50_000_000
 # So many clocks are run anew to tell why a run goes nowhere: a tenth of a second's work.
 REACH = 20_000_000
-STACK_BYTES, IF, CLOCKS_OF_HLT, LOOKS_WITHOUT_ATTRIBUTES = 32, 0x200, 2, 4
+STACK_BYTES, CLOCKS_OF_HLT, LOOKS_WITHOUT_ATTRIBUTES = 32, 2, 4
 # So many instructions of Intel HEX are shown, from so many bytes before the next one on.
 CODE_ROWS, CODE_BEFORE = 48, 40
-# No instruction takes so many clocks without a repeat, so a processor that began none for so long has jammed.
-LONGEST_STEP = 1000
 # Up to so many clocks all trails are read for the interrupts; in a longer run only handlers' first instructions are looked for.
 SHORT_RUN, MARKS_SECONDS, MOST_MARKS = 60_000, 2, 1000
 # The tab of the sound lists so many changes; the time line has so many parts.
@@ -203,7 +201,7 @@ class Board:
                 met = self.machine.go_on(here + 1)
                 if met and place_of(met) and not self.machine.is_halted:
                     return met
-                now = self._holding(met == 'sound') if met else []
+                now = self._holding() if met else []
                 if more := [it for it in now if it not in held]:
                     return more[0]
                 held = now
@@ -212,28 +210,24 @@ class Board:
         self._held = self.clock, held
         return None
 
-    def _holding(self, is_high: bool | None = None) -> list[str]:
-        """The stops that hold here and aren't places. Whether the speaker is high may be known."""
-        if is_high is None and 'sound' in self.stops:
-            report = self.report(self.clock)
-            is_high = bool(report and report.changes and report.changes[-1][1])
-        return [it for it in self.stops if (is_high if it == 'sound' else self._holds(it))]
+    def _holding(self) -> list[str]:
+        """The stops that hold here and aren't places."""
+        return list(filter(self._holds, self.stops))
 
     def _holds(self, stop: str) -> bool:
-        """Whether a stop holds here that is a byte's or `halted`."""
+        """Whether a stop holds here that isn't a place."""
         kind, *words = stop.split()
         if kind == 'byte':
             return self.machine.dump(int(words[0], 16), 1) == bytes([int(words[1], 16)])
-        return kind == 'halted' and self._is_halted()
+        return kind == 'halted' and self._chips().is_halted or kind == 'sound' and self._chips().value('speaker', 'level') == '1'
 
-    def _is_halted(self) -> bool:
-        """Whether the processor is halted, as it is from the clock after its HLT's first to that of the entry that ends it."""
-        began = [it for it in self.machine.trail() if it.clock < self.clock]
-        return bool(began) and operation_of(began[-1].text) == 'HLT'
+    def _chips(self) -> Chips:
+        """What the chips hold."""
+        return Chips.of(self.machine.chips())
 
     def _back_to_the_end(self, here: int) -> None:
         """Where the processor has halted for good since a clock: back to where it did, so that the run isn't full of nothing."""
-        if self._state() == 'halted for good':
+        if state_of(self._chips()) == 'halted for good':
             self.machine.go_to(min(max(here, self.machine.trail()[-1].clock + CLOCKS_OF_HLT + 1), self.clock))
 
     def step(self, seen: int) -> Fields:
@@ -259,7 +253,7 @@ class Board:
 
     def _from_a_halt(self, seen: int) -> Fields | None:
         """A step of a halted processor: into the interrupt that ends the halt; where none can, a clock. None of one that runs."""
-        here, state = self.clock, self._state()
+        here, state = self.clock, state_of(self._chips())
         if state == 'running':
             return None
         if state != 'halted':
@@ -322,7 +316,8 @@ class Board:
         self._turn += self.clock < self._was_at
         self._was_at, self.furthest = self.clock, max(self.furthest, self.clock)
         registers, trail = self.machine.registers(), self.machine.trail()
-        place, state = (registers['CS'], registers['IP']), self._state()
+        place, chips = (registers['CS'], registers['IP']), self._chips()
+        state = state_of(chips)
         # A halted processor is still at its HLT: what stands behind it may never run.
         line = line_at(self.listing, trail[-1]) if state.startswith('halted') else self.listing.at.get(physical(*place))
         found: Fields = {
@@ -331,6 +326,7 @@ class Board:
             'furthest': self.furthest,
             'registers': registers,
             'state': state,
+            'lost': int(chips.value('keyboard', 'lost')),
             'place': '%04X:%04X' % place,
             'line': line.number if line else None,
             'label': self.listing.label_before(*place),
@@ -343,15 +339,6 @@ class Board:
             found |= {'stack': self._stack(registers), 'keys': self._keys()}
             self._vectors = self.machine.dump(0, 4 * 256)
         return found
-
-    def _state(self) -> str:
-        """Running, halted, halted for good, or jammed, as the trail tells it: a report tells it of each clock."""
-        if self._is_halted():
-            return 'halted' if self.machine.registers()['FL'] & IF else 'halted for good'
-        trail = self.machine.trail()
-        last = trail[-1] if trail else None
-        quiet = self.clock - (last.clock if last else 0)
-        return 'jammed' if quiet > LONGEST_STEP and not (last and is_repeated(last.text)) else 'running'
 
     def _look_at_screen(self, is_light: bool) -> int:
         """The screen's number, which rises where it changes. A light look at the same characters looks for other attributes
@@ -449,8 +436,7 @@ class Board:
     def why(self) -> Fields:
         """Why the run goes nowhere, if it does, as tools/why tells it of a run up to this clock."""
         clock, registers = self.clock, self.machine.registers()
-        state = self._state().partition(' ')[0]
-        report = Report(clock, registers, state, 0, [], self.machine.many('screen'))
+        report = Report(clock, registers, self._chips().value('processor', 'state'), 0, [], self.machine.many('screen'))
         try:
             told = told_of_end(report, self.files, self.machine, self.listing, REACH)
         finally:
@@ -504,13 +490,24 @@ class Board:
         for code, pause in zip(codes, pauses):
             stamp += pause
             self.keys.append(Key(self.machine.type(code, stamp), code, self._turn))
+        self._cut()
         self._are(self.keys)
         return self.view('there', seen)
+
+    def _cut(self) -> None:
+        """The marks up to here, if they are known: keys that are typed now leave them as they are."""
+        (count, until), marks = self._of_the_run
+        if count == self._count and until >= self.clock:
+            changes = [each for each in self._speaker.changes if each[0] <= self.clock]
+            interrupts = [each for each in marks['interrupts'] if each[0] < self.clock]
+            marks = marks | {'changes': changes[:MOST_LISTED], 'all changes': len(changes)}
+            marks = marks | {'interrupts': interrupts, 'interrupts up to': min(marks['interrupts up to'], self.clock)}
+            self._speaker, self._of_the_run = Speaker(changes, self.clock), ((count + 1, self.clock), marks)
 
     def with_keys(self, keys: list[Key], seen: int) -> Fields:
         """The board at the same clock with these of its keys alone. A session gives no key back: one is begun anew, and that which is
         shown stays until the other has caught up."""
-        run_file = self._run_file({'keys': [[it.stamp, it.code] for it in keys]})
+        run_file = self._run_file({'keys': [[key.stamp, key.code] for key in keys]})
         try:
             self.machine.begin_anew((), self.clock, replace(self.files, run_file=run_file))
         except Paused:
@@ -532,14 +529,14 @@ class Board:
         return report_of(text, 'the answer') if text is not None else None
 
     def marks(self) -> Fields:
-        """What the time line shows beside the stops: the speaker's changes and the interrupts; and what only a report tells."""
+        """What the time line shows beside the stops: the speaker's changes and the interrupts."""
         if not self._marking.acquire(blocking=False):  # pylint: disable=consider-using-with
             return {'busy': True}
         try:
             clock, until = self.clock, max(self.furthest, self.clock)
-            run, now = (self._count, until), self.report(clock)
+            run = self._count, until
             if self._of_the_run[0] != run:
-                whole = now if now is None or until == clock else self.report(until)
+                whole = self.report(until)
                 self._speaker = Speaker(whole.changes if whole else [], until)
                 interrupts, first = self._interrupts(until) if whole else ([], until)
                 self._of_the_run = run, {
@@ -551,7 +548,7 @@ class Board:
                 }
         finally:
             self._marking.release()
-        return {'clock': clock, 'until': until, 'state': now.state if now else None, 'lost': now.lost if now else None} | self._of_the_run[1]
+        return {'clock': clock, 'until': until} | self._of_the_run[1]
 
     def speaker(self, low: int, high: int) -> Fields:
         """The stretches in which the speaker was high, of a run whose marks were told, joined to what a line can show."""
@@ -596,6 +593,12 @@ class Board:
             if offset or segment:
                 at[segment, offset] = None
         return list(at)[:16]
+
+
+def state_of(chips: Chips) -> str:
+    """Running, halted, halted for good, or jammed."""
+    state = chips.value('processor', 'state')
+    return 'halted for good' if state == 'halted' and not chips.is_open else state
 
 
 def is_key_list(given: Any) -> bool:

@@ -17,7 +17,7 @@ def type_words(board: SessionBoard, words: list[str]) -> str:
     sign, or names as enter, f1, ctrl+c. CLOCK is when it goes down: without it, the next one."""
     if not 1 <= len(words) <= 2:
         raise Sorry(f'use: {USE}')
-    what, at = words[0], [it.replace(',', '') for it in words[1:]]
+    what, at = words[0], [each.replace(',', '') for each in words[1:]]
     if at and not at[0].isdecimal():
         raise Sorry(f'{words[1]} is no clock: a decimal number')
     first, stroke = int(at[0]) if at else None, stroke_of_word(what)

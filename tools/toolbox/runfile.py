@@ -78,7 +78,7 @@ def with_budget(files: Files, budget: int) -> Iterator[Files]:
 def add_keys(path: str, keys: list[tuple[int, int]]) -> None:
     """Puts keys that were typed, stamps and codes, into a run file: each behind those of its stamp that are there."""
     fields = read_run_file(path)
-    fields['keys'] = sorted([*fields['keys'], *keys], key=lambda it: it[0])
+    fields['keys'] = sorted([*fields['keys'], *keys], key=lambda key: key[0])
     with open(f'{path}.new', 'w', encoding='utf-8') as file:
         file.write(text_of(fields))
     os.replace(file.name, path)

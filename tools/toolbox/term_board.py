@@ -66,7 +66,7 @@ class Live(Machine):
 
     def _pace_fast(self, seconds: float) -> None:
         """How long the next tick of a fast run is, after one that took so many seconds."""
-        is_halting = any(operation_of(it.text) == 'HLT' for it in self.trail())
+        is_halting = any(operation_of(each.text) == 'HLT' for each in self.trail())
         factor = min(max(BUSY * TICK / max(seconds, 1e-6), 0.5), 2.0)
         self._fast_piece = min(int(self._fast_piece * factor), MOST_HALTED if is_halting else MOST_PIECE)
         self._from, self._since = self.clock, time.monotonic()
@@ -90,7 +90,7 @@ class Live(Machine):
 
     def drop_stops(self, gone: list[str]) -> None:
         """Removes stops. A session begun anew runs to where this one stands."""
-        kept = [it for it in self.stops if it not in gone]
+        kept = [each for each in self.stops if each not in gone]
         self.begin_anew(kept)
         self.stops = kept
 
@@ -98,7 +98,7 @@ class Live(Machine):
         """Takes the keys out that are still to come, and returns how many there were. A session begun anew runs to where this one stands."""
         files = self.files
         fields = read_run_file(files.run_file)
-        kept = [it for it in fields['keys'] if it[0] <= self.clock]
+        kept = [each for each in fields['keys'] if each[0] <= self.clock]
         count = len(fields['keys']) - len(kept)
         if count:
             write_text(f'{files.run_file}~', text_of(fields | {'keys': kept}))

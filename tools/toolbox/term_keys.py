@@ -8,7 +8,7 @@ from toolbox.scancodes import SIGNS, Stroke, named_stroke, stroke_of
 PROMPT, ESCAPE = '\x1d', '\x1b'  # Ctrl+], and Escape, which also comes before a sign that is typed with Alt
 CONTROLS = {'\r': 'enter', '\n': 'enter', '\t': 'tab', '\x7f': 'backspace', '\b': 'backspace', ESCAPE: 'esc'}
 CONTROLS |= {'\0': 'ctrl+2', '\x1c': 'ctrl+\\', '\x1e': 'ctrl+6', '\x1f': 'ctrl+-'}
-CONTROLS |= {chr(it): f'ctrl+{chr(it + 0x60)}' for it in range(1, 27) if chr(it) not in CONTROLS}
+CONTROLS |= {chr(each): f'ctrl+{chr(each + 0x60)}' for each in range(1, 27) if chr(each) not in CONTROLS}
 FUNCTIONS = {
     curses.KEY_UP: 'up',
     curses.KEY_DOWN: 'down',
@@ -27,8 +27,8 @@ FUNCTIONS = {
     curses.KEY_SRIGHT: 'shift+right',
     curses.KEY_SHOME: 'shift+home',
     curses.KEY_SEND: 'shift+end',
-    **{curses.KEY_F0 + it: f'f{it}' for it in range(1, 11)},
-    **{curses.KEY_F0 + 12 + it: f'shift+f{it}' for it in range(1, 11)},  # as xterm and the Linux console number them
+    **{curses.KEY_F0 + each: f'f{each}' for each in range(1, 11)},
+    **{curses.KEY_F0 + 12 + each: f'shift+f{each}' for each in range(1, 11)},  # as xterm and the Linux console number them
 }
 
 

@@ -142,7 +142,7 @@ class Commands:
 
     def do_trail(self) -> list[str]:
         """trail: the last 32 instruction starts and interrupts, with their source lines"""
-        return [event_text(self._board.listing, it) for it in self._board.trail()] or ['nothing yet']
+        return [event_text(self._board.listing, each) for each in self._board.trail()] or ['nothing yet']
 
     def do_chips(self) -> list[str]:
         """chips: what the chips hold; docs/probe.md tells the words"""

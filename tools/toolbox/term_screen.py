@@ -40,7 +40,7 @@ def look_at(board: SessionBoard) -> Look:
     adapter = Chips.of(lines[count:]).lines['adapter']
     start, cursor = int(adapter['start'], 16) % WORDS, int(adapter['cursor'], 16) % WORDS
     place = (cursor - start) % WORDS
-    memory = bytes.fromhex(''.join([it[7:] for it in lines[:count]]))
+    memory = bytes.fromhex(''.join([each[7:] for each in lines[:count]]))
     octets = (memory + memory)[2 * start : 2 * start + ROWS * ROW] if adapter['video'] == '1' else bytes(ROWS * ROW)
     return Look(octets, divmod(place, COLUMNS) if place < ROWS * COLUMNS else None)
 
@@ -62,7 +62,7 @@ def style_of(attribute: int) -> int:
 def pieces(row: bytes) -> list[tuple[str, int]]:
     """A row as stretches of one attribute."""
     found = list[tuple[str, int]]()
-    for attribute, them in itertools.groupby(zip(row[::2], row[1::2]), lambda it: it[1]):
+    for attribute, them in itertools.groupby(zip(row[::2], row[1::2]), lambda each: each[1]):
         found.append((''.join([shown(code, attribute) for code, _ in them]), attribute))
     return found
 
@@ -83,7 +83,7 @@ class Window:
     """The part of the screen that a terminal has room for, and below it a line of the tool's own, if there is room."""
 
     def __init__(self, window: Any, charset: str) -> None:
-        self._window, self._signs = window, str.maketrans({it: plain(it, charset) for it in set(SIGNS)})
+        self._window, self._signs = window, str.maketrans({each: plain(each, charset) for each in set(SIGNS)})
         self._rows, self._corner, self._line = list[bytes](), (0, 0), ''
         self.resized()
 

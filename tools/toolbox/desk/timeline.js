@@ -23,9 +23,8 @@ export function look_on() {
     if (answer.sorry || answer.gone) return;
     marks = answer; draw_marks(); draw_sound(); ask_speaker();
     if (view.clock !== clock || answer.clock !== clock) return;
-    if (answer.state && !view.state.startsWith(answer.state)) { view.state = answer.state; $('where').textContent = $('where').textContent.replace(/, \w+( for good)?, /, `, ${answer.state}, `); }
     if (!answer.told) { $('told').textContent = 'the run is too long to show its speaker and interrupts'; return; }
-    const lost = answer.lost ? `${counted(answer.lost, 'key')} lost, ` : '';
+    const lost = view.lost ? `${counted(view.lost, 'key')} lost, ` : '';
     $('told').textContent = `${lost}${counted(answer['all changes'], 'change')} of the speaker, ${counted(answer.interrupts.length, 'interrupt')}${answer['interrupts up to'] < answer.until ? ` up to clock ${number(answer['interrupts up to'])}` : ''}`;
   }, () => {});
 }
