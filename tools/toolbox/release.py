@@ -13,7 +13,7 @@ import tarfile
 import tempfile
 from typing import Iterator
 
-from toolbox import proved
+from toolbox import debian, proved, wheel
 from toolbox.book import Book, text_of
 from toolbox.book_page import page_of
 from toolbox.command import Sorry
