@@ -126,14 +126,14 @@ def until(holds: Callable[[], Any], pause: float = 0.01) -> bool:
     return bool(found)
 
 
-def is_at_work(process: int) -> bool:
-    """Waits until pcboard or pcprobe, which a process has started, has worked for a tenth of a second from now on."""
+def is_at_work(process: int, seconds: float = 0.1) -> bool:
+    """Waits until pcboard or pcprobe, which a process has started, has worked for so many seconds of a processor from now on."""
 
     def spent() -> float:
         return sum(processor_seconds(it) for it in children(process) if name_of(it) in ('pcboard', 'pcprobe'))
 
     begun = spent()
-    return until(lambda: spent() - begun > 0.1, 0.05)  # each look is at all processes
+    return until(lambda: spent() - begun > seconds, 0.05)  # each look is at all processes
 
 
 def name_of(process: int) -> str:

@@ -189,7 +189,7 @@ class Runs(ToolCase):
                 if not words:
                     process.stdout.readline()
                 elif words == ['--profile']:
-                    self.assertTrue(is_at_work(process.pid))
+                    self.assertTrue(is_at_work(process.pid, 1))  # some tables of 20 million clocks
                 else:
                     self.assertTrue(until(lambda: os.path.exists(path) and os.path.getsize(path) > 1 << 16))
                 os.killpg(process.pid, signal.SIGINT)
