@@ -112,9 +112,12 @@ class StandIn(ToolCase):
         with subprocess.Popen(
             [sys.executable, '-S', f'{TOOLS}/moments', *words], stdout=subprocess.PIPE, stderr=subprocess.PIPE, text=True, cwd=self.room, start_new_session=True
         ) as process:
-            self.assertTrue(until(lambda: len(self.listed()) > 8))
-            os.killpg(process.pid, signal.SIGINT)
-            out, err = process.communicate(timeout=SECONDS)
+            try:
+                self.assertTrue(until(lambda: len(self.listed()) > 8))
+                os.killpg(process.pid, signal.SIGINT)
+                out, err = process.communicate(timeout=SECONDS)
+            finally:
+                process.kill()
         os.remove(waits)
         self.assertEqual(process.returncode, 130, err)
         self.assertRegex(out, r'^\d+ of 60 moments tried')

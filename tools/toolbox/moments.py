@@ -327,10 +327,10 @@ class Worker:
             yield Failure(*answer) if isinstance(answer, list) else answer
 
     def end(self) -> None:
-        """Ends it, also in the midst of a run: it has nothing to keep."""
+        """Ends it, also in the midst of a run: it has nothing to keep. What it has printed isn't waited for."""
         with contextlib.suppress(ProcessLookupError):
-            os.killpg(self._process.pid, signal.SIGTERM)
-        self._process.communicate()
+            os.killpg(self._process.pid, signal.SIGKILL)
+        self._process.wait()
 
 
 def chunks(found: Found) -> Iterator[list[int]]:
@@ -348,7 +348,8 @@ class Feeder:
     """Hands the moments to processes, each by a thread of its own."""
 
     def __init__(self, plan: Plan, found: Found, jobs: int, room: str) -> None:
-        self.answers: queue.Queue[tuple[int, Outcome] | Exception | None] = queue.Queue()
+        # A simple one, which an interrupt that is raised within `get` leaves whole.
+        self.answers: queue.SimpleQueue[tuple[int, Outcome] | Exception | None] = queue.SimpleQueue()
         self._todo, self._lock = chunks(found), threading.Lock()
         self.workers = [Worker(plan.words(room)) for _ in range(min(jobs, math.ceil(found.is_tried.count(0) / AT_ONCE)))]
         for worker in self.workers:
