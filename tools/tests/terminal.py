@@ -145,14 +145,18 @@ class Terminal:
         self.grid = Grid(rows, columns, charset)
         self.pid, self.handle = pty.fork()
         if self.pid == 0:
+            self._set_size(0, rows, columns)
             os.execvpe(words[0], words, os.environ | {'TERM': 'xterm', 'LANG': 'C.UTF-8', 'LC_ALL': ''} | more)
         self.status: int | None = None
-        self.resize(rows, columns)
 
     def resize(self, rows: int, columns: int) -> None:
         """Another size, as a window's frame gives it."""
         self.grid.resized(rows, columns)
-        fcntl.ioctl(self.handle, termios.TIOCSWINSZ, struct.pack('HHHH', rows, columns, 0, 0))
+        self._set_size(self.handle, rows, columns)
+
+    @staticmethod
+    def _set_size(handle: int, rows: int, columns: int) -> None:
+        fcntl.ioctl(handle, termios.TIOCSWINSZ, struct.pack('HHHH', rows, columns, 0, 0))
 
     def type(self, text: str) -> None:
         """Types signs, or what a terminal sends for other keys."""
