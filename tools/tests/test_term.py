@@ -301,7 +301,7 @@ class Terminals(ToolCase):
         terminal.type('to 900000000000' + ENTER)
         self.assertTrue(terminal.until(lambda each: each.lines()[-2] == 'Ctrl+C ends it'))
         terminal.type('\x03')
-        self.assertTrue(terminal.until(lambda each: each.lines()[-2].startswith('ended: clock ')), terminal.grid.lines())
+        self.assertTrue(terminal.until(lambda each: each.lines()[-2].startswith('ended: clock ') and each.lines()[-1] == 'term>'), terminal.grid.lines())
         self.leave(terminal)
         with open(self.out, encoding='utf-8') as file:
             self.assertEqual([code for _, code in json.load(file)['keys']], [0x1D, 0x2E, 0xAE, 0x9D])
