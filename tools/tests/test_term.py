@@ -2,6 +2,7 @@
 from __future__ import annotations
 
 import curses
+import glob
 import json
 import os
 import signal
@@ -321,7 +322,7 @@ class Terminals(ToolCase):
                 elif how == 'board':
                     os.kill(theirs[0], signal.SIGKILL)
                 elif how == 'KILL':
-                    self.assertTrue(until(lambda: os.path.isdir(folder) and os.listdir(folder)))
+                    self.assertTrue(until(lambda: [len(self.keys(each)) for each in glob.glob(f'{folder}/*.json')] == [4]))
                     os.kill(terminal.pid, signal.SIGKILL)
                 else:
                     os.kill(terminal.pid, getattr(signal, f'SIG{how}'))
