@@ -1,5 +1,6 @@
 //! The memory map, and what a board's memory holds at power-on.
-ghost use Rattle.std.specs.Prelude.{ℕ, ◌≡◌, ◌<◌, ◌≤◌, ◌*◌, ◌+◌, ◌%◌, ◌/◌, ◌^◌, IfOk, OnOk, IsTrue, ◌↔◌, None, length, map, slice_index, unwrap_or};
+ghost use Rattle.std.specs.Prelude.{ℕ, ◌≡◌, ◌<◌, ◌≤◌, ◌*◌, ◌+◌, ◌%◌, ◌/◌, ◌^◌, ◌⊎◌, IfOk, IfSome, OnOk, IsTrue, ◌↔◌, None, length, map, slice_index, unwrap_or};
+ghost use Rattle.std.specs.Int.{to_le_bytes, w64};
 ghost use Rattle.std.specs.List.{range_with_len};
 ghost use Rattle.std.specs.Result.{IsErrOf};
 ghost use Rattle.board_types.specs.Image.{image_byte, IsImage};
@@ -8,7 +9,7 @@ ghost use Rattle.memory.specs.declared.map.MemoryFault.TheVariants.{OutOfMemory}
 ghost use Rattle.memory.specs.Map.{address_count, byte_at, byte_of_region, with_byte, power_on, power_on_byte, memory_fault_number, IsRamSize, FitsRam, IsMap};
 
 use crate::region::{Region, region_of};
-use board_types::address::{ADDRESS_COUNT, RAM_LIMIT, TEXT_SIZE, TEXT_START};
+use board_types::address::{ADDRESS_COUNT, RAM_LIMIT, ROM_START, TEXT_SIZE, TEXT_START};
 use board_types::image::Image;
 use std::alloc::{AllocError, Global};
 use std::marker::Model;
@@ -96,6 +97,42 @@ impl Memory {
             Region::Ram | Region::Text | Region::Rom => self.cells[index],
             Region::Nothing => 0xFF,
         }
+    }
+
+    /// The eight bytes from `addr` on, below 100000h, the first one lowest, if they lie all in RAM, or all in the ROM.
+    #[inline(always)]
+    pub fn code(&self, addr: u32) -> Option<u64>
+        requires { addr < 2 ^ 20 }
+        ensures place { IfSome result (λ _. (addr + 8 ≤ 0xA0000) ⊎ ((0xF0000 ≤ addr) × (addr + 8 ≤ 2 ^ 20))) }
+        ensures code { IfSome result (λ code. to_le_bytes w64 code
+            ≡ map (λ k. byte_at self.now (addr + k)) (range_with_len 0 8)) }
+    {
+        if addr + 8 <= self.ram_size {
+            return Some(self.eight_cells(addr as usize));
+        }
+        if addr >= ROM_START && addr + 8 <= ADDRESS_COUNT {
+            return Some(self.eight_cells(addr as usize));
+        }
+        None
+    }
+
+    /// The bytes of eight cells, the first one lowest.
+    #[inline(always)]
+    fn eight_cells(&self, at: usize) -> u64
+        requires { at + 8 ≤ length self.now.cells }
+        ensures { to_le_bytes w64 result ≡ map (λ k. slice_index self.now.cells (at + k)) (range_with_len 0 8) }
+    {
+        let cells = self.cells.as_slice();
+        u64::from_le_bytes([
+            cells[at],
+            cells[at + 1],
+            cells[at + 2],
+            cells[at + 3],
+            cells[at + 4],
+            cells[at + 5],
+            cells[at + 6],
+            cells[at + 7],
+        ])
     }
 
     /// Whether `addr` lies in RAM.
