@@ -4,3 +4,4 @@ pub mod Lag
 pub mod AtPresent
 pub mod Controller
 mod SameBytes
+mod Guarded

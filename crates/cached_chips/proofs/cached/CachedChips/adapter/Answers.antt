@@ -13,5 +13,5 @@ returns c =
     ap (λ (n : ℕ). n - c.get-2.result) present ∙ ap (λ (n : ℕ). c.self.inside.present - n) clock in
     c.adapter_after.ensures
     ∙ ap (λ (n : ℕ). registers_of (after_clocks c.self.inside.chips.mda n)) behind
-    ∙ sym (ap registers_of (mda_goes_on c.self.inside.chips c.self.inside.present c.self.inside.quiet_to c.self.invariant.2 c.self.invariant.1))
+    ∙ sym (ap registers_of (mda_goes_on c.self.inside.chips c.self.inside.present c.self.invariant.2))
     ∙ ap (λ (s : ChipsState). registers_of s.mda) c.self.view_is

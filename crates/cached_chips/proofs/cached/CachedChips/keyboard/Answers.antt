@@ -6,5 +6,5 @@ use Rattle.cached_chips.proofs.cached.CachedChips.keyboard.Goals as goal
 pub returns : goal.returns
 returns c =
     c.keyboard.ensures
-    ∙ sym (keyboard_stays c.self.inside.chips c.self.inside.present c.self.inside.quiet_to c.self.invariant.2 c.self.invariant.1)
+    ∙ sym (keyboard_stays c.self.inside.chips c.self.inside.present c.self.invariant.2)
     ∙ ap (λ (s : ChipsState). s.keyboard) c.self.view_is

@@ -6,5 +6,5 @@ use Rattle.cached_chips.proofs.cached.CachedChips.parallel_port.Goals as goal
 pub returns : goal.returns
 returns c =
     c.parallel_port.ensures
-    ∙ sym (ppi_stays c.self.inside.chips c.self.inside.present c.self.inside.quiet_to c.self.invariant.2 c.self.invariant.1)
+    ∙ sym (ppi_stays c.self.inside.chips c.self.inside.present c.self.invariant.2)
     ∙ ap (λ (s : ChipsState). s.ppi) c.self.view_is

@@ -13,5 +13,5 @@ returns c =
     c.advance.ensures
     ∙ ap (λ (n : ℕ). after_ticks c.timer-pit.result n) ticks
     ∙ ap (λ p. after_ticks p (c.self.inside.present / 4 - c.self.inside.chips.clock / 4)) c.timer-pit.ensures
-    ∙ sym (pit_goes_on c.self.inside.chips c.self.inside.present c.self.inside.quiet_to c.self.invariant.2 c.self.invariant.1)
+    ∙ sym (pit_goes_on c.self.inside.chips c.self.inside.present c.self.invariant.2)
     ∙ ap (λ (s : ChipsState). s.pit) c.self.view_is
