@@ -4,5 +4,7 @@ mod Again
 pub mod Iterating
 pub mod BySlot
 mod Quiet
+pub mod Compared
 pub mod Delay
 pub mod Countdown
+pub mod Shaded

@@ -4,4 +4,6 @@ pub mod Iterating
 pub mod BySlot
 pub mod SlotOperands
 pub mod Made
+pub mod Ready
+pub mod Compared
 pub mod Still

@@ -6,6 +6,7 @@ pub mod course;
 pub mod cpu;
 mod jumps_by_slot;
 pub mod laws;
+pub mod made;
 mod operands_by_slot;
 pub mod parts;
 mod perform;
