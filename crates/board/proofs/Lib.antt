@@ -2,6 +2,7 @@ pub mod Beginning
 pub mod Entries
 pub mod KeyOrder
 pub mod Rounds
+pub mod Lines
 pub mod Leap
 pub mod Alone
 pub mod Uneventful
@@ -25,6 +26,9 @@ mod Stores
 pub mod Latest
 pub mod OneTurn
 pub mod StillSteps
+mod Shading
+pub mod BlockSteps
+pub mod BlockArms
 mod SameRegisters
 mod StillChips
 mod Repeated

@@ -1,6 +1,7 @@
 pub mod Reach
 pub mod Arrivals
 pub mod Kept
+pub mod Lines
 pub mod KeptAgain
 pub mod HeldBack
 pub mod Leap
@@ -12,3 +13,4 @@ pub mod Found
 pub mod QuietSteps
 pub mod OneTurn
 pub mod StillSteps
+pub mod BlockSteps

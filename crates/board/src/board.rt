@@ -107,7 +107,7 @@ impl Board {
         Ok(Board {
             engine,
             changes: Vec::new(alloc),
-            trail: Trail::new(alloc)?,
+            trail: Trail::new(alloc, config.clocks)?,
             turns: 0,
         })
     }

@@ -3,6 +3,7 @@
 
 mod acts;
 mod arrivals;
+mod block_steps;
 pub mod board;
 mod chips;
 mod engine;

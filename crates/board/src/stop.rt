@@ -71,4 +71,10 @@ impl Watch for Reach {
     fn has(&self, ip: u16) -> bool {
         self.lowest <= ip && ip <= self.highest
     }
+
+    /// Whether none of them may hold at any of so many IPs.
+    #[inline(always)]
+    fn spares(&self, start: u16, size: u16) -> bool {
+        self.highest < start || u32::from(start) + u32::from(size) <= u32::from(self.lowest)
+    }
 }

@@ -1,5 +1,6 @@
 //! At which IP a run may have to look for a stop.
-ghost use Rattle.std.specs.Prelude.{ℕ, ◌≡◌, IsTrue};
+ghost use Rattle.std.specs.Prelude.{ℕ, ◌≡◌, ◌+◌, ◌<◌, ◌≤◌, IsTrue};
+ghost use Rattle.board_types.specs.Address.{offset_after};
 
 /// What a run watches.
 pub(crate) trait Watch {
@@ -9,6 +10,11 @@ pub(crate) trait Watch {
     /// Whether something that is watched may be at this IP.
     fn has(&self, ip: u16) -> bool
         ensures { ¬ (IsTrue result) → passes self.now ip };
+
+    /// Whether it is known that nothing is watched at any of so many IPs from `start` on.
+    fn spares(&self, start: u16, size: u16) -> bool
+        requires { start + size ≤ 65536 }
+        ensures { IsTrue result → (k : ℕ) → k < size → passes self.now (offset_after start k) };
 }
 
 /// A run without stops.
@@ -23,5 +29,10 @@ impl Watch for Nothing {
     #[inline(always)]
     fn has(&self, _: u16) -> bool {
         false
+    }
+
+    #[inline(always)]
+    fn spares(&self, _: u16, _: u16) -> bool {
+        true
     }
 }

@@ -18,5 +18,5 @@ unfolding clock_of
 returns-clause-entries g c =
     c.add.ensures.entries
     ∙ ap (λ e. last 32 (c.args.trail.now ++ e ∷ []))
-    (c.entered.ensures
+    (c.entered.ensures.entry
     ∙ (λ k. record { clock = c.clock.ensures k; cs = c.cs.ensures k; ip = c.ip.ensures k; event = Entry 1 }))
