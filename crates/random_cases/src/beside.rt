@@ -1,0 +1,236 @@
+//! Runs beside the board that makes each clock by itself.
+ghost use Rattle.std.specs.Prelude.{All};
+ghost use Rattle.board_plain.specs.Stops.{HasAddress};
+
+use crate::program::random_image;
+use crate::shown::difference;
+use anyhow::{Context, Result, bail};
+use board::board::Board;
+use board_plain::config::Config;
+use board_plain::stop::{Condition, Stop, Stops};
+use board_types::choice::{ClockTable, TimerKind};
+use board_types::clock::Clock;
+use board_types::image::Image;
+use board_types::keys::Keys;
+use std::alloc::Global;
+
+/// The paragraph of the random code.
+const CODE_SEGMENT: u16 = 0x100;
+
+/// Before the last of so many clocks a key may be stamped.
+const AFTER_KEYS: u64 = 300;
+
+/// How many clocks a run may go on to a stop.
+const TO_STOPS: u64 = 2_000;
+
+/// The first offset of a stop: before it the random code gives the timer a count.
+const FIRST_OFFSET: u16 = 9;
+
+/// At how many offsets stops are.
+const OFFSETS: u64 = 100;
+
+/// A byte of ROM, which isn't 0.
+const IN_ROM: u32 = 0xF_0000;
+
+/// The code of a key that is struck.
+const STRUCK: u8 = 0x1E;
+
+/// A board at power-on, with a key stamped at a clock, if one is given.
+fn board_at_power_on(
+    alloc: Global,
+    image: &Image,
+    seed: u64,
+    struck: Option<u64>,
+) -> Result<Board> {
+    let mut keys = Keys::new(alloc);
+    if let Some(clock) = struck {
+        keys.push(Clock::new(clock).context("no clock")?, STRUCK)?;
+    }
+    let config = Config {
+        ram_kb: 16,
+        sw1: 0,
+        sw2: 0,
+        timer: TimerKind::I8253,
+        clocks: if seed % 2 == 0 {
+            ClockTable::C1
+        } else {
+            ClockTable::C2
+        },
+    };
+    Ok(Board::new(alloc, image, config, keys)?)
+}
+
+/// Compares a run of each number of clocks, from `clocks` down, with the board that makes them one by one.
+pub fn compare_budgets(alloc: Global, seed: u64, clocks: u64, width: u64) -> Result<()> {
+    let image = random_image(alloc, seed)?;
+    let mut ticking = board_at_power_on(alloc, &image, seed, None)?;
+    let answer = compare_from(alloc, &image, seed, &mut ticking, clocks, width);
+    drop(ticking);
+    answer
+}
+
+fn compare_from(
+    alloc: Global,
+    image: &Image,
+    seed: u64,
+    ticking: &mut Board,
+    clocks: u64,
+    width: u64,
+) -> Result<()> {
+    let first = clocks.saturating_sub(width);
+    tick(ticking, first)?;
+    for count in first..=clocks {
+        if count > first {
+            tick(ticking, 1)?;
+        }
+        let mut board = board_at_power_on(alloc, image, seed, None)?;
+        let answer = compare_run(&mut board, count, ticking, count == clocks);
+        drop(board);
+        answer?;
+    }
+    Ok(())
+}
+
+/// Compares a run of so many clocks with a board that stands at its end.
+fn compare_run(board: &mut Board, count: u64, other: &Board, whole: bool) -> Result<()> {
+    board.run(count)?;
+    match difference(board, other, whole) {
+        None => Ok(()),
+        Some(what) => bail!("after {count} clocks {what} differ"),
+    }
+}
+
+/// Compares runs of so many clocks with a key stamped at each of `width` clocks.
+pub fn compare_keys(alloc: Global, seed: u64, clocks: u64, width: u64) -> Result<()> {
+    let image = random_image(alloc, seed)?;
+    let last = clocks.saturating_sub(AFTER_KEYS);
+    for stamp in last.saturating_sub(width)..last {
+        let mut ticking = board_at_power_on(alloc, &image, seed, Some(stamp))?;
+        let answer = compare_struck(alloc, &image, seed, &mut ticking, clocks, stamp);
+        drop(ticking);
+        answer?;
+    }
+    Ok(())
+}
+
+fn compare_struck(
+    alloc: Global,
+    image: &Image,
+    seed: u64,
+    ticking: &mut Board,
+    clocks: u64,
+    stamp: u64,
+) -> Result<()> {
+    tick(ticking, clocks)?;
+    let mut board = board_at_power_on(alloc, image, seed, Some(stamp))?;
+    let answer = compare_run(&mut board, clocks, ticking, false);
+    drop(board);
+    match answer {
+        Ok(()) => Ok(()),
+        Err(fault) => bail!("with a key at {stamp}: {fault}"),
+    }
+}
+
+/// Compares what follows so many clocks, up to where the processor is free at each of `width` offsets of the code.
+pub fn compare_stops(alloc: Global, seed: u64, clocks: u64, width: u64) -> Result<()> {
+    let image = random_image(alloc, seed)?;
+    let mut ticking = board_at_power_on(alloc, &image, seed, None)?;
+    let answer = compare_stops_after(alloc, &image, seed, &mut ticking, clocks, width);
+    drop(ticking);
+    answer
+}
+
+fn compare_stops_after(
+    alloc: Global,
+    image: &Image,
+    seed: u64,
+    ticking: &mut Board,
+    clocks: u64,
+    width: u64,
+) -> Result<()> {
+    tick(ticking, clocks)?;
+    for number in 0..width {
+        let offset = FIRST_OFFSET + ((seed.wrapping_add(number)) % OFFSETS) as u16;
+        let mut stopping = ticking.copy()?;
+        let answer = compare_stopped(alloc, image, seed, &mut stopping, clocks, offset);
+        drop(stopping);
+        answer?;
+    }
+    Ok(())
+}
+
+/// Compares a board that has made so many clocks and goes on to a stop with one that goes on to it clock by clock.
+fn compare_stopped(
+    alloc: Global,
+    image: &Image,
+    seed: u64,
+    ticking: &mut Board,
+    clocks: u64,
+    offset: u16,
+) -> Result<()> {
+    let stops = stop_at(offset);
+    let wanted = tick_to(ticking, TO_STOPS, &stops)?;
+    let mut board = board_at_power_on(alloc, image, seed, None)?;
+    let answer = compare_stop(&mut board, clocks, &stops, wanted, ticking);
+    drop(board);
+    match answer {
+        Ok(()) => Ok(()),
+        Err(fault) => bail!("with a stop at {offset}: {fault}"),
+    }
+}
+
+fn compare_stop(
+    board: &mut Board,
+    clocks: u64,
+    stops: &Stops,
+    wanted: Option<Stop>,
+    other: &Board,
+) -> Result<()>
+    requires { All HasAddress stops.now.items }
+{
+    board.run(clocks)?;
+    if board.run_until(TO_STOPS, stops)? != wanted {
+        bail!("the stops differ");
+    }
+    match difference(board, other, false) {
+        None => Ok(()),
+        Some(what) => bail!("{what} differ"),
+    }
+}
+
+/// The stop of a processor that is free at an offset of the code.
+fn stop_at(offset: u16) -> Stops
+    ensures { All HasAddress result.items }
+{
+    let mut stops = Stops::new();
+    stops.push(Condition::At(CODE_SEGMENT, offset));
+    stops
+}
+
+/// Makes so many clocks one by one: a stop keeps each from being part of a leap.
+fn tick(board: &mut Board, clocks: u64) -> Result<()> {
+    tick_to(board, clocks, &stop_never())?;
+    Ok(())
+}
+
+/// A stop that never holds.
+fn stop_never() -> Stops
+    ensures { All HasAddress result.items }
+{
+    let mut stops = Stops::new();
+    stops.push(Condition::Byte(IN_ROM, 0));
+    stops
+}
+
+/// Makes so many clocks one by one, or up to the first one at which a stop holds.
+fn tick_to(board: &mut Board, clocks: u64, stops: &Stops) -> Result<Option<Stop>>
+    requires { All HasAddress stops.now.items }
+{
+    for _ in 0..clocks {
+        let stopped = board.run_until(1, stops)?;
+        if stopped.is_some() {
+            return Ok(stopped);
+        }
+    }
+    Ok(None)
+}

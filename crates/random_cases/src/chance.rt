@@ -1,0 +1,38 @@
+//! What is left to chance.
+ghost use Rattle.std.specs.Prelude.{◌≤◌, ◌-◌};
+
+use rand_core::utils::NextWord;
+use rand_pcg::Pcg32;
+
+/// A sequence of random numbers, which its seed decides.
+#[derive(Drop)]
+pub struct Chance(Pcg32);
+
+impl Chance {
+    pub fn new(seed: u64) -> Self {
+        Chance(Pcg32::new(seed, 0))
+    }
+
+    /// A number below `end`, or 0 if that is 0.
+    pub fn below(&mut self, end: u16) -> u16
+        ensures { result ≤ end - 1 }
+    {
+        let number = (self.0.next_word() % 65536) as u16;
+        number.checked_rem(end).unwrap_or(0)
+    }
+
+    pub fn byte(&mut self) -> u8 {
+        (self.0.next_word() % 256) as u8
+    }
+
+    /// Whether something happens that happens once in so many times.
+    pub fn once_in(&mut self, times: u16) -> bool {
+        self.below(times) == 0
+    }
+
+    /// One of these bytes, or 0 if there is none.
+    pub fn pick(&mut self, bytes: &[u8]) -> u8 {
+        let index = self.below((bytes.len() % 256) as u16);
+        bytes.get(usize::from(index)).copied().unwrap_or(0)
+    }
+}

@@ -1,0 +1,60 @@
+//! Code that is put together.
+
+ghost use Rattle.std.specs.Prelude.{◌<◌};
+
+use crate::chance::Chance;
+use std::alloc::{AllocError, Global};
+
+/// Bytes of instructions, from offset 0 on.
+#[derive(Drop)]
+pub struct Code {
+    pub bytes: Vec<u8>,
+    /// The offsets of the instructions' last bytes.
+    lasts: Vec<u16>,
+}
+
+impl Code {
+    pub fn new(alloc: Global) -> Self {
+        Code {
+            bytes: Vec::new(alloc),
+            lasts: Vec::new(alloc),
+        }
+    }
+
+    /// The offset of the next byte.
+    pub fn here(&self) -> u16
+        ensures { result < 4096 }
+    {
+        (self.bytes.len() % 4096) as u16
+    }
+
+    pub fn put(&mut self, byte: u8) -> Result<(), AllocError> {
+        self.bytes.push(byte)?;
+        Ok(())
+    }
+
+    pub fn put_all(&mut self, bytes: &[u8]) -> Result<(), AllocError> {
+        for byte in bytes {
+            self.bytes.push(*byte)?;
+        }
+        Ok(())
+    }
+
+    /// Puts a word, its low byte first.
+    pub fn put_word(&mut self, word: u16) -> Result<(), AllocError> {
+        self.put_all(&word.to_le_bytes())
+    }
+
+    /// An instruction ends here.
+    pub fn close(&mut self) -> Result<(), AllocError> {
+        let last = self.here().saturating_sub(1);
+        self.lasts.push(last)?;
+        Ok(())
+    }
+
+    /// The last byte of one of the instructions, which is mostly part of a number.
+    pub fn some_last(&self, chance: &mut Chance) -> u16 {
+        let index = chance.below((self.lasts.len() % 4096) as u16);
+        self.lasts.get(usize::from(index)).copied().unwrap_or(0)
+    }
+}

@@ -1,0 +1,52 @@
+//! Random programs: each board that runs one has to show what the board shows that makes each clock by itself.
+//!
+//! A case is one line: what is compared, a seed, the clocks of a run, and a width, all in decimal. The seed decides the program
+//! (`program.rt`): loops of random instructions in RAM that store into one another, into themselves and into what follows, jump
+//! into the middle of instructions, load segment registers, and are interrupted by timer and keyboard.
+//!
+//! `budgets`: runs from power-on, of so many clocks and each of the `width` numbers below. `keys`: runs of so many clocks with a key
+//! stamped at each of the `width` clocks before the last 300. `stops`: runs of so many clocks, and from there up to where the
+//! processor is free at an offset, for `width` offsets one after the other. Registers, state, trail, speaker changes and RAM are compared.
+#![tactic(auto)]
+
+mod beside;
+mod chance;
+mod code;
+mod instructions;
+mod operands;
+mod program;
+mod shown;
+
+use anyhow::{Context, Result, bail};
+use beside::{compare_budgets, compare_keys, compare_stops};
+use cases::judge_cases;
+use std::alloc::Global;
+use std::io;
+
+fn main(rt: HostRuntime) -> io::Result<()> {
+    judge_cases(&rt, judge)
+}
+
+fn judge(alloc: Global, case: &str) -> Result<()> {
+    let mut words = case.split_whitespace();
+    let kind = words.next().context("no kind")?;
+    let seed = number(words.next())?;
+    let clocks = number(words.next())?;
+    let width = number(words.next())?;
+    let compared = match kind {
+        "budgets" => compare_budgets(alloc, seed, clocks, width),
+        "keys" => compare_keys(alloc, seed, clocks, width),
+        "stops" => compare_stops(alloc, seed, clocks, width),
+        _ => bail!("nothing has this name"),
+    };
+    match compared {
+        Ok(()) => Ok(()),
+        Err(fault) => bail!("seed {seed}: {fault}"),
+    }
+}
+
+/// A number in decimal, below 2^32.
+fn number(word: Option<&str>) -> Result<u64> {
+    let number = word.context("no number")?.parse::<u32>().ok();
+    Ok(u64::from(number.context("not a number")?))
+}

@@ -1,0 +1,77 @@
+//! Random operands of instructions.
+
+ghost use Rattle.std.specs.Prelude.{◌<◌};
+
+use crate::chance::Chance;
+use crate::code::Code;
+use crate::program::{CODE_SIZE, DATA_AT};
+use std::alloc::AllocError;
+
+/// All word registers but DX, which counts the rounds, and SP.
+const WORD_REGISTERS: [u8; 6] = [0, 1, 3, 5, 6, 7];
+
+/// All byte registers but those of DX.
+const BYTE_REGISTERS: [u8; 6] = [0, 1, 3, 4, 5, 7];
+
+/// `[SI]`, `[DI]` and `[BX]`.
+const BASES: [u8; 3] = [4, 5, 7];
+
+/// `[BP]` and `[BX]`, with a displacement.
+const DISPLACED: [u8; 2] = [6, 7];
+
+pub fn word_register(chance: &mut Chance) -> u8
+    ensures { result < 8 }
+{
+    chance.pick(&WORD_REGISTERS) % 8
+}
+
+pub fn byte_register(chance: &mut Chance) -> u8
+    ensures { result < 8 }
+{
+    chance.pick(&BYTE_REGISTERS) % 8
+}
+
+/// A register of this width.
+pub fn register(chance: &mut Chance, is_word: bool) -> u8
+    ensures { result < 8 }
+{
+    if is_word {
+        word_register(chance)
+    } else {
+        byte_register(chance)
+    }
+}
+
+/// The offset of a byte: of data, or of code.
+pub fn offset(chance: &mut Chance) -> u16 {
+    if chance.once_in(4) {
+        chance.below(CODE_SIZE)
+    } else {
+        DATA_AT + chance.below(200)
+    }
+}
+
+/// The byte that names an operand in a register, and another one.
+pub fn put_register(code: &mut Code, reg: u8, register: u8) -> Result<(), AllocError>
+    requires reg { reg < 8 }
+    requires register { register < 8 }
+{
+    code.put(0xC0 + 8 * reg + register)
+}
+
+/// The bytes that name an operand in memory, and another one.
+pub fn put_memory(chance: &mut Chance, code: &mut Code, reg: u8) -> Result<(), AllocError>
+    requires { reg < 8 }
+{
+    match chance.below(4) {
+        0 => code.put(8 * reg + chance.pick(&BASES) % 8),
+        1 => {
+            code.put(0x40 + 8 * reg + chance.pick(&DISPLACED) % 8)?;
+            code.put(chance.byte())
+        }
+        _ => {
+            code.put(8 * reg + 6)?;
+            code.put_word(offset(chance))
+        }
+    }
+}

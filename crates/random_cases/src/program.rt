@@ -1,0 +1,186 @@
+//! A random program, with what sets the board up for it.
+
+use crate::chance::Chance;
+use crate::code::Code;
+use crate::instructions::put_instruction;
+use anyhow::{Result, bail};
+use assembler::assembly::assemble;
+use board_types::image::{Image, is_loadable};
+use std::alloc::{AllocError, Global};
+
+/// The random code has about so many bytes, from 0100:0000 on.
+pub const CODE_SIZE: u16 = 0x180;
+
+/// Where the random code's data begin.
+pub const DATA_AT: u16 = 0x300;
+
+/// Where the routine stands that it calls.
+pub const ROUTINE_AT: u16 = 0x2F0;
+
+/// Where random code stands.
+const CODE_AT: u32 = 0x1000;
+
+/// The segments are set, timer and keyboard may interrupt, and the random code begins. All interrupts have one handler.
+const AROUND: &str = "SEGMENT BEFORE AT 0F000h
+start:  MOV AX,100h
+        MOV DS,AX
+        MOV ES,AX
+        MOV SS,AX
+        MOV SP,0E00h
+        MOV AL,13h              ; the controller: a single one, by edges
+        OUT 20h,AL
+        MOV AL,8
+        OUT 21h,AL
+        MOV AL,9
+        OUT 21h,AL
+        MOV AL,0FCh
+        OUT 21h,AL
+        MOV AL,99h              ; the parallel port: A and C are inputs
+        OUT 63h,AL
+        MOV AL,34h              ; counter 0: mode 2; the random code gives it a count
+        OUT 43h,AL
+        MOV AL,96h              ; counter 2: mode 3
+        OUT 43h,AL
+        MOV AL,60
+        OUT 42h,AL
+        JMP FAR 100h:0
+ENDS
+
+SEGMENT RESET AT 0FFFFh
+        JMP FAR start
+ENDS
+
+SEGMENT MAIN AT 100h
+        ORG 2C0h
+handle: PUSH AX
+        IN AL,60h
+        IN AL,61h
+        MOV AH,AL
+        OR AL,80h
+        OUT 61h,AL
+        MOV AL,AH
+        OUT 61h,AL
+        MOV AL,20h
+        OUT 20h,AL
+        POP AX
+        IRET
+        ORG 2F0h
+        INC AX
+        RET
+ENDS
+
+SEGMENT VECTORS AT 0
+        DW 256 DUP(handle,SEG handle)
+ENDS
+";
+
+/// The image of the program that this seed decides.
+pub fn random_image(alloc: Global, seed: u64) -> Result<Image> {
+    let listing = match assemble(alloc, AROUND.as_bytes()) {
+        Ok(listing) => listing,
+        Err(_) => bail!("the setup isn't assembled"),
+    };
+    let mut image = Image::new(alloc);
+    for (addr, byte) in listing.image().iter() {
+        put_in(&mut image, *addr, *byte)?;
+    }
+    let code = random_code(alloc, &mut Chance::new(seed))?;
+    let mut addr = CODE_AT;
+    for byte in code.bytes.as_slice() {
+        put_in(&mut image, addr, *byte)?;
+        addr = addr.saturating_add(1);
+    }
+    Ok(image)
+}
+
+/// Puts a byte into the image, if it may stand there.
+fn put_in(image: &mut Image, addr: u32, byte: u8) -> Result<(), AllocError> {
+    if !is_loadable(addr) {
+        return Ok(());
+    }
+    image.put(addr, byte)
+}
+
+/// Loops of random instructions, again and again, and stores into them between.
+fn random_code(alloc: Global, chance: &mut Chance) -> Result<Code, AllocError> {
+    let mut code = Code::new(alloc);
+    put_counts(chance, &mut code)?;
+    let begin = code.here();
+    for _ in 0..2 + chance.below(3) {
+        put_rounds(chance, &mut code)?;
+        put_stores(chance, &mut code)?;
+    }
+    put_jump_back(&mut code, begin)?;
+    Ok(code)
+}
+
+/// Counter 0's count, and whether interrupts are enabled.
+fn put_counts(chance: &mut Chance, code: &mut Code) -> Result<(), AllocError> {
+    for byte in [chance.byte(), 1 + chance.byte() % 4] {
+        code.put_all(&[0xB0, byte, 0xE6, 0x40])?;
+    }
+    code.put(if chance.once_in(3) { 0xFA } else { 0xFB })
+}
+
+/// MOV DX,rounds; random instructions; DEC DX; and a jump back to them, short if it can be.
+fn put_rounds(chance: &mut Chance, code: &mut Code) -> Result<(), AllocError> {
+    code.put(0xBA)?;
+    code.put_word(10 + chance.below(24))?;
+    code.close()?;
+    let creeps = chance.once_in(2);
+    if creeps {
+        put_start_of_creep(chance, code)?;
+    }
+    let begin = code.here();
+    for _ in 0..3 + chance.below(8) {
+        put_instruction(chance, code)?;
+        code.close()?;
+    }
+    if creeps {
+        // MOV [BX],AL; DEC BX
+        code.put_all(&[0x88, 0x07, 0x4B])?;
+    }
+    code.put(0x4A)?;
+    put_round_back(code, begin)
+}
+
+/// MOV BX,an offset some bytes from here: a store at BX, which is one less in each round, comes to the loop itself after some.
+fn put_start_of_creep(chance: &mut Chance, code: &mut Code) -> Result<(), AllocError> {
+    let offset = code.here() + 10 + chance.below(30);
+    code.put(0xBB)?;
+    code.put_word(offset)?;
+    code.close()
+}
+
+/// JNZ, or JZ over a JMP, to a place that stands before.
+fn put_round_back(code: &mut Code, begin: u16) -> Result<(), AllocError> {
+    let size = code.here().saturating_sub(begin);
+    if size < 120 {
+        return code.put_all(&[0x75, (254 - size) as u8]);
+    }
+    code.put_all(&[0x74, 0x03])?;
+    put_jump_back(code, begin)
+}
+
+/// Stores into what was put so far: INC BYTE [..], or MOV BYTE [..],number.
+fn put_stores(chance: &mut Chance, code: &mut Code) -> Result<(), AllocError> {
+    for _ in 0..chance.below(3) {
+        let offset = code.some_last(chance);
+        if chance.once_in(2) {
+            code.put_all(&[0xFE, 0x06])?;
+            code.put_word(offset)?;
+        } else {
+            code.put_all(&[0xC6, 0x06])?;
+            code.put_word(offset)?;
+            code.put(chance.byte() % 8)?;
+        }
+    }
+    Ok(())
+}
+
+/// JMP to a place that stands before.
+fn put_jump_back(code: &mut Code, to: u16) -> Result<(), AllocError> {
+    let next = code.here() + 3;
+    code.put(0xE9)?;
+    code.put_word(to.wrapping_sub(next))
+}

@@ -1,0 +1,72 @@
+//! What a board shows.
+
+use board::board::Board;
+use board_plain::trail::{TRAIL_LENGTH, TrailEntry, TrailEvent};
+
+/// What two boards show differently, if anything; of RAM the first 16 KB are compared, or the code and its data alone.
+pub fn difference(one: &Board, other: &Board, whole: bool) -> Option<&'static str> {
+    if one.clock() != other.clock() {
+        return Some("the clocks");
+    }
+    if one.regs() != other.regs() {
+        return Some("the registers");
+    }
+    if one.state() != other.state() || one.lost() != other.lost() {
+        return Some("the states");
+    }
+    if one.speaker_changes() != other.speaker_changes() {
+        return Some("the speaker's changes");
+    }
+    if !have_same_trail(one, other) {
+        return Some("the trails");
+    }
+    if !have_same_memory(one, other, whole) {
+        return Some("bytes of RAM");
+    }
+    None
+}
+
+fn have_same_memory(one: &Board, other: &Board, whole: bool) -> bool {
+    let (start, end) = if whole { (0, 0x4000) } else { (0x1000, 0x1400) };
+    for addr in start..end {
+        if one.byte(addr) != other.byte(addr) {
+            return false;
+        }
+    }
+    true
+}
+
+fn have_same_trail(one: &Board, other: &Board) -> bool {
+    for index in 0..TRAIL_LENGTH {
+        if !have_same_entry(one, other, index) {
+            return false;
+        }
+    }
+    true
+}
+
+fn have_same_entry(one: &Board, other: &Board, index: usize) -> bool {
+    match (one.trail(index), other.trail(index)) {
+        (None, None) => true,
+        (Some(one), Some(other)) => are_the_same(&one, &other),
+        _ => false,
+    }
+}
+
+fn are_the_same(one: &TrailEntry, other: &TrailEntry) -> bool {
+    one.clock == other.clock
+        && one.cs == other.cs
+        && one.ip == other.ip
+        && tell_the_same(&one.event, &other.event)
+}
+
+fn tell_the_same(one: &TrailEvent, other: &TrailEvent) -> bool {
+    match (one, other) {
+        (TrailEvent::Entry(one), TrailEvent::Entry(other)) => one == other,
+        (
+            TrailEvent::Instruction { bytes: one, .. },
+            TrailEvent::Instruction { bytes: other, .. },
+        ) => { one.as_slice() == other.as_slice() }
+        _ => false,
+    }
+}
