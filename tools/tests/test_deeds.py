@@ -29,8 +29,8 @@ STEPS = (
     ),
     (
         ARM,
-        '        Deed::IncMB => unary_in_memory(parts, *slot, cost, bus, Inc, ByteInMemory),\n',
-        '        Deed::NotMW => unary_in_memory(parts, *slot, cost, bus, Not, WordInMemory),\n',
+        '        Deed::DecB => unary(parts, bus, slot, Dec, Byte, table),\n',
+        '        Deed::NotMW => unary_in_memory(parts, *slot, slot.cost(table), bus, Not, WordInMemory, guard),\n',
     ),
     (STILL, '        | Deed::IncMW\n', '        | Deed::NotMW\n'),
 )
