@@ -37,8 +37,8 @@
 //! back), `reserve COUNT taken` or `reserve COUNT FAULT NAME` (room for so many changes more), and the steps of `board` but
 //! for `copy`, `keep`, `again` and those that compare or count runs.
 //!
-//! `session`, a session of the debugger on the board of `tone.rt`: `heap SIZE` (how many bytes there are to list copies of
-//! its board in), and then `COMMAND = REPLY` (for a refusal its name), `kept LEAST MOST` (so many copies are kept), `lost
+//! `session`, a session of the debugger on the board of `tone.rt`: `heap SIZE CLOCK` (how many bytes there are to list copies
+//! of its board in, and at which clock it begins), and then `COMMAND = REPLY` (for a refusal its name), `kept LEAST MOST` (so many copies are kept), `lost
 //! COUNT` (of keys) and `as run` (clock, lost keys and the speaker's changes are those of a board that is run there from
 //! power-on).
 //!

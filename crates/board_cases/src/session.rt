@@ -7,21 +7,35 @@ use debugger_meaning::answer::Answer;
 use linked_list_allocator::LocalHeap;
 use std::alloc::{Allocator, Global};
 
-/// Makes the steps behind `heap SIZE`, up to the first that doesn't come out, which the error names.
+/// Makes the steps behind `heap SIZE CLOCK`, up to the first that doesn't come out, which the error names.
 pub fn follow_session(alloc: Global, steps: &str) -> Result<()> {
     let (made, steps) = steps.split_once(';').context("no steps")?;
-    let size = made.trim().strip_prefix("heap ").context("no heap")?;
+    let made = made.trim().strip_prefix("heap ").context("no heap")?;
+    let (size, clock) = made.split_once(' ').context("no clock")?;
     let size = size.parse::<usize>().ok().context("no size")?;
     let heap = LocalHeap::new(alloc, size)?;
-    follow_in_heap(alloc, &heap, steps)
+    follow_in_heap(alloc, &heap, number(Some(clock))?, steps)
 }
 
-/// Makes the steps of a session whose copies are listed in this heap.
-fn follow_in_heap(alloc: Global, heap: &LocalHeap, steps: &str) -> Result<()> {
-    let mut session = Session::with_checkpoints_in(heap, tone_board(alloc)?)?;
+/// Makes the steps of a session that begins at a clock, and whose copies are listed in this heap.
+fn follow_in_heap(alloc: Global, heap: &LocalHeap, clock: u64, steps: &str) -> Result<()> {
+    let board = board_at(alloc, clock)?;
+    let mut session = Session::with_checkpoints_in(heap, board)?;
     let came_out = follow_steps(alloc, &mut session, steps);
     drop(session);
     came_out
+}
+
+/// The board of `tone.rt` at a clock.
+fn board_at(alloc: Global, clock: u64) -> Result<Board> {
+    let mut board = tone_board(alloc)?;
+    match board.run(clock) {
+        Ok(()) => Ok(board),
+        Err(fault) => {
+            drop(board);
+            Err(fault.into())
+        }
+    }
 }
 
 fn follow_steps<A: Allocator>(alloc: Global, session: &mut Session<A>, steps: &str) -> Result<()> {
