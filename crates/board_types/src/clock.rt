@@ -1,5 +1,5 @@
 //! A point in time, counted in processor clocks from power-on.
-ghost use Rattle.std.specs.Prelude.{◌≡◌, ◌^◌, ◌≤◌};
+ghost use Rattle.std.specs.Prelude.{◌≡◌, ◌+◌, ◌^◌, ◌≤◌};
 ghost use Rattle.std.specs.Option.{SomeIff};
 
 use std::marker::Model;
@@ -34,6 +34,17 @@ impl Clock {
             Some(Clock { clocks })
         } else {
             None
+        }
+    }
+
+    /// The clock that lies so many clocks after this one, not past 2^40.
+    #[inline(always)]
+    pub fn after(self, clocks: u16) -> Clock
+        requires { self + clocks ≤ 2 ^ 40 }
+        ensures { result ≡ self + clocks }
+    {
+        Clock {
+            clocks: self.clocks + u64::from(clocks),
         }
     }
 
