@@ -42,7 +42,7 @@ class Believed(ToolCase):
         for crate, (named, files) in crates.items():
             for folder in ('src', 'specs'):
                 (self.path / f'crates/{crate}/{folder}').mkdir(parents=True)
-            self.file(f'crates/{crate}/src/lib.rt', CALL.format(crate=crate, file=named, name=f'tell_{crate}'))
+            self.file(f'crates/{crate}/src/lib.rt', CALL.format(crate=crate, file=named, name='program' if crate == 'debugger' else f'tell_{crate}'))
             for name, text in files.items():
                 self.file(f'crates/{crate}/specs/{name}.antt', text)
 

@@ -190,6 +190,12 @@ class Books(ToolCase):
             text = self.tool('dev/book', call, '--text')[0]
             self.assertEqual([f'crates/{each}' for each in re.findall(r'^# (\w+/specs/\w+\.antt)$', text, re.M)], listed)
 
+    def test_the_headline_is_the_book_of_its_calls(self) -> None:
+        calls = ('program', 'run_source', 'run_image', 'Session::new', 'Session::command', 'Session::checkpoints')
+        listed = self.tool('dev/believed', '--order')[0].splitlines()
+        text = self.tool('dev/book', *calls, '--text')[0]
+        self.assertEqual([f'crates/{it}' for it in re.findall(r'^# (\w+/specs/\w+\.antt)$', text, re.M)], listed)
+
     def test_each_link_leads_to_a_place(self) -> None:
         for call in NAMES:
             with self.subTest(call):

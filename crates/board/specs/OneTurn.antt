@@ -1,5 +1,5 @@
 -- One turn of a board: what begins in it, and what stays after its first clock.
--- To be believed: the headline rests on it.
+-- To be believed by callers of this crate: the headline does not rest on it.
 use Rattle.std.specs.Prelude.{ℕ, ◌≡◌, ◌+◌, ◌<◌, ◌≤◌, Bool, IsTrue, List, [], map, Option, None, Some, IfSome}
 use Rattle.std.specs.Option.{option_to_list}
 use Rattle.board_plain.specs.declared.trail.TrailEntry.{TrailEntry}

@@ -1,6 +1,6 @@
 -- The accesses that a plain board's processor makes in a clock, in order (8086 Family User's Manual, "Instruction Set"): those of
 -- its step, of the next iteration of a repeat, or of an entry, made over a bus that notes them.
--- To be believed: the headline rests on it.
+-- To be believed by callers of this crate: the headline does not rest on it.
 use Rattle.std.specs.Prelude.{ℕ, List}
 use Rattle.board_types.specs.declared.choice.ClockTable.{ClockTable}
 use Rattle.board_plain.specs.declared.act.Act.{Act}

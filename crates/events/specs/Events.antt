@@ -1,7 +1,7 @@
 -- What happens in a clock of a plain board, in the order of the clock's parts: what begins, the accesses, and the
 -- processor's new state; then the keys and the wires. What the processor does has the clock at which the board stands, as in
 -- the trail; what the chips bring has the clock that is reached, as a key's stamp and the speaker's changes have it.
--- To be believed: the headline rests on it.
+-- To be believed by callers of this crate: the headline does not rest on it.
 use Rattle.std.specs.Prelude.{ℕ, ◌+◌, Bool, ◌&&◌, if◌then◌else◌, List, [], ◌∷◌, ◌++◌, map, Option, None, Some, slice_get}
 use Rattle.std.specs.Bool.{beq}
 use Rattle.std.specs.List.{flat_map}

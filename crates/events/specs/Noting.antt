@@ -1,5 +1,5 @@
 -- A bus that notes what is done over it.
--- To be believed: the headline rests on it.
+-- To be believed by callers of this crate: the headline does not rest on it.
 use Rattle.std.specs.Prelude.{List, [], ◌∷◌, ◌++◌}
 use Rattle.bus.specs.Bus.{BusMeaning}
 use Rattle.events.specs.declared.access.Access.{Access}

@@ -1,5 +1,5 @@
 -- A board that gets a key more.
--- To be believed: the headline rests on it.
+-- To be believed by callers of this crate: the headline does not rest on it.
 use Rattle.std.specs.Prelude.{nat_le, if◌then◌else◌, List, [], ◌∷◌}
 use Rattle.board_types.specs.declared.keys.StampedKey.{StampedKey}
 use Rattle.board_plain.specs.Plain.{Plain}

@@ -1,5 +1,5 @@
 -- What the flag register means while flags aren't computed yet.
--- To be believed: the headline rests on it.
+-- To be believed by callers of this crate: the headline does not rest on it.
 use Rattle.std.specs.Prelude.{ℕ}
 use Rattle.board_types.specs.declared.regs.Flags.{Flags}
 use Rattle.execute_machine.specs.FlagState.{FlagState}

@@ -1,5 +1,5 @@
 -- The registers by their numbers, as they are kept (8086 Family User's Manual, "REG field encoding").
--- To be believed: the headline rests on it.
+-- To be believed by callers of this crate: the headline does not rest on it.
 use Rattle.std.specs.Prelude.{ℕ, List, slice_index}
 use Rattle.execute_machine.specs.FlagState.{FlagState}
 use Rattle.execute_machine.specs.RegisterFile.{Registers}
