@@ -135,6 +135,7 @@ fn place_of(begun: Begun) -> u32
 }
 
 /// Counts one more that began, with the clocks from it.
+#[inline(always)]
 fn add(tallies: &mut BTreeMap<u32, Tally>, number: u32, clocks: u64) -> Result<(), AllocError>
     requires below { AreBelow (2 ^ 40) tallies.old }
     requires few { clocks ≤ 2 ^ 40 }
@@ -146,6 +147,15 @@ fn add(tallies: &mut BTreeMap<u32, Tally>, number: u32, clocks: u64) -> Result<(
         tally.clocks += clocks;
         return Ok(());
     }
+    add_first(tallies, number, clocks)
+}
+
+/// Counts the first that began there. It is kept out of the loop, which mostly counts one more.
+#[inline(never)]
+fn add_first(tallies: &mut BTreeMap<u32, Tally>, number: u32, clocks: u64) -> Result<(), AllocError>
+    ensures { OnOk result ((k : ℕ) → get nat_cmp tallies.new k
+        ≡ (if k == number then Some (one_more None clocks) else get nat_cmp tallies.old k)) }
+{
     tallies.insert(number, Tally { count: 1, clocks })?;
     Ok(())
 }
