@@ -17,7 +17,7 @@ REFUSALS = sys.modules['refusals'] = importlib.util.module_from_spec(SPEC)
 LOADER.exec_module(REFUSALS)
 
 RUN = REFUSALS.Task('run', ['run', 'a', 'b'])
-SESSION = REFUSALS.Task('session', ['debug', 'a', 'b'])
+SESSION = REFUSALS.Task('session', ['debug', 'a', 'b'], REFUSALS.COMMANDS)
 REGS = 'AX=0000\nCS=F000\n'
 STOPS = 'clock 70\nstop 1\n'
 BACK = 'stop 1 clock 67\nclock 62\nclock 61\n'
@@ -36,6 +36,7 @@ ORDERS = {
     'run of HEX': '41 27 37 27 37 41',
     'stored run': '41 13 37 41',
     'session': '41 13 37 13 37 41 53 41',
+    'probe': '41 13 37 13 37 41 53 41',
 }
 
 
@@ -105,7 +106,7 @@ class Refusing(ToolCase):
     def test_each_allocation_refused(self) -> None:
         out, _ = self.tool('dev/refusals')
         counts = re.findall(r'(.*): (\d+) allocations refused, (\d+) told as (.*), 0 other answers', out)
-        self.assertEqual(len(counts), 15)
+        self.assertEqual(len(counts), 17)
         for _, count, told, _ in counts:
             self.assertGreater(int(count), 10)
             self.assertGreater(int(told), 10)

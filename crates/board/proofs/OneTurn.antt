@@ -3,7 +3,7 @@ use Rattle.std.proofs.Common.{◌≡◌, ℕ, ◌+◌, ◌-◌, ◌<◌, ◌≤�
 use Rattle.std.proofs.lemmas.Bool.Decides.{nat_tests}
 use Rattle.std.specs.Prelude.{◌⊎◌, nat_lt, IfOk, IfSome, IsTrue, OnOk, Result, Ok, Err}
 use Rattle.std.specs.Option.{option_to_list}
-use Rattle.board_types.proofs.Iterate.{iterate_add, gathered_add}
+use Rattle.board_types.proofs.Iterate.{iterate_add, iterate_zero, gathered_add}
 use Rattle.board_plain.specs.Board.{BoardState}
 use Rattle.board_plain.specs.Plain.{Plain, after_clock, after_clocks, clock_of, next_act}
 use Rattle.board_plain.specs.Trail.{entry_at, event_of, start_of, trail_in, trail_next}
@@ -17,9 +17,9 @@ use Rattle.board_plain.proofs.Clocks.{clock_goes_by}
 use Rattle.board_plain.proofs.Runs.{ran_none}
 use Rattle.events.specs.Events.{unwired_next}
 use Rattle.board.specs.declared.one_turn.Begun.{Begun}
-use Rattle.board.specs.OneTurn.{begun_of, HaveSameWires, IsOneTurn}
+use Rattle.board.specs.OneTurn.{begun_of, HaveSameWires, IsOneTurn, StartsStill}
 use Rattle.board.specs.Turns.{IsLeapOn, IsTickOn, IsTurnOn}
-use Rattle.board.specs.Alone.{WiresStay, WiresStayThen}
+use Rattle.board.specs.Alone.{PassesOver, WiresStay, WiresStayThen}
 use Rattle.board.proofs.Ticking.{first_clock, first_seen, first_unseen, ran_more}
 use Rattle.board.proofs.Turns.{before_rest, leap_runs, ran_leap}
 
@@ -59,16 +59,16 @@ unfolding trail_next
 begins_by s act begun next is = is ∙ ap (λ (a : Act). map begun_of (entry_at s (event_of s.cpu s.chips a))) next
 
 -- a leap
-once_leapt : (edges : Bool) (end : ℕ) (s u : BoardState) (begun : Option Begun) → length s.trail ≤ 32 → clock_of s.plain < end → IsLeapOn end 1 s u → (¬ (IsTrue edges) → WiresStayThen s.plain u.plain) → option_to_list begun ≡ map begun_of (trail_next s.plain) → IfSome begun (λ b. b.clock ≡ clock_of s.plain) → IsOneTurn edges end s u begun
-once_leapt edges end s u begun few before on stay is clock =
+once_leapt : (edges : Bool) (within end : ℕ) (s u : BoardState) (begun : Option Begun) → length s.trail ≤ 32 → clock_of s.plain < end → IsLeapOn end 1 s u → (¬ (IsTrue edges) → WiresStayThen within s.plain u.plain) → option_to_list begun ≡ map begun_of (trail_next s.plain) → IfSome begun (λ b. b.clock ≡ clock_of s.plain) → IsOneTurn edges within end s u begun
+once_leapt edges within end s u begun few before on stay is clock =
     let leap = on.leap in
-    let within = leap.within in
+    let few_clocks = leap.within in
     let passed = leap.unseen.clock in
     let none : trail_next s.plain ≡ [] = first_unseen trail_next s.plain leap.clocks leap.some leap.unseen.entries in
     record {
       passed = leap.clocks;
       some = leap.some;
-      within = omega (arith, within, before);
+      before_end = omega (arith, few_clocks, before);
       ran = leap_runs end 1 s u on few;
       begins = ap (map begun_of) (leap.unseen.entries ∙ sym none) ∙ sym is;
       clock = clock;
@@ -79,35 +79,41 @@ once_leapt edges end s u begun few before on stay is clock =
       keyboard =
           ap (λ (p : Plain). p.chips.keyboard) leap.unseen.plain ∙ leap.unseen.keyboard leap.clocks (omega arith)
           ∙ sym (leap.unseen.keyboard 1 leap.some) ∙ ap (λ (p : Plain). p.chips.keyboard) (first_clock s.plain);
-      wires = λ not j some last. stay not j some (omega (arith, last, passed));
+      wires = λ not j some last. (stay not).later j some (omega (arith, last, passed));
+      leap = λ past. record {
+        quiet = ap unwired_next (sym (iterate_zero after_clock s.plain)) ∙ leap.unseen.quiet 0 leap.some;
+        wires = λ not. subst (HaveSameWires s.plain) (first_clock s.plain) ((stay not).leap (omega (arith, past, passed)) 1 (omega (arith, leap.some, passed)));
+        conditions = λ stops j within. leap.unseen.conditions stops j within;
+      };
     }
 
 -- a clock
-once_ticked : (edges : Bool) (end : ℕ) (s u : BoardState) (begun : Option Begun) → length s.trail ≤ 32 → clock_of s.plain < end → IsTickOn s u → (¬ (IsTrue edges) → WiresStayThen s.plain u.plain) → option_to_list begun ≡ map begun_of (trail_next s.plain) → IfSome begun (λ b. b.clock ≡ clock_of s.plain) → IsOneTurn edges end s u begun
-once_ticked edges end s u begun few before tick stay is clock =
+once_ticked : (edges : Bool) (within end : ℕ) (s u : BoardState) (begun : Option Begun) → length s.trail ≤ 32 → clock_of s.plain < within → within ≤ end → IsTickOn s u → (¬ (IsTrue edges) → WiresStayThen within s.plain u.plain) → option_to_list begun ≡ map begun_of (trail_next s.plain) → IfSome begun (λ b. b.clock ≡ clock_of s.plain) → IsOneTurn edges within end s u begun
+once_ticked edges within end s u begun few before order tick stay is clock =
     let passed = tick.clock in record {
       passed = 1;
       some = omega arith;
-      within = omega (arith, before);
+      before_end = omega (arith, before, order);
       ran = ran_more 0 s s u (ran_none s few) tick;
       begins = ap (map begun_of) (first_seen trail_next s.plain) ∙ sym is;
       clock = clock;
       quiet = λ j some before. absurd (omega (arith, some, before));
       cpu = ap (λ (p : Plain). p.cpu) tick.plain;
       keyboard = ap (λ (p : Plain). p.chips.keyboard) tick.plain;
-      wires = λ not j some last. stay not j some (omega (arith, last, passed));
+      wires = λ not j some last. (stay not).later j some (omega (arith, last, passed));
+      leap = λ past. absurd (omega (arith, before, past));
     }
 
 -- a clock with a leap after it
-once_acted : (edges : Bool) (end : ℕ) (s b u : BoardState) (begun : Option Begun) → length s.trail ≤ 32 → clock_of s.plain < end → IsTickOn s b → (u ≡ b) ⊎ ((1 ≤ b.plain.busy) × IsLeapOn end 0 b u) → (¬ (IsTrue edges) → WiresStayThen s.plain u.plain) → option_to_list begun ≡ map begun_of (trail_next s.plain) → IfSome begun (λ x. x.clock ≡ clock_of s.plain) → IsOneTurn edges end s u begun
-once_acted edges end s b u begun few before tick (inl same) stay is clock =
-    once_ticked edges end s u begun few before (subst (IsTickOn s) (sym same) tick) stay is clock
-once_acted edges end s b u begun few before tick (inr rest) stay is clock =
+once_acted : (edges : Bool) (within end : ℕ) (s b u : BoardState) (begun : Option Begun) → length s.trail ≤ 32 → clock_of s.plain < within → within ≤ end → IsTickOn s b → (u ≡ b) ⊎ ((1 ≤ b.plain.busy) × IsLeapOn within 0 b u) → (¬ (IsTrue edges) → WiresStayThen within s.plain u.plain) → option_to_list begun ≡ map begun_of (trail_next s.plain) → IfSome begun (λ x. x.clock ≡ clock_of s.plain) → IsOneTurn edges within end s u begun
+once_acted edges within end s b u begun few before order tick (inl same) stay is clock =
+    once_ticked edges within end s u begun few before order (subst (IsTickOn s) (sym same) tick) stay is clock
+once_acted edges within end s b u begun few before order tick (inr rest) stay is clock =
     let leap = rest.1.leap in
-    let within = leap.within in
+    let few_clocks = leap.within in
     let first = tick.clock in
     let passed = leap.unseen.clock in
-    let past = before_rest end b u rest.1 in
+    let past = before_rest within b u rest.1 in
     let here : after_clocks s.plain 1 ≡ b.plain = first_clock s.plain ∙ sym tick.plain in
     let entries : trail_in s.plain (1 + leap.clocks) ≡ trail_next s.plain =
     gathered_add after_clock trail_next 1 leap.clocks s.plain
@@ -116,8 +122,8 @@ once_acted edges end s b u begun few before tick (inr rest) stay is clock =
     record {
       passed = 1 + leap.clocks;
       some = omega arith;
-      within = omega (arith, within, first, past);
-      ran = ran_leap 1 end 0 s b u (ran_more 0 s s b (ran_none s few) tick) rest.1;
+      before_end = omega (arith, few_clocks, first, past, order);
+      ran = ran_leap 1 within 0 s b u (ran_more 0 s s b (ran_none s few) tick) rest.1;
       begins = ap (map begun_of) entries ∙ sym is;
       clock = clock;
       quiet = λ j some before.
@@ -129,12 +135,13 @@ once_acted edges end s b u begun few before tick (inr rest) stay is clock =
       keyboard =
           ap (λ (p : Plain). p.chips.keyboard) leap.unseen.plain ∙ leap.unseen.keyboard leap.clocks (omega arith)
           ∙ ap (λ (p : Plain). p.chips.keyboard) tick.plain;
-      wires = λ not j some last. stay not j some (omega (arith, last, first, passed));
+      wires = λ not j some last. (stay not).later j some (omega (arith, last, first, passed));
+      leap = λ past_within. absurd (omega (arith, few_clocks, first, past, past_within));
     }
 
-pub once_turned : (edges : Bool) (end : ℕ) (s u : BoardState) (begun : Option Begun) → length s.trail ≤ 32 → clock_of s.plain < end → IsTurnOn end end s u → (¬ (IsTrue edges) → WiresStayThen s.plain u.plain) → option_to_list begun ≡ map begun_of (trail_next s.plain) → IfSome begun (λ b. b.clock ≡ clock_of s.plain) → IsOneTurn edges end s u begun
-once_turned edges end s u begun few before (inl leap) stay is clock = once_leapt edges end s u begun few before leap stay is clock
-once_turned edges end s u begun few before (inr act) stay is clock = once_acted edges end s act.begun u begun few before act.first act.rest stay is clock
+pub once_turned : (edges : Bool) (within end : ℕ) (s u : BoardState) (begun : Option Begun) → length s.trail ≤ 32 → clock_of s.plain < within → within ≤ end → IsTurnOn within end s u → (¬ (IsTrue edges) → WiresStayThen within s.plain u.plain) → option_to_list begun ≡ map begun_of (trail_next s.plain) → IfSome begun (λ b. b.clock ≡ clock_of s.plain) → IsOneTurn edges within end s u begun
+once_turned edges within end s u begun few before order (inl leap) stay is clock = once_leapt edges within end s u begun few (omega (arith, before, order)) leap stay is clock
+once_turned edges within end s u begun few before order (inr act) stay is clock = once_acted edges within end s act.begun u begun few before order act.first act.rest stay is clock
 
 -- the wires after the first clock
 
@@ -147,21 +154,38 @@ same_then s t u first second = record {
 }
 
 -- in a leap they stay in the first clock too
-pub stay_then : (s t : Plain) → clock_of s < clock_of t → WiresStay s t → WiresStayThen s t
-stay_then s t later stay = λ j some few.
-    same_then s (after_clock s) (after_clocks s j) (subst (HaveSameWires s) (first_clock s) (stay 1 (omega (arith, later)))) (stay j few)
+pub stay_then : (within : ℕ) (s t : Plain) → clock_of s < clock_of t → WiresStay s t → WiresStayThen within s t
+stay_then within s t later stay = record {
+  later = λ j some few.
+      same_then s (after_clock s) (after_clocks s j) (subst (HaveSameWires s) (first_clock s) (stay 1 (omega (arith, later)))) (stay j few);
+  leap = λ past. stay;
+}
 
 -- after the first clock they stay as that leaves them
-pub stay_behind : (s t : Plain) → WiresStay (after_clock s) t → WiresStayThen s t
-stay_behind s t stay = λ j some few.
-    let clock = clock_goes_by s in
-    let whole : 1 + (j - 1) ≡ j = omega (arith, some) in
-    let there : after_clocks s j ≡ after_clocks (after_clock s) (j - 1) =
-    ap (after_clocks s) (sym whole) ∙ iterate_add after_clock 1 (j - 1) s ∙ ap (λ p. after_clocks p (j - 1)) (first_clock s) in
-    subst (HaveSameWires (after_clock s)) (sym there) (stay (j - 1) (omega (arith, few, clock, some)))
+pub stay_after_first : (within : ℕ) (s t : Plain) → clock_of t ≤ within → WiresStay (after_clock s) t → WiresStayThen within s t
+stay_after_first within s t before stay = record {
+  later = λ j some few.
+      let clock = clock_goes_by s in
+      let whole : 1 + (j - 1) ≡ j = omega (arith, some) in
+      let there : after_clocks s j ≡ after_clocks (after_clock s) (j - 1) =
+      ap (after_clocks s) (sym whole) ∙ iterate_add after_clock 1 (j - 1) s ∙ ap (λ p. after_clocks p (j - 1)) (first_clock s) in
+      subst (HaveSameWires (after_clock s)) (sym there) (stay (j - 1) (omega (arith, few, clock, some)));
+  leap = λ past. absurd (omega (arith, before, past));
+}
+
+-- a clock with a leap after it ends by the clock by which its clocks may
+pub passes_within : (within : ℕ) (s t : Plain) → clock_of s < within → PassesOver within (after_clock s) t → clock_of t ≤ within
+passes_within within s t before (inl same) =
+    let first = clock_goes_by s in
+    let here : clock_of t ≡ clock_of (after_clock s) = ap clock_of same in omega (arith, before, first, here)
+passes_within within s t before (inr leap) =
+    let first = clock_goes_by s in
+    let clocks = leap.1.within in
+    let here = leap.1.unseen.clock in omega (arith, before, first, here, clocks)
 
 -- of a turn that isn't refused
-pub turned_once : {E : Type 0} (edges : Bool) (end to : ℕ) (s u : BoardState) (answer : Result (Option Begun) E) → length s.trail ≤ 32 → clock_of s.plain < end → to ≡ end → OnOk answer (IsTurnOn to to s u) → (¬ (IsTrue edges) → OnOk answer (WiresStayThen s.plain u.plain)) → IfOk answer (λ begun. option_to_list begun ≡ map begun_of (trail_next s.plain)) → IfOk answer (λ begun. IfSome begun (λ b. b.clock ≡ clock_of s.plain)) → IfOk answer (IsOneTurn edges end s u)
-turned_once edges end to s u (Ok begun) few before at turn stay is clock =
-    once_turned edges end s u begun few before (subst (λ n. IsTurnOn n n s u) at turn) stay is clock
-turned_once edges end to s u (Err fault) few before at turn stay is clock = tt
+pub turned_once : {E : Type 0} (edges : Bool) (within end by to : ℕ) (s u : BoardState) (answer : Result (Option Begun) E) → length s.trail ≤ 32 → clock_of s.plain < within → within ≤ end → by ≡ within → to ≡ end → OnOk answer (IsTurnOn by to s u) → (¬ (IsTrue edges) → OnOk answer (WiresStayThen by s.plain u.plain)) → IfOk answer (λ begun. option_to_list begun ≡ map begun_of (trail_next s.plain)) → IfOk answer (λ begun. IfSome begun (λ b. b.clock ≡ clock_of s.plain)) → IfOk answer (IsOneTurn edges within end s u)
+turned_once edges within end by to s u (Ok begun) few before order is at turn stay begins clock =
+    once_turned edges within end s u begun few before order (subst (λ n. IsTurnOn n end s u) is (subst (λ n. IsTurnOn by n s u) at turn))
+    (λ not. subst (λ n. WiresStayThen n s.plain u.plain) is (stay not)) begins clock
+turned_once edges within end by to s u (Err fault) few before order is at turn stay begins clock = tt

@@ -108,6 +108,8 @@ PassOver end busy chips keys left after = PassBy (PassesOver end) busy chips key
 abbrev pub WiresStay : Plain → Plain → Type 0
 WiresStay s t = (j : ℕ) → j ≤ clock_of t - clock_of s → HaveSameWires s (after_clocks s j)
 
--- nor on the way from its first clock
-abbrev pub WiresStayThen : Plain → Plain → Type 0
-WiresStayThen s t = (j : ℕ) → 1 ≤ j → j ≤ clock_of t - clock_of s → HaveSameWires (after_clock s) (after_clocks s j)
+-- no wire changes on the way from its first clock; past the clock `within` only a leap leads, in which none changes in the first
+-- clock either
+pub record WiresStayThen (within : ℕ) (s t : Plain) : Type 0 where
+  pub later : (j : ℕ) → 1 ≤ j → j ≤ clock_of t - clock_of s → HaveSameWires (after_clock s) (after_clocks s j)
+  pub leap : within < clock_of t → WiresStay s t

@@ -2,11 +2,13 @@
 -- To be believed by callers of this crate: the headline does not rest on it.
 use Rattle.std.specs.Prelude.{ℕ, ◌≡◌, ◌+◌, ◌<◌, ◌≤◌, Bool, IsTrue, List, [], map, Option, None, Some, IfSome}
 use Rattle.std.specs.Option.{option_to_list}
+use Rattle.board_plain.specs.declared.stop.Condition.{Condition}
 use Rattle.board_plain.specs.declared.trail.TrailEntry.{TrailEntry}
 use Rattle.board_plain.specs.declared.trail.TrailEvent.{TrailEvent}
 use Rattle.board_plain.specs.declared.trail.TrailEvent.TheVariants.{Instruction, Entry}
 use Rattle.board_plain.specs.Board.{BoardState, Ran}
 use Rattle.board_plain.specs.Plain.{Plain, after_clock, after_clocks, clock_of, speaker_level}
+use Rattle.board_plain.specs.Stops.{holding}
 use Rattle.board_plain.specs.Trail.{trail_in}
 use Rattle.events.specs.Events.{unwired_next}
 use Rattle.board.specs.declared.one_turn.Begun.{Begun}
@@ -31,12 +33,19 @@ pub record HaveSameWires (s t : Plain) : Type 0 where
   pub out_2 : t.chips.pit.counter_2.out ≡ s.chips.pit.counter_2.out
   pub speaker : speaker_level t ≡ speaker_level s
 
+-- In the first of n clocks nothing happens but to the wires, and to these neither unless edges of the timer may be leapt over;
+-- and what holds at the start holds at each clock before the last.
+pub record StartsStill (edges : Bool) (n : ℕ) (s : Plain) : Type 0 where
+  pub quiet : unwired_next s ≡ []
+  pub wires : ¬ (IsTrue edges) → HaveSameWires s (after_clock s)
+  pub conditions : (stops : List Condition) (j : ℕ) → j < n → holding stops (after_clocks s j) ≡ holding stops s
+
 -- Some clocks, at most up to the clock `end`. What happens in them does so in the first; unless edges of the timer may be
--- leapt over, no wire changes but in it either.
-pub record IsOneTurn (edges : Bool) (end : ℕ) (old new : BoardState) (begun : Option Begun) : Type 0 where
+-- leapt over, no wire changes but in it either. Past the clock `within` only a leap leads, whose first clock is as still.
+pub record IsOneTurn (edges : Bool) (within end : ℕ) (old new : BoardState) (begun : Option Begun) : Type 0 where
   pub passed : ℕ
   pub some : 1 ≤ passed
-  pub within : clock_of old.plain + passed ≤ end
+  pub before_end : clock_of old.plain + passed ≤ end
   pub ran : Ran passed old new
   pub begins : begun_in old.plain passed ≡ option_to_list begun
   pub clock : IfSome begun (λ b. b.clock ≡ clock_of old.plain)
@@ -45,3 +54,4 @@ pub record IsOneTurn (edges : Bool) (end : ℕ) (old new : BoardState) (begun : 
   pub keyboard : new.plain.chips.keyboard ≡ (after_clock old.plain).chips.keyboard
   pub wires : ¬ (IsTrue edges) → (j : ℕ) → 1 ≤ j → j ≤ passed
       → HaveSameWires (after_clock old.plain) (after_clocks old.plain j)
+  pub leap : within < clock_of old.plain + passed → StartsStill edges passed old.plain

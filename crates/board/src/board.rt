@@ -13,7 +13,7 @@ ghost use Rattle.board.specs.KeptAgain.{IsExact};
 ghost use Rattle.board.specs.OneTurn.{begun_of};
 ghost use Rattle.board.specs.Reach.{AllWithin, may_pass};
 ghost use Rattle.board_plain.specs.Plain.{act_at, after_clock, after_clocks, byte_of, change_next, changes_in, clock_of, lost_codes, next_act, power_on, registers_of, screen_of, speaker_level, state_of};
-ghost use Rattle.board_plain.specs.Stops.{FitsRoom, HasAddress, IsStopOf, NoStop, holding, run_length};
+ghost use Rattle.board_plain.specs.Stops.{FitsRoom, HasAddress, IsStopOf, NoStop, holding, holds, run_length};
 ghost use Rattle.board_plain.specs.Lasts.{IsLastOf};
 ghost use Rattle.board.specs.Found.{found_at, found_before};
 ghost use Rattle.board_plain.specs.Trail.{last, trail_in, trail_next};
@@ -32,7 +32,7 @@ use board_plain::act::Act;
 use board_plain::config::Config;
 use board_plain::fault::BoardFault;
 use board_plain::speaker::SpeakerChange;
-use board_plain::stop::{Stop, Stopped, Stops};
+use board_plain::stop::{Condition, Stop, Stopped, Stops};
 use board_plain::trail::TrailEntry;
 use board_types::bytes::Bytes;
 use board_types::clock::Clock;
@@ -391,7 +391,7 @@ impl<A: Allocator> Board<A> {
         requires order { within ≤ end }
         requires limit { end ≤ 2 ^ 40 }
         ensures ok { OnOk result (IsTurnOn within end self.old self.new) }
-        ensures steady { ¬ (IsTrue over_edges) → OnOk result (WiresStayThen self.old.plain self.new.plain) }
+        ensures steady { ¬ (IsTrue over_edges) → OnOk result (WiresStayThen within self.old.plain self.new.plain) }
         ensures begun { IfOk result (λ begun. option_to_list begun ≡ map begun_of (trail_next self.old.plain)) }
         ensures clock { IfOk result (λ begun. IfSome begun (λ b. b.clock ≡ clock_of self.old.plain)) }
         ensures noted { OnOk result (N.are notes.new (accesses_next self.old.plain)) }
@@ -428,7 +428,7 @@ impl<A: Allocator> Board<A> {
         requires before { clock_of self.old.plain < within }
         requires limit { within ≤ 2 ^ 40 }
         ensures ok { OnOk result (IsActOn within self.old self.new) }
-        ensures steady { ¬ (IsTrue over_edges) → OnOk result (WiresStayThen self.old.plain self.new.plain) }
+        ensures steady { ¬ (IsTrue over_edges) → OnOk result (WiresStayThen within self.old.plain self.new.plain) }
         ensures begun { IfOk result (λ begun. option_to_list begun ≡ map begun_of (trail_next self.old.plain)) }
         ensures clock { IfOk result (λ begun. IfSome begun (λ b. b.clock ≡ clock_of self.old.plain)) }
         ensures noted { OnOk result (N.are notes.new (accesses_next self.old.plain)) }
@@ -454,7 +454,7 @@ impl<A: Allocator> Board<A> {
         requires order { within ≤ end }
         requires limit { end ≤ 2 ^ 40 }
         ensures ok { OnOk result (IsTurnOn within end self.old self.new) }
-        ensures steady { ¬ (IsTrue over_edges) → OnOk result (WiresStayThen self.old.plain self.new.plain) }
+        ensures steady { ¬ (IsTrue over_edges) → OnOk result (WiresStayThen within self.old.plain self.new.plain) }
         ensures noted { OnOk result (N.are notes.new (accesses_next self.old.plain)) }
         ensures err { OnErr result (IsHeldBack self.old self.new) }
         ensures fault { IfErr result (λ fault. fault ≡ BoardFault.Memory) }
@@ -500,7 +500,7 @@ impl<A: Allocator> Board<A> {
         requires before { clock_of self.old.plain < within }
         requires limit { within ≤ 2 ^ 40 }
         ensures ok { OnOk result (IsActOn within self.old self.new) }
-        ensures steady { ¬ (IsTrue over_edges) → OnOk result (WiresStayThen self.old.plain self.new.plain) }
+        ensures steady { ¬ (IsTrue over_edges) → OnOk result (WiresStayThen within self.old.plain self.new.plain) }
         ensures noted { OnOk result (N.are notes.new (accesses_next self.old.plain)) }
         ensures err { OnErr result (IsHeldBack self.old self.new) }
         ensures fault { IfErr result (λ fault. fault ≡ BoardFault.Memory) }
@@ -622,6 +622,14 @@ impl<A: Allocator> Board<A> {
         ensures { result ≡ state_of self.now.plain }
     {
         self.engine.cpu.state()
+    }
+
+    /// Whether a condition holds.
+    pub fn holds(&self, condition: Condition) -> bool
+        requires { HasAddress condition }
+        ensures { result ≡ holds condition self.now.plain }
+    {
+        self.engine.holds(&condition)
     }
 
     /// How many key codes were lost because the keyboard's queue was full.

@@ -1,5 +1,5 @@
 //! One turn of a board at a time, with what begins in it.
-ghost use Rattle.std.specs.Prelude.{◌≡◌, ◌<◌, IfOk, IfSome, OnErr, OnOk, map};
+ghost use Rattle.std.specs.Prelude.{◌≡◌, ◌<◌, ◌≤◌, IfOk, IfSome, OnErr, OnOk, map};
 ghost use Rattle.std.specs.Option.{option_to_list};
 ghost use Rattle.std.specs.Result.{IfErr};
 ghost use Rattle.board_plain.specs.Plain.{clock_of};
@@ -83,25 +83,29 @@ impl Engine {
 }
 
 impl<A: Allocator> Board<A> {
-    /// One turn of a run that ends at the clock `end`: a clock, a leap of time, or a step of an instruction or of a repeat
-    /// with the leap over its other clocks. Answers what begins in it, and notes its accesses: all that happens in it happens in
-    /// its first clock, but that `over_edges` lets it leap over edges of the timer, which change wires at other clocks too.
+    /// One turn of a run that ends at the clock `end`: a clock, a leap of time, or a step of an instruction or of a repeat with
+    /// the leap over those of its other clocks that end by `within`. Answers what begins in it, and notes its accesses: all that
+    /// happens in it happens in its first clock, but that `over_edges` lets it leap over edges of the timer, which change wires at
+    /// other clocks too. Past `within` only a leap leads, in whose first clock nothing happens either.
     /// Refused as `Memory` where `run` would be, with nothing changed.
     pub fn run_turn<N: Notes>(
         &mut self,
+        within: Clock,
         end: Clock,
         notes: &mut N,
         over_edges: bool,
     ) -> Result<Option<Begun>, BoardFault>
-        requires { clock_of self.old.plain < end }
-        ensures ok { IfOk result (IsOneTurn over_edges end self.old self.new) }
+        requires before { clock_of self.old.plain < within }
+        requires order { within ≤ end }
+        ensures ok { IfOk result (IsOneTurn over_edges within end self.old self.new) }
         ensures noted { OnOk result (N.are notes.new (accesses_next self.old.plain)) }
         ensures err { OnErr result (IsHeldBack self.old self.new) }
         ensures fault { IfErr result (λ fault. fault ≡ BoardFault.Memory) }
     {
         self.engine.look_ahead();
         let boundary = self.engine.boundary();
+        let by = within.get();
         let to = end.get();
-        self.turn_by::<Begun, N>(boundary, notes, over_edges, to, to)
+        self.turn_by::<Begun, N>(boundary, notes, over_edges, by, to)
     }
 }

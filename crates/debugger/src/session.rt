@@ -2,6 +2,7 @@
 ghost use Rattle.std.specs.Prelude.{◌≡◌, ◌+◌, ◌-◌, ◌<◌, ◌≤◌, ◌^◌, [], ◌∷◌, All, IfOk, OnErr, OnOk, MatchResult, None, Some, length};
 ghost use Rattle.std.specs.Result.{IfErr};
 ghost use Rattle.std.specs.List.{flat_map};
+ghost use Rattle.board.specs.HeldBack.{IsHeldBack};
 ghost use Rattle.board.specs.OneTurn.{IsOneTurn};
 ghost use Rattle.events.specs.Accesses.{accesses_next};
 ghost use Rattle.board_plain.specs.Board.{Ran};
@@ -130,25 +131,29 @@ impl<A: Allocator> Session<A> {
         answer
     }
 
-    /// One turn of the board's run to the clock `end`, whatever the stops say, with what begins in it and a note of its accesses;
-    /// after some turns a copy of the board may be kept. `over_edges` lets it leap over edges of the timer. Refused as `Memory`,
-    /// with nothing changed, where the speaker's level changes and there is no memory to list it.
+    /// One turn of the board's run to the clock `end`, whatever the stops say, with what begins in it and a note of its accesses:
+    /// of a step at most the clocks up to `within`, past which only a leap leads. After some turns a copy of the board may be
+    /// kept. `over_edges` lets it leap over edges of the timer. Refused as `Memory`, with nothing changed, where the speaker's
+    /// level changes and there is no memory to list it.
     pub fn run_turn<N: Notes>(
         &mut self,
+        within: Clock,
         end: Clock,
         notes: &mut N,
         over_edges: bool,
     ) -> Result<Option<Begun>, DebugFault>
-        requires { clock_of self.old.board.plain < end }
-        ensures ok { IfOk result (IsOneTurn over_edges end self.old.board self.new.board) }
+        requires before { clock_of self.old.board.plain < within }
+        requires order { within ≤ end }
+        ensures ok { IfOk result (IsOneTurn over_edges within end self.old.board self.new.board) }
         ensures noted { OnOk result (N.are notes.new (accesses_next self.old.board.plain)) }
         ensures stops { self.new.stops ≡ self.old.stops }
         ensures first { self.new.first ≡ self.old.first }
         ensures fault { IfErr result (λ fault. fault ≡ DebugFault.Memory (Some (clock_of self.old.board.plain))) }
+        ensures held_back { OnErr result (IsHeldBack self.old.board self.new.board) }
         ensures err { OnErr result (self.new ≡ self.old) }
     {
         let clock = self.board.clock();
-        match self.board.run_turn(end, notes, over_edges) {
+        match self.board.run_turn(within, end, notes, over_edges) {
             Ok(begun) => {
                 if self.board.turns().is_multiple_of(FAR) {
                     self.checkpoints.keep(self.first.clock(), &self.board);
@@ -169,7 +174,7 @@ impl<A: Allocator> Session<A> {
     }
 
     /// The clock at which it stood first.
-    fn first_clock(&self) -> Clock
+    pub fn first_clock(&self) -> Clock
         ensures clock { result ≡ clock_of self.now.first.plain }
         ensures earlier { clock_of self.now.first.plain ≤ clock_of self.now.board.plain }
     {
@@ -198,7 +203,7 @@ impl<A: Allocator> Session<A> {
     }
 
     /// Adds a stop, if there are fewer than sixteen.
-    fn add(&mut self, condition: Condition) -> Result<Answer, DebugFault>
+    pub fn add(&mut self, condition: Condition) -> Result<Answer, DebugFault>
         requires { HasAddress condition }
         ensures { AnswersStop condition self.old result self.new }
     {
@@ -209,7 +214,7 @@ impl<A: Allocator> Session<A> {
     }
 
     /// Runs for `count` clocks, or up to the first stop after the start.
-    fn go(&mut self, count: u64) -> Result<Answer, DebugFault>
+    pub fn go(&mut self, count: u64) -> Result<Answer, DebugFault>
         ensures { MatchResult result (Goes count self.old self.new) (RefusesGo count self.old self.new) }
     {
         if Clock::LAST - self.clock().get() < count {
@@ -255,8 +260,8 @@ impl<A: Allocator> Session<A> {
         Ok(Answer::Clock(self.board.clock()))
     }
 
-    /// Goes back by `count` clocks.
-    fn back(&mut self, count: u64) -> Result<Answer, DebugFault>
+    /// Goes back by `count` clocks, as the command does.
+    pub fn back(&mut self, count: u64) -> Result<Answer, DebugFault>
         requires { 1 ≤ count }
         ensures { MatchResult result (GoesBack count self.old self.new) (RefusesBack count self.old self.new) }
     {
@@ -264,7 +269,7 @@ impl<A: Allocator> Session<A> {
         if now - self.first_clock().get() < count {
             return Err(DebugFault::BeforeStart);
         }
-        let board = self.board_at(now - count)?;
+        let board = self.board_near(now - count, 0)?;
         self.stand(board);
         Ok(Answer::Clock(self.clock()))
     }
@@ -281,7 +286,7 @@ impl<A: Allocator> Session<A> {
     }
 
     /// Goes back to the last earlier clock at which a stop held.
-    fn back_stop(&mut self) -> Result<Answer, DebugFault>
+    pub fn back_stop(&mut self) -> Result<Answer, DebugFault>
         ensures { MatchResult result (GoesBackTo self.old.stops answers.StopAt self.old self.new) (RefusesBackTo self.old.stops self.old self.new) }
     {
         if self.stops.is_empty() {
@@ -306,17 +311,15 @@ impl<A: Allocator> Session<A> {
         let mut near = near;
         // stretch by stretch, each from a board that is kept
         'stretches: while first < bound {
-            let mut board = self.board_before(bound - 1)?;
-            let from = board.clock().get().max((bound - 1).saturating_sub(near));
-            run_to(&mut board, from)?;
+            let mut board = self.board_near(bound - 1, near)?;
             match last_from(&board, bound - 1, stops)? {
                 Some(found) => {
                     run_to(&mut board, found.0.get())?;
                     return Ok((board, found));
                 }
                 None => {
+                    bound = board.clock().get();
                     drop(board);
-                    bound = from;
                     near = u64::MAX;
                 }
             }
@@ -332,15 +335,17 @@ impl<A: Allocator> Session<A> {
         drop(mem::replace(&mut self.board, board));
     }
 
-    /// A board at an earlier clock, by a copy.
-    fn board_at(&self, clock: u64) -> Result<Board, DebugFault>
+    /// A board at most `near` clocks before an earlier clock, or at it, by a copy: where one is kept, or else that many before.
+    pub fn board_near(&self, clock: u64, near: u64) -> Result<Board, DebugFault>
         requires from { clock_of self.now.first.plain ≤ clock }
         ensures stands { IfOk result (StandsAfter self.now.first) }
-        ensures clock { IfOk result (λ board. clock_of board.plain ≡ clock) }
-        ensures fault { IfErr result LacksMemory }
+        ensures before { IfOk result (λ board. clock_of board.plain ≤ clock) }
+        ensures near { IfOk result (λ board. clock ≤ clock_of board.plain + near) }
+        ensures fault { IfErr result (λ fault. fault ≡ DebugFault.Memory None) }
     {
         let mut board = self.board_before(clock)?;
-        match run_to(&mut board, clock) {
+        let from = board.clock().get().max(clock.saturating_sub(near));
+        match run_to(&mut board, from) {
             Ok(()) => Ok(board),
             Err(fault) => {
                 drop(board);

@@ -10,4 +10,4 @@ pub mod Standing
 pub mod Pieces
 pub mod Behind
 pub mod Returning
-mod Walking
+pub mod Walking

@@ -17,17 +17,17 @@ use Rattle.debugger_meaning.specs.Session.{Answers, AnswersStop, RefusesStep, Ru
 use Rattle.debugger_meaning.specs.Stands.{SessionState, Shown, StandsAfter, session_about, shown_of}
 use Rattle.debugger_meaning.proofs.Standing.{stands_early, stands_later, stands_none, stands_refused}
 
-abbrev StandsFrom : Shown → SessionState → Type 0
+abbrev pub StandsFrom : Shown → SessionState → Type 0
 StandsFrom first s = (s.first ≡ first) × StandsAfter first s.board
 
 -- the same of its own first board
 own : (first : Shown) (s : SessionState) → StandsFrom first s → StandsAfter s.first s.board
 own first s at = subst (λ (f : Shown). StandsAfter f s.board) (sym at.0) at.1
 
-same_state : (first : Shown) (old new : SessionState) → StandsFrom first old → new ≡ old → StandsFrom first new
+pub same_state : (first : Shown) (old new : SessionState) → StandsFrom first old → new ≡ old → StandsFrom first new
 same_state first old new at is = subst (StandsFrom first) (sym is) at
 
-same_first : (first : Shown) (old new : SessionState) → StandsFrom first old → new.first ≡ old.first → StandsAfter old.first new.board → StandsFrom first new
+pub same_first : (first : Shown) (old new : SessionState) → StandsFrom first old → new.first ≡ old.first → StandsAfter old.first new.board → StandsFrom first new
 same_first first old new at is stands = (is ∙ at.0, subst (λ (f : Shown). StandsAfter f new.board) at.0 stands)
 
 of_stop : (first : Shown) (condition : Condition) (old new : SessionState) (result : Result Answer DebugFault) → StandsFrom first old → AnswersStop condition old result new → StandsFrom first new
@@ -90,7 +90,7 @@ of_back_stop : (first : Shown) (old new : SessionState) (result : Result Answer 
 of_back_stop first old new (Ok answer) at is = of_back_to first old.stops StopAt old new answer at is
 of_back_stop first old new (Err fault) at is = of_no_back_to first old.stops old new fault at is
 
-still_stands : (first : Shown) (command : Command) (old new : SessionState) (result : Result Answer DebugFault) → StandsFrom first old → Answers command old result new → StandsFrom first new
+pub still_stands : (first : Shown) (command : Command) (old new : SessionState) (result : Result Answer DebugFault) → StandsFrom first old → Answers command old result new → StandsFrom first new
 still_stands first (commands.Break cs ip) old new result at is = of_stop first (conditions.At cs ip) old new result at is
 still_stands first (commands.Byte address byte) old new result at is = of_stop first (conditions.Byte address byte) old new result at is
 still_stands first commands.Sound old new result at is = of_stop first conditions.Sound old new result at is

@@ -107,7 +107,7 @@ speaker_is_told s n = told_in changed_by change_next speaker_of_clock s n
 
 -- the bytes that are written
 
-abbrev written_next : Plain → List (ℕ × ℕ)
+abbrev pub written_next : Plain → List (ℕ × ℕ)
 written_next s = flat_map written_by (reached_of s)
 
 writes_of_clock : (s : Plain) → flat_map written_by (events_next s) ≡ written_next s
@@ -230,7 +230,7 @@ made_by table cpu busy c (Instruction decoded) address = record {
 
 -- a clock
 
-byte_of_clock : (s : Plain) (address : ℕ) (takes : Bool) → is_writable s.chips address ≡ takes → byte_of (after_clock s) address ≡ fold (byte_after takes address) (byte_of s address) (written_next s)
+pub byte_of_clock : (s : Plain) (address : ℕ) (takes : Bool) → is_writable s.chips address ≡ takes → byte_of (after_clock s) address ≡ fold (byte_after takes address) (byte_of s address) (written_next s)
 unfolding byte_of after_clock accesses_next
 byte_of_clock s address takes is =
     let m = made_by s.clocks s.cpu s.busy s.chips (next_act s) address in

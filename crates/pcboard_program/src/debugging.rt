@@ -1,7 +1,6 @@
 //! What is typed, answered line by line as it comes.
 ghost use Rattle.std.specs.Prelude.{◌≡◌, ◌⊎◌, IfErr, IfSome, OnOk};
 ghost use Rattle.loader.specs.ByteInput.{CountsNone};
-ghost use Rattle.debugger_meaning.specs.Stands.{session_about};
 ghost use Rattle.pcboard_texts.specs.Answer.{AppendsA};
 ghost use Rattle.pcboard_texts.specs.Refusal.{BeginsTranscript, want_of_board, want_of_session};
 ghost use Rattle.pcboard_texts.specs.Transcript.{AnswersTyped, Transcript, input_lines};
@@ -9,7 +8,6 @@ ghost use Rattle.pcboard_texts.specs.Unanswered.{IsUnjudged, UnlessFailed, Where
 
 use crate::tool::Tool;
 use board::board::Board;
-use debugger::session::Session;
 use debugger_meaning::answer::Answer;
 use debugger_meaning::fault::DebugFault;
 use loader::byte_input::ByteInput;
@@ -26,16 +24,16 @@ pub(crate) fn print_session<T: Tool, I: ByteInput, O: Write>(
     out: &mut O,
 ) -> Result<(), Unanswered>
     ensures transcript { OnOk result (IfSome (I.remaining input.old)
-        (λ typed. AppendsA (Transcript T.answers (session_about board) (input_lines typed)) (O.contents out.old)
+        (λ typed. AppendsA (Transcript T.answers (T.answers.begins board) (input_lines typed)) (O.contents out.old)
         (O.contents out.new))) }
     ensures cut { IfErr result (WhereRefused (O.contents out.new ≡ O.contents out.old
         ⊎ IfSome (I.remaining input.old)
-        (λ typed. AppendsA (BeginsTranscript T.answers (session_about board) (input_lines typed))
+        (λ typed. AppendsA (BeginsTranscript T.answers (T.answers.begins board) (input_lines typed))
         (O.contents out.old) (O.contents out.new)))) }
     ensures end { IfErr result (IsUnjudged (λ fault. fault ≡ want_of_board ⊎ fault ≡ want_of_session)) }
     ensures unfailed { UnlessFailed (CountsNone (I.failures input.old) (I.failures input.new)) result }
 {
-    let mut session = Session::new(alloc, board)?;
+    let mut session = T::begin(alloc, board)?;
     let answered = answer_lines::<T, I, O>(alloc, &mut session, input, out);
     // let go by one call, whatever came of it: each place that lets one go is proved anew
     drop(session);
@@ -45,7 +43,7 @@ pub(crate) fn print_session<T: Tool, I: ByteInput, O: Write>(
 /// Answers lines as they come until one is `quit` or the input ends. An input of more than `u64::MAX` lines fails.
 fn answer_lines<T: Tool, I: ByteInput, O: Write>(
     alloc: Global,
-    session: &mut Session,
+    session: &mut T::Session,
     input: &mut I,
     out: &mut O,
 ) -> Result<(), Unanswered>
@@ -74,7 +72,7 @@ fn answer_lines<T: Tool, I: ByteInput, O: Write>(
 /// What the session answers to a line, or why it refuses it.
 fn reply_to<T: Tool>(
     alloc: Global,
-    session: &mut Session,
+    session: &mut T::Session,
     line: &[u8],
 ) -> Result<Answer, DebugFault>
     ensures { AnswersTyped T.answers line.now session.old result session.new }

@@ -1,5 +1,6 @@
 //! A program as a tool: what words it takes, and what it answers to a line that is typed.
-ghost use Rattle.std.specs.Prelude.{map, ℕ, List, Result, Ok};
+ghost use Rattle.std.specs.Prelude.{◌≡◌, map, ℕ, IfOk, List, None, Result, Ok};
+ghost use Rattle.std.specs.Result.{IfErr};
 ghost use Rattle.pcboard_words.specs.CommandLine.{Answers as AnswersWords};
 ghost use Rattle.pcboard_words.specs.Files.{IsReadAs};
 ghost use Rattle.pcboard_words.specs.declared.task.LineFault.{LineFault as LineFaultType};
@@ -8,6 +9,7 @@ ghost use Rattle.pcboard_words.proofs.Files.{one_task as one_task_of};
 ghost use Rattle.pcboard_texts.specs.Answer.{Reading};
 ghost use Rattle.pcboard_texts.specs.Transcript.{Answering, AnswersCommand};
 
+use board::board::Board;
 use debugger::session::Session;
 use debugger_meaning::answer::Answer;
 use debugger_meaning::fault::DebugFault;
@@ -20,16 +22,24 @@ pub trait Tool {
     // How the words are read.
     ghost reads: { Reading };
 
-    // How a session answers a line.
-    ghost answers: { Answering };
+    /// What answers the lines that are typed about a board.
+    type Session: Drop;
+
+    // How a session begins, and how it answers a line.
+    ghost answers: { Answering Self.Session };
 
     /// Reads the words after the program's name.
     fn read<'a>(alloc: Global, words: &'a [&'a str]) -> Result<Task<'a>, LineFault>
         ensures { reads (map (λ word. word.now) words.entry.now) result };
 
+    /// A session about a board. The board is dropped if there is no memory.
+    fn begin(alloc: Global, board: Board) -> Result<Self::Session, DebugFault>
+        ensures session { IfOk result (λ session. session ≡ answers.begins board) }
+        ensures fault { IfErr result (λ fault. fault ≡ DebugFault.Memory None) };
+
     /// Answers a line, or says why it is refused.
-    fn answer(alloc: Global, session: &mut Session, line: &str) -> Result<Answer, DebugFault>
-        ensures { answers line.now session.old result session.new };
+    fn answer(alloc: Global, session: &mut Self::Session, line: &str) -> Result<Answer, DebugFault>
+        ensures { answers.answers line.now session.old result session.new };
 
     // Words name one task.
     ghost one_task: { (words : List (List ℕ)) (task : TaskType) (read : Result TaskType LineFaultType)
@@ -40,6 +50,8 @@ pub trait Tool {
 pub struct Pcboard;
 
 impl Tool for Pcboard {
+    type Session = Session;
+
     ghost reads = { AnswersWords };
 
     ghost answers = { AnswersCommand };
@@ -48,6 +60,10 @@ impl Tool for Pcboard {
 
     fn read<'a>(alloc: Global, words: &'a [&'a str]) -> Result<Task<'a>, LineFault> {
         read_words(alloc, words)
+    }
+
+    fn begin(alloc: Global, board: Board) -> Result<Session, DebugFault> {
+        Session::new(alloc, board)
     }
 
     fn answer(alloc: Global, session: &mut Session, line: &str) -> Result<Answer, DebugFault> {

@@ -10,7 +10,6 @@ use Rattle.debugger_meaning.specs.declared.answer.Answer.{Answer}
 use Rattle.debugger_meaning.specs.declared.fault.DebugFault.{DebugFault}
 use Rattle.debugger_meaning.specs.declared.fault.DebugFault.TheVariants.{BadCommand}
 use Rattle.debugger_meaning.specs.Commands.{is_quit}
-use Rattle.debugger_meaning.specs.Stands.{SessionState}
 use Rattle.loader.specs.ByteInput.{CountsNone}
 use Rattle.pcboard_texts.specs.declared.unanswered.Unanswered.{Unanswered}
 use Rattle.pcboard_texts.specs.declared.unanswered.Unanswered.TheVariants.{Failed, Refused}
@@ -111,14 +110,14 @@ line_none (Some bytes) now next [] so_far takes empty = ap input_lines (rest_non
 line_none (Some bytes) now next (b ∷ bs) so_far takes empty = let never : ⊥ = omega (arith, empty) in absurd never
 
 -- What a session has printed on the lines that it has answered: a text behind which a transcript of further lines stands, is one of all of them.
-pub record Printed (By : Answering) (first now : SessionState) (typed left : List ℕ) (old new : Option (List ℕ)) : Type 0 where
+pub record Printed {S : Type 0} (By : Answering S) (first now : S) (typed left : List ℕ) (old new : Option (List ℕ)) : Type 0 where
   pub answered : List (List ℕ)
   pub are_lines : input_lines typed ≡ answered ++ input_lines left
   pub said : List ℕ
   pub grown : Appends old new said
   pub goes_on : (lines : List (List ℕ)) (text : List ℕ) → Transcript By now lines text → Transcript By first (answered ++ lines) (said ++ text)
 
-abbrev pub PrintedSoFar : Answering → SessionState → SessionState → Option (List ℕ) → Option (List ℕ) → Option (List ℕ) → Option (List ℕ) → Type 0
+abbrev pub PrintedSoFar : {S : Type 0} → Answering S → S → S → Option (List ℕ) → Option (List ℕ) → Option (List ℕ) → Option (List ℕ) → Type 0
 PrintedSoFar By first now typed left old new = IfSome typed (λ bytes. (rest : List ℕ) × (left ≡ Some rest) × Printed By first now bytes rest old new)
 
 appends_none : (known : Option (List ℕ)) → Appends known known []
@@ -131,12 +130,12 @@ appends_both (Some xs) None new text more first second = absurd first
 appends_both (Some xs) (Some ys) None text more first second = absurd second
 appends_both (Some xs) (Some ys) (Some zs) text more first second = second ∙ (ap (λ (l : List ℕ). l ++ more) first ∙ append_assoc xs text more)
 
-pub printed_none : (By : Answering) (session : SessionState) (typed old : Option (List ℕ)) → PrintedSoFar By session session typed typed old old
+pub printed_none : {S : Type 0} (By : Answering S) (session : S) (typed old : Option (List ℕ)) → PrintedSoFar By session session typed typed old old
 printed_none By session None old = tt
 printed_none By session (Some bytes) old = (bytes, refl, record { answered = []; are_lines = refl; said = []; grown = appends_none old; goes_on = λ lines text is. is })
 
 -- the transcript of a line and of those behind it
-transcript_on : (By : Answering) (ends : Bool) (line : List ℕ) (now next : SessionState) (lines : List (List ℕ)) (reply : Result Answer DebugFault) (text : List ℕ)
+transcript_on : {S : Type 0} (By : Answering S) (ends : Bool) (line : List ℕ) (now next : S) (lines : List (List ℕ)) (reply : Result Answer DebugFault) (text : List ℕ)
     → ends ≡ false → AnswersTyped By line now reply next → Transcript By next lines text
     → MatchBool ends (reply_text reply ++ text ≡ []) (Replies By line now (λ after rest. Transcript By after lines rest) (reply_text reply ++ text))
 transcript_on By true line now next lines reply text goes answers is = cc
@@ -153,12 +152,12 @@ transcript_quit : (ends : Bool) (text : List ℕ) (P : Type 0) → ends ≡ true
 transcript_quit true text P quits empty = empty
 transcript_quit false text P quits empty = cc
 
-transcript_along : (By : Answering) (session : SessionState) (lines others : List (List ℕ)) (text said : List ℕ) → lines ≡ others → text ≡ said
+transcript_along : {S : Type 0} (By : Answering S) (session : S) (lines others : List (List ℕ)) (text said : List ℕ) → lines ≡ others → text ≡ said
     → Transcript By session lines text → Transcript By session others said
 transcript_along By session lines others text said same_lines same_text is =
     subst (λ (ls : List (List ℕ)). Transcript By session ls said) same_lines (subst (Transcript By session lines) same_text is)
 
-pub printed_more : (By : Answering) (first now next : SessionState) (typed left after old mid new : Option (List ℕ)) (line : List ℕ) (reply : Result Answer DebugFault)
+pub printed_more : {S : Type 0} (By : Answering S) (first now next : S) (typed left after old mid new : Option (List ℕ)) (line : List ℕ) (reply : Result Answer DebugFault)
     → PrintedSoFar By first now typed left old mid → TakesLine left after (Some line) → ends_session line ≡ false → AnswersTyped By line now reply next
     → Appends mid new (reply_text reply) → PrintedSoFar By first next typed after old new
 printed_more By first now next None left after old mid new line reply so_far takes goes answers prints = tt
@@ -181,7 +180,7 @@ printed_more By first now next (Some bytes) (Some more) after old mid new line r
     )
 
 -- nothing more is printed
-printed_end : (By : Answering) (first now : SessionState) (typed left old new : Option (List ℕ)) → PrintedSoFar By first now typed left old new
+printed_end : {S : Type 0} (By : Answering S) (first now : S) (typed left old new : Option (List ℕ)) → PrintedSoFar By first now typed left old new
     → ((rest : List ℕ) → left ≡ Some rest → Transcript By now (input_lines rest) []) → IfSome typed (λ bytes. AppendsA (Transcript By first (input_lines bytes)) old new)
 printed_end By first now None left old new so_far ends = tt
 printed_end By first now (Some bytes) left old new so_far ends = (
@@ -191,13 +190,13 @@ printed_end By first now (Some bytes) left old new so_far ends = (
   so_far.2.grown,
 )
 
-pub printed_all : (By : Answering) (first now : SessionState) (typed left after old new : Option (List ℕ)) → PrintedSoFar By first now typed left old new → TakesLine left after None
+pub printed_all : {S : Type 0} (By : Answering S) (first now : S) (typed left after old new : Option (List ℕ)) → PrintedSoFar By first now typed left old new → TakesLine left after None
     → IfSome typed (λ bytes. AppendsA (Transcript By first (input_lines bytes)) old new)
 printed_all By first now typed None after old new so_far takes = printed_end By first now typed None old new so_far (λ rest is. cc)
 printed_all By first now typed (Some more) after old new so_far takes = printed_end By first now typed (Some more) old new so_far
     (λ rest is. let same : more ≡ rest = cc in subst (λ (ls : List (List ℕ)). Transcript By now ls []) (sym (ap input_lines (sym same) ∙ takes)) refl)
 
-pub printed_quit : (By : Answering) (first now : SessionState) (typed left after old new : Option (List ℕ)) (line : List ℕ) → PrintedSoFar By first now typed left old new
+pub printed_quit : {S : Type 0} (By : Answering S) (first now : S) (typed left after old new : Option (List ℕ)) (line : List ℕ) → PrintedSoFar By first now typed left old new
     → TakesLine left after (Some line) → ends_session line ≡ true → IfSome typed (λ bytes. AppendsA (Transcript By first (input_lines bytes)) old new)
 printed_quit By first now typed None after old new line so_far takes quits = printed_end By first now typed None old new so_far (λ rest is. cc)
 printed_quit By first now typed (Some more) after old new line so_far takes quits = printed_end By first now typed (Some more) old new so_far
@@ -205,7 +204,7 @@ printed_quit By first now typed (Some more) after old new line so_far takes quit
     (transcript_quit (ends_session line) [] _ quits refl))
 
 -- where the session is refused it has printed its replies to the lines that it has answered
-pub printed_cut : (By : Answering) (first now : SessionState) (typed left old new : Option (List ℕ)) → PrintedSoFar By first now typed left old new
+pub printed_cut : {S : Type 0} (By : Answering S) (first now : S) (typed left old new : Option (List ℕ)) → PrintedSoFar By first now typed left old new
     → IfSome typed (λ bytes. AppendsA (BeginsTranscript By first (input_lines bytes)) old new)
 printed_cut By first now None left old new so_far = tt
 printed_cut By first now (Some bytes) left old new so_far = (
@@ -236,7 +235,7 @@ cut_where (Err Failed) Is is = tt
 cut_where (Err (Refused fault)) Is is = is
 
 -- a line that is UTF-8 is answered as its text, and one that isn't is no command
-pub typed_text : (By : Answering) (line : List ℕ) (old new : SessionState) (result : Result Answer DebugFault) → IsUtf8 line → By line old result new
+pub typed_text : {S : Type 0} (By : Answering S) (line : List ℕ) (old new : S) (result : Result Answer DebugFault) → IsUtf8 line → By.answers line old result new
     → AnswersTyped By line old result new
 typed_text By line old new result good answers = rw (is_utf8-from_IsUtf8 line good) answers
 
@@ -244,7 +243,7 @@ not_text : (line : List ℕ) (good : Bool) → is_utf8 line ≡ good → ¬ (IsU
 not_text line true is bad = absurd (bad (IsUtf8-from_is_utf8 line is))
 not_text line false is bad = refl
 
-pub typed_bytes : (By : Answering) (line : List ℕ) (old : SessionState) → ¬ (IsUtf8 line) → AnswersTyped By line old (Err BadCommand) old
+pub typed_bytes : {S : Type 0} (By : Answering S) (line : List ℕ) (old : S) → ¬ (IsUtf8 line) → AnswersTyped By line old (Err BadCommand) old
 typed_bytes By line old bad = rw (not_text line (is_utf8 line) refl bad) (refl, refl)
 
 pub ends_text : (line : List ℕ) → IsUtf8 line → ends_session line ≡ is_quit line

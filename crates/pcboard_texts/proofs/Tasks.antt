@@ -6,7 +6,6 @@ use Rattle.board_plain.specs.Board.{BoardState}
 use Rattle.pcboard_texts.specs.declared.unanswered.Unanswered.{Unanswered}
 use Rattle.pcboard_texts.specs.declared.unanswered.Unanswered.TheVariants.{Failed, Refused}
 use Rattle.pcboard_texts.specs.Answer.{AppendsA, IsBoardOf, IsReport, IsSession, run_text_of, source_of}
-use Rattle.debugger_meaning.specs.Stands.{session_about}
 use Rattle.pcboard_texts.specs.Refusal.{BeginsSession, BeginsTranscript}
 use Rattle.pcboard_texts.specs.Transcript.{Answering, Transcript, input_lines}
 use Rattle.pcboard_texts.specs.Unanswered.{WhereRefused}
@@ -27,9 +26,9 @@ printed_stored None old new text report prints = tt
 printed_stored (Some all) old new text report prints = (text, report, prints)
 
 -- what a session about the board of two files prints is the answer to `debug`
-pub printed_session : (By : Answering) (file said input old new : Option (List ℕ)) (hex : Bool) (board : BoardState)
+pub printed_session : {S : Type 0} (By : Answering S) (file said input old new : Option (List ℕ)) (hex : Bool) (board : BoardState)
     → IfSome file (λ bytes. IfSome said (λ run. IsBoardOf hex bytes run board))
-    → IfSome input (λ typed. AppendsA (Transcript By (session_about board) (input_lines typed)) old new)
+    → IfSome input (λ typed. AppendsA (Transcript By (By.begins board) (input_lines typed)) old new)
     → IfSome file (λ bytes. IfSome said (λ run. IfSome input (λ typed. AppendsA (IsSession By hex bytes run typed) old new)))
 printed_session By None said input old new hex board is_board adds = tt
 printed_session By (Some bytes) None input old new hex board is_board adds = tt
@@ -39,13 +38,13 @@ printed_session By (Some bytes) (Some run) (Some typed) old new hex board is_boa
 
 -- so far as such a session goes, it is the beginning of that answer
 
-begun : (By : Answering) (hex : Bool) (bytes run typed text : List ℕ) (board : BoardState) → IsBoardOf hex bytes run board → BeginsTranscript By (session_about board) (input_lines typed) text → BeginsSession By hex bytes run typed text
+begun : {S : Type 0} (By : Answering S) (hex : Bool) (bytes run typed text : List ℕ) (board : BoardState) → IsBoardOf hex bytes run board → BeginsTranscript By (By.begins board) (input_lines typed) text → BeginsSession By hex bytes run typed text
 begun By hex bytes run typed text board is_board begins =
     record { board = board; is_board = is_board; begins = begins }
 
-replies : (By : Answering) (file said input old new : Option (List ℕ)) (hex : Bool) (board : BoardState)
+replies : {S : Type 0} (By : Answering S) (file said input old new : Option (List ℕ)) (hex : Bool) (board : BoardState)
     → IfSome file (λ bytes. IfSome said (λ run. IsBoardOf hex bytes run board))
-    → IfSome input (λ typed. AppendsA (BeginsTranscript By (session_about board) (input_lines typed)) old new)
+    → IfSome input (λ typed. AppendsA (BeginsTranscript By (By.begins board) (input_lines typed)) old new)
     → IfSome file (λ bytes. IfSome said (λ run. IfSome input (λ typed. AppendsA (BeginsSession By hex bytes run typed) old new)))
 replies By None said input old new hex board is_board adds = tt
 replies By (Some bytes) None input old new hex board is_board adds = tt
@@ -53,9 +52,9 @@ replies By (Some bytes) (Some run) None old new hex board is_board adds = tt
 replies By (Some bytes) (Some run) (Some typed) old new hex board is_board adds =
     (adds.0, begun By hex bytes run typed adds.0 board is_board adds.1, adds.2)
 
-pub replies_withheld : {T : Type 0} (By : Answering) (result : Result T Unanswered) (file said input old new : Option (List ℕ)) (hex : Bool) (board : BoardState)
+pub replies_withheld : {T S : Type 0} (By : Answering S) (result : Result T Unanswered) (file said input old new : Option (List ℕ)) (hex : Bool) (board : BoardState)
     → IfSome file (λ bytes. IfSome said (λ run. IsBoardOf hex bytes run board))
-    → IfErr result (WhereRefused (new ≡ old ⊎ IfSome input (λ typed. AppendsA (BeginsTranscript By (session_about board) (input_lines typed)) old new)))
+    → IfErr result (WhereRefused (new ≡ old ⊎ IfSome input (λ typed. AppendsA (BeginsTranscript By (By.begins board) (input_lines typed)) old new)))
     → IfErr result (WhereRefused (new ≡ old ⊎ IfSome file (λ bytes. IfSome said (λ run. IfSome input (λ typed. AppendsA (BeginsSession By hex bytes run typed) old new)))))
 replies_withheld By (Ok done) file said input old new hex board is_board cut = cut
 replies_withheld By (Err Failed) file said input old new hex board is_board cut = cut

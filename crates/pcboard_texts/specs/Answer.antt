@@ -9,7 +9,6 @@ use Rattle.assembler.specs.Gives.{Gives}
 use Rattle.assembler.specs.FirstFault.{IsFirst}
 use Rattle.board_plain.specs.Board.{BoardState}
 use Rattle.board_plain.specs.Plain.{power_on}
-use Rattle.debugger_meaning.specs.Stands.{session_about}
 use Rattle.pcboard_words.specs.CommandLine.{Answers as AnswersWords}
 use Rattle.pcboard_words.specs.declared.task.LineFault.{LineFault}
 use Rattle.pcboard_words.specs.declared.task.Task.{Task}
@@ -67,10 +66,10 @@ pub record IsBoardOf (hex : Bool) (bytes run : List ℕ) (board : BoardState) : 
   pub trail : board.trail ≡ []
 
 -- the bytes and the run file's text give a board, and this is what a session about it prints on the typed bytes
-pub record IsSession (By : Answering) (hex : Bool) (bytes run typed text : List ℕ) : Type 0 where
+pub record IsSession {S : Type 0} (By : Answering S) (hex : Bool) (bytes run typed text : List ℕ) : Type 0 where
   pub board : BoardState
   pub is_board : IsBoardOf hex bytes run board
-  pub prints : Transcript By (session_about board) (input_lines typed) text
+  pub prints : Transcript By (By.begins board) (input_lines typed) text
 
 -- the source gives an image, and this is its HEX text
 pub record IsHexOf (source text : List ℕ) : Type 0 where
@@ -99,7 +98,7 @@ abbrev pub AppendsA : (List ℕ → Type 0) → Option (List ℕ) → Option (Li
 AppendsA Is old new = (text : List ℕ) × Is text × Appends old new text
 
 -- what a task's answer adds to the bytes that `out` holds, where the files and the input that it reads are known
-abbrev pub PrintsTask : Answering → Task → (List ℕ → Option (List ℕ)) → Option (List ℕ) → Option (List ℕ)
+abbrev pub PrintsTask : {S : Type 0} → Answering S → Task → (List ℕ → Option (List ℕ)) → Option (List ℕ) → Option (List ℕ)
     → Option (List ℕ) → Type 0
 PrintsTask By tasks.Stored files input old new =
     IfSome input (λ text. AppendsA (IsReport false (source_of text) (run_text_of text)) old new)
@@ -116,7 +115,7 @@ abbrev pub Reading : Type 1
 Reading = List (List ℕ) → Result Task LineFault → Type 0
 
 -- The words name a task, and its answer is added: for a program that reads words and answers lines in these ways.
-abbrev pub PrintsFor : Reading → Answering → List (List ℕ) → (List ℕ → Option (List ℕ)) → Option (List ℕ)
+abbrev pub PrintsFor : {S : Type 0} → Reading → Answering S → List (List ℕ) → (List ℕ → Option (List ℕ)) → Option (List ℕ)
     → Option (List ℕ) → Option (List ℕ) → Type 0
 PrintsFor Reads By words files input old new =
     (task : Task) × Reads words (Ok task) × PrintsTask By task files input old new

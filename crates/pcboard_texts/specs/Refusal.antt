@@ -18,7 +18,6 @@ use Rattle.pcboard_words.specs.declared.task.Task.TheVariants as tasks
 use Rattle.pcboard_texts.specs.declared.fault.Fault.{Fault}
 use Rattle.pcboard_texts.specs.declared.fault.Fault.TheVariants.{Source, Hex, Run, Board, Session}
 use Rattle.pcboard_texts.specs.Faults.{fault_text}
-use Rattle.debugger_meaning.specs.Stands.{SessionState, session_about}
 use Rattle.pcboard_texts.specs.Answer.{AppendsA, IsBoardOf, IsTrueRefusal, Reading, run_text_of, source_of}
 use Rattle.pcboard_texts.specs.Transcript.{Answering, AnswersCommand, Transcript, input_lines}
 
@@ -93,7 +92,7 @@ EndsUnjudged task status old new =
     ⊎ ((status ≡ 1) × TellsA (λ fault. (fault ≡ want_of_board) ⊎ (fault ≡ want_of_file (hex_of task))) old new)
 
 -- what a session prints on the first ones of these lines, on none or on all
-pub record BeginsTranscript (By : Answering) (session : SessionState) (lines : List (List ℕ)) (text : List ℕ) : Type 0 where
+pub record BeginsTranscript {S : Type 0} (By : Answering S) (session : S) (lines : List (List ℕ)) (text : List ℕ) : Type 0 where
   pub answered : List (List ℕ)
   pub left : List (List ℕ)
   pub are_lines : lines ≡ answered ++ left
@@ -101,14 +100,14 @@ pub record BeginsTranscript (By : Answering) (session : SessionState) (lines : L
 
 -- the bytes and the run file's text give a board, and this is what a session about it prints on the first ones of the
 -- typed lines
-pub record BeginsSession (By : Answering) (hex : Bool) (bytes run typed text : List ℕ) : Type 0 where
+pub record BeginsSession {S : Type 0} (By : Answering S) (hex : Bool) (bytes run typed text : List ℕ) : Type 0 where
   pub board : BoardState
   pub is_board : IsBoardOf hex bytes run board
-  pub begins : BeginsTranscript By (session_about board) (input_lines typed) text
+  pub begins : BeginsTranscript By (By.begins board) (input_lines typed) text
 
 -- a session's task adds replies up to where it is refused, where the files and the input that it reads are known; no
 -- other task does
-abbrev pub PrintsReplies : Answering → Task → (List ℕ → Option (List ℕ)) → Option (List ℕ) → Option (List ℕ)
+abbrev pub PrintsReplies : {S : Type 0} → Answering S → Task → (List ℕ → Option (List ℕ)) → Option (List ℕ) → Option (List ℕ)
     → Option (List ℕ) → Type 0
 PrintsReplies By tasks.Stored files input old new = ⊥
 PrintsReplies By (tasks.Asm file list) files input old new = ⊥
@@ -119,7 +118,7 @@ PrintsReplies By (tasks.Debug file run hex) files input old new =
 
 -- Nothing is printed beside a refusal, unless the words name a session, whose replies come as it goes: for a program that
 -- reads words and answers lines in these ways.
-abbrev pub PrintsNoAnswerFor : Reading → Answering → List (List ℕ) → (List ℕ → Option (List ℕ)) → Option (List ℕ)
+abbrev pub PrintsNoAnswerFor : {S : Type 0} → Reading → Answering S → List (List ℕ) → (List ℕ → Option (List ℕ)) → Option (List ℕ)
     → Option (List ℕ) → Option (List ℕ) → Type 0
 PrintsNoAnswerFor Reads By words files input old new =
     (new ≡ old) ⊎ ((task : Task) × Reads words (Ok task) × PrintsReplies By task files input old new)

@@ -10,7 +10,8 @@ use Rattle.debugger_meaning.specs.declared.fault.DebugFault.TheVariants.{BadComm
 use Rattle.debugger_meaning.specs.Answers.{answer_text, fault_clock, fault_name, fault_number}
 use Rattle.debugger_meaning.specs.Commands.{command_of, is_quit}
 use Rattle.debugger_meaning.specs.Session.{AnswersLine}
-use Rattle.debugger_meaning.specs.Stands.{SessionState}
+use Rattle.board_plain.specs.Board.{BoardState}
+use Rattle.debugger_meaning.specs.Stands.{SessionState, session_about}
 
 -- The lines of an input. A line feed ends a line and isn't part of it; what follows the last line feed is a line only
 -- where it isn't empty.
@@ -18,18 +19,23 @@ abbrev pub input_lines : List ℕ → List (List ℕ)
 input_lines [] = []
 input_lines (b ∷ bs) = if b == 10 then [] ∷ input_lines bs else onto_first b (input_lines bs)
 
--- how a session answers a line of text: the line, the session before it, the answer or refusal, the session after it
-abbrev pub Answering : Type 1
-Answering = List ℕ → SessionState → Result Answer DebugFault → SessionState → Type 0
+-- how the sessions of a program, in states of this type, begin about a board, and how they answer a line of text: the line, the
+-- session before it, the answer or refusal, the session after it
+pub record Answering (S : Type 0) : Type 1 where
+  pub begins : BoardState → S
+  pub answers : List ℕ → S → Result Answer DebugFault → S → Type 0
 
 -- as the debugger does: by the command that the line is
-abbrev pub AnswersCommand : Answering
-AnswersCommand line old result new = AnswersLine (command_of line) old result new
+abbrev pub AnswersCommand : Answering SessionState
+AnswersCommand = record {
+  begins = session_about;
+  answers = λ line old result new. AnswersLine (command_of line) old result new;
+}
 
 -- how a session answers a line that is typed: by its text; one that isn't UTF-8 is no command
-abbrev pub AnswersTyped : Answering → Answering
+abbrev pub AnswersTyped : {S : Type 0} → Answering S → List ℕ → S → Result Answer DebugFault → S → Type 0
 AnswersTyped By line old result new =
-    MatchBool (is_utf8 line) (By line old result new) ((result ≡ Err BadCommand) × (new ≡ old))
+    MatchBool (is_utf8 line) (By.answers line old result new) ((result ≡ Err BadCommand) × (new ≡ old))
 
 -- the line is the word `quit`
 abbrev pub ends_session : List ℕ → Bool
@@ -52,17 +58,17 @@ reply_text (Ok answer) = answer_text answer
 reply_text (Err fault) = refusal_text fault
 
 -- A session replies to a line. Behind the reply stands what follows from its state after the line.
-pub record Replies (By : Answering) (line : List ℕ) (old : SessionState) (Follows : SessionState → List ℕ → Type 0)
+pub record Replies {S : Type 0} (By : Answering S) (line : List ℕ) (old : S) (Follows : S → List ℕ → Type 0)
     (text : List ℕ) : Type 0 where
   pub reply : Result Answer DebugFault
-  pub new : SessionState
+  pub new : S
   pub rest : List ℕ
   pub answers : AnswersTyped By line old reply new
   pub follows : Follows new rest
   pub is_text : text ≡ reply_text reply ++ rest
 
 -- what a session prints on these lines: the replies, up to that to the last line or to the one before the first `quit`
-abbrev pub Transcript : Answering → SessionState → List (List ℕ) → List ℕ → Type 0
+abbrev pub Transcript : {S : Type 0} → Answering S → S → List (List ℕ) → List ℕ → Type 0
 Transcript By session [] text = text ≡ []
 Transcript By session (line ∷ lines) text =
     MatchBool (ends_session line) (text ≡ [])

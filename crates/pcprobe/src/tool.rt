@@ -1,15 +1,15 @@
 //! What words the program takes, and what it answers to a line that is typed.
 ghost use Rattle.pcboard_words.specs.ProbeLine.{AnswersProbe as AnswersWords};
 ghost use Rattle.pcboard_words.proofs.Files.{one_session};
-ghost use Rattle.probe.specs.Session.{AnswersProbe};
+ghost use Rattle.probe.specs.Probe.{AnswersStopping, probe_about};
 
-use debugger::session::Session;
+use board::board::Board;
 use debugger_meaning::answer::Answer;
 use debugger_meaning::fault::DebugFault;
 use pcboard_program::tool::Tool;
 use pcboard_words::probe_line::read_probe_words;
 use pcboard_words::task::{LineFault, Task};
-use probe::session::command;
+use probe::probe::Probe;
 use std::alloc::Global;
 
 /// The program `pcprobe`, whose sessions answer the debugger's commands and inquiries.
@@ -18,7 +18,9 @@ pub struct Pcprobe;
 impl Tool for Pcprobe {
     ghost reads = { AnswersWords };
 
-    ghost answers = { AnswersProbe };
+    type Session = Probe;
+
+    ghost answers = { record { begins = probe_about; answers = AnswersStopping } };
 
     ghost one_task = { one_session };
 
@@ -26,7 +28,11 @@ impl Tool for Pcprobe {
         read_probe_words(alloc, words)
     }
 
-    fn answer(alloc: Global, session: &mut Session, line: &str) -> Result<Answer, DebugFault> {
-        command(session, alloc, line)
+    fn begin(alloc: Global, board: Board) -> Result<Probe, DebugFault> {
+        Probe::new(alloc, board)
+    }
+
+    fn answer(alloc: Global, session: &mut Probe, line: &str) -> Result<Answer, DebugFault> {
+        session.command(alloc, line)
     }
 }

@@ -2,7 +2,7 @@
 use Rattle.std.proofs.Common.{◌≡◌, ℕ, ◌+◌, ◌<◌, ◌≤◌, ◌^◌, Bool, true, false, List, [], ◌++◌, length, map, Option, None, Some, Result, Ok, Err, refl, sym, ap, ◌∙◌, subst, arith}
 use Rattle.std.proofs.lemmas.List.{map-append}
 use Rattle.std.specs.Prelude.{IfSome, OnOk}
-use Rattle.std.specs.Option.{option_to_list, SomeIff}
+use Rattle.std.specs.Option.{option_to_list, IsSome, SomeIff}
 use Rattle.std.specs.Result.{is_err}
 use Rattle.board.specs.declared.one_turn.Begun.{Begun}
 use Rattle.board.specs.OneTurn.{begun_in, begun_of, IsOneTurn}
@@ -65,10 +65,10 @@ before_later clock later c less before = record {
 }
 
 -- what begins in a turn does so behind what began before
-pub begins_behind : {edges : Bool} (end clock : ℕ) (s t u : SessionState) (c : Counts) (begun : Option Begun) → IsCounted end s t c → IsOneTurn edges end t.board u.board begun → IfSome begun (λ b. IsBefore b.clock c)
+pub begins_behind : {edges : Bool} (end clock : ℕ) (s t u : SessionState) (c : Counts) (begun : Option Begun) → IsCounted end s t c → IsOneTurn edges end end t.board u.board begun → IfSome begun (λ b. IsBefore b.clock c)
 begins_behind end clock s t u c begun counted turn = if_some begun turn.clock (λ b is. subst (λ n. IsBefore n c) (sym is) counted.before)
 
-pub more_counted : {edges : Bool} (end : ℕ) (s t u : SessionState) (c d : Counts) (begun : Option Begun) → IsCounted end s t c → IsOneTurn edges end t.board u.board begun → u.stops ≡ t.stops → u.first ≡ t.first
+pub more_counted : {edges : Bool} (end : ℕ) (s t u : SessionState) (c d : Counts) (begun : Option Begun) → IsCounted end s t c → IsOneTurn edges end end t.board u.board begun → u.stops ≡ t.stops → u.first ≡ t.first
     → ((all : List Begun) → HasNoted all c → HasNoted (all ++ option_to_list begun) d)
     → ((clock : ℕ) → IfSome begun (λ b. b.clock < clock) → IsBefore clock c → IsBefore clock d)
     → ((start : ℕ) → IfSome begun (λ b. start ≤ b.clock) → IfSome c.first (λ first. start ≤ first) → IfSome d.first (λ first. start ≤ first))
@@ -79,7 +79,7 @@ more_counted end s t u c d begun counted turn stops first notes before starts =
     let clock = turn.ran.clock in
     let so_far = counted.ran.clock in
     let some = turn.some in
-    let within = turn.within in
+    let within = turn.before_end in
     record {
       passed = n + k;
       ran = runs_join n k s.board t.board u.board counted.ran turn.ran;
@@ -117,6 +117,10 @@ on_ok (Err e) failed is good a = absurd (let never : true ≡ false = sym is ∙
 pub number_of : (o : Option ℕ) (x n : ℕ) (P : Type 0) → SomeIff o P n → o ≡ Some x → x ≡ n
 number_of (Some y) x n P is same = let one : y ≡ x = cc in sym one ∙ is.1
 number_of None x n P is same = absurd (cc)
+
+pub some_of : (o : Option ℕ) (n : ℕ) (P : Type 0) → SomeIff o P n → P → IsSome o
+some_of (Some x) n P is within = refl
+some_of None n P is within = absurd (is within)
 
 -- the clock at which the run ends
 pub ends_at : (o : Option ℕ) (end start clock from n : ℕ) (P : Type 0) → SomeIff o P (start + n) → o ≡ Some end → start ≡ clock → clock ≡ from → end ≡ from + n

@@ -7,3 +7,14 @@ pub mod Counting
 pub mod Signalling
 pub mod Numbers
 pub mod Tallying
+mod Standing
+mod Happening
+mod Changing
+mod Copies
+mod Places
+mod Meeting
+mod Searching
+mod Probes
+mod Passing
+mod AsDebugger
+mod Walking

@@ -92,11 +92,11 @@ none_signalled end s text levels few within none known = record {
   known = known;
 }
 
-pub more_signalled : (end clock : ℕ) (s t u : SessionState) (text more : List ℕ) (levels after : Levels) (begun : Option Begun) → IsSignalled end s t text levels → IsOneTurn false end t.board u.board begun → u.stops ≡ t.stops → u.first ≡ t.first → clock ≡ clock_of t.board.plain + 1 → after ≡ levels_of u.board.plain → more ≡ text ++ changes_between clock levels after → IsSignalled end s u more after
+pub more_signalled : (end clock : ℕ) (s t u : SessionState) (text more : List ℕ) (levels after : Levels) (begun : Option Begun) → IsSignalled end s t text levels → IsOneTurn false end end t.board u.board begun → u.stops ≡ t.stops → u.first ≡ t.first → clock ≡ clock_of t.board.plain + 1 → after ≡ levels_of u.board.plain → more ≡ text ++ changes_between clock levels after → IsSignalled end s u more after
 more_signalled end clock s t u text more levels after begun so_far turn stops first is known told =
     let n : ℕ = so_far.passed in
     let k : ℕ = turn.passed in
-    let within = turn.within in
+    let within = turn.before_end in
     let on = turn.ran.clock in
     let ends : levels_of (after_clocks t.board.plain k) ≡ after = ap levels_of (sym turn.ran.plain) ∙ sym known in
     let changed : gathered after_clock changes_next k t.board.plain ≡ changes_between clock levels after =

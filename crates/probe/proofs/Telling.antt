@@ -427,10 +427,10 @@ not_edges : (asked : Bool) → IsTrue asked → ¬ (IsTrue (not asked))
 not_edges true is = λ yes. let never : false ≡ true = yes in cc
 not_edges false is = let never : false ≡ true = is in absurd (cc)
 
-stays : (asked : Bool) (end : ℕ) (old new : BoardState) (begun : Option Begun) → (turn : IsOneTurn (not asked) end old new begun) → IsTrue asked → (j : ℕ) → 1 ≤ j → j ≤ turn.passed → levels_of (after_clocks old.plain j) ≡ levels_of (after_clock old.plain)
+stays : (asked : Bool) (end : ℕ) (old new : BoardState) (begun : Option Begun) → (turn : IsOneTurn (not asked) end end old new begun) → IsTrue asked → (j : ℕ) → 1 ≤ j → j ≤ turn.passed → levels_of (after_clocks old.plain j) ≡ levels_of (after_clock old.plain)
 stays asked end old new begun turn is j some within = same_levels (after_clock old.plain) (after_clocks old.plain j) (turn.wires (not_edges asked is) j some within)
 
-events_first : (kinds : List Kind) (asked : Bool) (end : ℕ) (old new : BoardState) (begun : Option Begun) → asked ≡ list_any lists_wires kinds → (turn : IsOneTurn (not asked) end old new begun) → listed_lines kinds (events_in old.plain turn.passed) ≡ listed_lines kinds (events_next old.plain)
+events_first : (kinds : List Kind) (asked : Bool) (end : ℕ) (old new : BoardState) (begun : Option Begun) → asked ≡ list_any lists_wires kinds → (turn : IsOneTurn (not asked) end end old new begun) → listed_lines kinds (events_in old.plain turn.passed) ≡ listed_lines kinds (events_next old.plain)
 events_first kinds asked end old new begun is turn =
     let s : Plain = old.plain in
     let k : ℕ = turn.passed in
@@ -460,7 +460,7 @@ keys_later (suc n) s =
     let more : suc n ≡ n + 1 = omega arith in
     ap (λ k. (after_clocks s k).keys) more ∙ ap (λ (p : Plain). p.keys) (iterate_more after_clock n s) ∙ keys_next (after_clocks s n) ∙ keys_later n s
 
-turn_lines : (kinds : List Kind) (asked : Asked) (end : ℕ) (old new : BoardState) (begun : Option Begun) → IsAsked kinds asked → (turn : IsOneTurn (not asked.wires) end old new begun) → clock_lines kinds asked (seen_of asked old.plain) (trail_next old.plain) (accesses_next old.plain) new.plain ≡ listed_lines kinds (events_in old.plain turn.passed)
+turn_lines : (kinds : List Kind) (asked : Asked) (end : ℕ) (old new : BoardState) (begun : Option Begun) → IsAsked kinds asked → (turn : IsOneTurn (not asked.wires) end end old new begun) → clock_lines kinds asked (seen_of asked old.plain) (trail_next old.plain) (accesses_next old.plain) new.plain ≡ listed_lines kinds (events_in old.plain turn.passed)
 unfolding clock_lines seen_of state_of
 turn_lines kinds asked end old new begun is turn =
     let s : Plain = old.plain in
@@ -476,7 +476,7 @@ turn_lines kinds asked end old new begun is turn =
     ∙ clock_told kinds asked s is
     ∙ sym (events_first kinds asked.wires end old new begun is.wires turn)
 
-pub turn_told : (kinds : List Kind) (asked : Asked) (end : ℕ) (old new : BoardState) (begun : Option Begun) (before : Seen) (accesses : List Access) (text more : List ℕ) → IsAsked kinds asked → (turn : IsOneTurn (not asked.wires) end old new begun) → before ≡ seen_of asked old.plain → accesses ≡ accesses_next old.plain
+pub turn_told : (kinds : List Kind) (asked : Asked) (end : ℕ) (old new : BoardState) (begun : Option Begun) (before : Seen) (accesses : List Access) (text more : List ℕ) → IsAsked kinds asked → (turn : IsOneTurn (not asked.wires) end end old new begun) → before ≡ seen_of asked old.plain → accesses ≡ accesses_next old.plain
     → ((earlier entries : List TrailEntry) → map begun_of entries ≡ option_to_list begun → new.trail ≡ last 32 (earlier ++ entries) → more ≡ text ++ clock_lines kinds asked before entries accesses new.plain)
     → more ≡ text ++ listed_lines kinds (events_in old.plain turn.passed)
 turn_told kinds asked end old new begun before accesses text more is turn seen are told =
@@ -498,11 +498,11 @@ none_told kinds end s text few within none = record {
   told = none ∙ sym (ap (listed_lines kinds) (gathered_zero after_clock events_next s.board.plain) ∙ listed_none kinds);
 }
 
-pub more_told : {edges : Bool} (kinds : List Kind) (end : ℕ) (s t u : SessionState) (begun : Option Begun) (text more : List ℕ) → IsTold kinds end s t text → (turn : IsOneTurn edges end t.board u.board begun) → u.stops ≡ t.stops → u.first ≡ t.first → more ≡ text ++ listed_lines kinds (events_in t.board.plain turn.passed) → IsTold kinds end s u more
+pub more_told : {edges : Bool} (kinds : List Kind) (end : ℕ) (s t u : SessionState) (begun : Option Begun) (text more : List ℕ) → IsTold kinds end s t text → (turn : IsOneTurn edges end end t.board u.board begun) → u.stops ≡ t.stops → u.first ≡ t.first → more ≡ text ++ listed_lines kinds (events_in t.board.plain turn.passed) → IsTold kinds end s u more
 more_told kinds end s t u begun text more so_far turn stops first told =
     let n : ℕ = so_far.passed in
     let k : ℕ = turn.passed in
-    let within = turn.within in
+    let within = turn.before_end in
     let on = turn.ran.clock in record {
       passed = n + k;
       ran = runs_join n k s.board t.board u.board so_far.ran turn.ran;

@@ -13,6 +13,12 @@ pub mod Inquiry
 pub mod Kinds
 pub mod Listed
 pub mod Told
+pub mod Stops
+pub mod Requests
+pub mod Met
 pub mod Listing
 pub mod Typed
 pub mod Session
+pub mod Probe
+pub mod Watched
+pub mod Looked

@@ -54,8 +54,8 @@ IsRefused clock key BeforeStart = ⊥
 abbrev pub RefusesKey : StampedKey → SessionState → SessionState → DebugFault → Type 0
 RefusesKey key old new fault = IsRefused (clock_of old.board.plain) key fault × (new ≡ old)
 
-abbrev pub AnswersTyped : StampedKey → SessionState → Result Answer DebugFault → SessionState → Type 0
-AnswersTyped key old result new = MatchResult result (Takes key old new) (RefusesKey key old new)
+abbrev pub AnswersTaken : StampedKey → SessionState → Result Answer DebugFault → SessionState → Type 0
+AnswersTaken key old result new = MatchResult result (Takes key old new) (RefusesKey key old new)
 
 abbrev pub AnswersKey : ℕ → Option ℕ → SessionState → Result Answer DebugFault → SessionState → Type 0
-AnswersKey code at old result new = AnswersTyped (typed_key (clock_of old.board.plain) code at) old result new
+AnswersKey code at old result new = AnswersTaken (typed_key (clock_of old.board.plain) code at) old result new

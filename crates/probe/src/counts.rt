@@ -235,7 +235,7 @@ pub(crate) fn tell_counts(
     let end = Clock::new(start.get() + count).unwrap();
     let mut counts = Counts::new(alloc);
     'turns: while session.board().clock() < end {
-        let begun = session.run_turn(end, &mut Unnoted, true)?;
+        let begun = session.run_turn(end, end, &mut Unnoted, true)?;
         if counts.note(begun).is_err() {
             return Err(lacking(session));
         }

@@ -121,7 +121,7 @@ fn lists_begun(kinds: &[Kind], event: &TrailEvent) -> bool
 }
 
 /// Whether one of these kinds lists an access.
-fn lists_access(kinds: &[Kind], access: Access) -> bool
+pub(crate) fn lists_access(kinds: &[Kind], access: Access) -> bool
     ensures { result ≡ list_any (λ kind. lists_access kind access) kinds.now }
 {
     kinds.iter().any(|kind| kind_lists_access(*kind, access))
@@ -150,21 +150,21 @@ fn kind_lists_access(kind: Kind, access: Access) -> bool
 }
 
 /// Whether one of these kinds lists states.
-fn lists_states(kinds: &[Kind]) -> bool
+pub(crate) fn lists_states(kinds: &[Kind]) -> bool
     ensures { result ≡ list_any lists_states kinds.now }
 {
     kinds.iter().any(|kind| matches!(kind, Kind::States))
 }
 
 /// Whether one of these kinds lists wires.
-fn lists_wires(kinds: &[Kind]) -> bool
+pub(crate) fn lists_wires(kinds: &[Kind]) -> bool
     ensures { result ≡ list_any lists_wires kinds.now }
 {
     kinds.iter().any(|kind| matches!(kind, Kind::Wires))
 }
 
 /// Whether one of these kinds lists keys.
-fn lists_keys(kinds: &[Kind]) -> bool
+pub(crate) fn lists_keys(kinds: &[Kind]) -> bool
     ensures { result ≡ list_any lists_keys kinds.now }
 {
     kinds.iter().any(|kind| matches!(kind, Kind::Keys))
@@ -230,7 +230,7 @@ fn push_arrivals(
 }
 
 /// How many codes wait.
-fn waiting_of(keyboard: &Keyboard) -> usize
+pub(crate) fn waiting_of(keyboard: &Keyboard) -> usize
     ensures count { result ≡ length keyboard.now.waiting }
     ensures few { result ≤ 16 }
 {
@@ -465,22 +465,22 @@ fn push_changes(
 /// Which parts of a board are looked at, since they are listed: its wires, and its keys.
 #[derive(Clone, Copy)]
 pub(crate) struct Asked {
-    wires: bool,
-    keys: bool,
+    pub(crate) wires: bool,
+    pub(crate) keys: bool,
 }
 
 /// What is seen of a board before a turn: its clock, the processor's state, how many codes wait, and the wires; the last two if
 /// they are asked for.
 #[derive(Clone, Copy)]
 pub(crate) struct Seen {
-    clock: u64,
-    state: State,
-    waiting: usize,
-    levels: Option<Levels>,
+    pub(crate) clock: u64,
+    pub(crate) state: State,
+    pub(crate) waiting: usize,
+    pub(crate) levels: Option<Levels>,
 }
 
 #[tactic(auto, unfolding(crate::specs::Told::seen_of))]
-fn seen_of(board: &Board, asked: Asked) -> Seen
+pub(crate) fn seen_of(board: &Board, asked: Asked) -> Seen
     ensures seen { result ≡ seen_of asked board.now.plain }
     ensures clock { result.clock ≡ clock_of board.now.plain }
     ensures room { result.waiting ≤ 16 }
@@ -513,7 +513,7 @@ fn levels_seen(board: &Board, wires: bool) -> Option<Levels>
 }
 
 /// Whether two states are one.
-fn is_same_state(before: State, after: State) -> bool
+pub(crate) fn is_same_state(before: State, after: State) -> bool
     ensures { result ≡ is_same_state before after }
 {
     match (before, after) {
@@ -708,7 +708,7 @@ pub(crate) fn tell_events(
     let mut accesses = Accesses::new();
     'turns: while session.board().clock() < end {
         let before = seen_of(session.board(), asked);
-        let begun = session.run_turn(end, &mut accesses, !asked.wires)?;
+        let begun = session.run_turn(end, end, &mut accesses, !asked.wires)?;
         let noted = accesses.as_slice();
         if push_turn(
             alloc,

@@ -1,8 +1,24 @@
-//! What holds of all counts, over the definitions alone.
-ghost use Rattle.probe.specs.Laws.{CountsAddUp};
+//! What holds of counts, of stops and of probes, over the definitions alone.
+ghost use Rattle.probe.specs.Laws.{AnswersAsDebugger, CountsAddUp, ProbesStand, StandingEndsAlike, StandingMetAlike};
 
 /// The clocks before the first beginning, those of each CS:IP and those of each type of interrupt add up to the clocks that
 /// are made.
 pub fn counts_add_up()
     ensures { CountsAddUp }
+{}
+
+/// A run whose stops only ask what stands ends as the board's search for these conditions does, and so does a way back.
+pub fn standing_ends_alike()
+    ensures on { StandingEndsAlike }
+    ensures back { StandingMetAlike }
+{}
+
+/// A probe whose stops only ask what stands answers each line that the debugger knows as the debugger does.
+pub fn answers_as_debugger()
+    ensures { AnswersAsDebugger }
+{}
+
+/// After any lines a probe stands some clocks after the board with which it began, as if that had had the keys that were typed.
+pub fn probes_stand()
+    ensures { ProbesStand }
 {}

@@ -3,6 +3,7 @@
 #![tactic(auto)]
 
 mod board_bytes;
+mod bytes;
 mod chips_text;
 mod controller_text;
 mod counter_text;
@@ -12,8 +13,13 @@ pub mod inquiry;
 mod kinds;
 pub mod laws;
 mod list_text;
+mod looking;
 mod making;
+mod met;
+pub mod probe;
 pub mod session;
 mod shown;
 mod signals;
+pub mod stops;
 mod typed;
+mod watched;

@@ -112,7 +112,7 @@ pub(crate) fn tell_signals(
     let mut levels = levels_of(session.board());
     'turns: while session.board().clock() < end {
         let clock = session.board().clock().get() + 1;
-        session.run_turn(end, &mut Unnoted, false)?;
+        session.run_turn(end, end, &mut Unnoted, false)?;
         let after = levels_of(session.board());
         if push_changes(alloc, &mut text, clock, levels, after).is_err() {
             return Err(lacking(session));

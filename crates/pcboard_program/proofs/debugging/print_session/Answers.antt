@@ -1,5 +1,4 @@
 use Rattle.std.proofs.Common.{◌≡◌, ◌⊎◌, inl, inr, IfErr, IfSome, OnOk, Result, Ok, Err, subst}
-use Rattle.debugger_meaning.specs.Stands.{SessionState}
 use Rattle.pcboard_texts.specs.declared.unanswered.Unanswered.{Unanswered}
 use Rattle.pcboard_texts.specs.declared.unanswered.Unanswered.TheVariants.{Failed, Refused}
 use Rattle.pcboard_texts.specs.Answer.{AppendsA}
@@ -17,14 +16,14 @@ or_nothing A B (Err (Refused fault)) is = inr is
 pub returns-clause-transcript : goal.returns-clause-transcript
 returns-clause-transcript g c =
     subst
-    (λ (session : SessionState). OnOk c.answer_lines-answered.result (IfSome (g.I.ByteInput.remaining c.args.input.now)
+    (λ (session : _). OnOk c.answer_lines-answered.result (IfSome (g.I.ByteInput.remaining c.args.input.now)
     (λ typed. AppendsA (Transcript g.T.Tool.answers session (input_lines typed)) (g.O.Write.contents c.args.out.now) (g.O.Write.contents c.answer_lines-answered.new.out)))) c.in_ok-session.ensures.session c.answer_lines-answered.ensures.transcript
 
 pub returns-clause-cut : goal.returns-clause-cut
 returns-clause-cut g c =
     or_nothing (g.O.Write.contents c.answer_lines-answered.new.out ≡ g.O.Write.contents c.args.out.now) _ c.answer_lines-answered.result
     (subst
-    (λ (session : SessionState). IfErr c.answer_lines-answered.result (WhereRefused (IfSome (g.I.ByteInput.remaining c.args.input.now)
+    (λ (session : _). IfErr c.answer_lines-answered.result (WhereRefused (IfSome (g.I.ByteInput.remaining c.args.input.now)
     (λ typed. AppendsA (BeginsTranscript g.T.Tool.answers session (input_lines typed)) (g.O.Write.contents c.args.out.now) (g.O.Write.contents c.answer_lines-answered.new.out))))) c.in_ok-session.ensures.session c.answer_lines-answered.ensures.cut)
 
 pub returns-clause-end : goal.returns-clause-end

@@ -34,7 +34,7 @@ returns-then-is_err c =
     ends_at c.new.result c.unwrap-end.result c.get-2.result c.clock-start.result (clock_of s.board.plain) c.args.count _ c.new.ensures c.unwrap-end.ensures c.get-2.ensures.value
     (c.clock-start.ensures ∙ ap (λ (b : BoardState). clock_of b.plain) c.board.ensures.board) in
     let clock = so_far.ran.clock in
-    let within = turn.within in
+    let within = turn.before_end in
     let start : c.clock-start.result ≡ clock_of s.board.plain = c.clock-start.ensures ∙ ap (λ (b : BoardState). clock_of b.plain) c.board.ensures.board in
     stands_short c.args.count (so_far.passed + turn.passed) s c.run_turn.new.self c.lacking.result (omega (arith, c.if-get-count.false, c.get.ensures.value, start)) (omega (arith, end, clock, within))
     (runs_join so_far.passed turn.passed s.board c.turns.session.board c.run_turn.new.self.board so_far.ran turn.ran)

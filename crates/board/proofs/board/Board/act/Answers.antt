@@ -2,9 +2,9 @@ use Rattle.std.proofs.Common.{◌≡◌, ◌++◌, ◌+◌, ◌≤◌, length, a
 use Rattle.board_plain.specs.Board.{BoardState}
 use Rattle.board_plain.specs.Plain.{Plain, after_clock, change_next}
 use Rattle.events.specs.Accesses.{accesses_next}
-use Rattle.board.specs.Alone.{WiresStay}
+use Rattle.board.specs.Alone.{PassesOver, WiresStay}
 use Rattle.board.proofs.Beginning.{act_on}
-use Rattle.board.proofs.OneTurn.{stay_behind}
+use Rattle.board.proofs.OneTurn.{passes_within, stay_after_first}
 use Rattle.board.proofs.board.Board.act.Goals as goal
 
 pub returns-clause-ok : goal.returns-clause-ok
@@ -26,7 +26,8 @@ pub returns-clause-steady : goal.returns-clause-steady
 returns-clause-steady g c = λ not.
     let s : BoardState = c.args.self.now in
     let plain : c.list_change.new.self.plain ≡ s.plain = c.list_change.ensures.plain ∙ c.is_high_next-high.ensures.plain ∙ ap (λ (b : BoardState). b.plain) c.self.view_is in
-    stay_behind s.plain c.make.new.self.plain (subst (λ (p : Plain). WiresStay (after_clock p) c.make.new.self.plain) plain (c.make.ensures.steady not))
+    let passed : PassesOver c.args.within (after_clock s.plain) c.make.new.self.plain = subst (λ (p : Plain). PassesOver c.args.within (after_clock p) c.make.new.self.plain) plain c.make.ensures.passed in
+    stay_after_first c.args.within s.plain c.make.new.self.plain (passes_within c.args.within s.plain c.make.new.self.plain c.requires.before passed) (subst (λ (p : Plain). WiresStay (after_clock p) c.make.new.self.plain) plain (c.make.ensures.steady not))
 
 pub returns-clause-noted : goal.returns-clause-noted
 returns-clause-noted g c =

@@ -21,7 +21,7 @@ returns-then-leap-clause-steady g c = λ not.
     let leap = (c.leap.ensures.made c.if-leap.true).leap in
     let some = leap.some in
     let clock = leap.unseen.clock in
-    stay_then c.args.self.now.plain c.leap.new.self.plain (omega (arith, some, clock)) (c.leap.ensures.steady not c.if-leap.true)
+    stay_then c.args.within c.args.self.now.plain c.leap.new.self.plain (omega (arith, some, clock)) (c.leap.ensures.steady not c.if-leap.true)
 
 pub act-requires-clause-next : goal.act-requires-clause-next
 act-requires-clause-next g c =
@@ -37,7 +37,7 @@ returns-clause-ok g c =
 
 pub returns-clause-steady : goal.returns-clause-steady
 returns-clause-steady g c = λ not.
-    subst (λ (b : BoardState). OnOk c.act.result (WiresStayThen b.plain c.act.new.self.plain)) (c.leap.ensures.not_made (λ yes. let no = c.if-leap.false in cc)) (c.act.ensures.steady not)
+    subst (λ (b : BoardState). OnOk c.act.result (WiresStayThen c.args.within b.plain c.act.new.self.plain)) (c.leap.ensures.not_made (λ yes. let no = c.if-leap.false in cc)) (c.act.ensures.steady not)
 
 pub returns-clause-err : goal.returns-clause-err
 returns-clause-err g c =

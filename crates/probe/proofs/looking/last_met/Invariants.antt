@@ -1,0 +1,12 @@
+-- What has been met last is known.
+use Rattle.std.proofs.Common.{◌-◌}
+use Rattle.board_plain.specs.Plain.{clock_of}
+use Rattle.probe.specs.Watched.{stops_of}
+use Rattle.probe.proofs.Searching.{LastSoFar}
+use Rattle.probe.proofs.looking.last_met.Given as goal
+
+abbrev pub invariant-turns : goal.invariant-turns
+invariant-turns l = LastSoFar (stops_of l.fn.watches) l.is_first l.to l.fn.board l.board l.watches l.here l.last
+
+abbrev pub decreases-turns : goal.decreases-turns
+decreases-turns l = l.to - clock_of l.board.plain

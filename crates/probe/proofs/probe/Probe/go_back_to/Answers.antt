@@ -1,0 +1,42 @@
+use Rattle.std.proofs.Common.{◌≡◌, ◌≤◌, ◌<◌, ◌-◌, ◌+◌, length, refl, sym, ap, ◌∙◌, subst, arith}
+use Rattle.std.specs.Prelude.{MatchResult}
+use Rattle.board_plain.specs.Board.{BoardState}
+use Rattle.board_plain.specs.Plain.{clock_of}
+use Rattle.probe.specs.Probe.{gone_by, GoesBackToStop, ProbeState, RefusesBackToStop}
+use Rattle.probe.specs.Stops.{MetLast}
+use Rattle.probe.specs.Watched.{stops_of}
+use Rattle.probe.proofs.Passing.{back_keep}
+use Rattle.probe.proofs.Probes.{goes_back_by, probe_of}
+use Rattle.probe.proofs.probe.Probe.go_back_to.Goals as goal
+
+pub overflow_sub-count : goal.overflow_sub-count
+overflow_sub-count c =
+    let last = c.requires.last in
+    let within = last.within in
+    let place = last.clock_is in
+    let now : c.get.result ≡ clock_of c.args.self.now.board.plain =
+    c.get.ensures.value ∙ c.clock.ensures ∙ ap (λ (b : BoardState). clock_of b.plain) c.board.ensures.board ∙ ap (λ (p : ProbeState). clock_of p.board.plain) c.self.view_is in
+    omega (arith, within, place, now, c.get-2.ensures.value)
+
+pub back-requires : goal.back-requires
+back-requires c =
+    let last = c.requires.last in
+    let within = last.within in
+    let place = last.clock_is in
+    let now : c.get.result ≡ clock_of c.args.self.now.board.plain =
+    c.get.ensures.value ∙ c.clock.ensures ∙ ap (λ (b : BoardState). clock_of b.plain) c.board.ensures.board ∙ ap (λ (p : ProbeState). clock_of p.board.plain) c.self.view_is in
+    omega (arith, within, place, now, c.get-2.ensures.value)
+
+pub invariant_of-self : goal.invariant_of-self
+invariant_of-self c = record {
+  conditions = back_keep (c.get.result - c.get-2.result) c.self.inside.session c.back.new.self c.back.result c.back.ensures ∙ c.self.invariant.conditions;
+  watched = c.self.invariant.watched;
+}
+
+pub returns : goal.returns
+returns c =
+    let stops = stops_of c.self.inside.watches.items in
+    let now : c.get.result ≡ clock_of c.self.inside.session.board.plain = c.get.ensures.value ∙ c.clock.ensures ∙ ap (λ (b : BoardState). clock_of b.plain) c.board.ensures.board in
+    let count : c.get.result - c.get-2.result ≡ clock_of c.self.inside.session.board.plain - c.args.clock = omega (arith, now, c.get-2.ensures.value) in
+    subst (λ r. MatchResult r (GoesBackToStop c.args.self.now (probe_of c.back.new.self stops)) (RefusesBackToStop c.args.self.now (probe_of c.back.new.self stops))) (sym c.with_number.ensures)
+    (goes_back_by c.args.self.now (c.get.result - c.get-2.result) c.args.clock c.args.number c.self.inside.session c.back.new.self stops c.back.result c.self.view_is c.requires.last c.requires.some count c.back.ensures)

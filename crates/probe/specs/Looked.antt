@@ -1,0 +1,107 @@
+-- How far a search for a clock at which a stop is met has come.
+-- For proofs alone: no public contract rests on it.
+use Rattle.std.proofs.Common.{zero, suc}
+use Rattle.std.specs.Prelude.{ℕ, ◌≡◌, ◌≢◌, ◌+◌, ◌-◌, ◌<◌, ◌≤◌, Bool, if◌then◌else◌, List, Option, None, Some, Result, Ok, Err}
+use Rattle.board_plain.specs.Board.{BoardState, Ran}
+use Rattle.board_plain.specs.Plain.{Plain, after_clock, clock_of, speaker_level}
+use Rattle.board.specs.declared.one_turn.Begun.{Begun}
+use Rattle.debugger_meaning.specs.declared.answer.Answer.{Answer}
+use Rattle.debugger_meaning.specs.declared.answer.Answer.TheVariants as answers
+use Rattle.debugger_meaning.specs.declared.fault.DebugFault.{DebugFault}
+use Rattle.debugger_meaning.specs.declared.fault.DebugFault.TheVariants.{BadScan, StampsFall, ClockLimit, BadCommand, TooManyStops, Memory, BeforeStart}
+use Rattle.debugger_meaning.specs.Stands.{SessionState}
+use Rattle.events.specs.declared.access.Access.{Access}
+use Rattle.probe.specs.declared.event_lines.Seen.{Seen}
+use Rattle.probe.specs.declared.stops.Stop.{Stop}
+use Rattle.probe.specs.declared.watched.Watched.{Watched}
+use Rattle.probe.specs.Met.{met}
+use Rattle.probe.specs.Stops.{meeting_at, NoneMet, NoneMetFrom, standing}
+use Rattle.probe.specs.Watched.{StaysCopied}
+
+-- a clock is looked at
+pub record LooksOn (before : Seen) (begun : Option Begun) (accesses : List Access) (t : Plain) (old new : List Watched)
+    (number : Option ℕ) : Type 0 where
+  pub number_is : number ≡ met old before begun accesses t
+  pub copied : StaysCopied accesses t old new
+
+-- how a run of so many clocks has ended: at the clock `end`, or at a stop
+abbrev pub HasEnded : List Stop → ℕ → ℕ → Plain → Option ℕ → Type 0
+HasEnded stops end passed s None = (end ≡ clock_of s + passed) × NoneMet stops passed s
+HasEnded stops end passed s (Some number) =
+    (1 ≤ passed) × NoneMet stops (passed - 1) s × (meeting_at stops s passed ≡ Some number)
+
+-- a run to the clock `end`, or to a stop
+pub record RanToStop (stops : List Stop) (end : ℕ) (old new : SessionState) (number : Option ℕ) : Type 0 where
+  pub passed : ℕ
+  pub ran : Ran passed old.board new.board
+  pub within : clock_of new.board.plain ≤ end
+  pub kept : new.stops ≡ old.stops
+  pub first : new.first ≡ old.first
+  pub ended : HasEnded stops end passed old.board.plain number
+
+-- a run that finds no memory for the speaker's next change
+pub record RanShort (stops : List Stop) (end : ℕ) (old new : SessionState) (clock : ℕ) : Type 0 where
+  pub passed : ℕ
+  pub ran : Ran passed old.board new.board
+  pub before_end : clock_of new.board.plain < end
+  pub changes_next : speaker_level (after_clock new.board.plain) ≢ speaker_level new.board.plain
+  pub full : new.board.room ≡ 0
+  pub none : NoneMet stops passed old.board.plain
+  pub kept : new.stops ≡ old.stops
+  pub first : new.first ≡ old.first
+  pub clock_is : clock ≡ clock_of new.board.plain
+
+abbrev pub ShortOfMemory : List Stop → ℕ → SessionState → SessionState → DebugFault → Type 0
+ShortOfMemory stops end old new ClockLimit = ⊥
+ShortOfMemory stops end old new BadScan = ⊥
+ShortOfMemory stops end old new StampsFall = ⊥
+ShortOfMemory stops end old new BadCommand = ⊥
+ShortOfMemory stops end old new TooManyStops = ⊥
+ShortOfMemory stops end old new (Memory None) = ⊥
+ShortOfMemory stops end old new (Memory (Some clock)) = RanShort stops end old new clock
+ShortOfMemory stops end old new BeforeStart = ⊥
+
+-- what is met so many clocks after a board; at its own clock only if it is a session's first
+abbrev pub met_after : Bool → List Stop → Plain → ℕ → Option ℕ
+met_after is_first stops s zero = if is_first then standing stops s else None
+met_after is_first stops s (suc n) = meeting_at stops s (suc n)
+
+abbrev pub NoneAfter : Bool → List Stop → Plain → ℕ → ℕ → Type 0
+NoneAfter is_first stops s from to = (j : ℕ) → from ≤ j → j ≤ to → met_after is_first stops s j ≡ None
+
+-- the last of n clocks after a board at which a stop is met
+pub record FoundLast (stops : List Stop) (is_first : Bool) (n : ℕ) (s : Plain) (clock number : ℕ) : Type 0 where
+  pub passed : ℕ
+  pub within : passed ≤ n
+  pub there : met_after is_first stops s passed ≡ Some number
+  pub none_later : NoneAfter is_first stops s (passed + 1) n
+  pub clock_is : clock ≡ clock_of s + passed
+
+abbrev pub IsFoundIn : List Stop → Bool → ℕ → Plain → Option (ℕ × ℕ) → Type 0
+IsFoundIn stops is_first n s None = NoneAfter is_first stops s 0 n
+IsFoundIn stops is_first n s (Some found) = FoundLast stops is_first n s found.0 found.1
+
+-- no clock is found, or there is no memory to look for it
+abbrev pub FindsNoStop : List Stop → ℕ → Plain → DebugFault → Type 0
+FindsNoStop stops n first ClockLimit = ⊥
+FindsNoStop stops n first BadScan = ⊥
+FindsNoStop stops n first StampsFall = ⊥
+FindsNoStop stops n first BadCommand = ⊥
+FindsNoStop stops n first TooManyStops = ⊥
+FindsNoStop stops n first (Memory None) = Unit {0}
+FindsNoStop stops n first (Memory (Some clock)) = ⊥
+FindsNoStop stops n first BeforeStart = NoneMetFrom stops n first
+
+-- the first clock that a stretch after a board tells of
+abbrev pub from_of : Bool → ℕ → ℕ
+from_of is_first clock = if is_first then clock else clock + 1
+
+-- what a run's end is told
+abbrev pub answer_at : Option ℕ → ℕ → Answer
+answer_at None clock = answers.Clock clock
+answer_at (Some number) clock = answers.StopAt number clock
+
+-- what a way back to it answers
+abbrev pub with_number : Result Answer DebugFault → ℕ → ℕ → Result Answer DebugFault
+with_number (Ok answer) clock number = Ok (answers.StopAt number clock)
+with_number (Err fault) clock number = Err fault

@@ -1,0 +1,130 @@
+-- What a probe is, and how it answers a line.
+-- To be believed by callers of this crate: the headline does not rest on it.
+use Rattle.std.specs.Prelude.{ℕ, ◌≡◌, ◌+◌, ◌-◌, ◌<◌, ◌≤◌, ◌^◌, IsTrue, List, [], ◌∷◌, ◌++◌, length, Option, None, Some, Result, MatchResult}
+use Rattle.board_plain.specs.declared.stop.Condition.{Condition}
+use Rattle.board_plain.specs.declared.stop.Stop.{Stop as End}
+use Rattle.board_plain.specs.Board.{BoardState, Ran, StoppedEarly}
+use Rattle.board_plain.specs.Plain.{clock_of}
+use Rattle.board_plain.specs.Stops.{run_length}
+use Rattle.debugger_meaning.specs.declared.answer.Answer.{Answer}
+use Rattle.debugger_meaning.specs.declared.answer.Answer.TheVariants as answers
+use Rattle.debugger_meaning.specs.declared.fault.DebugFault.{DebugFault}
+use Rattle.debugger_meaning.specs.declared.fault.DebugFault.TheVariants.{BadScan, StampsFall, ClockLimit, BadCommand, TooManyStops, Memory, BeforeStart}
+use Rattle.debugger_meaning.specs.Session.{told_of}
+use Rattle.debugger_meaning.specs.Stands.{SessionState, Shown, shown_of, StandsAt}
+use Rattle.probe.specs.declared.stops.Request.{Request}
+use Rattle.probe.specs.declared.stops.Request.TheVariants.{Add, Go, BackStop}
+use Rattle.probe.specs.declared.stops.Stop.{Stop}
+use Rattle.probe.specs.declared.stops.Stop.TheVariants.{Standing, When, Changes}
+use Rattle.probe.specs.Requests.{asks_changes, request_of}
+use Rattle.probe.specs.Session.{AnswersProbe}
+use Rattle.probe.specs.Stops.{IsEndOf, MetLast, NoneMet, NoneMetFrom}
+
+-- a probe: what the board showed with which it began, the board as it stands now, and the stops
+pub record ProbeState : Type 0 where
+  pub first : Shown
+  pub board : BoardState
+  pub stops : List Stop
+
+-- one that begins
+abbrev pub probe_about : BoardState → ProbeState
+probe_about board = record { first = shown_of board; board = board; stops = [] }
+
+-- what the stops ask that ask what stands
+abbrev pub conditions_of : List Stop → List Condition
+conditions_of [] = []
+conditions_of (Standing condition ∷ stops) = condition ∷ conditions_of stops
+conditions_of (When kinds ∷ stops) = conditions_of stops
+conditions_of (Changes address count ∷ stops) = conditions_of stops
+
+-- the debugger's session with these stops alone
+abbrev pub session_of : ProbeState → SessionState
+session_of s = record { first = s.first; board = s.board; stops = conditions_of s.stops }
+
+-- the clocks since it began
+abbrev pub gone_by : ProbeState → ℕ
+gone_by s = clock_of s.board.plain - clock_of s.first.plain
+
+-- a stop is added, and told its number; the board stands still
+pub record AddsStop (stop : Stop) (old new : ProbeState) (answer : Answer) : Type 0 where
+  pub room : length old.stops < 16
+  pub stops : new.stops ≡ old.stops ++ stop ∷ []
+  pub board : new.board ≡ old.board
+  pub first : new.first ≡ old.first
+  pub answer_is : answer ≡ answers.Stop (length old.stops + 1)
+
+-- it isn't: there are sixteen, or there is no memory for a copy of the bytes whose changes it asks for; nothing changes
+abbrev pub RefusesStop : Stop → ProbeState → ProbeState → DebugFault → Type 0
+RefusesStop stop old new ClockLimit = ⊥
+RefusesStop stop old new BadScan = ⊥
+RefusesStop stop old new StampsFall = ⊥
+RefusesStop stop old new BadCommand = ⊥
+RefusesStop stop old new TooManyStops = (length old.stops ≡ 16) × (new ≡ old)
+RefusesStop stop old new (Memory None) = (length old.stops < 16) × IsTrue (asks_changes stop) × (new ≡ old)
+RefusesStop stop old new (Memory (Some clock)) = ⊥
+RefusesStop stop old new BeforeStart = ⊥
+
+-- a run of at most n clocks, up to the first one after the start at which a stop holds
+pub record GoesOn (n : ℕ) (old new : ProbeState) (answer : Answer) : Type 0 where
+  pub stopped : Option End
+  pub within : clock_of old.board.plain + n ≤ 2 ^ 40
+  pub ends : IsEndOf old.stops n old.board.plain stopped
+  pub ran : Ran (run_length n old.board.plain stopped) old.board new.board
+  pub stops : new.stops ≡ old.stops
+  pub first : new.first ≡ old.first
+  pub answer_is : answer ≡ told_of stopped (clock_of new.board.plain)
+
+-- A run that found no memory for the speaker's next change stands at the clock before it, and tells that clock; no stop
+-- held at any clock after the start up to that one.
+pub record StopsShort (n : ℕ) (old new : ProbeState) (clock : ℕ) : Type 0 where
+  pub within : clock_of old.board.plain + n ≤ 2 ^ 40
+  pub early : StoppedEarly n old.board new.board
+  pub none_passed : NoneMet old.stops (clock_of new.board.plain - clock_of old.board.plain) old.board.plain
+  pub stops : new.stops ≡ old.stops
+  pub first : new.first ≡ old.first
+  pub clock_is : clock ≡ clock_of new.board.plain
+
+-- a run is refused if it would go past clock 2^40, and for want of memory
+abbrev pub RefusesGoing : ℕ → ProbeState → ProbeState → DebugFault → Type 0
+RefusesGoing n old new ClockLimit = (2 ^ 40 < clock_of old.board.plain + n) × (new ≡ old)
+RefusesGoing n old new BadScan = ⊥
+RefusesGoing n old new StampsFall = ⊥
+RefusesGoing n old new BadCommand = ⊥
+RefusesGoing n old new TooManyStops = ⊥
+RefusesGoing n old new (Memory None) = ⊥
+RefusesGoing n old new (Memory (Some clock)) = StopsShort n old new clock
+RefusesGoing n old new BeforeStart = ⊥
+
+-- back to the last earlier clock at which a stop holds
+pub record GoesBackToStop (old new : ProbeState) (answer : Answer) : Type 0 where
+  pub number : ℕ
+  pub last : MetLast old.stops (gone_by old) old.first.plain (clock_of new.board.plain) number
+  pub stands : StandsAt last.passed old.first new.board
+  pub first : new.first ≡ old.first
+  pub stops : new.stops ≡ old.stops
+  pub answer_is : answer ≡ answers.StopAt number (clock_of new.board.plain)
+
+-- it is refused if none holds at an earlier clock, and for want of memory; nothing changes
+abbrev pub RefusesBackToStop : ProbeState → ProbeState → DebugFault → Type 0
+RefusesBackToStop old new ClockLimit = ⊥
+RefusesBackToStop old new BadScan = ⊥
+RefusesBackToStop old new StampsFall = ⊥
+RefusesBackToStop old new BadCommand = ⊥
+RefusesBackToStop old new TooManyStops = ⊥
+RefusesBackToStop old new (Memory None) = (1 ≤ length old.stops) × (new ≡ old)
+RefusesBackToStop old new (Memory (Some clock)) = ⊥
+RefusesBackToStop old new BeforeStart = NoneMetFrom old.stops (gone_by old) old.first.plain × (new ≡ old)
+
+abbrev pub AnswersRequest : Request → ProbeState → Result Answer DebugFault → ProbeState → Type 0
+AnswersRequest (Add stop) old result new = MatchResult result (AddsStop stop old new) (RefusesStop stop old new)
+AnswersRequest (Go n) old result new = MatchResult result (GoesOn n old new) (RefusesGoing n old new)
+AnswersRequest BackStop old result new = MatchResult result (GoesBackToStop old new) (RefusesBackToStop old new)
+
+-- what has nothing to do with stops is answered as of the debugger's session, and leaves them
+abbrev pub AnswersUnless : Option Request → List ℕ → ProbeState → Result Answer DebugFault → ProbeState → Type 0
+AnswersUnless (Some request) line old result new = AnswersRequest request old result new
+AnswersUnless None line old result new =
+    AnswersProbe line (session_of old) result (session_of new) × (new.stops ≡ old.stops)
+
+abbrev pub AnswersStopping : List ℕ → ProbeState → Result Answer DebugFault → ProbeState → Type 0
+AnswersStopping line old result new = AnswersUnless (request_of line) line old result new

@@ -1,0 +1,81 @@
+-- What a line asks for that has to do with stops.
+-- To be believed by callers of this crate: the headline does not rest on it.
+use Rattle.std.specs.Prelude.{ℕ, ◌+◌, ◌^◌, Bool, true, false, ◌&&◌, nat_le, if◌then◌else◌, List, [], ◌∷◌, codes, Option, None, Some, option_map}
+use Rattle.std.specs.Str.{bytes_eq}
+use Rattle.board_plain.specs.declared.stop.Condition.TheVariants as conditions
+use Rattle.debugger_meaning.specs.declared.command.Command.{Command}
+use Rattle.debugger_meaning.specs.declared.command.Command.TheVariants as commands
+use Rattle.debugger_meaning.specs.Commands.{command_of}
+use Rattle.debugger_meaning.specs.Words.{count_of, hex_number, words_of}
+use Rattle.probe.specs.declared.kinds.Kind.{Kind}
+use Rattle.probe.specs.declared.stops.Request.{Request}
+use Rattle.probe.specs.declared.stops.Request.TheVariants.{Add, Go, BackStop}
+use Rattle.probe.specs.declared.stops.Stop.{Stop}
+use Rattle.probe.specs.declared.stops.Stop.TheVariants.{Standing, When, Changes}
+use Rattle.probe.specs.Kinds.{kinds_from}
+use Rattle.probe.specs.Stops.{HasBytes}
+
+-- 1 to 65,536 bytes, all of them below 100000h
+abbrev pub changes_within : ℕ → ℕ → Option Stop
+changes_within address count =
+    if nat_le 1 count && (nat_le count 65536 && nat_le (address + count) (2 ^ 20)) then Some (Changes address count) else None
+
+abbrev pub changes_of : Option ℕ → Option ℕ → Option Stop
+changes_of (Some address) (Some count) = changes_within address count
+changes_of (Some address) None = None
+changes_of None _ = None
+
+-- an address of one to five digits, and how many bytes: one, if that isn't said
+abbrev pub changes_in : List (List ℕ) → Option Stop
+changes_in [] = None
+changes_in (address ∷ []) = option_map (λ a. Changes a 1) (hex_number 5 address)
+changes_in (address ∷ count ∷ []) = changes_of (hex_number 5 address) (count_of count)
+changes_in (address ∷ count ∷ more ∷ rest) = None
+
+abbrev pub when_of : Option (List Kind) → Option Stop
+when_of kinds = option_map (λ (ks : List Kind). When (record { items = ks })) kinds
+
+-- a stop on what happens: `when writes=400-41F keys`, `changes 400 32`
+abbrev pub stop_in : List (List ℕ) → Option Stop
+stop_in [] = None
+stop_in (name ∷ words) =
+    if bytes_eq name (codes "when") then when_of (kinds_from [] words) else (
+    if bytes_eq name (codes "changes") then changes_in words else None)
+
+unfoldable pub stop_of : List ℕ → Option Stop
+stop_of line = stop_in (words_of line)
+
+-- what a command asks for
+abbrev pub request_by : Option Command → Option Request
+request_by (Some (commands.Break cs ip)) = Some (Add (Standing (conditions.At cs ip)))
+request_by (Some (commands.Byte address byte)) = Some (Add (Standing (conditions.Byte address byte)))
+request_by (Some commands.Sound) = Some (Add (Standing conditions.Sound))
+request_by (Some commands.Halted) = Some (Add (Standing conditions.Halted))
+request_by (Some (commands.Go count)) = Some (Go count)
+request_by (Some commands.BackStop) = Some BackStop
+request_by _ = None
+
+abbrev pub request_in : Option Stop → Option Command → Option Request
+request_in (Some stop) command = Some (Add stop)
+request_in None command = request_by command
+
+abbrev pub request_of : List ℕ → Option Request
+request_of line = request_in (stop_of line) (command_of line)
+
+-- a stop that is to be added asks for bytes that have addresses
+abbrev pub IsRequest : Request → Type 0
+IsRequest (Add stop) = HasBytes stop
+IsRequest (Go count) = Unit {0}
+IsRequest BackStop = Unit {0}
+
+-- a stop asks what stands
+abbrev pub is_standing : Stop → Bool
+is_standing (Standing condition) = true
+is_standing (When kinds) = false
+is_standing (Changes address count) = false
+
+-- it asks whether bytes change
+abbrev pub asks_changes : Stop → Bool
+asks_changes (Standing condition) = false
+asks_changes (When kinds) = false
+asks_changes (Changes address count) = true

@@ -1,0 +1,103 @@
+//! A copy of the bytes whose changes a stop asks for, as they stand at a board's clock.
+ghost use Rattle.std.specs.Prelude.{◌≡◌, ◌<◌, ◌^◌, IfOk, IsTrue, OnErr, length};
+ghost use Rattle.probe.specs.Met.{AreRenewed, HasRoom, IsCopy, IsCovered, IsOneRenewed, IsRecopied, differs_copied};
+ghost use Rattle.probe.specs.Requests.{asks_changes};
+ghost use Rattle.probe.specs.Stops.{HasBytes};
+
+use crate::stops::Stop;
+use board::board::Board;
+use events::access::Access;
+use std::alloc::{AllocError, Global};
+
+/// Bytes from an address on.
+#[derive(Drop)]
+pub(crate) struct Copied {
+    first: u32,
+    bytes: Vec<u8>,
+}
+
+impl Copied {
+    /// No bytes.
+    pub(crate) fn none(alloc: Global) -> Copied
+        ensures first { result.first ≡ 0 }
+        ensures none { length result.bytes.items ≡ 0 }
+    {
+        Copied {
+            first: 0,
+            bytes: Vec::new(alloc),
+        }
+    }
+
+    /// Room for the bytes whose changes a stop asks for.
+    pub(crate) fn new(alloc: Global, stop: &Stop) -> Result<Copied, AllocError>
+        requires { HasBytes stop.now }
+        ensures covers { IfOk result (λ copied. IsCovered copied stop.now) }
+        ensures room { IfOk result HasRoom }
+        ensures changes { OnErr result (IsTrue (asks_changes stop.now)) }
+    {
+        match stop {
+            Stop::Changes(first, count) => Copied::zeros(alloc, *first, *count),
+            Stop::Standing(_) | Stop::When(_) => Ok(Copied::none(alloc)),
+        }
+    }
+
+    /// Room for so many bytes from an address on.
+    fn zeros(alloc: Global, first: u32, count: u32) -> Result<Copied, AllocError>
+        ensures first { IfOk result (λ copied. copied.first ≡ first) }
+        ensures count { IfOk result (λ copied. length copied.bytes.items ≡ count) }
+    {
+        let bytes = vec![in alloc; 0; count as usize]?;
+        Ok(Copied { first, bytes })
+    }
+
+    /// Copies all of them anew.
+    pub(crate) fn copy(&mut self, board: &Board)
+        requires { HasRoom self.old }
+        ensures { IsRecopied board.now.plain self.old self.new }
+    {
+        for index in 0..self.bytes.len() {
+            self.bytes[index] = board.byte(self.first + index as u32);
+        }
+    }
+
+    /// Whether the byte at an address differs from the copied one, if it is among these.
+    pub(crate) fn differs(&self, address: u32, board: &Board) -> bool
+        requires { address < 2 ^ 20 }
+        ensures { result ≡ differs_copied self.now address board.now.plain }
+    {
+        if address < self.first {
+            return false;
+        }
+        match self.bytes.get((address - self.first) as usize) {
+            Some(byte) => *byte != board.byte(address),
+            None => false,
+        }
+    }
+
+    /// Copies the bytes that these accesses have written.
+    pub(crate) fn renew(&mut self, accesses: &[Access], board: &Board)
+        requires { HasRoom self.old }
+        ensures { AreRenewed accesses.now board.now.plain self.old self.new }
+    {
+        for access in accesses {
+            self.renew_by(*access, board);
+        }
+    }
+
+    /// Copies the byte that an access has written, if it has.
+    fn renew_by(&mut self, access: Access, board: &Board)
+        requires { HasRoom self.old }
+        ensures { IsOneRenewed access board.now.plain self.old self.new }
+    {
+        let Access::Write(address, _) = access else {
+            return;
+        };
+        if address < self.first {
+            return;
+        }
+        let place = (address - self.first) as usize;
+        if place < self.bytes.len() {
+            self.bytes[place] = board.byte(address);
+        }
+    }
+}

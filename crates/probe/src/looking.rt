@@ -1,0 +1,240 @@
+//! Searches for the clocks at which a stop is met.
+ghost use Rattle.std.specs.Prelude.{◌≡◌, ◌+◌, ◌-◌, ◌<◌, ◌≤◌, ◌^◌, All, if◌then◌else◌, IfOk, MatchResult, None, length};
+ghost use Rattle.std.specs.Result.{IfErr};
+ghost use Rattle.board.specs.Found.{found_at};
+ghost use Rattle.board_plain.specs.Plain.{clock_of};
+ghost use Rattle.debugger_meaning.specs.Kept.{LacksMemory};
+ghost use Rattle.probe.specs.Looked.{IsFoundIn, LooksOn, RanToStop, ShortOfMemory};
+ghost use Rattle.probe.specs.Met.{asks_keys, asks_wires};
+ghost use Rattle.probe.specs.Stops.{standing};
+ghost use Rattle.probe.specs.Watched.{asked_of, IsWatched, KeepsStops, stops_of};
+
+use crate::event_lines::{Asked, Seen, lists_keys, lists_wires, seen_of};
+use crate::making::lacking;
+use crate::met::{met, standing};
+use crate::stops::Stop;
+use crate::watched::{Watched, copy_bytes, renew_bytes};
+use board::board::Board;
+use board::one_turn::Begun;
+use board_types::clock::Clock;
+use debugger::session::Session;
+use debugger_meaning::fault::DebugFault;
+use events::access::Access;
+use execute_noted::notes::Accesses;
+
+/// The least number of a stop that is met at the end of a turn of the board. It was one clock, or a leap in which nothing has
+/// happened.
+fn found(
+    watches: &mut [Watched],
+    before: Seen,
+    begun: &Option<Begun>,
+    accesses: &[Access],
+    board: &Board,
+) -> Option<usize>
+    requires within { All IsWatched watches.old }
+    requires room { before.waiting ≤ 16 }
+    requires limit { before.clock < 2 ^ 40 }
+    requires later { before.clock < clock_of board.now.plain }
+    ensures keeps { KeepsStops watches.old watches.new }
+    ensures clock { clock_of board.now.plain ≡ before.clock + 1
+        → LooksOn before begun.now accesses.now board.now.plain watches.old watches.new result }
+    ensures leap { before.clock + 1 < clock_of board.now.plain
+        → result ≡ standing (stops_of watches.old) board.now.plain }
+    ensures copied { before.clock + 1 < clock_of board.now.plain → watches.new ≡ watches.old }
+{
+    if board.clock().get() != before.clock + 1 {
+        return standing(watches, board);
+    }
+    let number = met(watches, before, begun, accesses, board);
+    renew_bytes(watches, accesses, board);
+    number
+}
+
+/// Which parts of a board these stops ask for.
+fn asked_by(watches: &[Watched]) -> Asked
+    ensures { result ≡ asked_of watches.now }
+{
+    Asked {
+        wires: ask_wires(watches),
+        keys: ask_keys(watches),
+    }
+}
+
+/// Whether one of these stops asks for the wires.
+fn ask_wires(watches: &[Watched]) -> bool
+    ensures { result ≡ (asked_of watches.now).wires }
+{
+    watches.iter().any(|watched| asks_wires(&watched.stop))
+}
+
+/// Whether one of these stops asks for the keys.
+fn ask_keys(watches: &[Watched]) -> bool
+    ensures { result ≡ (asked_of watches.now).keys }
+{
+    watches.iter().any(|watched| asks_keys(&watched.stop))
+}
+
+fn asks_wires(stop: &Stop) -> bool
+    ensures { result ≡ asks_wires stop.now }
+{
+    match stop {
+        Stop::When(kinds) => lists_wires(kinds.as_slice()),
+        Stop::Standing(_) | Stop::Changes(..) => false,
+    }
+}
+
+fn asks_keys(stop: &Stop) -> bool
+    ensures { result ≡ asks_keys stop.now }
+{
+    match stop {
+        Stop::When(kinds) => lists_keys(kinds.as_slice()),
+        Stop::Standing(_) | Stop::Changes(..) => false,
+    }
+}
+
+/// The clock up to which a turn may lead in a run from `start` to `end`. What holds at the start may hold on, so the first clock
+/// is looked at by itself.
+fn turn_end(clock: u64, start: u64, end: Clock) -> Clock
+    requires { clock < end }
+    ensures first { clock ≡ start → result ≡ clock + 1 }
+    ensures later { clock < result }
+    ensures within { result ≤ end }
+{
+    if clock == start {
+        next_clock(clock, end)
+    } else {
+        end
+    }
+}
+
+/// The clock after one that isn't the last.
+fn next_clock(clock: u64, end: Clock) -> Clock
+    requires { clock < end }
+    ensures { result ≡ clock + 1 }
+{
+    Clock::new(clock + 1).unwrap()
+}
+
+/// Runs a session to the clock `end`, or up to the first clock after the start at which a stop is met, and answers the least
+/// number of one there.
+pub(crate) fn run_to_stop(
+    session: &mut Session,
+    watches: &mut [Watched],
+    end: Clock,
+) -> Result<Option<usize>, DebugFault>
+    requires within { All IsWatched watches.old }
+    requires from { clock_of session.old.board.plain ≤ end }
+    ensures ran { MatchResult result (RanToStop (stops_of watches.old) end session.old session.new)
+        (ShortOfMemory (stops_of watches.old) end session.old session.new) }
+    ensures keeps { KeepsStops watches.old watches.new }
+{
+    copy_bytes(watches, session.board());
+    let asked = asked_by(watches);
+    let mut accesses = Accesses::new();
+    let start = session.board().clock().get();
+    'turns: while session.board().clock() < end {
+        let before = seen_of(session.board(), asked);
+        let to = turn_end(before.clock, start, end);
+        let next = next_clock(before.clock, to);
+        let Ok(begun) = session.run_turn(next, to, &mut accesses, !asked.wires) else {
+            return Err(lacking(session));
+        };
+        let noted = accesses.as_slice();
+        let number = found(watches, before, &begun, noted, session.board());
+        if number.is_some() {
+            return Ok(number);
+        }
+    }
+    Ok(None)
+}
+
+/// The last clock up to `to`, after the board's own, at which a stop is met, with the least number of one there; the board's own
+/// clock too, if it is a session's first, to which no clock leads.
+pub(crate) fn last_met(
+    board: &mut Board,
+    watches: &mut [Watched],
+    is_first: bool,
+    to: Clock,
+) -> Result<Option<(Clock, usize)>, DebugFault>
+    requires within { All IsWatched watches.old }
+    requires from { clock_of board.old.plain ≤ to }
+    requires few { length board.old.trail ≤ 32 }
+    ensures found { IfOk result
+        (IsFoundIn (stops_of watches.old) is_first (to - clock_of board.old.plain) board.old.plain) }
+    ensures fault { IfErr result LacksMemory }
+    ensures keeps { KeepsStops watches.old watches.new }
+{
+    copy_bytes(watches, board);
+    let asked = asked_by(watches);
+    let mut accesses = Accesses::new();
+    let mut here = standing(watches, board);
+    let mut last = found_first(is_first, here, board.clock());
+    'turns: while board.clock() < to {
+        let before = seen_of(board, asked);
+        let next = next_clock(before.clock, to);
+        let Ok(begun) = board.run_turn(next, to, &mut accesses, !asked.wires) else {
+            return Err(DebugFault::Memory(None));
+        };
+        let clock = board.clock();
+        let before_end = found_before(last, here, before.clock, clock);
+        let noted = accesses.as_slice();
+        let number = found(watches, before, &begun, noted, board);
+        last = found_at(before_end, number, clock);
+        here = standing_now(number, watches, board);
+    }
+    Ok(last)
+}
+
+/// What is found at a session's first clock, at which this holds, if it is that.
+fn found_first(is_first: bool, here: Option<usize>, clock: Clock) -> Option<(Clock, usize)>
+    ensures { result ≡ (if is_first then found_at None here clock else None) }
+{
+    if is_first {
+        found_at(None, here, clock)
+    } else {
+        None
+    }
+}
+
+/// What is found up to the clock before the end of a turn: a leap goes over clocks at which that holds which held `here`.
+fn found_before(
+    last: Option<(Clock, usize)>,
+    here: Option<usize>,
+    start: u64,
+    end: Clock,
+) -> Option<(Clock, usize)>
+    requires { start < end }
+    ensures far { start + 1 < end → result ≡ found_at last here (end - 1) }
+    ensures once { end ≡ start + 1 → result ≡ last }
+{
+    if end.get() == start + 1 {
+        return last;
+    }
+    found_at(last, here, Clock::new(end.get() - 1).unwrap())
+}
+
+/// The least number of a stop that holds by what stands; none does if none is met.
+fn standing_now(number: Option<usize>, watches: &[Watched], board: &Board) -> Option<usize>
+    requires within { All IsWatched watches.now }
+    requires none { number ≡ None → standing (stops_of watches.now) board.now.plain ≡ None }
+    ensures { result ≡ standing (stops_of watches.now) board.now.plain }
+{
+    match number {
+        None => None,
+        Some(_) => standing(watches, board),
+    }
+}
+
+/// A number with its clock, or what was found before.
+fn found_at(
+    last: Option<(Clock, usize)>,
+    number: Option<usize>,
+    clock: Clock,
+) -> Option<(Clock, usize)>
+    ensures { result ≡ found_at last number clock }
+{
+    match number {
+        Some(number) => Some((clock, number)),
+        None => last,
+    }
+}

@@ -1,0 +1,237 @@
+//! A probe: a session that is inquired of, with its own stops.
+ghost use Rattle.std.specs.Prelude.{◌≡◌, ◌==◌, ◌<◌, ◌≤◌, ◌^◌, ◌++◌, [], ◌∷◌, All, IfOk, MatchResult, length};
+ghost use Rattle.std.specs.Result.{IfErr};
+ghost use Rattle.debugger_meaning.specs.Stands.{Stands, gone};
+ghost use Rattle.probe.specs.Looked.{FindsNoStop, answer_at, from_of, with_number};
+ghost use Rattle.probe.specs.Probe.{AddsStop, AnswersStopping, GoesBackToStop, GoesOn, RefusesBackToStop, RefusesGoing, RefusesStop, conditions_of, gone_by, probe_about, session_of};
+ghost use Rattle.probe.specs.Stops.{HasBytes, MetLast};
+ghost use Rattle.probe.specs.Watched.{IsWatched, KeepsStops, stops_of};
+
+use crate::looking::{last_met, run_to_stop};
+use crate::session::command;
+use crate::stops::{Request, Stop, read_request};
+use crate::watched::{Watched, Watches, all_stand, with_room};
+use board::board::Board;
+use board_types::clock::Clock;
+use debugger::session::Session;
+use debugger_meaning::answer::Answer;
+use debugger_meaning::fault::DebugFault;
+use std::alloc::Global;
+use std::marker::Model;
+
+/// The last clocks that a way back looks through first, after a leap to them: what is met often is met there.
+const NEAR: u64 = 1024;
+
+/// A session, and what its runs stop at. The session's own stops are those of them that ask what stands, in order.
+#[derive(Drop)]
+pub struct Probe {
+    session: Session,
+    watches: Watches,
+}
+
+impl Model for Probe {
+    ghost use Rattle.probe.specs.Probe.{ProbeState};
+    ghost use Rattle.probe.specs.Watched.{IsProbe, stops_of};
+
+    ghost Value = { ProbeState };
+
+    ghost view = { λ s. record { first = s.session.first; board = s.session.board; stops = stops_of s.watches.items } };
+
+    ghost invariant = { λ s. IsProbe s.session s.watches.items };
+}
+
+impl Probe {
+    /// A probe of the board where it stands, without stops. The board is dropped if there is no memory.
+    pub fn new(alloc: Global, board: Board) -> Result<Probe, DebugFault>
+        ensures session { IfOk result (λ probe. probe ≡ probe_about board) }
+        ensures stands { IfOk result (λ probe. Stands (session_of probe)) }
+        ensures fault { IfErr result (λ fault. fault ≡ DebugFault.Memory None) }
+    {
+        let session = Session::new(alloc, board)?;
+        Ok(Probe {
+            session,
+            watches: Watches::new_in(alloc),
+        })
+    }
+
+    /// Does what the line commands, and answers: what has to do with stops by the probe's, and any other line as its session
+    /// does. After each line the board stands where it stood so many clocks after the first one.
+    pub fn command(&mut self, alloc: Global, line: &str) -> Result<Answer, DebugFault>
+        ensures answers { AnswersStopping line.now self.old result self.new }
+        ensures stands { Stands (session_of self.new) }
+    {
+        let answer = self.answer(alloc, line);
+        // whatever the answer is, the board stands some clocks after the first one
+        let _board = self.session.board();
+        answer
+    }
+
+    fn answer(&mut self, alloc: Global, line: &str) -> Result<Answer, DebugFault>
+        ensures { AnswersStopping line.now self.old result self.new }
+    {
+        match read_request(line) {
+            Some(Request::Add(stop)) => self.add(alloc, stop),
+            Some(Request::Go(count)) => self.go(count),
+            Some(Request::BackStop) => self.back_stop(),
+            None => command(&mut self.session, alloc, line),
+        }
+    }
+
+    /// Adds a stop, if there are fewer than sixteen, and memory for a copy of the bytes that it asks for.
+    fn add(&mut self, alloc: Global, stop: Stop) -> Result<Answer, DebugFault>
+        requires { HasBytes stop }
+        ensures { MatchResult result (AddsStop stop self.old self.new) (RefusesStop stop self.old self.new) }
+    {
+        if self.watches.is_full() {
+            return Err(DebugFault::TooManyStops);
+        }
+        match with_room(alloc, stop) {
+            Ok(watched) => Ok(self.push(watched)),
+            Err(_) => Err(DebugFault::Memory(None)),
+        }
+    }
+
+    /// Adds a stop with its room, and tells its number.
+    fn push(&mut self, watched: Watched) -> Answer
+        requires room { length self.old.stops < 16 }
+        requires watched { IsWatched watched }
+        ensures { AddsStop watched.stop self.old self.new result }
+    {
+        add_condition(&mut self.session, &watched.stop);
+        self.watches.push(watched);
+        Answer::Stop(self.watches.len())
+    }
+
+    /// Runs for `count` clocks, or up to the first stop after the start.
+    fn go(&mut self, count: u64) -> Result<Answer, DebugFault>
+        ensures { MatchResult result (GoesOn count self.old self.new) (RefusesGoing count self.old self.new) }
+    {
+        if all_stand(self.watches.as_slice()) {
+            return self.session.go(count);
+        }
+        let start = self.session.board().clock().get();
+        if Clock::LAST - start < count {
+            return Err(DebugFault::ClockLimit);
+        }
+        let end = Clock::new(start + count).unwrap();
+        match run_to_stop(&mut self.session, self.watches.as_mut_slice(), end) {
+            Ok(found) => Ok(told(found, self.session.board().clock())),
+            Err(fault) => Err(fault),
+        }
+    }
+
+    /// Goes back to the last earlier clock at which a stop was met.
+    fn back_stop(&mut self) -> Result<Answer, DebugFault>
+        ensures { MatchResult result (GoesBackToStop self.old self.new) (RefusesBackToStop self.old self.new) }
+    {
+        if all_stand(self.watches.as_slice()) {
+            return self.session.back_stop();
+        }
+        match self.last_met() {
+            Ok(found) => self.go_back_to(found.0, found.1),
+            Err(fault) => Err(fault),
+        }
+    }
+
+    /// Goes back to a clock that was found, and tells it with the stop's number.
+    fn go_back_to(&mut self, clock: Clock, number: usize) -> Result<Answer, DebugFault>
+        requires last { MetLast self.old.stops (gone_by self.old) self.old.first.plain clock number }
+        requires some { 1 ≤ length self.old.stops }
+        ensures { MatchResult result (GoesBackToStop self.old self.new) (RefusesBackToStop self.old self.new) }
+    {
+        let count = self.session.board().clock().get() - clock.get();
+        with_number(self.session.back(count), clock, number)
+    }
+
+    /// The last earlier clock at which a stop was met, and the least number of one there.
+    fn last_met(&mut self) -> Result<(Clock, usize), DebugFault>
+        ensures kept { self.new ≡ self.old }
+        ensures found { MatchResult result
+            (λ found. MetLast self.old.stops (gone_by self.old) self.old.first.plain found.0 found.1)
+            (FindsNoStop self.old.stops (gone_by self.old) self.old.first.plain) }
+    {
+        search_back(&self.session, self.watches.as_mut_slice())
+    }
+}
+
+/// The last clock before a session's at which a stop was met, and the least number of one there.
+fn search_back(session: &Session, watches: &mut [Watched]) -> Result<(Clock, usize), DebugFault>
+    requires { All IsWatched watches.old }
+    ensures keeps { KeepsStops watches.old watches.new }
+    ensures found { MatchResult result
+        (λ found. MetLast (stops_of watches.old) (gone session.now) session.now.first.plain found.0 found.1)
+        (FindsNoStop (stops_of watches.old) (gone session.now) session.now.first.plain) }
+{
+    let first = session.first_clock().get();
+    let mut bound = session.board().clock().get();
+    let mut near = NEAR;
+    // stretch by stretch, each after a board that is kept
+    'stretches: while first < bound {
+        let before = first.max(bound.saturating_sub(2));
+        let Ok(mut board) = session.board_near(before, near) else {
+            return Err(DebugFault::Memory(None));
+        };
+        let from = board.clock().get();
+        let to = Clock::new(bound - 1).unwrap();
+        let found = last_met(&mut board, watches, from == first, to);
+        drop(board);
+        match found {
+            Ok(Some(found)) => return Ok(found),
+            Ok(None) => {
+                bound = stretch_start(from, first);
+                near = u64::MAX;
+            }
+            Err(fault) => return Err(fault),
+        }
+    }
+    Err(DebugFault::BeforeStart)
+}
+
+/// The first clock of a stretch after a board at `from`: what was met at that board's clock it can't tell, unless that is the
+/// session's first.
+fn stretch_start(from: u64, first: u64) -> u64
+    requires { from < 2 ^ 40 }
+    ensures { result ≡ from_of (from == first) from }
+{
+    if from == first { from } else { from + 1 }
+}
+
+/// Adds what a stop asks to a session's stops, if it asks what stands.
+fn add_condition(session: &mut Session, stop: &Stop)
+    requires within { HasBytes stop.now }
+    requires room { length session.old.stops < 16 }
+    ensures { session.new
+        ≡ record session.old { stops = session.old.stops ++ conditions_of (stop.now ∷ []) } }
+{
+    match stop {
+        Stop::Standing(condition) => drop(session.add(*condition)),
+        Stop::When(_) | Stop::Changes(..) => {}
+    }
+}
+
+/// What a run's end is told: the number of the stop that was met, or none, at a clock.
+fn told(found: Option<usize>, clock: Clock) -> Answer
+    ensures { result ≡ answer_at found clock }
+{
+    match found {
+        Some(number) => Answer::StopAt(number, clock),
+        None => Answer::Clock(clock),
+    }
+}
+
+/// What a way back answers, with the number of the stop that was found at its clock.
+fn with_number(
+    back: Result<Answer, DebugFault>,
+    clock: Clock,
+    number: usize,
+) -> Result<Answer, DebugFault>
+    ensures { result ≡ with_number back clock number }
+{
+    match back {
+        Ok(answer) => {
+            drop(answer);
+            Ok(Answer::StopAt(number, clock))
+        }
+        Err(fault) => Err(fault),
+    }
+}

@@ -1,0 +1,112 @@
+//! What a probe's run may stop at, and the reading of a line as what has to do with stops.
+ghost use Rattle.std.specs.Prelude.{◌≡◌, ◌<◌, ◌^◌, IfSome, length};
+ghost use Rattle.debugger_meaning.specs.Words.{words_of};
+ghost use Rattle.probe.specs.Stops.{HasBytes};
+ghost use Rattle.probe.specs.Requests.{changes_in, is_standing, request_of, stop_of, IsRequest};
+
+use crate::kinds::{Kinds, read_kinds};
+use arrayvec::ArrayVec;
+use board_plain::stop::Condition;
+use debugger_meaning::command::{Command, read_command};
+use debugger_meaning::word::{count_of, hex_number, next_word};
+
+/// What a probe's run may stop at, at any clock.
+#[derive(Drop)]
+pub enum Stop {
+    /// A condition of the board holds.
+    Standing(Condition),
+    /// Something of these kinds has happened in the clock that led there.
+    When(Kinds),
+    /// One of so many bytes from an address on, 1 to 65,536 of them, all below 100000h, differs from the clock before.
+    Changes(u32, u32),
+}
+
+/// A stop that isn't used.
+impl Default for Stop {
+    fn default() -> Stop {
+        Stop::Changes(0, 1)
+    }
+}
+
+/// What a probe's run may stop at, numbered from 1.
+pub type Stops = ArrayVec<Stop, 16>;
+
+/// What a line asks for that has to do with stops.
+#[derive(Drop)]
+pub(crate) enum Request {
+    /// One stop more.
+    Add(Stop),
+    /// On to the next stop, for at most so many clocks.
+    Go(u64),
+    /// Back to the last earlier clock at which a stop held.
+    BackStop,
+}
+
+/// What a line asks for, if that has to do with stops.
+pub(crate) fn read_request(line: &str) -> Option<Request>
+    ensures value { result ≡ request_of line.now }
+    ensures within { IfSome result IsRequest }
+{
+    if let Some(stop) = read_stop(line) {
+        return Some(Request::Add(stop));
+    }
+    match read_command(line)? {
+        Command::Break(cs, ip) => Some(standing(Condition::At(cs, ip))),
+        Command::Byte(address, byte) => Some(standing(Condition::Byte(address, byte))),
+        Command::Sound => Some(standing(Condition::Sound)),
+        Command::Halted => Some(standing(Condition::Halted)),
+        Command::Go(count) => Some(Request::Go(count)),
+        Command::BackStop => Some(Request::BackStop),
+        _ => None,
+    }
+}
+
+fn standing(condition: Condition) -> Request
+    ensures { result ≡ Request.Add (Stop.Standing condition) }
+{
+    Request::Add(Stop::Standing(condition))
+}
+
+/// A stop on what happens, as `when` and `changes` name one.
+#[tactic(auto, unfolding(crate::specs::Requests::stop_of))]
+fn read_stop(line: &str) -> Option<Stop>
+    ensures value { result ≡ stop_of line.now }
+    ensures within { IfSome result HasBytes }
+{
+    let (name, rest) = next_word(line.as_bytes())?;
+    if name == b"when".as_slice() {
+        let kinds = read_kinds(rest)?;
+        return Some(Stop::When(kinds));
+    }
+    if name == b"changes".as_slice() {
+        return changes(rest);
+    }
+    None
+}
+
+/// The bytes whose changes are a stop: an address, and how many from it on, one if that isn't said.
+fn changes(words: &[u8]) -> Option<Stop>
+    ensures value { result ≡ changes_in (words_of words.now) }
+    ensures within { IfSome result HasBytes }
+{
+    let (address, rest) = next_word(words)?;
+    let Some((count, rest)) = next_word(rest) else {
+        return Some(Stop::Changes(hex_number(5, address)?, 1));
+    };
+    if next_word(rest).is_some() {
+        return None;
+    }
+    let address = hex_number(5, address)?;
+    let count = count_of(count)?;
+    if count < 1 || count > 65536 || u64::from(address) + count > 0x10_0000 {
+        return None;
+    }
+    Some(Stop::Changes(address, count as u32))
+}
+
+/// Whether a stop asks what stands.
+pub(crate) fn is_standing(stop: &Stop) -> bool
+    ensures { result ≡ is_standing stop.now }
+{
+    matches!(stop, Stop::Standing(_))
+}

@@ -1,0 +1,75 @@
+//! Stops, each with a copy of the bytes whose changes it asks for.
+ghost use Rattle.std.specs.Prelude.{◌≡◌, All, IfOk, IsTrue, OnErr};
+ghost use Rattle.probe.specs.Requests.{asks_changes};
+ghost use Rattle.probe.specs.Stops.{HasBytes};
+ghost use Rattle.probe.specs.Watched.{all_standing, AreCopies, IsWatched, KeepsStops, StaysCopied};
+
+use crate::bytes::Copied;
+use crate::stops::{Stop, is_standing};
+use arrayvec::ArrayVec;
+use board::board::Board;
+use events::access::Access;
+use std::alloc::{AllocError, Global};
+use std::default::MadeWith;
+
+/// A stop, and a copy of the bytes whose changes it asks for.
+#[derive(Drop)]
+pub(crate) struct Watched {
+    pub(crate) stop: Stop,
+    pub(crate) copied: Copied,
+}
+
+/// One that isn't used.
+impl MadeWith<Global> for Watched {
+    fn made_with(alloc: Global) -> Watched {
+        Watched {
+            stop: Stop::default(),
+            copied: Copied::none(alloc),
+        }
+    }
+}
+
+/// At most sixteen of them, numbered from 1.
+pub(crate) type Watches = ArrayVec<Watched, 16, Global>;
+
+/// A stop, with room for the bytes whose changes it asks for.
+pub(crate) fn with_room(alloc: Global, stop: Stop) -> Result<Watched, AllocError>
+    requires { HasBytes stop }
+    ensures stop { IfOk result (λ watched. watched.stop ≡ stop) }
+    ensures watched { IfOk result IsWatched }
+    ensures changes { OnErr result (IsTrue (asks_changes stop)) }
+{
+    match Copied::new(alloc, &stop) {
+        Ok(copied) => Ok(Watched { stop, copied }),
+        Err(fault) => Err(fault),
+    }
+}
+
+/// Whether each stop asks what stands.
+pub(crate) fn all_stand(watches: &[Watched]) -> bool
+    ensures { result ≡ all_standing watches.now }
+{
+    watches.iter().all(|watched| is_standing(&watched.stop))
+}
+
+/// Copies the bytes of all stops anew.
+pub(crate) fn copy_bytes(watches: &mut [Watched], board: &Board)
+    requires { All IsWatched watches.old }
+    ensures keeps { KeepsStops watches.old watches.new }
+    ensures copies { AreCopies watches.new board.now.plain }
+{
+    for index in 0..watches.len() {
+        watches[index].copied.copy(board);
+    }
+}
+
+/// Copies the bytes of all stops that these accesses, those of the clock that led to the board's, have written.
+pub(crate) fn renew_bytes(watches: &mut [Watched], accesses: &[Access], board: &Board)
+    requires { All IsWatched watches.old }
+    ensures keeps { KeepsStops watches.old watches.new }
+    ensures copies { StaysCopied accesses.now board.now.plain watches.old watches.new }
+{
+    for index in 0..watches.len() {
+        watches[index].copied.renew(accesses, board);
+    }
+}
