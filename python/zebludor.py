@@ -577,7 +577,7 @@ class Session:
     """A session of the debugger, as a context manager: a board at clock 0 that goes forth and back. Stops are numbered from 1,
     and stay for the whole session; what goes to a stop answers the number of the one that holds, or None. Its commands are
     those of docs/debugger.md; a refused one is raised as Fault. `source` tells where labels and lines stand. With `probe` it is
-    one of pcprobe, which has `events` and `key`."""
+    one of pcprobe, which has `events`, `key`, `watch` and `stop_when`."""
 
     def __init__(self, source: Source, *, is_hex: bool = False, symbols: str | os.PathLike | None = None, probe: bool = False, **fields: Any) -> None:
         self.source, self._is_probe = Places(source, is_hex=is_hex, symbols=symbols), probe
@@ -646,6 +646,18 @@ class Session:
     def stop_at_halt(self) -> int:
         """A stop: the processor is halted (`halted`)."""
         return self._stop('halted')
+
+    def watch(self, place: str | int, count: int = 1, *, is_each_write: bool = False) -> int:
+        """A stop: one of so many bytes, 1 to 65,536, from a label or a physical address on differs from the clock before (`changes`), or is
+        written, also as it stands there (`when writes`)."""
+        self._of_the_probe('watch')
+        first = self._address(place)
+        return self._stop(f'when writes={first:X}-{first + count - 1:X}' if is_each_write else f'changes {first:X} {count}')
+
+    def stop_when(self, *kinds: str) -> int:
+        """A stop: something of these kinds, which are those of `events`, has happened in the clock that led there (`when`)."""
+        self._of_the_probe('stop_when')
+        return self._stop(f'when {" ".join(map(self._kind, kinds))}')
 
     def go(self, clocks: int) -> int | None:
         """To the next stop, at most so many clocks on."""

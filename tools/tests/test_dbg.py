@@ -85,7 +85,7 @@ class Sessions(ToolCase):
     def test_goes_back_to_the_last_stop(self) -> None:
         told = self.dbg('ticks', 'last', 'break tick', 'last', 'go', 'go', 'go', 'last', 'last', 'last', 'to 1400', 'last', 'go')
         stop, none = 'stop 1 (break F600:0058 tick), clock {}', 'no stop held at any earlier clock'
-        wanted = ['there is no stop; break, byte, sound and halted add one', 'stop 1', none]
+        wanted = ['there is no stop; break, watch, when, byte, sound and halted add one', 'stop 1', none]
         wanted += [*(stop.format(it) for it in (1009, 1397, 1797, 1397, 1009)), none, 'clock 1400', stop.format(1397), stop.format(1797)]
         self.assertEqual([it.split(': ')[0] for it in told], wanted)
 
@@ -264,7 +264,7 @@ class Sessions(ToolCase):
 
     def test_seventeen_stops(self) -> None:
         told = self.dbg('hello', *['halted'] * 17, 'clear all', 'halted')
-        self.assertIn('fault 52 TooManyStops', told[16])
+        self.assertIn('there are 16 stops', told[16])
         self.assertEqual(told[17:], ['no stops', 'stop 17: halted'])
         self.assertEqual(self.dbg('hello', *['halted'] * 17, 'stops')[-1], 'stop 16: halted')
 

@@ -195,6 +195,29 @@ class Runs(ToolCase):
         with Session(ticks, probe=True) as session:
             self.assertEqual([each[2:] for each in session.events(200, 'writes=count')][:2], [(1, 0), (1, 1)])
 
+    def test_stops_on_what_happens(self) -> None:
+        """A byte's changes forth and back, its writes, and an interrupt's entry; what `pcboard debug` hasn't is refused."""
+        source = pathlib.Path(example('ticks')[0])
+        for ask in (lambda it: it.watch(0xB0000), lambda it: it.stop_when('keys')):
+            with self.assertRaisesRegex(Unfit, 'probe=True'), Session(source) as session:
+                ask(session)
+        with Session(source, probe=True) as session:
+            self.assertEqual([session.watch(0xB0000), session.stop_when('entries'), session.watch(0xB0001, 2, is_each_write=True)], [1, 2, 3])
+            met = [(session.go(3000), session.clock) for _ in range(5)]
+            self.assertEqual(met, [(1, 885), (2, 949), (1, 1010), (2, 1337), (1, 1398)])
+            self.assertEqual([(session.back_to_stop(), session.clock) for _ in range(4)], [(2, 1337), (1, 1010), (2, 949), (1, 885)])
+            for refused in (lambda: session.watch(0xFFFFF, 2), lambda: session.watch(0xB0000, 0), lambda: session.stop_when('all'), session.stop_when):
+                with self.assertRaises(Fault) as caught:
+                    refused()
+                self.assertEqual(caught.exception.number, 51)
+        with Session(
+            'SEGMENT MAIN AT 0F000h\nstart:  MOV AX,SEG count\n        MOV DS,AX\nagain:  INC WORD [count]\n        JMP SHORT again\nENDS\n'
+            'SEGMENT D AT 50h\ncount:  DW 0\nENDS\nSEGMENT RESET AT 0FFFFh\n        JMP FAR start\n',
+            probe=True,
+        ) as session:
+            session.watch('count', 2)
+            self.assertEqual((session.go(1000), session.word('count')), (1, 1))
+
     def test_keys_that_are_typed(self) -> None:
         """The board is that of a run with these keys; each refusal is raised, and changes nothing."""
         source = pathlib.Path(example('keys')[0])

@@ -2,6 +2,7 @@
 from __future__ import annotations
 
 import base64
+import contextlib
 import os
 import queue
 import re
@@ -21,9 +22,10 @@ from toolbox.listing import Line, Listing, listing_of, physical
 from toolbox.places import far_of
 from toolbox.program import LAST_CLOCK, TOP, Files, copied, is_hex_name
 from toolbox.returns import Far
-from toolbox.runfile import DEFAULTS, budget_of, report_at, text_of
+from toolbox.runfile import DEFAULTS, budget_of, text_of
 from toolbox.scancodes import stamped, strokes_of
-from toolbox.session_board import Gone, Left, Paused, SessionBoard, break_at
+from toolbox.session_board import Gone, Left, Paused, SessionBoard, break_at, place_of
+from toolbox.watches import NO_READS, changed, watch_of, what_was_seen
 
 Fields = dict[str, Any]
 THREAD = 1
@@ -42,6 +44,7 @@ CAPABILITIES = {
     'supportsConditionalBreakpoints': True,
     'supportsHitConditionalBreakpoints': True,
     'supportsLogPoints': True,
+    'supportsDataBreakpoints': True,
     'exceptionBreakpointFilters': [{'filter': name, 'label': label, 'default': False} for name, label in FILTERS.items()],
 }
 SHOWING = ('regs', 'screen', 'dump', 'trail', 'chips')
@@ -54,6 +57,7 @@ BESIDE_A_RUN = (
     'setBreakpoints',
     'setFunctionBreakpoints',
     'setInstructionBreakpoints',
+    'setDataBreakpoints',
     'setExceptionBreakpoints',
 )
 
@@ -69,15 +73,10 @@ def field(fields: Fields, name: str, kind: type, default: Any = None) -> Any:
 
 
 def first_lost(files: Files, begun: int, end: int) -> int | None:
-    """The first clock above one at which another key was lost, if one was up to the end, as reports tell it."""
-    before = report_at(files, begun).lost
-    low, high = begun, end
-    if report_at(files, end).lost == before:
-        return None
-    while high - low > 1:
-        middle = (low + high) // 2
-        low, high = (middle, high) if report_at(files, middle).lost == before else (low, middle)
-    return high
+    """The first clock above one at which another key was lost, if one was up to the end."""
+    with contextlib.closing(SessionBoard(files, end)) as board:
+        board.go_to(begun)
+        return next((int(line.split()[0]) for line in board.log(end, 'keys') if line.endswith(' lost')), None)
 
 
 class Adapter:
@@ -89,7 +88,7 @@ class Adapter:
         self.program, self.line_base, self.is_entry = '', 1, False
         self.sources: Sources | None = None
         self.variables: Variables | None = None
-        self.breakpoints = dict[str, dict[str, int]]()  # by kind: 'line' and a source, 'function', 'instruction'
+        self.breakpoints = dict[str, dict[str, int]]()  # by kind: 'line' and a source, 'function', 'instruction', 'data'
         self.asked = dict[str, dict[str, Asked]]()  # what each asks besides its place
         self.filters, self.has_uris, self.knows = set[str](), False, Fields()
         self.sent, self.count, self.is_running, self.is_over, self.is_paused, self.screen = 0, 0, False, False, False, ''
@@ -199,7 +198,7 @@ class Adapter:
         """Tells a stop, and the screen if it is another."""
         self.tell_edited()
         try:
-            here, lines = break_at(self.board().place()), self.board().many('screen')
+            here, lines = self.holding(reason), self.board().many('screen')
         except Gone as gone:
             return self.end(gone)
         screen = '\n'.join(it.rstrip() for it in lines).rstrip()
@@ -207,10 +206,15 @@ class Adapter:
             self.screen = screen
             edge = '-' * 80
             self.output(f'screen at clock {self.board().clock}\n{edge}\n{screen}\n{edge}\n', 'stdout')
-        them = [it for it, asked in self.asked.items() if here in asked and self.is_hit(asked[here])] if reason.endswith('breakpoint') else []
-        hit = [self.breakpoints[it][here] for it in them]
+        hit = [self.breakpoints[kind][stop] for kind, them in self.asked.items() for stop in here if stop in them and self.is_hit(them[stop])]
         told = {'reason': reason, 'description': text, 'text': text, 'threadId': THREAD, 'allThreadsStopped': True}
         self.event('stopped', told | ({'hitBreakpointIds': hit} if hit else {}))
+
+    def holding(self, reason: str) -> list[str]:
+        """The stops that hold where the board has stopped at one."""
+        if reason == 'data breakpoint':
+            return [stop for stop in self.breakpoints.get('data', {}) if changed(self.board(), stop)]
+        return [break_at(self.board().place())] if reason.endswith('breakpoint') else []
 
     def is_hit(self, asked: Asked) -> bool:
         """Whether the board is where a breakpoint that asks this stops it, as far as its condition goes."""
@@ -308,23 +312,25 @@ class Adapter:
 
     # breakpoints
 
-    def wanted(self) -> set[str]:
-        """The stops of all breakpoints."""
-        return {stop for them in self.breakpoints.values() for stop in them}
+    def wanted(self) -> list[str]:
+        """The stops of all breakpoints. Of those that hold at a clock the first is told: those that ask nothing more stand first."""
+        them = dict.fromkeys(stop for kind in ('data', *self.breakpoints) for stop in self.breakpoints.get(kind, ()))
+        return sorted(them, key=lambda it: (bool(place_of(it)), it in self.board().asked))
 
-    def set_breakpoints(self, kind: str, asked: list[Any], place_of: Callable[[Any], tuple[Far, Fields]]) -> Fields:
+    def set_breakpoints(self, kind: str, asked: list[Any], stop_of: Callable[[Any], tuple[str, Fields]]) -> Fields:
         """Puts these breakpoints for those of a kind, and tells of each where it is, or why it is nowhere."""
         self.breakpoints[kind], self.asked[kind], told = {}, {}, list[Fields]()
         for it in asked:
             self.count += 1
             try:
-                place, more = place_of(it)
+                stop, more = stop_of(it)
                 wants = self.wants(it)
-                if len(self.wanted() | {break_at(place)}) > MOST_BREAKPOINTS:
+                if len({*self.wanted(), stop}) > MOST_BREAKPOINTS:
                     raise Sorry(f'there are {MOST_BREAKPOINTS} breakpoints already, the most that go')
-                number = self.breakpoints[kind].setdefault(break_at(place), self.count)
-                self.asked[kind].setdefault(break_at(place), wants)
-                told.append({'id': number, 'verified': True, 'instructionReference': f'0x{physical(*place):05X}'} | more)
+                number = self.breakpoints[kind].setdefault(stop, self.count)
+                self.asked[kind].setdefault(stop, wants)
+                place = place_of(stop)
+                told.append({'id': number, 'verified': True} | ({'instructionReference': f'0x{physical(*place):05X}'} if place else {}) | more)
             except Sorry as sorry:
                 told.append({'id': self.count, 'verified': False, 'message': str(sorry)})
         stops = {stop: [them[stop] for them in self.asked.values() if stop in them] for stop in self.wanted()}
@@ -355,7 +361,7 @@ class Adapter:
         self.tell_edited()
         return self.set_breakpoints(f'line {name}', asked, lambda it: self.of_line(name, field(it, 'line', int) + 1 - self.line_base))
 
-    def of_line(self, name: str, number: int) -> tuple[Far, Fields]:
+    def of_line(self, name: str, number: int) -> tuple[str, Fields]:
         """The place of a source's line, or that of the next line with code."""
         lines = self.board().listing.of_file(name)
         if not lines:
@@ -367,17 +373,44 @@ class Adapter:
         more: Fields = {'line': found.number - 1 + self.line_base, 'source': self.of_launch().described(name)}
         if found is not here:
             more['message'] = f'line {number} places nothing, so this is at line {found.number}'
-        return found.address, more
+        return break_at(found.address), more
 
     def on_setFunctionBreakpoints(self, given: Fields) -> Fields:
-        return self.set_breakpoints('function', field(given, 'breakpoints', list), lambda it: (far_of(self.board().listing, field(it, 'name', str)), {}))
+        listing = self.board().listing
+        return self.set_breakpoints('function', field(given, 'breakpoints', list), lambda it: (break_at(far_of(listing, field(it, 'name', str))), {}))
 
     def on_setInstructionBreakpoints(self, given: Fields) -> Fields:
-        def place_of(it: Any) -> tuple[Far, Fields]:
+        def stop_of(it: Any) -> tuple[str, Fields]:
             address = self.address(field(it, 'instructionReference', str)) + field(it, 'offset', int, 0)
-            return self.far(address), {}
+            return break_at(self.far(address)), {}
 
-        return self.set_breakpoints('instruction', field(given, 'breakpoints', list), place_of)
+        return self.set_breakpoints('instruction', field(given, 'breakpoints', list), stop_of)
+
+    def on_dataBreakpointInfo(self, given: Fields) -> Fields:
+        """What can be watched of a variable or an expression: bytes of memory, by their address and number."""
+        name, number = field(given, 'name', str), field(given, 'variablesReference', int, 0)
+        board, variables = self.board(), self.variables
+        try:
+            places = variables.places(number, name) if number and variables else None
+            if places is None:
+                places = Expression(board, board.listing, name).value().places()
+        except Sorry as sorry:
+            return {'dataId': None, 'description': str(sorry)}
+        if not places:
+            return {'dataId': None, 'description': f'{name} has no place in memory'}
+        described = f'{name}: {len(places)} byte{"s" if len(places) > 1 else ""} from {places[0]:05X}'
+        return {'dataId': f'{places[0]:05X} {len(places)}', 'description': described, 'accessTypes': ['write'], 'canPersist': False}
+
+    def on_setDataBreakpoints(self, given: Fields) -> Fields:
+        def stop_of(it: Any) -> tuple[str, Fields]:
+            found = re.fullmatch(r'([0-9A-F]{5}) (\d{1,5})', field(it, 'dataId', str))
+            if not found:
+                raise Sorry(f'{it["dataId"]} is no data that can be watched')
+            if field(it, 'accessType', str, 'write') != 'write':
+                raise Sorry(NO_READS)
+            return watch_of(int(found[1], 16), int(found[2])), {}
+
+        return self.set_breakpoints('data', field(given, 'breakpoints', list), stop_of)
 
     def on_setExceptionBreakpoints(self, given: Fields) -> Fields:
         asked = field(given, 'filters', list, [])
@@ -409,8 +442,9 @@ class Adapter:
         """Why the board stands where it does."""
         if met:
             kinds = [kind for kind, them in self.breakpoints.items() if met in them]
-            name = f'{kinds[0]} breakpoint' if kinds and kinds[0] in ('function', 'instruction') else 'breakpoint'
-            return name, f'clock {self.board().clock}: {name}'
+            name = f'{kinds[0]} breakpoint' if kinds and kinds[0] in ('function', 'instruction', 'data') else 'breakpoint'
+            what = '' if place_of(met) else f', {what_was_seen(self.board(), self.board().listing, met)}'
+            return name, f'clock {self.board().clock}: {name}{what}'
         if self.board().clock >= self.board().budget:
             return 'pause', f'the run ends at clock {self.board().clock}, {self.board().state()}'
         return reason, f'clock {self.board().clock}: {text}'
@@ -477,7 +511,7 @@ class Adapter:
 
     def on_next(self, given: Fields) -> tuple[Fields, Callable[[], tuple[str, str]]]:
         board = self.board()
-        return {}, lambda: self.told_of_a_way(self.by_lines(given, lambda: board.next(self.wanted())), 'step')
+        return {}, lambda: self.told_of_a_way(self.way(lambda places: self.by_lines(given, lambda: board.next(places))), 'step')
 
     def on_stepIn(self, given: Fields) -> tuple[Fields, Callable[[], tuple[str, str]]]:
         board = self.board()
@@ -486,11 +520,17 @@ class Adapter:
             board.why = 'returned'
             board.step()
 
-        return {}, lambda: self.told(self.by_lines(given, step), 'step', 'step')
+        return {}, lambda: self.told(self.way(lambda _: self.by_lines(given, step)), 'step', 'step')
 
     def on_stepOut(self, _: Fields) -> tuple[Fields, Callable[[], tuple[str, str]]]:
         board = self.unless_ended()
-        return {}, lambda: self.told_of_a_way(board.out(self.wanted()), 'step out')
+        return {}, lambda: self.told_of_a_way(self.way(board.out), 'step out')
+
+    def way(self, way: Callable[[list[str]], str | None]) -> str | None:
+        """A way by instructions, at most to a breakpoint. An instruction that is under way, as at data that has changed, ends first."""
+        board, wanted = self.board(), self.wanted()
+        board.end_instruction()
+        return board.to_stops(lambda: way([it for it in wanted if place_of(it)]), wanted)
 
     def on_stepBack(self, _: Fields) -> tuple[Fields, Callable[[], tuple[str, str]]]:
         board = self.board()
@@ -510,11 +550,7 @@ class Adapter:
 
         def back() -> tuple[str, str]:
             met = board.back_to(self.wanted())
-            return (
-                self.told(met, 'entry', 'no breakpoint was passed before: the start of the run')
-                if met is None
-                else ('breakpoint', f'clock {board.clock}: breakpoint')
-            )
+            return self.told(met, 'entry', 'no breakpoint was passed before: the start of the run')
 
         return {}, back
 

@@ -9,7 +9,7 @@ from toolbox.listing import Listing, physical
 from toolbox.places import Event, is_repeated, operation_of
 from toolbox.program import LAST_CLOCK, Files
 from toolbox.returns import Far, ends_with_call, places_on_stack
-from toolbox.session_board import BEFORE_START, MOST_STOPS, SessionBoard, break_at
+from toolbox.session_board import BEFORE_START, MOST_STOPS, SessionBoard, break_at, place_of
 
 MOST_BREAKPOINTS = MOST_STOPS - 1  # one is left for the place behind a call
 SHORT_WALK = 200
@@ -97,6 +97,15 @@ class Machine(SessionBoard):
             if met is None or met != behind or met in wanted and not is_there() and self.is_met(met, self.clock):
                 return met
         return None
+
+    def to_stops(self, way: Callable[[], str | None], wanted: Collection[str]) -> str | None:
+        """A way that ends at places, at most to one of these stops: for those that aren't places it is gone once more."""
+        here, met, others = self.clock, way(), [it for it in wanted if not place_of(it)]
+        if others and (there := self.clock) > here:
+            self.go_to(here)
+            found = self.run(others, there)
+            self.why, met = ('stop', found) if found else (self.why, met)
+        return met
 
     def out(self, wanted: Collection[str]) -> str | None:
         """Runs to where the routine has returned: behind a RET or IRET that leaves the stack above where it is now; or to one of

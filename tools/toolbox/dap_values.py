@@ -27,6 +27,10 @@ class Value:
     size: int = 2
     address: int | None = None
 
+    def places(self) -> range:
+        """Its bytes in memory; none of a number that was read from none."""
+        return range(0) if self.address is None else range(self.address, self.address + self.size)
+
     def shown(self) -> str:
         """As the dialect writes it, and in decimal."""
         number = self.number % (1 << 8 * self.size) if self.number >= 0 or self.size < 4 else self.number

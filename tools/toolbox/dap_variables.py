@@ -49,6 +49,20 @@ class Variables:
         rows = self._elements(self.data()[number - FIRST_DATUM])
         return rows[first : first + count if count else None]
 
+    def places(self, number: int, name: str) -> range | None:
+        """The bytes of a label, or of an element of one; None of a variable that is an expression, or of another scope."""
+        labels = {one.name: one for one in self.data()}
+        datum, first, length = labels.get(name) if number == SCOPES.index('Data') + 1 else None, 0, 0
+        if datum:
+            length = datum.length
+        elif 0 <= number - FIRST_DATUM < len(self.data()) and (found := re.fullmatch(r'\[(\d{1,6})\]', name)):
+            datum = self.data()[number - FIRST_DATUM]
+            first, length = int(found[1]) * SIZES[datum.kind], SIZES[datum.kind]
+        if not datum:
+            return None
+        at = physical(*datum.place) + first
+        return range(at, at + length)
+
     def _flags_of(self) -> dict[str, int]:
         flags = self._board.registers()['FL']
         return {name: flags >> bit & 1 for name, bit in FLAG_BITS.items()}

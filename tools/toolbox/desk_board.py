@@ -4,6 +4,7 @@ from __future__ import annotations
 
 import base64
 import os
+import re
 import threading
 import time
 from dataclasses import dataclass, replace
@@ -27,6 +28,7 @@ from toolbox.runfile import text_of, with_budget
 from toolbox.scancodes import names
 from toolbox.session_board import Paused, break_at, place_of
 from toolbox.text_memory import TEXT_MEMORY, WORDS, Cell, cells_at, plain_cells, starts
+from toolbox.watches import changed, watch_of, watch_size, watched_by, what_was_seen
 
 # A typed key reaches the keyboard so many clocks on, and lies so many behind the one before: a handler takes some hundred.
 AHEAD, GAP = 1000, 1000
@@ -39,6 +41,8 @@ STACK_BYTES, CLOCKS_OF_HLT, LOOKS_WITHOUT_ATTRIBUTES = 32, 2, 4
 CODE_ROWS, CODE_BEFORE = 48, 40
 # Up to so many clocks all trails are read for the interrupts; in a longer run only handlers' first instructions are looked for.
 SHORT_RUN, MARKS_SECONDS, MOST_MARKS = 60_000, 2, 1000
+# In this order stops are set, of which the first that holds is told: last what the page sees by itself.
+ORDER = ('break', 'changes', 'sound', 'byte', 'halted')
 # The tab of the sound lists so many changes; the time line has so many parts.
 MOST_LISTED, PARTS = 500, 4096
 
@@ -165,17 +169,21 @@ class Board:
 
     def run(self, to: int, is_past: bool, seen: int, is_light: bool) -> Fields:
         """Goes on to a clock, past all stops or to the first one."""
-        here, why = self.clock, 'there'
+        here, why, met = self.clock, 'there', None
         try:
             if is_past:
                 self.machine.run([], min(to, LAST_CLOCK))
-            elif self._run_to_a_stop(min(to, LAST_CLOCK)):
+            elif met := self._run_to_a_stop(min(to, LAST_CLOCK)):
                 why = 'stop'
         except Paused:
             why = 'paused'
         if not is_past and why != 'stop':
             self._back_to_the_end(here)
-        return self.view(why, seen, is_light)
+        return self.view(why, seen, is_light) | self._seen_by(met)
+
+    def _seen_by(self, stop: str | None) -> Fields:
+        """What a stop on bytes has seen that is met here, in words."""
+        return {'told': what_was_seen(self.machine, self.listing, stop)} if stop and watched_by(stop) else {}
 
     def _run_to_a_stop(self, end: int) -> str | None:
         """Goes on to a stop, at most to this clock. One that isn't a place and holds here already counts once it has ceased to hold."""
@@ -199,7 +207,7 @@ class Board:
             if self.clock == here:
                 self.machine.want(self.stops)
                 met = self.machine.go_on(here + 1)
-                if met and place_of(met) and not self.machine.is_halted:
+                if met and (watched_by(met) or place_of(met) and not self.machine.is_halted):
                     return met
                 now = self._holding() if met else []
                 if more := [it for it in now if it not in held]:
@@ -267,16 +275,17 @@ class Board:
 
     def _moved(self, move: Callable[[], Any], seen: int) -> Fields:
         """What is seen behind a move; one that would never end, ends."""
-        here, why = self.clock, 'there'
+        here, why, met = self.clock, 'there', None
         self.machine.budget, self.machine.why = min(here + FARTHEST, LAST_CLOCK), ''
         try:
-            if isinstance(move(), str):
+            self.machine.end_instruction()
+            if isinstance(met := move(), str):
                 why = 'stop'
             elif self.machine.why in ENDS or self.clock == self.machine.budget:
                 why = self.machine.why if self.machine.why in ENDS else 'far'
         except Paused:
             why = 'paused'
-        return self.view(why, seen)
+        return self.view(why, seen) | self._seen_by(met if why == 'stop' else None)
 
     def back(self, seen: int) -> Fields:
         """To where the last instruction or interrupt began; of a repeat, the last iteration. The trail tells the clock, to which
@@ -294,12 +303,23 @@ class Board:
             raise Sorry('there is no stop; click beside a line, or type a place under Stops')
         here = self.clock
         try:
-            if self.machine.back_to(self.stops) is None:
+            if (met := self.machine.back_to(self.stops)) is None:
                 self.machine.go_to(here)
                 raise Sorry('no stop held at any earlier clock')
         except Paused:
             return self.view('paused', seen)
-        return self.view('stop', seen)
+        return self.view('stop', seen) | self._seen_by(met)
+
+    def who(self, address: int, count: int, seen: int) -> Fields:
+        """To where one of some bytes was changed last, in the clock that led to here or before, and what did it."""
+        here, stop = self.clock, watch_of(address, count)
+        try:
+            if not changed(self.machine, stop) and self.machine.back_to([stop]) is None:
+                self.machine.go_to(here)
+                raise Sorry(f'nothing has changed {address:05X} up to here: it is as it was at clock 0')
+        except Paused:
+            return self.view('paused', seen)
+        return self.view('there', seen) | self._seen_by(stop)
 
     def go_to(self, clock: int, seen: int) -> Fields:
         """To any clock."""
@@ -446,17 +466,20 @@ class Board:
     # Stops and keys
 
     def set_stops(self, texts: list[str]) -> Fields:
-        """These are the stops. Of those that hold at a clock the first is told: places, and then the speaker's, which nothing else tells."""
-        stops = sorted(dict.fromkeys(map(self._stop, texts)), key=lambda it: (place_of(it) is None, it != 'sound', it == 'halted'))
+        """These are the stops. Of those that hold at a clock the first is told."""
+        stops = sorted(dict.fromkeys(map(self._stop, texts)), key=lambda it: ORDER.index(it.split()[0]))
         if len(stops) > MOST_BREAKPOINTS:
             raise Sorry(f'{MOST_BREAKPOINTS} stops are the most')
         self.stops, self._held = stops, (-1, [])
         return {'stops': list(map(self._told, stops))}
 
     def _stop(self, text: str) -> str:
-        """The debugger's stop that a page means: a place as tools/dbg takes it, `break` before it or not, `byte PLACE VALUE`, `sound`
-        or `halted`."""
+        """The debugger's stop that a page means: a place as tools/dbg takes it, `break` before it or not, `byte PLACE VALUE`,
+        `changes PLACE [N]`, `sound` or `halted`."""
         kind, *words = text.split() or ['']
+        if kind == 'changes' and re.fullmatch(r'\S+( \d{1,6})?', ' '.join(words)):
+            address = address_of(self.listing, words[0])
+            return watch_of(address, int(words[1]) if words[1:] else watch_size(self.listing, address))
         if kind == 'byte' and len(words) == 2:
             return f'byte {address_of(self.listing, words[0]):X} {number_of(words[1], 0xFF):X}'
         if text in ('sound', 'halted'):
@@ -469,7 +492,7 @@ class Board:
             line = self.listing.at.get(physical(*place))
             return ['%04X:%04X' % place, self.listing.label_before(*place), line.number if line else None]
         labels = {physical(*far): name for name, far in self.listing.labels.items()}
-        return [stop, labels.get(int(stop.split()[1], 16), '') if stop.startswith('byte') else '', None]
+        return [stop, labels.get(int(stop.split()[1], 16), '') if stop.startswith(('byte', 'changes')) else '', None]
 
     def _comes_later(self, key: Key) -> bool:
         """Whether a key's clock lies ahead, and it wasn't typed since the board last went back."""

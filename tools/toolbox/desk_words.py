@@ -266,6 +266,13 @@ class Desk:
         moves: dict[str, Callable[[int], Fields]] = {'step': board.step, 'over': board.over, 'out': board.out, 'back': board.back, 'last': board.last}
         return self._do(board, lambda: moves[move](seen))
 
+    def _who(self, board: Board, fields: Fields) -> Fields:
+        """To where some bytes were changed last, and what did it."""
+        address, count, seen = want(fields, 'address', int), want(fields, 'count', int, 1), want(fields, 'seen', int, 0)
+        if address < 0:
+            raise Sorry('an address is 0 or more')
+        return self._do(board, lambda: board.who(address, count, seen))
+
     def _go_to(self, board: Board, fields: Fields) -> Fields:
         """To any clock."""
         clock, seen = want(fields, 'clock', int), want(fields, 'seen', int, 0)
@@ -371,6 +378,7 @@ class Desk:
         'out': _move,
         'back': _move,
         'last': _move,
+        'who': _who,
         'go to': _go_to,
         'wait': _wait,
         'pause': _pause,

@@ -1,26 +1,29 @@
-"""The board as gdb sees it: how its runs end, and the stops that `monitor` sets beside its breakpoints."""
+"""The board as gdb sees it: how its runs end, and the stops that `monitor` sets beside its breakpoints and watchpoints."""
 from __future__ import annotations
 
 from dataclasses import dataclass
+from typing import Iterable
 
 from toolbox.listing import Listing, physical
 from toolbox.program import LAST_CLOCK, Files
 from toolbox.session_board import BEFORE_START, Paused, SessionBoard
+from toolbox.watches import changed, watched_by
 
 MEMORY = 1 << 20
 
 
 @dataclass(frozen=True)
 class Met:
-    """How a run ended: `break`, `stop` (then its number among those of `monitor`), `budget`, `begin`, `interrupt` or `woken`."""
+    """How a run ended: `break`, `watch` (then the address that changed), `stop` (its number among those of `monitor`), `budget`, `begin`,
+    `interrupt` or `woken`."""
 
     how: str
     number: int = 0
 
 
 class Board(SessionBoard):
-    """A board with two kinds of stops: those of `monitor`, which stay, and gdb's breakpoints, which are other ones at each run. In
-    each session those of `monitor` come first: of the stops that hold at a clock the debugger tells the first."""
+    """A board with two kinds of stops: those of `monitor`, which stay, and gdb's watchpoints and breakpoints, which are other ones at
+    each run. In each session those of `monitor` come first: of the stops that hold at a clock the debugger tells the first."""
 
     def __init__(self, files: Files, budget: int) -> None:
         super().__init__(files, min(budget, LAST_CLOCK))
@@ -40,6 +43,8 @@ class Board(SessionBoard):
         """A stop that was met, or how a run without one ended."""
         if stop in self.named:
             return Met('stop', self.named.index(stop) + 1)
+        if stop and watched_by(stop):
+            return Met('watch', changed(self, stop)[0].address)
         return Met('break' if stop else otherwise)
 
     def go(self, breaks: list[str], last: int | None = None) -> Met:
@@ -50,11 +55,19 @@ class Board(SessionBoard):
             return Met('interrupt')
 
     def back(self, breaks: list[str]) -> Met:
-        """Goes back to the last earlier clock at which a stop held, or to the first clock."""
+        """Goes back to the last earlier clock at which a stop held, or to the first clock. Of a watched byte to before its change: gdb
+        compares what stands there, so that one in the clock that led to here counts too."""
         try:
-            return self._met(self.back_to([*self.named, *breaks]), 'begin')
+            met = self._undone(filter(watched_by, breaks)) or self._met(self.back_to([*self.named, *breaks]), 'begin')
         except Paused:
             return Met('interrupt')
+        if met.how == 'watch':
+            self.one('back 1')
+        return met
+
+    def _undone(self, watches: Iterable[str]) -> Met | None:
+        """A change of a watched byte in the clock that led to here."""
+        return next((Met('watch', found[0].address) for found in (changed(self, it) for it in watches) if found), None)
 
     def recover(self) -> None:
         """Behind a client that has gone: from a way back that nobody ends any more, the board is begun anew where it was."""

@@ -15,14 +15,16 @@ from toolbox.keying import key_lines, type_words
 from toolbox.listing import Listing, physical
 from toolbox.program import LAST_CLOCK
 from toolbox.session_board import MOST_STOPS, Gone, Paused, SessionBoard, break_at
+from toolbox.watches import NO_READS, watch_of, watched_by, what_was_seen
 
 # The order of the `g` packet. Those that point into a segment are told as physical addresses, so that gdb finds code and stack.
 NAMES = ('AX', 'CX', 'DX', 'BX', 'SP', 'BP', 'SI', 'DI', 'IP', 'FL', 'CS', 'SS', 'DS', 'ES')
 SEGMENT_OF = {'SP': 'SS', 'BP': 'SS', 'IP': 'CS'}
 INTERRUPTED, ILLEGAL, TRAP, TIME_IS_UP = 2, 4, 5, 24  # signals, by gdb's own numbers
 MOST_MEMORY = MOST_BYTES // 4
-STOPS, MOVES = ('break', 'byte', 'sound', 'halted'), ('to', 'go', 'step', 'back')
+STOPS, MOVES = ('break', 'byte', 'sound', 'halted', 'changes', 'when'), ('to', 'go', 'step', 'back')
 RUNS = ('counts', 'signals', 'events')  # of the probe, which pass breakpoints
+FULL = f'the board has room for {MOST_STOPS} stops'
 READ_ONLY = "E.the board's answers are those of its source: nothing is written"
 
 
@@ -46,6 +48,7 @@ class Stub:
     def __init__(self, wire: Wire, board: Board, listing: Listing) -> None:
         self._wire, self._board, self._listing = wire, board, listing
         self._addresses = dict[int, list[Condition]]()  # of breakpoints, with their conditions, one of which is to hold
+        self._watches, self._may_be_within = list[str](), False  # the latter: an instruction may be under way
         self._told = set[int]()
         self._frames, self._records = Frames(board.dump, listing), (-1, b'')  # the latter of a clock
         self.has_ended, self._last, self._state = False, 'S05', 'running'
@@ -128,6 +131,7 @@ class Stub:
         self._state = 'running'
         if is_anew:
             self._addresses.clear()
+            self._watches.clear()
             self._board.asked = {}
             self._board.go_to(0)
         return self._stopped(TRAP)
@@ -185,16 +189,38 @@ class Stub:
 
     def _breakpoint(self, request: str) -> str:
         """Puts in a breakpoint, with its conditions, or takes it out. One beyond memory is never met."""
+        if request[1:2] in tuple('234'):
+            return self._watchpoint(request)
         found = re.fullmatch('([zZ])([01]),([0-9a-f]{1,16}),[0-9a-f]+((;X[0-9a-f]+,[0-9a-f]*)*)', request)
         if not found:
-            return '' if re.match('[zZ][2-9]', request) else 'E01'
+            return '' if re.match('[zZ][5-9]', request) else 'E01'
         address = int(found[3], 16)
         if found[1] == 'z':
             self._addresses.pop(address, None)
         elif address < MEMORY:
-            if len({*self._addresses, address}) + len(self._board.named) > MOST_STOPS:
-                return f'E.the board has room for {MOST_STOPS} stops'
+            if address not in self._addresses and self._is_full():
+                return f'E.{FULL}'
             self._addresses[address] = list(map(condition_of, found[4].split(';')[1:]))
+        return 'OK'
+
+    def _is_full(self) -> bool:
+        """Whether no further stop has room."""
+        return len(self._addresses) + len(self._watches) + len(self._board.named) >= MOST_STOPS
+
+    def _watchpoint(self, request: str) -> str:
+        """Watches bytes for changes, or no longer; reads aren't watched."""
+        found = re.fullmatch('([zZ])([234]),([0-9a-f]{1,16}),([0-9a-f]{1,8})', request)
+        if not found:
+            return 'E01'
+        if found[2] != '2':
+            return f'E.{NO_READS}'
+        stop = watch_of(int(found[3], 16), int(found[4], 16))
+        if found[1] == 'z':
+            self._watches = [it for it in self._watches if it != stop]
+        elif stop not in self._watches:
+            if self._is_full():
+                return f'E.{FULL}'
+            self._watches.append(stop)
         return 'OK'
 
     def _holds(self, condition: Condition, board: SessionBoard) -> bool:
@@ -212,8 +238,8 @@ class Stub:
         return condition.holds(register, lambda address, count: board.dump(address, count) if address < MEMORY else b'')
 
     def _breaks(self) -> list[str]:
-        """The stops that the breakpoints are. Where it is a guess by which CS one is come to, that is told once."""
-        found: list[str] = []
+        """The stops that watchpoints and breakpoints are. Where it is a guess by which CS one is come to, that is told once."""
+        found = list(self._watches)
         self._board.asked = {}
         for address in sorted(self._addresses):
             segment, offset, is_known = far_of_address(self._listing, address, self._board.registers()['CS'])
@@ -232,21 +258,34 @@ class Stub:
         if re.fullmatch('[cs].+|[CS]..;.*', request):
             return READ_ONLY
         if request == 'bs':
-            self._state = 'running'
-            return self._stopped(TRAP) if self._board.back_step() else self._stopped(TRAP, 'replaylog:begin;')
+            self._state, before = 'running', self._watched()
+            return self._stopped(TRAP, self._changed_since(before)) if self._board.back_step() else self._stopped(TRAP, 'replaylog:begin;')
         if request[0] in 'sS':
             return self._step()
         before = self._board.clock
         met = self._board.back(self._breaks()) if request == 'bc' else self._board.go(self._breaks())
         return self._ended(met, before)
 
+    def _watched(self) -> list[tuple[int, bytes]]:
+        """The watched bytes as they stand, with the address of the first."""
+        return [(places[0], self._board.dump(places[0], len(places))) for places in map(watched_by, self._watches)]
+
+    def _changed_since(self, before: list[tuple[int, bytes]]) -> str:
+        """The first of the watched bytes that has changed meanwhile, as a stop tells it."""
+        pairs = (zip(range(first, first + len(then)), then, now) for (first, then), (_, now) in zip(before, self._watched()))
+        return next((f'watch:{at:x};' for pair in pairs for at, then, now in pair if then != now), '')
+
     def _step(self) -> str:
-        """A step; from within a halt to the interrupt. One of a single clock makes it likely that the processor is jammed."""
-        before = self._board.clock
+        """A step; from within a halt to the interrupt, and from within an instruction, as after a change of a watched byte, to the end of
+        the next one. One of a single clock makes it likely that the processor is jammed."""
+        before, watched = self._board.clock, self._watched()
         if before < self._board.budget and self._board.is_halted:
             met = self._board.wake(self._breaks())
             self._state = 'running'
-            return self._stopped(TRAP) if met.how == 'woken' else self._ended(met, before)
+            return self._stopped(TRAP, self._changed_since(watched)) if met.how == 'woken' else self._ended(met, before)
+        if self._may_be_within:
+            self._board.end_instruction()
+            self._may_be_within = False
         self._board.one('step')
         is_clock = self._board.clock == before + 1
         state = self._board.state() if is_clock else 'halted' if self._board.is_halted else 'running'
@@ -255,17 +294,21 @@ class Stub:
         self._state = state
         # Beyond the budget nothing ends a halt: without this signal gdb's `next` and `finish` would go on for ever.
         otherwise = TIME_IS_UP if state == 'halted' and self._board.clock > self._board.budget else TRAP
-        return self._stopped(ILLEGAL if state == 'jammed' else otherwise)
+        return self._stopped(ILLEGAL if state == 'jammed' else otherwise, self._changed_since(watched))
 
     def _ended(self, met: Met, before: int) -> str:
         """How a run that began at a clock ended, told with the present one."""
-        here = f'clock {self._board.clock}'
+        here, self._may_be_within = f'clock {self._board.clock}', met.how != 'break'
         if met.how == 'begin':
             self.tell(f'{here}: the beginning')
             return self._stopped(TRAP, 'replaylog:begin;')
         if met.how == 'break':
             self.tell(here)
             return self._stopped(TRAP, 'swbreak:;' if self._can_name_breaks else '')
+        if met.how == 'watch':
+            stops = [it for it in self._watches if met.number in watched_by(it)] if self._board.clock > before else []
+            self.tell(f'{here}: {what_was_seen(self._board, self._listing, stops[0])}' if stops else here)
+            return self._stopped(TRAP, f'watch:{met.number:x};')
         if met.how == 'stop':
             self.tell(f'{here}: stop {met.number} ({self._board.named[met.number - 1]})')
             return self._stopped(TRAP)
@@ -323,7 +366,7 @@ class Stub:
 
     def _moved(self, words: list[str]) -> str:
         """The answer to a command that moves the board. Breakpoints are gdb's: here they are passed."""
-        self._state = 'running'
+        self._state, self._may_be_within = 'running', True
         if words[0] == 'to':
             return self._gone_to(words[1:])
         if words[0] == 'go' and len(words) == 2 and re.fullmatch('[0-9]{1,13}', words[1]):

@@ -4,7 +4,7 @@ from __future__ import annotations
 
 import threading
 import time
-from typing import TYPE_CHECKING, Callable, Collection, Iterable, TypeVar
+from typing import TYPE_CHECKING, Callable, Collection, Iterable, Iterator, TypeVar
 
 from toolbox.command import Sorry
 from toolbox.listing import physical
@@ -22,6 +22,7 @@ if TYPE_CHECKING:
 MOST_STOPS = 16
 MOST_PASSED = 64  # stops that nobody wants any more, before a session without them is begun
 FIRST_PIECE = 1 << 16
+LOGGED_AT_ONCE = 100_000  # clocks
 BEFORE_START = 'fault 54 BeforeStart'
 T = TypeVar('T')
 HLT, ROM = b'\xF4', 0xF0000  # from there on no byte changes
@@ -169,6 +170,34 @@ class SessionBoard:
             and self.clock > last.clock + 1
         )
 
+    @property
+    def is_within(self) -> bool:
+        """Whether an instruction or an entry is under way, as it is where a byte has just been written."""
+        return ' busy 0 ' not in self.chips()[-1]
+
+    def log(self, end: int, kinds: str) -> Iterator[str]:
+        """What happens up to a clock, to which the board goes past all stops, as lines of the probe's events."""
+        while self.clock < end:
+            command = f'events {min(LOGGED_AT_ONCE, end - self.clock)} {kinds}'
+            *lines, last = self._talk(lambda it=command: self._session.happenings(it))  # type: ignore[misc]
+            refused(last)
+            yield from lines
+            self.poll()
+
+    def end_instruction(self) -> None:
+        """Ends what is under way, so that a step makes the next instruction."""
+        if self.is_within:
+            self.one('step')
+
+    def happened(self, kinds: str) -> list[str]:
+        """What happened in the clock that led to the present one, as lines of the probe's events; stops are passed."""
+        if not self.clock:
+            return []
+        self.one('back 1')
+        *lines, last = self._talk(lambda: self._session.happenings(f'events 1 {kinds}'))
+        refused(last)
+        return lines
+
     def state(self) -> str:
         """Running, halted or jammed. A jammed processor steps by single clocks; an instruction takes two or more."""
         if self.is_halted:
@@ -290,7 +319,7 @@ class SessionBoard:
                 passed += 1
                 self._pass(passed, wanted)
             if met and met in wanted:
-                if met in always or self.is_met(met, since):
+                if met in always or (met := self._met_of(met, wanted, since)):
                     return met
                 self.poll()
         return None
@@ -300,6 +329,24 @@ class SessionBoard:
         held; without one the board goes back."""
         asked = self.asked.get(stop)
         return asked is None or any([it.is_met(self, stop, since) for it in asked])
+
+    def _met_of(self, told: str, wanted: Collection[str], since: int | None = None) -> str | None:
+        """The first stop that is met where this one was told. Others on what happens may hold there too, which aren't told: no place does,
+        since an instruction is under way then."""
+        others = [it for it in wanted if it != told and it in self.asked and not place_of(told) and self._has_happened(it)]
+        return next((it for it, is_met in [(it, self.is_met(it, since)) for it in (told, *others)] if is_met), None)
+
+    def _has_happened(self, stop: str) -> bool:
+        """Whether a stop on what happens holds here."""
+        kind, _, rest = stop.partition(' ')
+        if kind != 'changes':
+            return kind == 'when' and bool(self.happened(rest))
+        address, count = rest.split()
+        bytes_now = self.dump(int(address, 16), int(count))
+        self.one('back 1')
+        bytes_then = self.dump(int(address, 16), int(count))
+        self.one('go 1')
+        return bytes_now != bytes_then
 
     def _is_behind_a_halt(self) -> bool:
         """Whether HLT stands before CS:IP, as it does if the processor is halted there."""
@@ -351,7 +398,7 @@ class SessionBoard:
             if place_of(met) and self._is_behind_a_halt() and self.is_halted:
                 self.go_to(self.trail()[-1].clock)
             elif met in wanted:
-                if self.is_met(met):
+                if met := self._met_of(met, wanted):
                     return met
                 self.poll()
                 continue

@@ -36,6 +36,7 @@ export async function move(word, fields = {}) {
   if (answer.gone) return come_back(answer.gone, word);
   if (answer.sorry) { say(answer.sorry); return answer; }
   if (answer.registers) { show(answer, fields.light); tell_place(); }
+  if (answer.told) say(answer.told, true);
   if (['step', 'over', 'out'].includes(word) && (ENDS[answer.why] || ENDS[answer.state])) say(ENDS[answer.why] || ENDS[answer.state], true);
   if (answer.why === 'far') say('not over after 50,000,000 clocks; press it again to go on');
   return answer;
@@ -143,6 +144,8 @@ function told_of(stop) {
   if (stop.place === 'halted') return 'the processor is halted';
   const [, address, value] = /^byte (\w+) (\w+)$/.exec(stop.place) || [];
   if (address) return `the byte at ${address}${stop.label ? ` ${stop.label}` : ''} is ${value.padStart(2, '0')}`;
+  const [, first, count] = /^changes (\w+) (\d+)$/.exec(stop.place) || [];
+  if (first) return `${count === '1' ? 'the byte' : `one of ${count} bytes`} at ${first}${stop.label ? ` ${stop.label}` : ''} changes`;
   return stop.at ? `${stop.at} ${stop.label}${stop.line ? `, line ${stop.line}` : ''}` : stop.place;
 }
 function draw_stops() {
@@ -200,7 +203,7 @@ export async function run_on() {
     if (answer.gone || answer.sorry) break;
     still = answer.screen || differ(view.registers, answer.registers) ? 0 : still + 1;
     show(answer, true);
-    if (answer.why === 'stop') { told = 'a stop is met'; break; }
+    if (answer.why === 'stop') { told = answer.told || 'a stop is met'; break; }
     if (ENDS[answer.state]) { told = ENDS[answer.state]; break; }
     if (answer.clock >= LAST) break;
     if (isReal) {
@@ -220,8 +223,7 @@ export async function run_on() {
   if (answer && view) view.why = answer.why;  // a look says where the board is, and not why
   act(draw_why);
   if (answer && answer.sorry) { say(answer.sorry); return; }
-  if (told === 'a stop is met') { $('said').textContent = told; $('said').className = 'good'; }
-  else if (told) say(told, true);
+  if (told) say(told, true);
   if (codes.length) await send_keys();
 }
 /* Another source has stops of its own, and no keys of the board that was. */

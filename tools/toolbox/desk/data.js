@@ -1,6 +1,7 @@
 /* The source's own data: each label of DB, DW and DD with its values, and numbers in any base. */
 import {$, ask, hex, number} from './asking.js';
 import {board, followed} from './board.js';
+import {opens_menu, with_menus} from './byte.js';
 import {to_line} from './editor.js';
 import {redraw_registers} from './processor.js';
 export let lastValues = {}, base = 0;
@@ -32,7 +33,7 @@ function numbers_in(octets, wide) {
   for (let at = 0; at + wide <= octets.length; at += wide) found.push(octets.slice(at, at + wide).reduceRight((sum, it) => sum * 256 + it, 0));
   return found;
 }
-function row_of(cells, isChanged, index = null) {
+function row_of(cells, isChanged, address, wide, index = null) {
   const row = document.createElement('tr');
   for (const text of [index === null ? null : String(index), ...cells]) {
     if (text === null) continue;
@@ -41,6 +42,7 @@ function row_of(cells, isChanged, index = null) {
     row.append(cell);
   }
   if (isChanged) row.className = 'changed';
+  opens_menu(row.children[index === null ? 0 : 1], address, wide);
   return row;
 }
 function cells_of(value, wide) { return [`${hex(value, 2 * wide)}h`, String(value), String(signed(value, 8 * wide)), signs_of(value, 8 * wide)]; }
@@ -56,11 +58,11 @@ function drawn_label({name, line, kind, place, length, bytes}) {
   head.textContent = name;
   head.title = line ? `line ${line}, ${place}` : place;
   head.onclick = event => { event.preventDefault(); to_line(line); };
-  const changed = values.map((it, at) => last[at] !== it);
+  const changed = values.map((it, at) => last[at] !== it), [segment, offset] = place.split(':').map(it => parseInt(it, 16)), first = (16 * segment + offset) % 2 ** 20;
   if (!isArray) {
     const one = document.createElement('div');
     one.className = 'datum';
-    one.append(head, ` ${kind} `, table_of(values.map(it => row_of(cells_of(it, wide), changed[0]))));
+    one.append(head, ` ${kind} `, table_of(values.map(it => row_of(cells_of(it, wide), changed[0], first, wide))));
     return one;
   }
   const all = document.createElement('details'), told = document.createElement('summary'), brief = document.createElement('span');
@@ -70,10 +72,11 @@ function drawn_label({name, line, kind, place, length, bytes}) {
   all.className = 'datum';
   all.open = unfolded.has(name);
   all.ontoggle = () => { if (all.open) unfolded.add(name); else unfolded.delete(name); };
-  all.append(told, table_of(values.map((it, at) => row_of(cells_of(it, wide), changed[at], at))));
+  all.append(told, table_of(values.map((it, at) => row_of(cells_of(it, wide), changed[at], first + at * wide, wide, at))));
   if (length > octets.length) all.append(`${number(length - octets.length)} bytes more: see Memory, from ${place}`);
   return all;
 }
+with_menus($('data-list'), 1);
 export async function draw_data() {
   if (!board) return;
   const answer = await ask('data', {board}).then(followed);

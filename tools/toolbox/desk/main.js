@@ -23,9 +23,9 @@ $('go').onclick = go;
 $('to').addEventListener('keydown', event => { if (event.key === 'Enter') go(); });
 $('stop-kind').onchange = () => {
   const kind = $('stop-kind').value;
-  $('stop-at').hidden = !['break', 'byte'].includes(kind);
+  $('stop-at').hidden = !['break', 'byte', 'changes'].includes(kind);
   $('stop-is').hidden = kind !== 'byte';
-  $('stop-hint').textContent = {break: 'label, label+N, :LINE or SEGMENT:OFFSET; or click beside a line, F9 in the editor', byte: 'at a label or an address; the value is hexadecimal'}[kind] || '';
+  $('stop-hint').textContent = {break: 'label, label+N, :LINE or SEGMENT:OFFSET; or click beside a line, F9 in the editor', byte: 'at a label or an address; the value is hexadecimal', changes: 'at a label or an address; or click a byte under Memory or Data'}[kind] || '';
 };
 $('stop-add').onclick = () => {
   const kind = $('stop-kind').value, words = [kind, ...['stop-at', 'stop-is'].filter(it => !$(it).hidden).map(it => $(it).querySelector('input').value.trim())];

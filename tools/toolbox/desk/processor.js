@@ -1,6 +1,7 @@
 /* What the processor and memory hold: registers, stack, trail, bytes, chips. */
 import {$, ask, hex} from './asking.js';
 import {act, acts, board, followed, go_to, running, view, working} from './board.js';
+import {opens_menu, with_menus} from './byte.js';
 import {forget_data, in_base} from './data.js';
 import {assembled, to_line} from './editor.js';
 import {fit} from './screen.js';
@@ -84,8 +85,10 @@ export async function draw_memory() {
     made.append(`${hex(answer.address + at, 5)}: `);
     const row = octets.slice(at, at + 16);
     row.forEach((octet, place) => {
-      if (before && before[at + place] !== octet) { const one = document.createElement('span'); one.className = 'changed'; one.textContent = hex(octet, 2); made.append(one, ' '); }
-      else made.append(`${hex(octet, 2)} `);
+      const one = document.createElement('span');
+      one.textContent = hex(octet, 2);
+      if (before && before[at + place] !== octet) one.className = 'changed';
+      made.append(opens_menu(one, answer.address + at + place, 1), ' ');
     });
     made.append('  '.padEnd(2 + 3 * (16 - row.length)), row.map(it => it >= 32 && it < 127 ? String.fromCharCode(it) : '.').join(''), '\n');
   }
@@ -116,6 +119,7 @@ export async function draw_chips() {
 }
 
 $('place').addEventListener('change', () => act(draw_memory));
+with_menus($('bytes'), 16);
 
 /* Why the run goes nowhere, under the screen, as long as the clock is the one that it is told of. A line's number leads to it. */
 export function forget_why() {

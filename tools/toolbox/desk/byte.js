@@ -1,0 +1,62 @@
+/* A byte's menu: stop where it changes, and who wrote it. Bytes are one stop of Tab; arrow keys go along them, and Enter opens the menu. */
+import {$, hex, say} from './asking.js';
+import {acts, move, put_stops, stops} from './board.js';
+let chosen = null, opener = null;
+/* An element of bytes of memory, so many from an address on. */
+export function opens_menu(element, address, count) {
+  element.dataset.address = address;
+  element.dataset.count = count;
+  element.classList.add('byte');
+  element.setAttribute('role', 'button');
+  element.setAttribute('aria-haspopup', 'menu');
+  element.tabIndex = -1;
+  return element;
+}
+function open(element) {
+  const menu = $('byte-menu'), {left, bottom} = element.getBoundingClientRect();
+  opener = element;
+  chosen = [Number(element.dataset.address), Number(element.dataset.count)];
+  $('byte-named').textContent = `${hex(chosen[0], 5)}${chosen[1] > 1 ? `, ${chosen[1]} bytes` : ''}`;
+  menu.hidden = false;
+  menu.style.left = `${Math.max(4, Math.min(left, innerWidth - menu.offsetWidth - 4))}px`;
+  menu.style.top = `${Math.max(4, Math.min(bottom, innerHeight - menu.offsetHeight - 4))}px`;
+  $('byte-stop').focus();
+}
+function close(isBack = true) {
+  if ($('byte-menu').hidden) return;
+  $('byte-menu').hidden = true;
+  if (isBack && opener) opener.focus();
+}
+$('byte-stop').onclick = () => {
+  const [address, count] = chosen, place = `changes ${hex(address, 5)} ${count}`, before = stops.length;
+  close();
+  acts(async () => {
+    await put_stops([...stops, {place}]);
+    if (stops.length > before) say(`Run stops where ${hex(address, 5)} changes`, true);
+  });
+};
+$('byte-who').onclick = () => {
+  const [address, count] = chosen;
+  close();
+  acts(() => move('who', {address, count}));
+};
+$('byte-menu').addEventListener('keydown', event => {
+  const all = [$('byte-stop'), $('byte-who')];
+  if (event.key === 'Escape' || event.key === 'Tab') { event.preventDefault(); close(); }
+  if (event.key === 'ArrowDown' || event.key === 'ArrowUp') { event.preventDefault(); all[1 - all.indexOf(document.activeElement)].focus(); }
+});
+document.addEventListener('pointerdown', event => { if (!$('byte-menu').contains(event.target)) close(false); });
+/* In a list of bytes, so many in a row. */
+export function with_menus(list, wide) {
+  list.addEventListener('click', event => { const one = event.target.closest('.byte'); if (one) open(one); });
+  list.addEventListener('focus', () => { const one = list.querySelector('.byte'); if (one) one.focus(); });
+  list.addEventListener('keydown', event => {
+    const all = [...list.querySelectorAll('.byte')], at = all.indexOf(document.activeElement);
+    if (at < 0) return;
+    const to = {ArrowRight: at + 1, ArrowLeft: at - 1, ArrowDown: at + wide, ArrowUp: at - wide, Home: 0, End: all.length - 1}[event.key];
+    if (event.key === 'Enter' || event.key === ' ') { event.preventDefault(); open(all[at]); }
+    if (to === undefined) return;
+    event.preventDefault();
+    if (all[to]) all[to].focus();
+  });
+}
