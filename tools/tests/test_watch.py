@@ -22,7 +22,7 @@ from toolbox.watches import changed, kind_of, watch_of, watched_by, what_was_see
 
 STEPS, LOOP_CLOCKS = 700, 10_000_000
 # A few of the stack, whose top is 00D00, and those that strings reach.
-WATCHED = ((0xCF0, 16), (0xCFA, 6), (0xC00, 256), (0x400, 5), (0xCFC, 1), (0xF0000, 4096))
+WATCHED = ((0xCF0, 16), (0xCFA, 6), (0xC00, 256), (0x400, 5), (0xCFC, 1), (0xF0000, 128))
 # The word changes at about clock 9,040,000; before and after no byte does.
 LATE = """        MOV BX,0
         MOV DX,0
