@@ -2,8 +2,11 @@
 happens in it, by `events`."""
 from __future__ import annotations
 
+import contextlib
 import itertools
 import re
+import select
+import signal
 import subprocess
 from typing import Iterator, NamedTuple, NoReturn, TypeVar
 
@@ -21,6 +24,17 @@ NO_COMMAND, ENDED = '?', b'fault 51 BadCommand\n'  # a line that ends an answer 
 STATE = re.compile(rb'SP=(....) .*\nCS=(....) .* SS=(....) IP=(....) FL=(....)')
 
 P = TypeVar('P', bound='Probe')
+
+
+@contextlib.contextmanager
+def uninterrupted() -> Iterator[None]:
+    """Ctrl+C comes before or after what is done here."""
+    mask = signal.pthread_sigmask(signal.SIG_BLOCK, [])
+    try:
+        signal.pthread_sigmask(signal.SIG_BLOCK, [signal.SIGINT])
+        yield
+    finally:
+        signal.pthread_sigmask(signal.SIG_SETMASK, mask)
 
 
 class Probe:
@@ -49,24 +63,36 @@ class Probe:
 
     def answered(self, commands: list[str]) -> bytes:
         """What these are answered. An answer that an interrupt kept from being read comes before it."""
-        given, out = self._process.stdin, self._process.stdout
-        assert given and out
-        self._owed += 1
-        try:
-            given.write('\n'.join([*commands, NO_COMMAND, '']).encode())
-            given.flush()
-        except BrokenPipeError:
-            self._refuse()
+        self._ask('\n'.join([*commands, NO_COMMAND, '']).encode())
         while not (self._heard.endswith(ENDED) and self._heard.count(ENDED) == self._owed):
-            octets = out.read1(1 << 16)  # type: ignore[attr-defined]
-            if not octets:
-                self._refuse()
-            self._heard += octets
+            self._hear()
         octets = bytes(self._heard).split(ENDED)[self._owed - 1]
         self._owed, self._heard = 0, bytearray()
         if octets.startswith(b'fault') or b'\nfault' in octets:
             raise Sorry(f'pcprobe refuses: {octets[octets.index(b"fault") :].splitlines()[0].decode("ascii")}')
         return octets
+
+    def _ask(self, octets: bytes) -> None:
+        """Hands a question over. An interrupt comes before or after that, so that it's known how many answers are owed."""
+        given = self._process.stdin
+        assert given
+        try:
+            with uninterrupted():
+                self._owed += 1
+                given.write(octets)
+                given.flush()
+        except BrokenPipeError:
+            self._refuse()
+
+    def _hear(self) -> None:
+        """Waits for more of an answer. An interrupt comes while it waits, so that nothing is lost that was read."""
+        out, before = self._process.stdout, len(self._heard)
+        assert out
+        select.select([out], [], [])
+        with uninterrupted():
+            self._heard += out.read1(1 << 16)  # type: ignore[attr-defined]
+        if len(self._heard) == before:
+            self._refuse()
 
     def _refuse(self) -> NoReturn:
         """A sentence for a session that ended."""
