@@ -18,7 +18,7 @@ NO_READS = "reads aren't watched, only changes and writes"
 
 
 def watch_of(address: int, length: int = 1, is_each_write: bool = False) -> str:
-    """The stop where one of so many bytes differs from the clock before, or where one is written, also as it stands there. Bytes that
+    """The stop at which one of so many bytes differs from the clock before, or at which one is written, also as it stands there. Bytes that
     memory hasn't are refused."""
     if not 1 <= length <= MOST_WATCHED or address + length > MEMORY:
         raise Sorry(f'{length} bytes from {address:05X} on: 1 to {MOST_WATCHED} can be watched, up to FFFFF')
@@ -80,7 +80,7 @@ def written(board: SessionBoard, places: range) -> list[Written]:
 
 
 def changed(board: SessionBoard, stop: str) -> list[Written]:
-    """What a stop that watches bytes has seen in the clock that led to the present one; nothing where it doesn't hold."""
+    """What a stop that watches bytes has seen in the clock that led to the present one; nothing if it doesn't hold."""
     places = watched_by(stop)
     found = written(board, places) if places else []
     return found if stop.startswith('when') else [each for each in found if each.before != each.after]
