@@ -9,6 +9,7 @@ use rand_pcg::Pcg32;
 pub struct Chance(Pcg32);
 
 impl Chance {
+    /// The sequence of a seed.
     pub fn new(seed: u64) -> Self {
         Chance(Pcg32::new(seed, 0))
     }
@@ -21,6 +22,7 @@ impl Chance {
         number.checked_rem(end).unwrap_or(0)
     }
 
+    /// Any byte.
     pub fn byte(&mut self) -> u8 {
         (self.0.next_word() % 256) as u8
     }

@@ -14,6 +14,7 @@ pub struct Code {
 }
 
 impl Code {
+    /// No code.
     pub fn new(alloc: Global) -> Self {
         Code {
             bytes: Vec::new(alloc),
@@ -28,11 +29,13 @@ impl Code {
         (self.bytes.len() % 4096) as u16
     }
 
+    /// Puts a byte at the end. Fails only if there is no memory.
     pub fn put(&mut self, byte: u8) -> Result<(), AllocError> {
         self.bytes.push(byte)?;
         Ok(())
     }
 
+    /// Puts bytes at the end. Fails only if there is no memory.
     pub fn put_all(&mut self, bytes: &[u8]) -> Result<(), AllocError> {
         for byte in bytes {
             self.bytes.push(*byte)?;

@@ -19,12 +19,14 @@ const BASES: [u8; 3] = [4, 5, 7];
 /// `[BP]` and `[BX]`, with a displacement.
 const DISPLACED: [u8; 2] = [6, 7];
 
+/// The number of a word register that a random instruction may change.
 pub fn word_register(chance: &mut Chance) -> u8
     ensures { result < 8 }
 {
     chance.pick(&WORD_REGISTERS) % 8
 }
 
+/// The number of a byte register that a random instruction may change.
 pub fn byte_register(chance: &mut Chance) -> u8
     ensures { result < 8 }
 {
