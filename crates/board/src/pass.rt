@@ -82,9 +82,11 @@ pub(crate) fn pass_over(
     ensures steady { ¬ (IsTrue over_edges) → PassBy WiresStay busy chips.old keys.now result chips.new }
     ensures arrived { HaveArrived arrived.new (chips.new.clock + 1) keys.now }
 {
-    let free = chips.clock().get() + u64::from(busy.max(1));
+    let now = chips.clock();
+    let clocks = busy.max(1);
+    let free = now.get() + u64::from(clocks);
     if free <= end && comes_after(free, arrived.next) && goes_unseen(chips, free, over_edges) {
-        chips.sync(Clock::new(free).unwrap());
+        chips.sync(now.after(clocks));
         chips.look_ahead();
         return 0;
     }
