@@ -147,7 +147,7 @@ def name_of(process: int) -> str:
 
 def but_progress(told: str) -> str:
     """What a tool has told, without how far it was, which it tells on a busy machine."""
-    return re.sub(r'^\w+: .*, \d+ s\n', '', told, flags=re.M)
+    return re.sub(r'^\w+(?:: .*)?, \d+ s\n', '', told, flags=re.M)
 
 
 class ToolCase(unittest.TestCase):
