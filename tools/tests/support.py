@@ -96,21 +96,24 @@ def is_running(process: int) -> bool:
     return state_of(process)[:1] not in ([], ['Z'])
 
 
-def running(of: int, at: int) -> list[int]:
-    """The processes that haven't ended and have this number at a place of what is told of them."""
+def running(at: int) -> list[tuple[int, int]]:
+    """The processes that haven't ended, each with the number at a place of what is told of it."""
     told = ((int(name), state_of(name)) for name in os.listdir('/proc') if name.isdecimal())
-    return [process for process, it in told if it and it[0] != 'Z' and int(it[at]) == of]
+    return [(process, int(it[at])) for process, it in told if it and it[0] != 'Z']
 
 
 def children(of: int) -> list[int]:
-    """The processes that a process has started, and those that these have."""
-    own = running(of, 1)
-    return own + [it for one in own for it in children(one)]
+    """The processes that a process has started, and those that these have, found in one look at all processes."""
+    parents, found, last = running(1), list[int](), [of]
+    while last:
+        last = [process for process, parent in parents if parent in last]
+        found += last
+    return found
 
 
 def members(session: int) -> list[int]:
     """The processes of a session."""
-    return running(session, 3)
+    return [process for process, of in running(3) if of == session]
 
 
 def processor_seconds(of: int) -> float:
@@ -192,6 +195,7 @@ class ToolCase(unittest.TestCase):
         from toolbox.command import Sorry, refuse, status_of
 
         out, err, held = io.StringIO(), io.StringIO(), (sys.argv, sys.stdin)
+        handlers = {sign: signal.getsignal(sign) for sign in (signal.SIGINT, signal.SIGTERM, signal.SIGHUP)}
         sys.argv, sys.stdin = [f'{TOOLS}/{name}', *words], io.TextIOWrapper(io.BytesIO(given.encode()))
         anew = mock.patch.multiple(comments, _copies={}, _told=set())
         try:
@@ -202,6 +206,8 @@ class ToolCase(unittest.TestCase):
                     came = refuse(str(sorry))
         finally:
             sys.argv, sys.stdin = held
+            for sign, handler in handlers.items():
+                signal.signal(sign, handler)
         self.assertEqual(came, status, err.getvalue() or out.getvalue())
         return out.getvalue(), but_progress(err.getvalue())
 
