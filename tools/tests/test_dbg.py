@@ -54,7 +54,7 @@ class Sessions(ToolCase):
 
     def dbg(self, name: str, *commands: str) -> list[str]:
         """The answers' lines."""
-        return self.tool('dbg', *example(name), given='\n'.join(commands) + '\n')[0].splitlines()
+        return self.called('dbg', *example(name), given='\n'.join(commands) + '\n')[0].splitlines()
 
     def test_stops_are_cleared(self) -> None:
         told = self.dbg('ticks', 'break tick', 'byte b0000 31', 'go', 'clear 2', 'go', 'stops', 'go')
@@ -120,7 +120,7 @@ class Sessions(ToolCase):
         run = self.file('none.json', text_of(DEFAULTS | {'budget': 9000}))
         out = f'{self.room}/typed.json'
         lines = ['to 2999', 'key 23', 'key i 5,000', 'key a3 4000', 'to 0', 'to 9000', 'screen', 'break key', 'to 4100', 'clear 1', 'to 9000']
-        found = self.tool('dbg', example('keys')[0], run, given='\n'.join([*lines, 'screen', 'keys', f'keys {out}', 'state']))[0].splitlines()
+        found = self.called('dbg', example('keys')[0], run, given='\n'.join([*lines, 'screen', 'keys', f'keys {out}', 'state']))[0].splitlines()
         self.assertEqual(found[1:4], ['key 23 at clock 3000', 'key 17 at clock 5000, 97 at clock 5500', 'key A3 at clock 4000'])
         stamps = [[3000, 0x23], [4000, 0xA3], [5000, 0x17], [5500, 0x97]]
         with open(out, encoding='utf-8') as file:
@@ -166,14 +166,14 @@ class Sessions(ToolCase):
         self.assertIn('the run file ends at clock 100', told[-1])
 
     def test_keeps_the_clock_table(self) -> None:
-        out, _ = self.tool('dbg', *self.hello_by_c2(), given='go\nstate\nback\nto 70\nback\n')
+        out, _ = self.called('dbg', *self.hello_by_c2(), given='go\nstate\nback\nto 70\nback\n')
         told = out.splitlines()
         self.assertIn('clock 100: halted since clock 80', told)
         self.assertEqual([it.split(': ')[0] for it in told[-3:]], ['clock 79', 'clock 70', 'clock 67'])
 
     def test_tells_a_jam(self) -> None:
         files = self.program('        NOP\n        DB 0Fh', 100)
-        out, _ = self.tool('dbg', *files, given='go\nstate\nlist\n')
+        out, _ = self.called('dbg', *files, given='go\nstate\nlist\n')
         self.assertIn('jammed since clock', out)
         self.assertIn('>    4 F000:0001', out)
 
@@ -181,7 +181,7 @@ class Sessions(ToolCase):
         files = self.program('        HLT', 1000)
         keys = ','.join(f'[{100 + it},30]' for it in range(18))
         run = self.file('k.json', f'{{"version":1,"ram":64,"sw1":0,"sw2":0,"budget":1000,"keys":[{keys}]}}')
-        out, _ = self.tool('dbg', files[0], run, given='to 500\nstate\n')
+        out, _ = self.called('dbg', files[0], run, given='to 500\nstate\n')
         self.assertIn('2 keys lost, the first by clock 116, the last by clock 117', out)
 
     def test_source_and_memory(self) -> None:
@@ -207,9 +207,9 @@ class Sessions(ToolCase):
     def test_without_a_run_file(self) -> None:
         """It is that of tools/runfile, for dbg, trace, gdb and why."""
         source, _ = self.program('        HLT')
-        self.assertIn('clock 10000000: ', self.tool('dbg', source, given='go\n')[0])
-        self.assertIn(' 10000000 halted\n', self.tool('trace', source)[0])
-        self.assertIn('clock 10000000\n', self.tool('why', 'run', source)[0])
+        self.assertIn('clock 10000000: ', self.called('dbg', source, given='go\n')[0])
+        self.assertIn(' 10000000 halted\n', self.called('trace', source)[0])
+        self.assertIn('clock 10000000\n', self.called('why', 'run', source)[0])
         self.assertEqual(self.tool('why', 'debug', source, given='go 30\n')[0], 'clock 30\n')
 
     def test_conditions(self) -> None:
@@ -239,7 +239,7 @@ class Sessions(ToolCase):
 
     def test_hex_has_no_lines(self) -> None:
         source, run = example('monitor')
-        out, _ = self.tool('dbg', source.replace('.asm', '.hex'), run, '--hex', given='step\nlist\nbreak F600:0000\n')
+        out, _ = self.called('dbg', source.replace('.asm', '.hex'), run, '--hex', given='step\nlist\nbreak F600:0000\n')
         self.assertIn('Intel HEX has no source lines', out)
         self.assertIn('stop 1: break F600:0000', out)
 
@@ -322,7 +322,7 @@ class Terminal(ToolCase):
             ):
                 self.say('to 1000')
                 os.write(self.terminal, f'{command}\n'.encode())
-                self.assertTrue(is_at_work(self.pid))
+                self.assertTrue(is_at_work(self.pid, 0.05))
                 os.write(self.terminal, typed)
                 self.wait_for('interrupted, ')
                 there = self.wait_for('dbg> ').replace('\r', '')

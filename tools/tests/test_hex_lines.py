@@ -115,7 +115,7 @@ class Lines(Case):
 
     def test_dbg(self) -> None:
         program, run_file, symbols = self.c()
-        answer = self.tool('dbg', program, run_file, '--symbols', symbols, given='until sums.c:9\nlist\nbreak sums.c:8\ngo\ntrail 1\n')[0]
+        answer = self.called('dbg', program, run_file, '--symbols', symbols, given='until sums.c:9\nlist\nbreak sums.c:8\ngo\ntrail 1\n')[0]
         self.assertRegex(answer, r'^clock \d+: F000:0056 _sum\+12 \| sums\.c:9: return n \+ sum\(n - 1\);\n')
         self.assertIn('>    9 F000:0056     return n + sum(n - 1);\n', answer)
         self.assertRegex(answer, r'clock \d+: F000:0050 _sum\+C \| sums\.c:8: return 0;\n')

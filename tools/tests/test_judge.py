@@ -138,7 +138,7 @@ class Runs(ToolCase):
         source = self.file('it.asm', 'SEGMENT M AT 0F000h\ngo:     HLT\nENDS\nSEGMENT R AT 0FFFFh\nfirst:  JMP FAR go\nENDS\n')
         for budget, came in (('100', 'clock 0'), ('0', 'never')):
             page = self.file('page', f'budget = {budget}\nruns = first\nruns = FFFF:0\nnever runs = first\n')
-            out, _ = self.tool('judge', page, source, status=1)
+            out, _ = self.called('judge', page, source, status=1)
             self.assertEqual([it[:3] for it in out.splitlines()[:3]], ['no ', 'no ', 'ok '] if came == 'never' else ['ok ', 'ok ', 'no '])
             self.assertIn(came, out)
 

@@ -100,10 +100,10 @@ class StandIn(ToolCase):
             (['--key', '1E', '--at', '1..9', '--sample', '9'], 'there are 8 moments'),
             (['--key', '1E', '--at', '1..9', '--symbols', 'x'], 'goes with --hex'),
         ):
-            self.assertIn(wanted, self.tool('moments', *files, *words, status=2)[1])
-        self.assertIn('give its name', self.tool('moments', '-', *files[1:], '--key', '1E', '--at', '1..9', status=2)[1])
+            self.assertIn(wanted, self.called('moments', *files, *words, status=2)[1])
+        self.assertIn('give its name', self.called('moments', '-', *files[1:], '--key', '1E', '--at', '1..9', status=2)[1])
         self.file('it.moments', '{}')
-        self.assertIn('remove it', self.tool('moments', *files, '--key', '1E', '--at', '1..9', status=2)[1])
+        self.assertIn('remove it', self.called('moments', *files, '--key', '1E', '--at', '1..9', status=2)[1])
 
     def test_goes_on_behind_an_interrupt(self) -> None:
         words = [*self.begin(), '--key', '1E', '--at', '103..163', '--jobs', '2']
@@ -152,7 +152,7 @@ class StandIn(ToolCase):
         """At the budget's own clock a key comes, and behind it none does."""
         files = self.begin()
         self.assertIn('1 of 1 moments tried', self.tool('moments', *files, '--key', '1E', '--at', '900', status=1)[0])
-        self.assertIn('a key at clock 901 never comes: the run ends at 900', self.tool('moments', *files, '--key', '1E', '--at', '900..902', status=2)[1])
+        self.assertIn('a key at clock 901 never comes: the run ends at 900', self.called('moments', *files, '--key', '1E', '--at', '900..902', status=2)[1])
 
 
 # It takes the key that waits into a byte of memory twice, and throws one away between.

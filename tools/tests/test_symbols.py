@@ -175,20 +175,20 @@ class Board(ToolCase):
 
     def dbg(self, *words: str, typed: str) -> list[str]:
         """What the debugger answers."""
-        return self.tool('dbg', *words, given=typed.replace('; ', '\n') + '\n')[0].splitlines()
+        return self.called('dbg', *words, given=typed.replace('; ', '\n') + '\n')[0].splitlines()
 
     def test_symbols_in_each_tool(self) -> None:
         file, run, words = self.monitor()
         source = file.replace('.hex', '.asm')
-        self.assertEqual(self.tool('trace', *words, '--to', '2000', file, run)[0], self.tool('trace', '--to', '2000', source, run)[0])
+        self.assertEqual(self.called('trace', *words, '--to', '2000', file, run)[0], self.called('trace', '--to', '2000', source, run)[0])
         for kind in ('--profile', '--coverage', '--listing'):
-            self.assertEqual(self.tool('trace', kind, *words, file, run)[0], self.tool('trace', kind, source, run)[0], kind)
+            self.assertEqual(self.called('trace', kind, *words, file, run)[0], self.called('trace', kind, source, run)[0], kind)
         label = next(it.split()[1] for it in self.dbg(source, run, typed='labels'))
         self.assertEqual(self.dbg(*words, file, run, typed=f'break {label}; go; list'), self.dbg(source, run, typed=f'break {label}; go; list'))
         page = self.file('page', f'runs = {label}\n')
-        self.assertEqual(self.tool('judge', *words, page, file, run)[0].splitlines()[-1], '1 met, 0 not')
-        self.assertIn('goes with --hex', self.tool('judge', '--symbols', 'x', page, source, run, status=2)[1])
-        self.assertIn('goes with --hex', self.tool('trace', '--symbols', 'x', source, run, status=2)[1])
+        self.assertEqual(self.called('judge', *words, page, file, run)[0].splitlines()[-1], '1 met, 0 not')
+        self.assertIn('goes with --hex', self.called('judge', '--symbols', 'x', page, source, run, status=2)[1])
+        self.assertIn('goes with --hex', self.called('trace', '--symbols', 'x', source, run, status=2)[1])
 
     def test_over_calls_repeats_and_interrupts(self) -> None:
         files = self.program(
