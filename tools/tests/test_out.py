@@ -131,10 +131,10 @@ def by_steps(session: Session, end: int) -> tuple[int, str]:
     while session.clock < end:
         here = session.clock
         session.one('step')
-        last = event_of(session.many('trail')[-1])
-        if last.clock >= here and last.entry is None and last.text.split()[0] in ('RET', 'RETF', 'IRET'):
-            now = registers_of(session.many('regs'))
-            if now['SS'] != before['SS'] or now['SP'] > before['SP']:
+        now = registers_of(session.many('regs'))
+        if now['SS'] != before['SS'] or now['SP'] > before['SP']:
+            last = event_of(session.many('trail')[-1])
+            if last.clock >= here and last.entry is None and last.text.split()[0] in ('RET', 'RETF', 'IRET'):
                 return session.clock, 'returned'
     return end, 'far'
 
@@ -231,7 +231,7 @@ class Out(ToolCase):
                     self.assertEqual(machine.clock, 400_000)
                 else:
                     self.assertEqual((label[:4], machine.clock < 200_000), ('w1+2' if why == 'jammed' else 'w1+4', True), deed)
-                out, _ = self.tool('dbg', machine.files.file, machine.files.run_file, given='to 60\nfinish\n')
+                out, _ = self.called('dbg', machine.files.file, machine.files.run_file, given='to 60\nfinish\n')
                 self.assertIn(f"it didn't return{':' if why != 'far' else ''} {told}", out)
                 self.assertIn(f'clock {machine.clock}', out)
 
