@@ -501,19 +501,20 @@ class Served(ToolCase):
     def test_random_walks(self) -> None:
         """The end of each has the registers and memory of a session that goes there directly."""
         chance = random.Random(53)
-        for walk in range(20):
-            files = example(('ticks', 'fibonacci', 'nested', 'keys')[walk % 4])
+        for name in ('ticks', 'fibonacci', 'nested', 'keys'):
+            files = example(name)
             client = self.client(*files)
             client.ask('Z0,f0020,1')
-            requests = [chance.choice(('s', 's', 's', 'bs', 'bs', 'bc', 'c')) for _ in range(40)]
-            for request in requests:
-                client.ask(request)
-            clock = int(client.monitor('go 0').split()[-1])
             with Session(Files(*files)) as direct:
-                direct.go_to(clock)
-                self.assertEqual(client.registers()[:14], told_as(direct.many('regs')), (walk, requests))
-                for address in (0, 0x400, 0xB0000):
-                    self.assertEqual(client.ask(f'm{address:x},400'), direct.dump(address, 1024).hex(), (walk, requests))
+                for _ in range(5):
+                    client.monitor('to 0')
+                    requests = [chance.choice(('s', 's', 's', 'bs', 'bs', 'bc', 'c')) for _ in range(40)]
+                    for request in requests:
+                        client.ask(request)
+                    direct.go_to(int(client.monitor('go 0').split()[-1]))
+                    self.assertEqual(client.registers()[:14], told_as(direct.many('regs')), (name, requests))
+                    for address in (0, 0x400, 0xB0000):
+                        self.assertEqual(client.ask(f'm{address:x},400'), direct.dump(address, 1024).hex(), (name, requests))
             client.ask('k')
             client.close()
 
@@ -677,22 +678,22 @@ class Gdb(ToolCase):
         self.shows(blocks[1], (f'{STORED}/c/sums.hex', self.file('run.json', RUN)), '--hex', '--symbols', f'{STORED}/c/sums.map')
 
     def test_a_walk(self) -> None:
-        """Walks by gdb end where a session has the same registers and memory."""
-        chance = random.Random(8086)
-        for walk in range(20 if GDB else 0):
-            name, label = (('ticks', 'tick'), ('fibonacci', 'digit'), ('nested', 'tick'), ('keys', 'key'))[walk % 4]
-            files = example(name)
-            steps = [chance.choice(('stepi', 'stepi', 'stepi', 'reverse-stepi', 'reverse-stepi', 'continue', 'reverse-continue')) for _ in range(40)]
-            told = self.gdb(files, f'break {label}', *steps, 'monitor go 0', 'p/x $pc', 'p/x $esp', 'x/16xb 0x400', 'monitor regs')
-            clock = int(re.findall(r'^clock (\d+)$', told, re.M)[-1])
-            with Session(Files(*files)) as direct:
-                direct.go_to(clock)
-                lines = direct.many('regs')
-                registers = told_as(lines)
-                memory = re.sub('..', r'\t0x\g<0>', direct.dump(0x400, 16).hex())
-            self.assertIn('\n'.join(lines), told, steps)
-            for wanted in (f'= {registers[8]:#x}\n', f'= {registers[4]:#x}\n', memory[:40], memory[40:]):
-                self.assertIn(wanted, told, steps)
+        """Each of five walks by gdb, each from where the last one ended, ends where a session has the same registers and memory."""
+        chance, looks = random.Random(8086), ('echo here:\\n', 'monitor go 0', 'p/x $pc', 'p/x $esp', 'x/16xb 0x400', 'monitor regs', 'echo gone:\\n')
+        kinds = ('stepi', 'stepi', 'stepi', 'reverse-stepi', 'reverse-stepi', 'continue', 'reverse-continue')
+        for name, label in (('ticks', 'tick'), ('fibonacci', 'digit'), ('nested', 'tick'), ('keys', 'key')) if GDB else ():
+            walks = [[chance.choice(kinds) for _ in range(40)] for _ in range(5)]
+            told = self.gdb(example(name), f'break {label}', *(step for steps in walks for step in (*steps, *looks)))
+            ends = re.findall(r'^clock (\d+)\n(AX=.*)\n(CS=.*)$', told, re.M)
+            shown = re.findall(r'^here:\n(.*?)^gone:\n', told, re.M | re.S)
+            with Session(Files(*example(name))) as direct:
+                for steps, (clock, *lines), looked in zip(walks, ends, shown, strict=True):
+                    direct.go_to(int(clock))
+                    self.assertEqual(direct.many('regs'), lines, steps)
+                    registers = told_as(lines)
+                    memory = re.sub('..', r'\t0x\g<0>', direct.dump(0x400, 16).hex())
+                    for wanted in (f'= {registers[8]:#x}\n', f'= {registers[4]:#x}\n', memory[:40], memory[40:]):
+                        self.assertIn(wanted, looked, steps)
 
     def test_run_anew(self) -> None:
         """What everyone types: from the start to the first breakpoint, also after kill; and an attach after a detach."""
@@ -788,11 +789,6 @@ class Gdb(ToolCase):
         for wanted in ('#0  idle () at ticks.asm:38\n', 'Initial frame selected; you cannot go up', 'not meaningful in the outermost frame') if GDB else ():
             self.assertIn(wanted, answer)
         self.assertNotIn('corrupt', answer)
-
-    def test_a_watch(self) -> None:
-        told = self.gdb(example('ticks'), 'watch *(char*)0xb0000', 'continue', 'continue')
-        if GDB:
-            self.assertRegex(told, "(?s)Old value = 0.*New value = 48 '0'.*Old value = 48 '0'.*New value = 49 '1'")
 
 
 if __name__ == '__main__':
