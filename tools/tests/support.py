@@ -212,7 +212,12 @@ class ToolCase(unittest.TestCase):
         return out.getvalue(), but_progress(err.getvalue())
 
     def pcboard(self, *words: str, given: str = '') -> subprocess.CompletedProcess[str]:
-        """A run of the program itself. That it isn't there is a failure."""
+        """A run of the program itself. That it isn't there is a failure. A file takes the many pieces of a long answer sooner than a
+        pipe."""
         from toolbox import program
 
-        return subprocess.run([program.path(), *words], input=given, capture_output=True, text=True, check=False)
+        with tempfile.TemporaryFile('w+', encoding='utf-8') as out:
+            ran = subprocess.run([program.path(), *words], input=given, stdout=out, stderr=subprocess.PIPE, text=True, check=False)
+            out.seek(0)
+            ran.stdout = out.read()
+        return ran
