@@ -3,13 +3,15 @@ from __future__ import annotations
 
 import os
 import random
+import re
 import time
 import unittest
+from collections import Counter
 from typing import Any
 
 from tests.support import ToolCase, children, processor_seconds
 from tests.test_dap import Client
-from tests.test_held import program
+from tests.test_held import WATCHED, Stepped
 
 from toolbox.command import Sorry
 from toolbox.conditions import Asked, count_of
@@ -18,40 +20,33 @@ from toolbox.gdb_bytecode import Condition, signed
 from toolbox.listing import Listing
 from toolbox.program import Files
 from toolbox.report import registers_of
-from toolbox.runfile import DEFAULTS, text_of
 from toolbox.session_board import SessionBoard, break_at
 
-STEPS, HLT = 700, 0xF4
+HLT = 0xF4
 # The 61,440th time that AX is counted up it is F000h.
 COUNTING = '        MOV BX,0\nagain:  INC BX\n        JMP SHORT again'
 
 
-class Held(ToolCase):
+class Held(Stepped):
     """At each hit the condition is asked, and each hit counts once."""
 
-    def stepped(self, files: Files) -> list[tuple[int, dict[str, int]]]:
-        """Clock and registers behind each of some single steps."""
-        told = self.pcboard(*files.words('debug'), given='step\nregs\n' * STEPS).stdout.splitlines()
-        return [(int(told[at].split()[1]), registers_of(told[at + 1 : at + 3])) for at in range(0, len(told), 3)]
-
-    def places(self, found: list[tuple[int, dict[str, int]]], image: bytes) -> list[tuple[int, int]]:
-        """The places that come most often and lie behind no HLT, at which a halted processor stands."""
-        count = dict[tuple[int, int], int]()
-        for _, it in found:
-            count[it['CS'], it['IP']] = count.get((it['CS'], it['IP']), 0) + 1
-        return sorted((it for it in count if it[0] == 0xF000 and image[it[1] - 1] != HLT), key=lambda it: -count[it])[:6]
+    def places(self, found: list[tuple[int, int]], image: bytes) -> list[tuple[int, int]]:
+        """Of the places that have been come to those that come most often and lie behind no HLT, at which a halted processor stands."""
+        most = [place for place, _ in Counter(found).most_common()]
+        return [place for place in most if place[0] == 0xF000 and image[place[1] - 1] != HLT][:6]
 
     def test_random_programs(self) -> None:
         """A hundred of them: forth to each hit that counts and is met, and back over them; and by a jump into the midst of the run."""
         met = 0
         for seed in range(100):
             dice = random.Random(seed)
-            files = Files(self.file('it.asm', program(seed)), self.file('it.json', text_of(DEFAULTS)))
-            found = self.stepped(files)
-            board = SessionBoard(files, found[-1][0])
+            steps = self.steps(seed, *random.Random(seed).choice(WATCHED))
+            clocks_of_steps, registers = steps.clocks[1:], steps.registers[1:]
+            found = [(int(cs, 16), int(ip, 16)) for cs, ip in re.findall(r'CS=(\w+).* IP=(\w+)', '\n'.join(registers))]
+            board = SessionBoard(self.program_files(seed), clocks_of_steps[-1])
             try:
                 place = dice.choice(self.places(found, board.dump(0xF0000, 0x1000)))
-                here = [(clock, it) for clock, it in found if (it['CS'], it['IP']) == place]
+                here = [(clocks_of_steps[at], registers_of(registers[at].split('\n'))) for at, there in enumerate(found) if there == place]
                 number = dice.choice(here)[1]['BX']
                 condition, holds = dice.choice(
                     (
@@ -71,7 +66,7 @@ class Held(ToolCase):
                 board.asked = {stop: [asked]}
                 clocks = list[int]()
                 if dice.randrange(2):  # without having seen what came before
-                    board.go_to(dice.choice(found)[0])
+                    board.go_to(dice.choice(clocks_of_steps))
                     clocks = [it for it in wanted if it <= board.clock]
                 while board.run([stop], board.budget):
                     clocks.append(board.clock)
@@ -79,11 +74,11 @@ class Held(ToolCase):
                 back = list[int]()
                 while board.back_to([stop]):
                     back.append(board.clock)
-                self.assertEqual(back[::-1], [it for it in wanted if it < found[-1][0]], (seed, place, condition, text))
+                self.assertEqual(back[::-1], [it for it in wanted if it < board.budget], (seed, place, condition, text))
                 met += len(wanted)
             finally:
                 board.close()
-        self.assertGreater(met, 200)
+        self.assertGreater(met, 150)
 
     def test_expressions(self) -> None:
         """Comparisons without signs, as wide as the wider side, and what joins them."""

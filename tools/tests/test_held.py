@@ -2,18 +2,22 @@
 from __future__ import annotations
 
 import random
+import re
 import unittest
+from dataclasses import dataclass
 
 from tests.support import ToolCase
 
 from toolbox.expectations import Subject, first_start
 from toolbox.judging import subject_of
 from toolbox.listing import listing_of, physical
-from toolbox.program import Files, Session
+from toolbox.program import Files
 from toolbox.report import NANOSECONDS
 from toolbox.runfile import DEFAULTS, text_of
 
-CLOCKS = 2500
+CLOCKS, STEPS = 2500, 500
+# Bytes of the stack, whose top is 00D00, those that strings reach, and some of ROM.
+WATCHED = ((0xCF0, 16), (0xCFA, 6), (0xC00, 256), (0x400, 5), (0xCFC, 1), (0xF0000, 128))
 HEAD = """SEGMENT MAIN AT 0F000h
 start:  MOV AX,50h
         MOV SS,AX
@@ -75,6 +79,37 @@ def program(seed: int) -> str:
     return HEAD.format(ticks=dice.randrange(60, 250)) + '\n'.join([*lines, '']) + TAIL.format(soft=dice.choice(('INC DX', 'HLT', 'NOP')))
 
 
+@dataclass(frozen=True)
+class Steps:
+    """What single steps of a program show: all clocks between them, from 0 on; the registers there, as lines; and the clocks to which a
+    clock led in which a watched byte changed, which is the first of its step."""
+
+    clocks: list[int]
+    registers: list[str]
+    changes: list[int]
+
+
+class Stepped(ToolCase):
+    """Random programs, and their steps, which are made once for all tests."""
+
+    kept: dict[tuple[int, int, int], Steps] = {}
+
+    def program_files(self, seed: int) -> Files:
+        """A program."""
+        return Files(self.file('it.asm', program(seed)), self.file('it.json', text_of(DEFAULTS)))
+
+    def steps(self, seed: int, address: int, count: int) -> Steps:
+        """The program's first steps, for which so many bytes from an address on are watched."""
+        if (seed, address, count) not in self.kept:
+            looks = f'dump {address:X} {count}\nregs\n'
+            answers = self.pcboard(*self.program_files(seed).words('debug'), given=f'go 0\n{looks}' + f'step\n{looks}' * STEPS).stdout
+            found = re.findall(r'clock (\d+)\n(.*?)(AX=.*?\nCS=.*?)\n', answers, re.S)
+            self.assertEqual(len(found), STEPS + 1)
+            changes = [int(clock) + 1 for (clock, now, _), (_, then, _) in zip(found, found[1:]) if now != then]
+            self.kept[seed, address, count] = Steps([int(clock) for clock, _, _ in found], [registers for _, _, registers in found], changes)
+        return self.kept[seed, address, count]
+
+
 class Held(ToolCase):
     """Some programs, of which the same things are asked in two ways."""
 
@@ -131,26 +166,35 @@ class Held(ToolCase):
             places = {'0050:07FA,word': (0xCFA, 2), '400': (0x400, 1), 'tick,byte': (rom, 1)}
             words = [word for each in places for word in ('--watch', each)]
             text, _ = self.called('trace', '--vcd', '-', '--from', str(first), *words, files.file, files.run_file)
-            for name, (at, size) in places.items():
-                given = ''.join(f'dump {at:X} {size}\ngo 1\n' for _ in range(CLOCKS))
-                dumped = [each for each in self.pcboard(*files.words('debug'), given=given).stdout.splitlines() if ':' in each]
-                held = [int.from_bytes(bytes.fromhex(each.partition(':')[2]), 'little') for each in dumped]
+            given = ''.join(f'dump {at:X} {size}\n' for at, size in places.values()) + 'go 1\n'
+            rows = [each for each in self.pcboard(*files.words('debug'), given=given * CLOCKS).stdout.splitlines() if ':' in each]
+            dumped = [int.from_bytes(bytes.fromhex(each.partition(':')[2]), 'little') for each in rows]
+            for number, name in enumerate(places):
+                held = dumped[number :: len(places)]
                 self.assertEqual(self.words(text, name.partition(',')[0])[first:], held[first:], (seed, name))
                 changes += sum(a != b for a, b in zip(held, held[1:]))
         self.assertGreater(changes, 40)
 
+    def began(self, files: Files) -> dict[tuple[int, int], int]:
+        """The places at which instructions begin, each with the first clock of one, by single steps: the last line of the trail after a
+        step is what the step began with."""
+        answers = self.pcboard(*files.words('debug'), given='step\ntrail\n' * CLOCKS).stdout
+        found, here = dict[tuple[int, int], int](), 0
+        for answer in f'\n{answers}'.split('\nclock ')[1:]:
+            there, *_, last = answer.splitlines()
+            clock, place, what = last.split(maxsplit=2)
+            segment, _, offset = place.partition(':')
+            if int(clock) == here < CLOCKS and not what.startswith('entry'):
+                found.setdefault((int(segment, 16), int(offset, 16)), here)
+            here = int(there)
+        self.assertGreaterEqual(here, CLOCKS)
+        return found
+
     def test_what_ran(self) -> None:
         """Where an instruction first began, as tools/judge looks for it: as single steps meet it, at the reset's place too."""
         for seed in range(4):
-            files, began = self.files(seed), dict[tuple[int, int], int]()
-            with Session(files) as session:
-                while session.clock < CLOCKS:
-                    here = session.clock
-                    session.one('step')
-                    place, what = session.many('trail')[-1].split(maxsplit=2)[1:]
-                    if not what.startswith('entry') and session.many('trail')[-1].split()[0] == str(here):
-                        began.setdefault(tuple(int(it, 16) for it in place.split(':')), here)  # type: ignore[arg-type]
-            subject = subject_of(files)
+            files = self.files(seed)
+            began, subject = self.began(files), subject_of(files)
             assert isinstance(subject, Subject)
             lines = [it.address for it in listing_of(files).lines if it.address and it.address[0] > 0x50]
             dice = random.Random(seed)

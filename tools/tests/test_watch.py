@@ -8,7 +8,7 @@ import time
 from tests import test_gdb
 from tests.support import ToolCase, children, example, processor_seconds
 from tests.test_dap import Client as Editor
-from tests.test_held import program
+from tests.test_held import WATCHED, Stepped
 
 from toolbox.command import Sorry
 from toolbox.dap_board import Machine
@@ -16,13 +16,11 @@ from toolbox.desk_board import Board as DeskBoard
 from toolbox.gdb_board import Board
 from toolbox.listing import Listing, listing_of
 from toolbox.program import Files
-from toolbox.runfile import DEFAULTS, read_run_file, text_of
+from toolbox.runfile import read_run_file
 from toolbox.session_board import SessionBoard
 from toolbox.watches import changed, kind_of, watch_of, watched_by, what_was_seen, written
 
-STEPS, LOOP_CLOCKS = 700, 10_000_000
-# A few of the stack, whose top is 00D00, and those that strings reach.
-WATCHED = ((0xCF0, 16), (0xCFA, 6), (0xC00, 256), (0x400, 5), (0xCFC, 1), (0xF0000, 128))
+LOOP_CLOCKS = 10_000_000
 # The word changes at about clock 9,040,000; before and after no byte does.
 LATE = """        MOV BX,0
         MOV DX,0
@@ -50,35 +48,17 @@ WRITES = """        MOV AX,50h
         HLT"""
 
 
-class Held(ToolCase):
+class Held(Stepped):
     """What single steps show."""
-
-    def changes(self, files: Files, address: int, count: int) -> tuple[list[int], list[int]]:
-        """The clocks to which a clock led in which one of these bytes changed, which is the first of a step; and the clocks of all steps."""
-        told = self.pcboard(*files.words('debug'), given=f'dump {address:X} {count}\nstep\n' * STEPS).stdout.splitlines()
-        clocks, held, shown = [0], list[str](), ''
-        for line in told:
-            if line.startswith('clock'):
-                clocks.append(int(line.split()[1]))
-                held.append(shown)
-                shown = ''
-            else:
-                shown += line
-        return [begun + 1 for begun, now, then in zip(clocks, held, held[1:]) if now != then], clocks
-
-    def files(self, seed: int) -> Files:
-        """A program."""
-        return Files(self.file('it.asm', program(seed)), self.file('it.json', text_of(DEFAULTS)))
 
     def test_random_programs(self) -> None:
         """A hundred of them: forth to each change and back over all of them; gdb's to before each one on the way back."""
         met = 0
         for seed in range(100):
-            dice, files = random.Random(seed), self.files(seed)
-            address, count = dice.choice(WATCHED)
-            wanted, clocks = self.changes(files, address, count)
-            stop, board = watch_of(address, count), Board(files, clocks[-2])
-            wanted = [it for it in wanted if it <= board.budget]
+            address, count = random.Random(seed).choice(WATCHED)
+            steps = self.steps(seed, address, count)
+            stop, board = watch_of(address, count), Board(self.program_files(seed), steps.clocks[-2])
+            wanted = [clock for clock in steps.changes if clock <= board.budget]
             try:
                 ends = list[int]()
                 if seed % 2:
@@ -109,11 +89,10 @@ class Held(ToolCase):
         """Each change is a write, and what is written stands there then; of ROM nothing changes."""
         met = 0
         for seed in range(0, 100, 7):
-            files = self.files(seed)
             for address, count in ((0xCF0, 16), (0x400, 5)):
-                wanted, clocks = self.changes(files, address, count)
+                steps = self.steps(seed, address, count)
                 stop, ends = watch_of(address, count, True), list[int]()
-                board = SessionBoard(files, clocks[-2])
+                board = SessionBoard(self.program_files(seed), steps.clocks[-2])
                 try:
                     while board.run([stop], board.budget):
                         found = written(board, watched_by(stop))
@@ -125,25 +104,26 @@ class Held(ToolCase):
                         met += 1
                 finally:
                     board.close()
-                self.assertEqual(ends, [it for it in wanted if it <= clocks[-2]], (seed, stop))
+                self.assertEqual(ends, [clock for clock in steps.changes if clock <= board.budget], (seed, stop))
         self.assertGreater(met, 100)
 
     def test_ways_over_and_out(self) -> None:
         """An editor's way over an instruction ends at the first change on it, if there is one, else where it ends otherwise."""
         ended = 0
         for seed in range(0, 100, 10):
-            dice, files = random.Random(seed), self.files(seed)
+            dice = random.Random(seed)
             address, count = dice.choice(WATCHED[:3])
-            wanted, clocks = self.changes(files, address, count)
-            board, stop = Machine(files, Listing(), clocks[-2]), watch_of(address, count)
+            steps = self.steps(seed, address, count)
+            board, stop = Machine(self.program_files(seed), Listing(), steps.clocks[-2]), watch_of(address, count)
+            before = [clock - 1 for clock in steps.changes if clock < steps.clocks[-40]]
             try:
-                for here in dice.sample(clocks[:-40], 10):
+                for here in dice.sample(before, min(3, len(before))) + dice.sample(steps.clocks[:-40], 3):
                     board.go_to(here)
                     board.next(())
                     there = board.clock
                     board.go_to(here)
                     met = board.to_stops(lambda: board.next(()), [stop])
-                    first = next((it for it in wanted if here < it <= there), None)
+                    first = next((clock for clock in steps.changes if here < clock <= there), None)
                     self.assertEqual((met, board.clock), (stop, first) if first else (None, there), (seed, here))
                     ended += first is not None
             finally:
@@ -175,7 +155,7 @@ class Words(ToolCase):
 
     def dbg(self, files: tuple[str, str], *commands: str) -> list[str]:
         """The answers' lines."""
-        return self.tool('dbg', *files, given='\n'.join(commands) + '\n')[0].splitlines()
+        return self.called('dbg', *files, given='\n'.join(commands) + '\n')[0].splitlines()
 
     def test_dbg(self) -> None:
         told = self.dbg(
@@ -242,10 +222,11 @@ class Words(ToolCase):
     def test_sixteen_stops(self) -> None:
         """A seventeenth is refused in a sentence, whatever it is; all others stay."""
         commands = ['break tick', 'watch B0000', 'watch B0002 2 --writes', 'when keys', *(f'watch {0x500 + at:X}' for at in range(12))]
-        for more in ('watch 600', 'when wires', 'break card', 'sound', 'byte 0 1'):
-            told = self.dbg(example('ticks'), *commands, more, 'stops', 'go')
-            self.assertEqual(told[16], 'there are 16 stops, the most that go; clear N removes one')
-            self.assertEqual((told[:16], told[33].split(',')[0]), (told[17:33], 'stop 2 (watch B0000 1)'))
+        refused = ('watch 600', 'when wires', 'break card', 'sound', 'byte 0 1')
+        told = self.dbg(example('ticks'), *commands, *(word for more in refused for word in (more, 'stops')), 'go')
+        stops, answers = told[:16], told[16:101]
+        self.assertEqual(answers, ['there are 16 stops, the most that go; clear N removes one', *stops] * 5)
+        self.assertEqual(told[101].split(',')[0], 'stop 2 (watch B0000 1)')
 
 
 class Gdb(ToolCase):
