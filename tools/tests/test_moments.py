@@ -67,7 +67,7 @@ class StandIn(ToolCase):
         self.assertIn([[105, 2], [105, 30], [115, 3]], self.listed())
 
     def test_pairs_and_samples(self) -> None:
-        files, pairs = self.begin(), ('--key', '1E', '--at', '103..106', '--key', '9E', '--at', '207..211')
+        files, pairs = self.begin(), ('--jobs', '1', '--key', '1E', '--at', '103..106', '--key', '9E', '--at', '207..211')
         out, _ = self.tool('moments', *files, *pairs, status=1)
         self.assertEqual(
             [it for it in out.splitlines() if it.startswith(('12 of', 'failing'))],
@@ -138,7 +138,7 @@ class StandIn(ToolCase):
 
     def test_a_sample_joins_neighbours_alone(self) -> None:
         """Failing stamps between which others weren't tried are no range."""
-        out, _ = self.tool('moments', *self.begin(), '--key', '1E', '--at', '101..201', '--sample', '20', '--seed', '3', '--all', status=1)
+        out, _ = self.tool('moments', *self.begin(), '--jobs', '1', '--key', '1E', '--at', '101..201', '--sample', '20', '--seed', '3', '--all', status=1)
         tried = {it[0][0] for it in self.listed() if it}
         self.assertEqual(len(tried), 20)
         told = set[int]()
