@@ -31,7 +31,7 @@ class Held(Stepped):
     """At each hit the condition is asked, and each hit counts once."""
 
     def places(self, found: list[tuple[int, int]], image: bytes) -> list[tuple[int, int]]:
-        """Of the places that have been come to those that come most often and lie behind no HLT, at which a halted processor stands."""
+        """The six places at which instructions begin most often; none after a HLT, at which a halted processor stands."""
         most = [place for place, _ in Counter(found).most_common()]
         return [place for place in most if place[0] == 0xF000 and image[place[1] - 1] != HLT][:6]
 

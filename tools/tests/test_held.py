@@ -81,8 +81,8 @@ def program(seed: int) -> str:
 
 @dataclass(frozen=True)
 class Steps:
-    """What single steps of a program show: all clocks between them, from 0 on; the registers there, as lines; and the clocks to which a
-    clock led in which a watched byte changed, which is the first of its step."""
+    """What single steps of a program show: the clock before the first of them and after each, the registers there, as lines, and the clocks
+    after those in which a watched byte changed, which are the first ones of their steps."""
 
     clocks: list[int]
     registers: list[str]
