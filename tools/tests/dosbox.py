@@ -16,7 +16,7 @@ import subprocess
 import sys
 import tempfile
 
-from tests.support import EXAMPLES, SECONDS, STORED
+from tests.support import EXAMPLES, SECONDS, STORED, not_run
 
 from toolbox.command import Sorry
 from toolbox.guests import Guest, compiled
@@ -87,7 +87,7 @@ def has_bcc() -> bool:
         try:
             compiled(Guest(file.name, compiler='bcc'), room)
         except Sorry as sorry:
-            print(f'not run: what bcc makes; {sorry}', flush=True)
+            not_run(f'what bcc makes; {sorry}')
             return False
     return True
 

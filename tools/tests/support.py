@@ -59,11 +59,23 @@ for line in sys.stdin:
 """
 
 
+left_out: list[str] = []  # what the present test hasn't run; tools/test looks at it after each test
+_told: set[str] = set()
+
+
+def not_run(what: str) -> None:
+    """Tells, once, what isn't run here, and is neither passed nor failed."""
+    left_out.append(what)
+    if what not in _told:
+        _told.add(what)
+        print(f'not run: {what}', flush=True)
+
+
 def is_there(command: str, what: str, package: str) -> bool:
-    """Whether a command is there. Where it isn't, what it is wanted for is told as not run, and is neither passed nor failed."""
+    """Whether a command is there. If it isn't, what it is wanted for is told as not run."""
     found = shutil.which(command) is not None
     if not found:
-        print(f'not run: {what}; apt install {package}', flush=True)
+        not_run(f'{what}; apt install {package}')
     return found
 
 

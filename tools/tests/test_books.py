@@ -8,7 +8,7 @@ import subprocess
 import unittest
 
 from tests import dosbox
-from tests.support import SECONDS, ToolCase, is_there
+from tests.support import SECONDS, ToolCase, is_there, not_run
 
 from toolbox.guests import Guest, prepared
 from toolbox.nowhere import told_of_end
@@ -158,7 +158,7 @@ class Sectors(ToolCase):
     def test_syslinux_s_wants_a_386(self) -> None:
         path = '/usr/lib/syslinux/mbr/mbr.bin'
         if not os.path.exists(path):
-            print('not run: the first sector of syslinux; apt install syslinux-common')
+            not_run('the first sector of syslinux; apt install syslinux-common')
             return
         with open(path, 'rb') as file, open(f'{self.room}/it.bin', 'wb') as to:
             to.write(file.read().ljust(510, b'\0') + b'\x55\xAA')

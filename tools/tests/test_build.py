@@ -11,7 +11,7 @@ import subprocess
 import unittest
 
 from tests.repository import Repository
-from tests.support import SECONDS, TOP, is_running, until
+from tests.support import SECONDS, TOP, is_running, not_run, until
 from toolbox import building, sources
 from toolbox.crates import Crates
 
@@ -33,6 +33,7 @@ class Version(unittest.TestCase):
     def test_the_logic_is_that_of_rt(self) -> None:
         """Another kit of the same logic is told, and no failure."""
         if not shutil.which('rt'):
+            not_run("the kit against README's; Rattle's rt is not on the path")
             return
         kit, logic = kit_of_readme()
         here, _, its_logic = subprocess.run(['rt', 'version'], capture_output=True, text=True, check=True).stdout.split()

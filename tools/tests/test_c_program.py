@@ -10,7 +10,7 @@ import subprocess
 import unittest
 from typing import Any
 
-from tests.support import STORED, TOP, ToolCase
+from tests.support import STORED, TOP, ToolCase, not_run
 from tests.test_dap import Client
 from tests.test_editors import MODE_CLIENT, batch, has_dap_mode
 from tests.test_gdb import GDB
@@ -45,7 +45,7 @@ class Compiled(ToolCase):
 
     def test_they_are_made_of_the_program(self) -> None:
         if not all(map(shutil.which, ('bcc', 'as86', 'ld86', 'objcopy'))):
-            print('not run: bcc, bin86')
+            not_run('bcc, bin86')
             return
         room = shutil.copytree(PROGRAM, f'{self.room}/c')
         for name in ('sums.hex', 'sums.map'):
@@ -79,7 +79,7 @@ class Debugged(ToolCase):
 
     def test_gdb(self) -> None:
         if not GDB:
-            print("not run: gdb isn't installed")
+            not_run("gdb isn't installed")
             return
         typed = (
             'break *_sum',
@@ -172,7 +172,7 @@ class Debugged(ToolCase):
 
     def test_dap_mode(self) -> None:
         if not has_dap_mode():
-            print('not run: Emacs with dap-mode')
+            not_run('Emacs with dap-mode')
             return
         told = batch(self.room, '-l', MODE_CLIENT, EMACS, HEX, self.run_file, '_sum', MAP)
         clocks = self.clocks(f'break {SUM}', 'go 20000', 'step', 'step', 'back step', 'back step', 'go 20000', 'back stop')

@@ -16,7 +16,7 @@ import unittest.mock
 from typing import Any
 
 from tests.protocol import types
-from tests.support import SECONDS, SLOW, TOOLS, ToolCase, example
+from tests.support import SECONDS, SLOW, TOOLS, ToolCase, example, not_run
 
 from toolbox.dap_values import number_in
 from toolbox.framing import Broken, Reader
@@ -168,7 +168,7 @@ class Words(unittest.TestCase):
         """What is held against them is found: a field too few, too many, of another type; a word that isn't one of them."""
         known = types()
         if known is None:
-            print("not run: messages against the protocol's types; apt install node-vscode-debugprotocol")
+            not_run("messages against the protocol's types; apt install node-vscode-debugprotocol")
             return
         stopped = {'seq': 1, 'type': 'event', 'event': 'stopped', 'body': {'reason': 'step', 'hitBreakpointIds': [1]}}
         done = {'seq': 1, 'type': 'response', 'request_seq': 1, 'success': True, 'command': 'source', 'body': {'content': ''}}

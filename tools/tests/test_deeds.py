@@ -7,7 +7,7 @@ import shutil
 import subprocess
 import unittest
 
-from tests.support import TOP, ToolCase
+from tests.support import TOP, ToolCase, not_run
 from toolbox.crates import Crates
 
 PROVED = ('decode_cache', 'execute_slots', 'execute')  # those that hold the places, and what stands between them
@@ -78,7 +78,7 @@ class MadeUpDeed(ToolCase):
         crates = Crates(self.room)
         lacking = [name for name in crates.below('execute') - {*PROVED} if not os.path.exists(crates.rlib(name))]
         if lacking or not shutil.which('rt'):
-            print('not run: the proof of a made-up deed; it wants Rattle, and the libraries that rt ci leaves')
+            not_run('the proof of a made-up deed; it wants Rattle, and the libraries that rt ci leaves')
             return
         for name in PROVED:
             os.makedirs(os.path.dirname(crates.rlib(name)))

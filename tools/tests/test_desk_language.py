@@ -4,7 +4,7 @@ from __future__ import annotations
 import unittest
 
 from tests.browser import CONTROL, path
-from tests.support import ToolCase
+from tests.support import ToolCase, not_run
 from tests.test_desk_page import Page
 
 from toolbox.command import Sorry
@@ -36,7 +36,7 @@ class InTheBrowser(ToolCase):
 
     def test_underlined_told_and_completed(self) -> None:
         if path() is None:
-            print("not run: the words of tools/desk in a browser, since Chromium isn't installed")
+            not_run("the words of tools/desk in a browser, since Chromium isn't installed")
             return
         page = Page(self.room)
         self.addCleanup(page.close)

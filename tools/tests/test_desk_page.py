@@ -14,7 +14,7 @@ import unittest
 from typing import Any
 
 from tests.browser import CONTROL, SHIFT, Browser, path
-from tests.support import EXAMPLES, SECONDS, TOOLS, ToolCase, children, example, processor_seconds, until
+from tests.support import EXAMPLES, SECONDS, TOOLS, ToolCase, children, example, not_run, processor_seconds, until
 from tests.test_desk import BUZZ, DARK, DATA, NESTED
 
 from toolbox.chips import END_OF_INTERRUPT, chip_lines
@@ -124,7 +124,7 @@ class OnePage(ToolCase):
         room = tempfile.TemporaryDirectory()
         cls.addClassCleanup(room.cleanup)
         if path() is None:
-            print("not run: the page of tools/desk in a browser, since Chromium isn't installed")
+            not_run("the page of tools/desk in a browser, since Chromium isn't installed")
             return
         cls.page = Page(room.name)
         cls.addClassCleanup(cls.page.close)

@@ -13,7 +13,7 @@ from typing import Any
 
 from tests import test_desk
 from tests.browser import CONTROL, Browser, path
-from tests.support import SECONDS, ToolCase
+from tests.support import SECONDS, ToolCase, not_run
 from tests.test_desk import FOREVER, RUN, Fields
 from tests.test_desk_page import Page
 from tests.test_writing import full_disk
@@ -278,7 +278,7 @@ class OnThePage(ToolCase):
         room = tempfile.TemporaryDirectory()
         cls.addClassCleanup(room.cleanup)
         if path() is None:
-            print("not run: saving by a page of tools/desk in a browser, since Chromium isn't installed")
+            not_run("saving by a page of tools/desk in a browser, since Chromium isn't installed")
             return
         cls.browser = Browser(room.name)
         cls.addClassCleanup(cls.browser.close)

@@ -9,7 +9,7 @@ import shutil
 import subprocess
 import unittest
 
-from tests.support import EXAMPLES, SECONDS, TOOLS, TOP, ToolCase, example
+from tests.support import EXAMPLES, SECONDS, TOOLS, TOP, ToolCase, example, not_run
 
 from toolbox.hints import STATEMENTS, WORDS
 from toolbox.program import Files, Session
@@ -97,7 +97,7 @@ class Editors(ToolCase):
 
     def test_dap_mode_debugs(self) -> None:
         if not has_dap_mode():
-            print('not run: Emacs with dap-mode')
+            not_run('Emacs with dap-mode')
             return
         source, run = example('ticks')
         told = batch(self.room, '-l', MODE_CLIENT, f'{TOP}/editors/emacs.el', source, run, '41')
@@ -125,9 +125,9 @@ class Editors(ToolCase):
             with open(f'{self.room}/found', encoding='ascii') as file:
                 self.assertEqual(file.read().split(), ['3', '4'])
         else:
-            print('not run: vim')
+            not_run('vim')
         if not shutil.which('emacs'):
-            print('not run: Emacs')
+            not_run('Emacs')
             return
         text = (
             "(progn (require 'compile) (let ((b (compilation-start \"%s/why --lines %s\"))) (while (get-buffer-process b) (accept-process-output nil 0.1))"
@@ -138,7 +138,7 @@ class Editors(ToolCase):
     def test_neovim(self) -> None:
         """Its settings, with a stand-in for nvim-dap, and its quickfix."""
         if not shutil.which('nvim'):
-            print('not run: Neovim')
+            not_run('Neovim')
             return
         source, _ = self.program(' FROB\n MOV AX,0x10')
         os.makedirs(f'{self.room}/lua')

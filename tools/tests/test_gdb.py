@@ -12,7 +12,7 @@ import sys
 import unittest
 import unittest.mock
 
-from tests.support import SECONDS, SLOW, STORED, TOOLS, TOP, ToolCase, children, example, is_at_work, name_of, processor_seconds, until
+from tests.support import SECONDS, SLOW, STORED, TOOLS, TOP, ToolCase, children, example, is_at_work, name_of, not_run, processor_seconds, until
 
 from toolbox.gdb_board import far_of_address
 from toolbox.gdb_elf import is_call, sleb, uleb
@@ -546,7 +546,7 @@ class Gdb(ToolCase):
     def gdb(self, files: tuple[str, str], *commands: str, words: tuple[str, ...] = ()) -> str:
         """What gdb prints."""
         if not GDB:
-            print("not run: gdb isn't installed")
+            not_run("gdb isn't installed")
             return ''
         given = [it for command in commands for it in ('-ex', command)]
         out, err = self.tool('gdb', *files, *words, '-nx', '-batch', *given)

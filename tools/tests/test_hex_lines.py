@@ -10,7 +10,6 @@ import unittest
 
 from tests.support import EXAMPLES, STORED, ToolCase, is_there
 from tests.test_dap import Client
-from tests.test_gdb import GDB
 from tests.test_symbols import NASM, ROM, hex_of
 
 from toolbox.command import Sorry
@@ -158,12 +157,13 @@ class Lines(Case):
 class Gdb(Case):
     """By gdb itself."""
 
-    def setUp(self) -> None:
-        super().setUp()
-        if not GDB:
-            self.skipTest("gdb isn't installed")
+    def is_there(self) -> bool:
+        """Whether it is installed."""
+        return is_there('gdb', 'gdb with the lines of HEX programs', 'gdb')
 
     def test_nasm(self) -> None:
+        if not self.is_there():
+            return
         answer = self.gdb(self.nasm(), 'info line rom.asm:12', 'break rom.asm:4', 'continue', 'next', 'reverse-stepi', 'info source')
         self.assertIn('Line 12 of "rom.asm" starts at address 0xf0018 <end_it', answer.replace('<msg+17', '<end_it'))
         for line in ('Breakpoint 1, start () at rom.asm:4\n4\t        mov es,ax\n', '\n6\t        jmp short .loop\n', f'Located in {self.room}/rom.asm\n'):
@@ -171,12 +171,16 @@ class Gdb(Case):
 
     def test_a_source_that_is_not_there(self) -> None:
         """Then gdb shows what the listing has of it."""
+        if not self.is_there():
+            return
         for source in (None, 'something else\n'):
             answer = self.gdb(self.nasm(source), 'break rom.asm:4', 'continue', 'list 1,3')
             for line in ('\n4\t        mov es,ax\n', '\n2\t; a ROM\n3\tstart:  mov ax,0B000h\n'):
                 self.assertIn(line, answer)
 
     def test_c(self) -> None:
+        if not self.is_there():
+            return
         typed = ('tbreak sums.c:9', 'continue', 'backtrace', 'step', 'finish', 'tbreak *_main', 'reverse-continue', 'list crt0.s:8,8')
         answer = self.gdb(self.c(), *typed)
         for line in (

@@ -14,7 +14,7 @@ import threading
 import unittest
 from typing import Any
 
-from tests.support import SECONDS, TOOLS, ToolCase
+from tests.support import SECONDS, TOOLS, ToolCase, not_run
 from toolbox.desk_http import Server
 
 # Asks for a page from within a namespace, and prints its status.
@@ -76,7 +76,7 @@ class Listening(unittest.TestCase):
         try:
             socket.create_server(('::1', 0), family=socket.AF_INET6).close()
         except OSError:
-            print('not run: the desk on ::1, which this machine has not', flush=True)
+            not_run('the desk on ::1, which this machine has not')
             return
         server = self.serve('::1')
         self.assertTrue(server.address.startswith('http://[::1]:'))
@@ -133,7 +133,7 @@ class Started(ToolCase):
         ip = ['ip'] if shutil.which('ip') else []
         made = subprocess.run([*ip, 'netns', 'add', name], capture_output=True, check=False).returncode if ip and os.getuid() == 0 else 1
         if made:
-            print('not run: the desk across a network namespace, which root makes by ip, of iproute2', flush=True)
+            not_run('the desk across a network namespace, which root makes by ip, of iproute2')
             return
         self.addCleanup(subprocess.run, [*ip, 'netns', 'del', name], check=False)
         for words in (
@@ -144,7 +144,7 @@ class Started(ToolCase):
             f'-n {name} link set {name}b up',
         ):
             if subprocess.run([*ip, *words.split()], capture_output=True, check=False).returncode:
-                print(f'not run: the desk across a network namespace: ip {words}', flush=True)
+                not_run(f'the desk across a network namespace: ip {words}')
                 return
         inside = [*ip, 'netns', 'exec', name, sys.executable, '-c', FETCH]
         for words, is_reached in (((), False), (('--listen', '198.51.100.1'), True), (('--listen', '0.0.0.0'), True)):

@@ -8,7 +8,7 @@ import re
 import subprocess
 import unittest
 
-from tests.support import TOP, ToolCase, is_there
+from tests.support import TOP, ToolCase, is_there, not_run
 
 from toolbox.lsp.documents import Settings
 from toolbox.lsp.doubts import NAMES
@@ -104,7 +104,7 @@ class Real(ToolCase):
     def test_emacs(self) -> None:
         has = is_there('emacs', 'the language server in Emacs', 'emacs-nox')
         if has and subprocess.run(['emacs', '--batch', '--eval', "(progn (package-initialize) (require 'eglot))"], capture_output=True, check=False).returncode:
-            print('not run: the language server in Emacs; apt install elpa-eglot')
+            not_run('the language server in Emacs; apt install elpa-eglot')
         elif has:
             script = self.file('it.el', f'(package-initialize)\n{settings("elisp")}(remove-hook \'asm-mode-hook \'eglot-ensure)\n{EMACS}')
             self.check(self.run_editor(['emacs', '--batch', '-l', script]))

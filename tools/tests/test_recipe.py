@@ -10,7 +10,7 @@ import unittest
 from typing import Any
 from xml.etree import ElementTree
 
-from tests.support import EXAMPLES, TOP, ToolCase, example, is_there
+from tests.support import EXAMPLES, TOP, ToolCase, example, is_there, not_run
 
 NOBODY = 65534
 BARE = ['--variant=minbase', '--include=git,python3', 'stable']
@@ -31,7 +31,7 @@ def bare_system() -> str | None:
         os.makedirs(f'{made}.new')
         ran = subprocess.run(['debootstrap', *BARE, f'{made}.new'], capture_output=True, text=True, check=False)
         if ran.returncode:
-            print(f'not run: the workflow of examples/class in a bare system; debootstrap: {(ran.stdout + ran.stderr).strip()[-200:]}')
+            not_run(f'the workflow of examples/class in a bare system; debootstrap: {(ran.stdout + ran.stderr).strip()[-200:]}')
             return None
         os.rename(f'{made}.new', made)
     return made
@@ -77,7 +77,7 @@ class Recipe(ToolCase):
     def test_as_an_ordinary_user(self) -> None:
         self.assertEqual(len(self.lines), 2)
         if not os.path.isdir(f'{TOP}/.git'):
-            print('not run: the workflow of examples/class; it fetches from a clone')
+            not_run('the workflow of examples/class; it fetches from a clone')
             return
         commit, how = self.fill(self.home), dict[str, Any]()
         if os.geteuid() == 0:
@@ -89,7 +89,7 @@ class Recipe(ToolCase):
         if not is_there('debootstrap', 'the workflow of examples/class in a bare system', 'debootstrap'):
             return
         if os.geteuid() != 0 or not os.path.isdir(f'{TOP}/.git'):
-            print('not run: the workflow of examples/class in a bare system; it wants root, and a clone')
+            not_run('the workflow of examples/class in a bare system; it wants root, and a clone')
             return
         system = bare_system()
         if system:

@@ -6,7 +6,7 @@ import shutil
 import subprocess
 import sys
 
-from tests.support import TOP, ToolCase
+from tests.support import TOP, ToolCase, not_run
 from toolbox.edits import FOLDERS, edits_of, function_at, judge
 
 RT = """
@@ -42,7 +42,7 @@ class Edits(ToolCase):
 
     def test_each_text_stands_in_its_source_once(self) -> None:
         if not shutil.which('rt'):
-            print("not run: wrong bodies by the gate's own words, which Rattle's rt has", flush=True)
+            not_run("wrong bodies by the gate's own words, which Rattle's rt has")
             return
         rt = judge()
         for name in sorted(os.listdir(f'{TOP}/crates')):

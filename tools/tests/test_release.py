@@ -14,7 +14,7 @@ import tarfile
 import unittest
 
 from tests.repository import KIT, LOGIC, Repository
-from tests.support import SECONDS, TOP, but_progress, is_there
+from tests.support import SECONDS, TOP, but_progress, is_there, not_run
 from tests.test_pages import blocks, commands
 from toolbox import debian, program, release, wheel
 from toolbox.crates import Crates
@@ -114,6 +114,13 @@ class Unpacked(Repository):
         self.is_real = self.put_libraries()
         for names in (PROGRAMS, *((it,) for it in LIBRARIES)):
             self.note(*names)
+
+    def wanted(self) -> str:
+        """What the timer's bench prints: OUT of counter 2 rises 5 ticks after its count is written, falls 3 after that, and rises 4 after that."""
+        if self.is_real:
+            return '5 3 4 '
+        not_run('the chips of a release, in which stand-ins are packed here; dev/benches builds their library')
+        return '0 0 0 '
 
     def put_libraries(self) -> bool:
         """Puts the gate's libraries there; where one of them isn't there, stand-ins. Returns whether they are the gate's."""
@@ -350,10 +357,6 @@ class Release(Unpacked):
 class Libraries(Unpacked):
     """The libraries of an unpacked archive."""
 
-    def wanted(self) -> str:
-        """OUT of counter 2 rises 5 ticks after its count is written, falls 3 after that, and rises 4 after that."""
-        return '5 3 4 ' if self.is_real else '0 0 0 '
-
     def test_chips_for_python_without_a_compiler(self) -> None:
         top, empty = self.unpacked(), f'{self.room}/empty'
         os.mkdir(empty)
@@ -395,7 +398,7 @@ class Libraries(Unpacked):
         ).stdout
         self.assertRegex(told, r' -L\S+/lib -l:libzebludor_run\.a -l:libzebludor_memory\.a ?\n\Z')
         if not self.is_real:
-            print('not run: whole runs in C from a release; dev/benches builds their library')
+            not_run('whole runs in C from a release; dev/benches builds their library')
             return
         subprocess.run(['cc', '-std=c11', f'{top}/c/benches/runs.c', *shlex.split(told), '-o', f'{self.room}/runs'], check=True)
         words = [f'{top}/{it}' for it in RUN.split()]

@@ -11,7 +11,7 @@ import sys
 import unittest
 from collections.abc import Iterable
 
-from tests.support import TOP, ToolCase
+from tests.support import TOP, ToolCase, not_run
 from toolbox.command import write_text
 
 ROW = re.compile(r'^    row!\(\w+::\w+ 0x([0-9A-F]{2})(?: / \d)?, (\w+) (\w+), ', re.M)
@@ -145,7 +145,7 @@ class MadeUpRow(ToolCase):
         """No two rows fit the same bytes, and the index leads to the first. That digest and decode, which stand on it, are proved
         too with no further change was tried once: it takes four minutes of a processor."""
         if not shutil.which('rt'):
-            print("not run: the proof of a made-up row; Rattle's rt is not on the path")
+            not_run("the proof of a made-up row; Rattle's rt is not on the path")
             return
         ran = subprocess.run(
             ['rt', 'check'], cwd=f'{self.room}/crates/isa', stdin=subprocess.DEVNULL, stdout=subprocess.PIPE, stderr=subprocess.STDOUT, text=True, check=False

@@ -13,7 +13,7 @@ from collections.abc import Callable
 from dataclasses import replace
 
 from tests.repository import KIT, LOGIC, Repository
-from tests.support import TOP, ToolCase
+from tests.support import TOP, ToolCase, not_run
 from toolbox import program, proved
 from toolbox.command import write_text
 from toolbox.crates import Crates
@@ -727,12 +727,15 @@ class Gate(ToolCase):
         present = sum_of_sources(names, TOP)
         if stored.made[name].sources == present:
             self.assertLessEqual(names, stored.verdicts.keys())
+        if os.path.samefile(path, f'{TOP}/stored/{name}'):
+            not_run(f'stored/{name} against one that was built here, since it is the one that is tested')
+            return
         built = proved.read(os.path.dirname(path))
         if built and not built.of(path):
             built = None
         why = proved.incomparable(name, stored, built, present)
         if why or built is None:
-            print(f'not run: {why}')
+            not_run(str(why))
             return
         self.assertEqual(built.made[name], stored.made[name])
         self.assertEqual({crate: stored.verdicts[crate] for crate in built.verdicts}, built.verdicts)

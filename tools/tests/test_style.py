@@ -9,7 +9,7 @@ import subprocess
 import sys
 import unittest
 
-from tests.support import TOP, is_there
+from tests.support import TOP, is_there, not_run
 
 FOLDERS = ('bench', 'c', 'dev', 'editors', 'examples', 'python', 'tools')
 LAYOUT = 23  # the black whose layout this is; others differ
@@ -47,7 +47,7 @@ class Style(unittest.TestCase):
             return
         version = subprocess.run(['black', '--version'], capture_output=True, text=True, check=True).stdout
         if not re.search(rf'\b{LAYOUT}\.', version):
-            print(f"not run: Python's layout; black {LAYOUT} is wanted, and this is {version.partition(chr(10))[0]}")
+            not_run(f"Python's layout; black {LAYOUT} is wanted, and this is {version.partition(chr(10))[0]}")
             return
         ran = lay_out('--diff')
         self.assertEqual(ran.stdout[:3000], '', 'python3 -m tests.test_style --write, in tools/, lays it out')

@@ -11,7 +11,7 @@ import unittest
 from typing import Callable, Iterator
 from unittest import mock
 
-from tests.support import ToolCase, example
+from tests.support import ToolCase, example, not_run
 
 from toolbox import writing
 from toolbox.command import Sorry, write_text
@@ -25,6 +25,8 @@ def full_disk(room: str, size: int) -> Iterator[tuple[str, Callable[[], None]]]:
     folder = os.path.join(room, 'disk')
     os.mkdir(folder)
     mounted = subprocess.run(['mount', '-t', 'tmpfs', '-o', f'size={size}', 'none', folder], capture_output=True, check=False).returncode == 0
+    if not mounted:
+        not_run('writing to a disk that is really full; no tmpfs can be mounted')
     with contextlib.ExitStack() as stack:
 
         def fill() -> None:
@@ -151,7 +153,6 @@ class Whole(ToolCase):
         report = self.pcboard('run', *example('first')).stdout
         with full_disk(self.room, 64 << 10) as (folder, fill):
             if not os.path.ismount(folder):
-                print('not run: tools that write to a full disk, since no tmpfs can be mounted')
                 return
             for name in ('it.svg', 'it.wav'):
                 write_whole(f'{folder}/{name}', b'old')
