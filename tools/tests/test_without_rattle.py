@@ -38,6 +38,26 @@ LINES = (
     ('NOP => 91', '90'),
     ('front 0 => front', None),
 )
+IN_PART = """import unittest
+from tests.support import not_run
+
+class It(unittest.TestCase):
+    def test_a(self) -> None:
+        not_run('a bit')
+
+    def test_b(self) -> None:
+        not_run('a bit')
+        self.fail()
+
+    def test_c(self) -> None:
+        not_run('another bit')
+        for number in range(2):
+            with self.subTest(number=number):
+                self.fail()
+
+    def test_d(self) -> None:
+        self.assertTrue(True)
+"""
 MODULE = 'import unittest\n\n\nclass It(unittest.TestCase):\n    def test_it(self) -> None:\n        self.assertTrue(True)\n'
 
 
@@ -81,7 +101,8 @@ class Whole(ToolCase):
         for folder in ('tools', 'python', '.ci'):
             shutil.copytree(f'{TOP}/{folder}', f'{self.top}/{folder}', ignore=ignored)
         os.makedirs(f'{self.top}/tools/tests')
-        self.file('top/tools/tests/__init__.py', '')
+        for name in ('__init__', 'support'):
+            shutil.copy(f'{TOP}/tools/tests/{name}.py', f'{self.top}/tools/tests')
         self.file('top/tools/tests/test_it.py', MODULE)
         self.file('top/crates.txt', '')
         for crate, lines in (('program_cases', RUNS[:2]), ('source_cases', LINES[:4])):
@@ -111,6 +132,15 @@ class Whole(ToolCase):
         ran = self.run_it('tools/test', '--tools')
         self.assertEqual((ran.returncode, ran.stdout.splitlines()[-1]), (0, '1 passed, 0 failed'))
         self.assertNotIn('proved', ran.stdout)
+
+    def test_what_is_run_in_part(self) -> None:
+        """Is named in a file, if it didn't fail."""
+        self.file('top/tools/tests/test_it.py', IN_PART)
+        ran = self.run_it('tools/test', '--tools', f'{self.room}/in_part')
+        self.assertEqual((ran.returncode, ran.stdout.splitlines()[-1]), (1, '2 passed, 2 failed'), ran.stdout)
+        self.assertEqual((ran.stdout.count('not run: a bit\n'), ran.stdout.count('not run: ')), (1, 2))
+        with open(f'{self.room}/in_part', encoding='utf-8') as file:
+            self.assertEqual(file.read(), 'tests.test_it.It.test_a\n')
 
     def test_nothing_lands_so(self) -> None:
         ran = self.run_it('.ci/run')

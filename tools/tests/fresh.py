@@ -1,0 +1,47 @@
+"""A copy of the repository that is as a fresh clone, and how an ordinary user starts something there."""
+from __future__ import annotations
+
+import os
+import shutil
+import subprocess
+from typing import Any
+
+from tests.support import TOP
+from toolbox import release
+from toolbox.crates import Crates
+from toolbox.proved import PROGRAMS, out
+
+NOBODY = 65534
+BUILT = ('out', 'target', '__pycache__', 'BUILD.bazel')  # what .gitignore leaves out
+PYTHON = 'import sys; sys.exit(sys.version_info < (3, 10))'
+
+
+def copy(room: str) -> dict[str, Any]:
+    """Makes the copy in a folder, with a home beside it, and returns how a process is started in it, as arguments of `subprocess`: by
+    a user without rights if this one is root, and with nothing in the environment but that home and the system's commands. Where the
+    stored programs aren't of the present sources, it also names those that were built."""
+    top, home = f'{room}/clone', f'{room}/home'
+    os.chmod(room, 0o755)
+    os.mkdir(home)
+    shutil.copytree(TOP, top, symlinks=True, ignore=shutil.ignore_patterns(*BUILT))
+    environment = {'PATH': '/usr/bin:/bin', 'HOME': home}
+    for name in PROGRAMS:
+        if release.of_program(Crates(), name):
+            environment[name.upper()] = f'{room}/{name}'
+            built = os.environ.get(name.upper(), out(name))
+            if os.path.isfile(built):
+                shutil.copy(built, environment[name.upper()])
+    how: dict[str, Any] = {'cwd': top, 'env': environment, 'stdin': subprocess.DEVNULL}
+    if os.geteuid() == 0:
+        subprocess.run(['chown', '-R', f'{NOBODY}:{NOBODY}', top, home], check=True)
+        how |= {'user': NOBODY, 'group': NOBODY, 'extra_groups': []}
+    return how
+
+
+def amiss(how: dict[str, Any]) -> str:
+    """Why the tools can't be started so, or nothing."""
+    try:
+        ran = subprocess.run(['python3', '-c', PYTHON], capture_output=True, check=False, **how)
+    except (OSError, subprocess.SubprocessError) as error:
+        return str(error)
+    return '/usr/bin/python3 is older than 3.10' if ran.returncode else ''
