@@ -1,6 +1,7 @@
 """A copy of the repository that is as a fresh clone, and how an ordinary user starts something there."""
 from __future__ import annotations
 
+import contextlib
 import os
 import shutil
 import subprocess
@@ -18,19 +19,22 @@ PYTHON = 'import sys; sys.exit(sys.version_info < (3, 10))'
 
 def copy(room: str) -> dict[str, Any]:
     """Makes the copy in a folder, with a home beside it, and returns how a process is started in it, as arguments of `subprocess`: by
-    a user without rights if this one is root, and with nothing in the environment but that home and the system's commands. Where the
-    stored programs aren't of the present sources, it also names those that were built."""
+    a user without rights if this one is root, and with nothing in the environment but that home and the system's commands. A program
+    that was built goes along if the stored one isn't of the present sources; it is named if its launcher doesn't take it here."""
     top, home = f'{room}/clone', f'{room}/home'
     os.chmod(room, 0o755)
     os.mkdir(home)
     shutil.copytree(TOP, top, symlinks=True, ignore=shutil.ignore_patterns(*BUILT))
     environment = {'PATH': '/usr/bin:/bin', 'HOME': home}
     for name in PROGRAMS:
-        if release.of_program(Crates(), name):
-            environment[name.upper()] = f'{room}/{name}'
-            built = os.environ.get(name.upper(), out(name))
-            if os.path.isfile(built):
-                shutil.copy(built, environment[name.upper()])
+        built, there = os.path.dirname(out(name)), f'{top}/crates/{name}/out'
+        if release.of_program(Crates(), name) and os.path.isdir(built):
+            os.mkdir(there)
+            for path in (name, 'PROVED'):
+                with contextlib.suppress(FileNotFoundError):
+                    shutil.copy2(f'{built}/{path}', there)
+            if name.upper() in os.environ:
+                environment[name.upper()] = f'{there}/{name}'
     how: dict[str, Any] = {'cwd': top, 'env': environment, 'stdin': subprocess.DEVNULL}
     if os.geteuid() == 0:
         subprocess.run(['chown', '-R', f'{NOBODY}:{NOBODY}', top, home], check=True)

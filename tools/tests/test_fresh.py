@@ -14,19 +14,20 @@ from tests.test_stored import CI
 
 MODULE = """import os
 import shutil
+import subprocess
 import unittest
 from tests.support import TOP, not_run
 
 class It(unittest.TestCase):
     def test_afresh(self) -> None:
         self.assertNotEqual(os.geteuid(), 0)
-        self.assertEqual({*os.environ} - {'PCBOARD', 'PCPROBE', 'LC_CTYPE', 'PWD'}, {'PATH', 'HOME'})
-        self.assertFalse(os.path.exists(f'{TOP}/crates/pcboard/out'))
+        self.assertEqual({*os.environ} - {'LC_CTYPE', 'PWD'}, {'PATH', 'HOME'})
+        self.assertFalse(os.path.exists(f'{TOP}/crates/low/out'))
         with open(f'{TOP}/it', 'w', encoding='ascii') as file:
             file.write('it is the own one of who runs it')
-        for name in ('PCBOARD', 'PCPROBE'):
-            self.assertFalse(os.path.realpath(os.environ[name]).startswith(TOP))
-            self.assertTrue(os.access(os.environ[name], os.X_OK))
+        for name in ('pcboard', 'pcprobe'):
+            told = subprocess.run([f'{TOP}/{name}', '--version'], capture_output=True, text=True, check=True).stdout
+            self.assertIn(f'program crates/{name}/out/{name}, built here\\n', told)
 
     def test_in_part(self) -> None:
         if not shutil.which('rt'):
@@ -51,7 +52,8 @@ class Fresh(Repository):
         os.mkdir(f'{self.top}/tools/tests')
         for name in ('__init__', 'support', 'fresh'):
             shutil.copy(f'{TOP}/tools/tests/{name}.py', f'{self.top}/tools/tests')
-        for path, text in (('bin/rt', CI), ('top/dev/benches', BENCHES)):
+        os.mkdir(f'{self.top}/crates/low/out')
+        for path, text in (('bin/rt', CI), ('top/dev/benches', BENCHES), ('top/crates/low/out/liblow.rlib', 'built here')):
             os.chmod(self.file(path, text), 0o755)
 
     def outcome(self, module: str) -> tuple[int, list[str]]:
