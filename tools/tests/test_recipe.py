@@ -76,6 +76,8 @@ class Recipe(ToolCase):
 
     def test_as_an_ordinary_user(self) -> None:
         self.assertEqual(len(self.lines), 2)
+        if not is_there('git', 'the workflow of examples/class', 'git'):
+            return
         if not os.path.isdir(f'{TOP}/.git'):
             not_run('the workflow of examples/class; it fetches from a clone')
             return
@@ -86,7 +88,8 @@ class Recipe(ToolCase):
         self.is_judged(self.home, self.typed(self.home, commit, **how))
 
     def test_in_a_bare_system(self) -> None:
-        if not is_there('debootstrap', 'the workflow of examples/class in a bare system', 'debootstrap'):
+        packages = {'debootstrap': 'debootstrap', 'git': 'git'}
+        if not all(is_there(command, 'the workflow of examples/class in a bare system', package) for command, package in packages.items()):
             return
         if os.geteuid() != 0 or not os.path.isdir(f'{TOP}/.git'):
             not_run('the workflow of examples/class in a bare system; it wants root, and a clone')

@@ -6,7 +6,7 @@ import shutil
 import subprocess
 import sys
 
-from tests.support import TOP, ToolCase, not_run
+from tests.support import TOP, ToolCase, is_there, not_run
 from toolbox.edits import FOLDERS, edits_of, function_at, judge
 
 RT = """
@@ -136,6 +136,8 @@ class Refused(ToolCase):
         self.assertIn('broken: NOT PROVED', ran.stdout)
 
     def test_since_a_commit(self) -> None:
+        if not is_there('git', 'dev/refused --since', 'git'):
+            return
         for path in ('low/refused/a', 'high/refused/b', 'broken/refused/c'):
             self.edit(path)
         git = ['git', '-C', f'{self.room}/top', '-c', 'user.name=a', '-c', 'user.email=a']

@@ -13,7 +13,7 @@ from collections.abc import Callable
 from dataclasses import replace
 
 from tests.repository import KIT, LOGIC, Repository
-from tests.support import TOP, ToolCase, not_run
+from tests.support import TOP, ToolCase, is_there, not_run
 from toolbox import program, proved
 from toolbox.command import write_text
 from toolbox.crates import Crates
@@ -688,7 +688,7 @@ class Checkout(ToolCase):
 
     def test_git_changes_no_byte(self) -> None:
         """Nor of sources, whose sum is of their bytes, where git is told to change the ends of lines."""
-        if not shutil.which('git'):
+        if not is_there('git', 'what git makes of the stored programs', 'git'):
             return
         top, text = f'{self.room}/top', b'one\r\ntwo\nthree\0\n'
         git = ['git', '-c', 'core.autocrlf=true', '-c', 'user.name=it', '-c', 'user.email=it', '-c', 'commit.gpgsign=false']
