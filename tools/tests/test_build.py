@@ -52,6 +52,13 @@ class Build(Repository):
         self.assertIn('crate 2 of 2: pcboard', first.stderr)
         self.assertEqual((then.returncode, then.stdout, then.stderr), (0, 'it runs run\n', ''))
 
+    def test_without_rattle_it_refuses_in_a_sentence(self) -> None:
+        for words in (('pcboard',), ('low',), ('--verdicts',)):
+            ran = self.start(f'{self.room}/top/dev/build', *words, has_rt=False)
+            self.assertEqual((ran.returncode, ran.stdout), (2, ''))
+            self.assertRegex(ran.stderr, r"\Abuild: Rattle's rt isn't on the path[^\n]*\n\Z")
+        self.assertEqual(os.listdir(f'{self.room}/top/crates/low'), ['src'])
+
     def test_a_crate_that_is_no_program_is_proved_alone(self) -> None:
         """It and those below it; nothing is left in the repository, and what builds the program then begins above it."""
         ran = self.start(f'{self.room}/top/dev/build', 'low')

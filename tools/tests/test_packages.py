@@ -31,7 +31,9 @@ int main(void) { zebludor_pit pit = {0}; zebludor_pit_power_on(&pit); return 0; 
 
 
 class Installed(Unpacked):
-    """What every way of installing has to give: `bin` is where the commands are, and `files` where the release is."""
+    """What every way of installing has to give."""
+
+    what = ''
 
     def command(self, *words: str, given: str = '', status: int = 0) -> str:
         """What a command prints, in a folder of the user's own."""
@@ -40,9 +42,13 @@ class Installed(Unpacked):
         self.assertNotIn('Traceback', ran.stderr)
         return ran.stdout
 
+    def environment(self) -> dict[str, str]:
+        """What a user has in the environment."""
+        raise NotImplementedError
+
     def runs(self, *words: str, given: str = '') -> subprocess.CompletedProcess[str]:
         """A command of what is installed."""
-        raise NotImplementedError
+        return subprocess.run(words, input=given, capture_output=True, text=True, check=False, env=self.environment(), cwd=self.room, timeout=SECONDS)
 
     def check_commands(self, examples: str, printed: str) -> None:
         """README's first command, and a tool of each kind."""
@@ -68,6 +74,51 @@ class Installed(Unpacked):
             self.assertEqual(but_progress(out).rstrip(), printed, line)
         self.command('rm', '-r', folder)
 
+    def by_gdb(self, folder: str) -> None:
+        """gdb over it, if gdb is there."""
+        if is_there('gdb', f'gdb over the {self.what}', 'gdb'):
+            hello = [f'{folder}/examples/{each}' for each in ('hello.asm', 'hello.json')]
+            self.assertRegex(self.command('zebludor', 'gdb', *hello, *GDB), r'\nax +0x')
+
+    def desk(self, folder: str) -> None:
+        """The desk gives its page."""
+        with subprocess.Popen(
+            ['zebludor', 'desk', '--no-open', f'{folder}/examples/hello.asm'],
+            stdout=subprocess.PIPE,
+            stderr=subprocess.PIPE,
+            text=True,
+            env=self.environment(),
+            cwd=self.room,
+        ) as process:
+            assert process.stdout
+            address = re.search(r'http://\S+', process.stdout.readline())
+            try:
+                assert address
+                with urllib.request.urlopen(address[0], timeout=SECONDS) as page:
+                    self.assertIn(b'<html', page.read())
+                with urllib.request.urlopen(f'{address[0]}asking.js', timeout=SECONDS) as module:
+                    self.assertIn(b'start zebludor desk again', module.read())
+            finally:
+                process.send_signal(signal.SIGINT)
+                process.communicate(timeout=SECONDS)
+
+    def by_pytest(self, folder: str, module: str) -> None:
+        """A test of one's own, if pytest is there."""
+        if not is_there('pytest', f'pytest over the {self.what}', 'python3-pytest'):
+            return
+        self.file(
+            'test_mine.py', f"import zebludor\n\ndef test_hi():\n    assert zebludor.run(open('{folder}/examples/hello.asm').read(), budget=100).text == 'HI'\n"
+        )
+        ran = subprocess.run(
+            ['pytest', '-q', 'test_mine.py'],
+            cwd=self.room,
+            capture_output=True,
+            text=True,
+            check=False,
+            env=os.environ | {'PYTHONPATH': module, 'HOME': self.room},
+        )
+        self.assertEqual(ran.returncode, 0, ran.stdout)
+
 
 def printed_by_readme(found: dict[str, bytes]) -> str:
     """What README shows of its first command."""
@@ -90,8 +141,25 @@ def dead_links(found: dict[str, bytes]) -> list[str]:
     return dead
 
 
+class Archive(Installed):
+    """The archive, whose folders are on the path."""
+
+    what = 'archive'
+
+    def environment(self) -> dict[str, str]:
+        return {'PATH': f'{self.top}:{self.top}/tools:/usr/bin:/bin', 'HOME': self.room}
+
+    def test_gdb_desk_and_pytest(self) -> None:
+        self.top = self.unpacked()
+        self.by_gdb(self.top)
+        self.desk(self.top)
+        self.by_pytest(self.top, f'{self.top}/python')
+
+
 class Wheel(Installed):
     """The wheel."""
+
+    what = 'wheel'
 
     def setUp(self) -> None:
         super().setUp()
@@ -133,9 +201,8 @@ class Wheel(Installed):
         self.assertEqual((done.returncode, done.stdout), (0, ''), done.stderr)
         return f'{self.room}/venv'
 
-    def runs(self, *words: str, given: str = '') -> subprocess.CompletedProcess[str]:
-        environment = {'PATH': f'{self.room}/venv/bin:/usr/bin:/bin', 'HOME': self.room}
-        return subprocess.run(words, input=given, capture_output=True, text=True, check=False, env=environment, cwd=self.room, timeout=SECONDS)
+    def environment(self) -> dict[str, str]:
+        return {'PATH': f'{self.room}/venv/bin:/usr/bin:/bin', 'HOME': self.room}
 
     def test_in_a_venv(self) -> None:
         top = self.venv()
@@ -154,7 +221,7 @@ class Wheel(Installed):
         self.assertEqual(ran.stderr, f'keys: there is no text to type ({top}/bin/zebludor keys --help)\n')
         self.by_gdb(folder)
         self.desk(folder)
-        self.by_pytest(folder)
+        self.by_pytest(folder, os.path.dirname(folder))
         self.command('pip', '--disable-pip-version-check', 'uninstall', '--quiet', '--yes', 'zebludor')
         left = [f'{each}/{name}' for each, _, names in os.walk(top) for name in names if 'zebludor' in f'{each}/{name}'.removeprefix(top)]
         self.assertEqual(left, [])
@@ -163,57 +230,10 @@ class Wheel(Installed):
         """Leads back to the launcher, which counts as none."""
         if not self.venv():
             return
-        environment = {'PATH': f'{self.room}/venv/bin:/usr/bin:/bin', 'HOME': self.room, 'PCBOARD': f'{self.room}/venv/bin/pcboard'}
+        environment = self.environment() | {'PCBOARD': f'{self.room}/venv/bin/pcboard'}
         self.command('pcboard', '--version')  # which says once where it was proved
         ran = subprocess.run(['pcboard', '--help'], capture_output=True, text=True, check=False, env=environment, timeout=SECONDS)
         self.assertEqual((ran.returncode, ran.stdout.splitlines()[0][:21]), (0, 'An IBM PC 5150 board.'))
-
-    def by_gdb(self, folder: str) -> None:
-        """gdb over it, where gdb is."""
-        if is_there('gdb', 'gdb over the wheel', 'gdb'):
-            hello = [f'{folder}/examples/{each}' for each in ('hello.asm', 'hello.json')]
-            self.assertRegex(self.command('zebludor', 'gdb', *hello, *GDB), r'\nax +0x')
-
-    def desk(self, folder: str) -> None:
-        """The desk gives its page."""
-        environment = {'PATH': f'{self.room}/venv/bin:/usr/bin:/bin', 'HOME': self.room}
-        with subprocess.Popen(
-            ['zebludor', 'desk', '--no-open', f'{folder}/examples/hello.asm'],
-            stdout=subprocess.PIPE,
-            stderr=subprocess.PIPE,
-            text=True,
-            env=environment,
-            cwd=self.room,
-        ) as process:
-            assert process.stdout
-            address = re.search(r'http://\S+', process.stdout.readline())
-            try:
-                assert address
-                with urllib.request.urlopen(address[0], timeout=SECONDS) as page:
-                    self.assertIn(b'<html', page.read())
-                with urllib.request.urlopen(f'{address[0]}asking.js', timeout=SECONDS) as module:
-                    self.assertIn(b'start zebludor desk again', module.read())
-            finally:
-                process.send_signal(signal.SIGINT)
-                process.communicate(timeout=SECONDS)
-
-    def by_pytest(self, folder: str) -> None:
-        """A test of one's own, where pytest is."""
-        if not is_there('pytest', 'pytest over the wheel', 'python3-pytest'):
-            return
-        self.file(
-            'test_mine.py', f"import zebludor\n\ndef test_hi():\n    assert zebludor.run(open('{folder}/examples/hello.asm').read(), budget=100).text == 'HI'\n"
-        )
-        site = os.path.dirname(folder)
-        ran = subprocess.run(
-            ['pytest', '-q', 'test_mine.py'],
-            cwd=self.room,
-            capture_output=True,
-            text=True,
-            check=False,
-            env=os.environ | {'PYTHONPATH': site, 'HOME': self.room},
-        )
-        self.assertEqual(ran.returncode, 0, ran.stdout)
 
 
 def parts_of(octets: bytes) -> dict[str, bytes]:
@@ -275,6 +295,15 @@ class Package(Installed):
                     self.assertTrue(f'./{target}' in names, f'{each.name} leads to {each.linkname}')
         self.assertEqual(listed, {})
         self.assertEqual(sorted(os.path.basename(each) for each in names if each.startswith('./usr/bin/')), ['pcboard', 'pcprobe', 'zebludor'])
+        for path in (
+            *(f'bash-completion/completions/{each}' for each in ('pcboard', 'pcprobe', 'zebludor')),
+            'zsh/vendor-completions/_zebludor',
+            'fish/vendor_completions.d/zebludor.fish',
+            'doc/zebludor/examples',
+        ):
+            self.assertIn(f'./usr/share/{path}', names)
+        for path in ('include/zebludor.h', 'lib/python3/dist-packages/zebludor.py'):
+            self.assertIn(f'./usr/{path}', names)
         pages = {each.rpartition('/')[2] for each in names if '/man1/' in each}
         self.assertEqual(pages, {f'{each}.1.gz' for each in ('pcboard', 'pcprobe', 'zebludor', *(f'zebludor-{each}' for each in manual.names()))})
 

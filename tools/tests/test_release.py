@@ -215,21 +215,22 @@ class Release(Unpacked):
     """The archive, where nothing is missing."""
 
     def test_twice_the_same_bytes(self) -> None:
-        first = self.archive()
-        os.rename(self.top, f'{self.room}/was')
-        shutil.copytree(f'{self.room}/was', self.top, copy_function=shutil.copy)
+        first, was = self.archive(), self.top
+        self.top = f'{self.room}/elsewhere'
+        shutil.copytree(was, self.top, copy_function=shutil.copy)
+        shutil.rmtree(was)
         for folder, _, files in os.walk(self.top):
             for path in (f'{folder}/{it}' for it in files):
                 os.utime(path, (1, 1))
                 os.chmod(path, stat.S_IMODE(os.stat(path).st_mode) & 0o700)
         os.makedirs(f'{self.top}/tools/__pycache__')
-        self.file('top/tools/__pycache__/it.pyc', 'nothing of a release')
+        self.file('elsewhere/tools/__pycache__/it.pyc', 'nothing of a release')
         os.mkdir(f'{self.room}/second')
-        was = os.umask(0o077)
+        mask = os.umask(0o077)
         try:
             second = self.archive(f'{self.room}/second')
         finally:
-            os.umask(was)
+            os.umask(mask)
         for name in MADE:
             with open(f'{os.path.dirname(first)}/{name}', 'rb') as one, open(f'{os.path.dirname(second)}/{name}', 'rb') as other:
                 self.assertTrue(one.read() == other.read(), name)
