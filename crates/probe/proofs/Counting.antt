@@ -39,8 +39,8 @@ begun_on p k s t begun at is =
     ∙ map-append begun_of (trail_in s p) (trail_in (after_clocks s p) k)
     ∙ ap (λ xs. begun_in s p ++ xs) (ap (λ q. begun_in q k) (sym at) ∙ is)
 
-pub none_counted : (end : ℕ) (s : SessionState) (c : Counts) → length s.board.trail ≤ 32 → clock_of s.board.plain ≤ end → HasNoted [] c → ((clock : ℕ) → IsBefore clock c) → IsCounted end s s c
-none_counted end s c few within noted before = record {
+pub none_counted : (end : ℕ) (s : SessionState) (c : Counts) → length s.board.trail ≤ 32 → clock_of s.board.plain ≤ end → HasNoted [] c → ((clock : ℕ) → IsBefore clock c) → c.first ≡ clock_of s.board.plain → IsCounted end s s c
+none_counted end s c few within noted before from = record {
   passed = 0;
   ran = ran_none s.board few;
   stops = refl;
@@ -48,7 +48,7 @@ none_counted end s c few within noted before = record {
   within = within;
   noted = subst (λ xs. HasNoted xs c) (sym (ap (map begun_of) (gathered_zero after_clock trail_next s.board.plain))) noted;
   before = before (clock_of s.board.plain);
-  started = subst (λ o. IfSome o (λ clock. clock_of s.board.plain ≤ clock)) (sym noted.first) tt;
+  started = omega (arith, from);
 }
 
 -- a beginning before a clock is one before a later clock
@@ -71,7 +71,7 @@ begins_behind end clock s t u c begun counted turn = if_some begun turn.clock (�
 pub more_counted : {edges : Bool} (end : ℕ) (s t u : SessionState) (c d : Counts) (begun : Option Begun) → IsCounted end s t c → IsOneTurn edges end end t.board u.board begun → u.stops ≡ t.stops → u.first ≡ t.first
     → ((all : List Begun) → HasNoted all c → HasNoted (all ++ option_to_list begun) d)
     → ((clock : ℕ) → IfSome begun (λ b. b.clock < clock) → IsBefore clock c → IsBefore clock d)
-    → ((start : ℕ) → IfSome begun (λ b. start ≤ b.clock) → IfSome c.first (λ first. start ≤ first) → IfSome d.first (λ first. start ≤ first))
+    → ((start : ℕ) → IfSome begun (λ b. start ≤ b.clock) → start ≤ c.first → start ≤ d.first)
     → IsCounted end s u d
 more_counted end s t u c d begun counted turn stops first notes before starts =
     let n : ℕ = counted.passed in

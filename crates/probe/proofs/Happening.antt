@@ -38,8 +38,8 @@ use Rattle.probe.specs.declared.kinds.Kind.{Kind}
 use Rattle.probe.specs.declared.kinds.Kind.TheVariants.{Starts, Entries, Writes, Ports, Keys, Wires, States}
 use Rattle.probe.specs.declared.signals.Levels.{Levels}
 use Rattle.probe.specs.Listed.{is_listed, lists, lists_access, lists_begun, lists_keys, lists_states, lists_wires}
+use Rattle.probe.specs.Signalled.{levels_of}
 use Rattle.probe.specs.Met.{happened, is_entries, is_starts, keys_moved, lists_entered, lists_some, lists_type, same_levels, wires_moved}
-use Rattle.probe.specs.Signals.{levels_of}
 use Rattle.probe.specs.Stops.{happens}
 use Rattle.probe.specs.Told.{levels_seen, seen_of, waiting_seen}
 

@@ -5,7 +5,7 @@ use Rattle.std.specs.Prelude.{codes}
 use Rattle.board.specs.declared.one_turn.Begun.{Begun}
 use Rattle.probe.specs.declared.signals.Levels.{Levels}
 use Rattle.probe.specs.Counts.{count_line, lines_of, next_clock, numbers_of, place_name, place_of, type_name, type_of}
-use Rattle.probe.specs.Signals.{change_line, changes_between}
+use Rattle.probe.specs.Signalled.{change_line, changes_between}
 
 abbrev run : List Begun
 run =

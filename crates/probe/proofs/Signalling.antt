@@ -1,21 +1,114 @@
 -- Turns whose changes of wires are told: those of the first clock are all.
-use Rattle.std.proofs.Common.{◌≡◌, ℕ, zero, suc, ◌+◌, ◌-◌, ◌<◌, ◌≤◌, Bool, true, false, List, [], ◌++◌, length, refl, sym, ap, ◌∙◌, arith, append-nil}
+use Rattle.std.proofs.Common.{◌≡◌, ℕ, zero, suc, ◌+◌, ◌-◌, ◌<◌, ◌≤◌, Bool, true, false, if◌then◌else◌, List, [], ◌∷◌, ◌++◌, length, map, None, Some, refl, sym, ap, ◌∙◌, arith, append-nil}
 use Rattle.std.specs.Prelude.{codes}
+use Rattle.std.specs.Bool.{beq}
 use Rattle.std.specs.Fmt.{decimal}
+use Rattle.std.specs.List.{flat_map}
+use Rattle.std.proofs.lemmas.List.Concat.{flat_map-append}
 use Rattle.board.specs.OneTurn.{HaveSameWires, IsOneTurn}
 use Rattle.board.specs.declared.one_turn.Begun.{Begun}
 use Rattle.board_plain.proofs.Runs.{ran_none, runs_join}
-use Rattle.board_plain.specs.Plain.{Plain, after_clock, after_clocks, clock_of}
+use Rattle.board_plain.specs.Plain.{Plain, after_clock, after_clocks, clock_of, state_of}
+use Rattle.board_plain.specs.Trail.{trail_next}
+use Rattle.board_plain.specs.declared.trail.TrailEntry.{TrailEntry}
+use Rattle.board_types.specs.declared.state.State.{State}
 use Rattle.board_types.proofs.Iterate.{gathered_add, gathered_more, gathered_zero, iterate_add, iterate_more, iterate_zero}
 use Rattle.board_types.specs.Iterate.{gathered}
 use Rattle.board_types.specs.Lines.{is_high}
 use Rattle.debugger_meaning.specs.Stands.{SessionState}
+use Rattle.events.specs.Accesses.{accesses_next}
+use Rattle.events.specs.declared.event.Event.{Event}
+use Rattle.events.specs.declared.event.Event.TheVariants.{Became, Began, Reached, Wired}
+use Rattle.events.specs.declared.event.Wire.{Wire}
+use Rattle.events.specs.declared.event.Wire.TheVariants.{Out0, Out2, Ir0, Ir1, Int, Speaker}
+use Rattle.events.specs.declared.access.Access.{Access}
+use Rattle.events.specs.Events.{all_wires, arrival_events, chips_reached, code_latched, codes_next, events_in, events_next, is_same_state, key_events, latch_events, level_of, settling_events, state_events, unwired_next, wire_event, wire_events}
+use Rattle.keyboard.specs.Keyboard as keys
+use Rattle.keyboard.specs.Keyboard.{KeyboardState}
 use Rattle.pic8259.specs.Levels.{contains}
 use Rattle.pic8259.specs.Pic.{is_requesting}
+use Rattle.ppi8255.specs.Ppi.{lines_b}
+use Rattle.wiring.specs.Chips.{ChipsState}
+use Rattle.wiring.specs.Wires.{after_arrivals}
 use Rattle.std.specs.Prelude.{Option}
 use Rattle.probe.specs.declared.signals.Levels.{Levels}
-use Rattle.probe.specs.Signalled.{IsSignalled}
-use Rattle.probe.specs.Signals.{change_line, changes_between, changes_next, levels_of, signals_text}
+use Rattle.probe.specs.Signalled.{change_line, changes_between, changes_next, IsSignalled, levels_of}
+use Rattle.probe.specs.Signals.{signal_line, signals_text}
+
+-- the lines of a clock's events are its wires' changes
+
+one_line : (clock : ℕ) (wire : Wire) (after same : Bool) → flat_map signal_line (if same then [] else Wired clock wire after ∷ []) ≡ (if same then [] else signal_line (Wired clock wire after))
+one_line clock wire after true = refl
+one_line clock wire after false = append-nil (signal_line (Wired clock wire after))
+
+by_wire : (clock : ℕ) (s t : Plain) (some : List Wire) → flat_map signal_line (flat_map (wire_event clock s t) some) ≡ flat_map (λ wire. flat_map signal_line (wire_event clock s t wire)) some
+by_wire clock s t [] = refl
+by_wire clock s t (w ∷ ws) =
+    flat_map-append signal_line (wire_event clock s t w) (flat_map (wire_event clock s t) ws)
+    ∙ ap (λ xs. flat_map signal_line (wire_event clock s t w) ++ xs) (by_wire clock s t ws)
+
+wires_signalled : (clock : ℕ) (s t : Plain) → flat_map signal_line (wire_events clock s t) ≡ changes_between clock (levels_of s) (levels_of t)
+unfolding changes_between levels_of level_of
+wires_signalled clock s t =
+    let line : (wire : Wire) → flat_map signal_line (wire_event clock s t wire) ≡ (if beq (level_of s wire) (level_of t wire) then [] else signal_line (Wired clock wire (level_of t wire))) =
+    λ wire. one_line clock wire (level_of t wire) (beq (level_of s wire) (level_of t wire)) in
+    by_wire clock s t all_wires
+    ∙ (λ i. line Out0 i ++ (line Out2 i ++ (line Ir0 i ++ (line Ir1 i ++ (line Int i ++ (append-nil (flat_map signal_line (wire_event clock s t Speaker)) ∙ line Speaker) i)))))
+
+-- and none of its other events has a line
+
+none_begun : (entries : List TrailEntry) → flat_map signal_line (map Began entries) ≡ []
+none_begun [] = refl
+none_begun (e ∷ es) = none_begun es
+
+none_reached : (clock : ℕ) (accesses : List Access) → flat_map signal_line (map (Reached clock) accesses) ≡ []
+none_reached clock [] = refl
+none_reached clock (a ∷ rest) = none_reached clock rest
+
+no_state : (clock : ℕ) (state : State) (same : Bool) → flat_map signal_line (if same then [] else Became clock state ∷ []) ≡ []
+no_state clock state true = refl
+no_state clock state false = refl
+
+none_arrives : (clock : ℕ) (k : KeyboardState) (codes : List ℕ) → flat_map signal_line (arrival_events clock k codes) ≡ []
+none_arrives clock k [] = refl
+none_arrives clock k (code ∷ codes) = none_arrives clock (keys.after_arrival k code) codes
+
+none_latched : (clock : ℕ) (code : Option ℕ) → flat_map signal_line (latch_events clock code) ≡ []
+none_latched clock None = refl
+none_latched clock (Some code) = refl
+
+no_keys : (clock : ℕ) (c : ChipsState) (codes : List ℕ) → flat_map signal_line (key_events clock c codes) ≡ []
+no_keys clock c codes =
+    let after : ChipsState = after_arrivals c codes in
+    flat_map-append signal_line (arrival_events clock c.keyboard codes) (settling_events clock after)
+    ∙ (λ i. none_arrives clock c.keyboard codes i ++ none_latched clock (code_latched after.keyboard (lines_b after.ppi)) i)
+
+unwired : (s : Plain) → flat_map signal_line (unwired_next s) ≡ []
+unfolding unwired_next
+unwired s =
+    let began : List Event = map Began (trail_next s) in
+    let reached : List Event = map (Reached (clock_of s)) (accesses_next s) in
+    let became : List Event = state_events (clock_of s) (state_of s) (state_of (after_clock s)) in
+    let keyed : List Event = key_events (clock_of s + 1) (chips_reached s) (codes_next s) in
+    flat_map-append signal_line began (reached ++ (became ++ keyed))
+    ∙ ap (λ xs. xs ++ flat_map signal_line (reached ++ (became ++ keyed))) (none_begun (trail_next s))
+    ∙ flat_map-append signal_line reached (became ++ keyed)
+    ∙ ap (λ xs. xs ++ flat_map signal_line (became ++ keyed)) (none_reached (clock_of s) (accesses_next s))
+    ∙ flat_map-append signal_line became keyed
+    ∙ (λ i. no_state (clock_of s) (state_of (after_clock s)) (is_same_state (state_of s) (state_of (after_clock s))) i ++ no_keys (clock_of s + 1) (chips_reached s) (codes_next s) i)
+
+clock_signalled : (s : Plain) → flat_map signal_line (events_next s) ≡ changes_next s
+unfolding events_next
+clock_signalled s =
+    flat_map-append signal_line (unwired_next s) (wire_events (clock_of s + 1) s (after_clock s))
+    ∙ (λ i. unwired s i ++ wires_signalled (clock_of s + 1) s (after_clock s) i)
+
+signalled_in : (s : Plain) (n : ℕ) → flat_map signal_line (events_in s n) ≡ gathered after_clock changes_next n s
+unfolding gathered
+signalled_in s zero = refl
+signalled_in s (suc n) =
+    flat_map-append signal_line (events_in s n) (events_next (after_clocks s n))
+    ∙ (λ i. signalled_in s n i ++ clock_signalled (after_clocks s n) i)
 
 -- the same wires have the same levels
 same_levels : (s t : Plain) → HaveSameWires s t → levels_of t ≡ levels_of s
@@ -129,5 +222,6 @@ pub text_signalled : (end n : ℕ) (s t : SessionState) (text whole : List ℕ) 
 unfolding signals_text
 text_signalled end n s t text whole levels so_far is past ended =
     ended
-    ∙ ap (λ xs. xs ++ (codes "clock " ++ (decimal end ++ codes "\n"))) (so_far.told ∙ ap (λ k. gathered after_clock changes_next k s.board.plain) (all_signalled end n s t text levels so_far is past))
-    ∙ ap (λ m. gathered after_clock changes_next n s.board.plain ++ (codes "clock " ++ (decimal m ++ codes "\n"))) is
+    ∙ ap (λ xs. xs ++ (codes "clock " ++ (decimal end ++ codes "\n")))
+    (so_far.told ∙ ap (λ k. gathered after_clock changes_next k s.board.plain) (all_signalled end n s t text levels so_far is past) ∙ sym (signalled_in s.board.plain n))
+    ∙ ap (λ m. flat_map signal_line (events_in s.board.plain n) ++ (codes "clock " ++ (decimal m ++ codes "\n"))) is

@@ -2,7 +2,7 @@
 use Rattle.std.proofs.Common.{◌≡◌, ℕ, zero, suc, ◌+◌, ◌-◌, ◌==◌, if◌then◌else◌, Bool, true, false, List, [], ◌∷◌, ◌++◌, Option, None, Some, refl, sym, ap, ◌∙◌, subst, arith}
 use Rattle.std.proofs.lemmas.Bool.Decides.{nat_tests}
 use Rattle.std.proofs.lemmas.List.Sums.{sum_by-cons, sum_by_push}
-use Rattle.std.specs.Prelude.{cond, count_by, IfOk, OnOk, Result, Ok, Err, unwrap_or}
+use Rattle.std.specs.Prelude.{cond, count_by, IfOk, IfSome, OnOk, Result, Ok, Err}
 use Rattle.std.specs.BTreeMap.{BTreeMap, get}
 use Rattle.std.specs.Option.{option_to_list}
 use Rattle.std.specs.Ordering.{nat_cmp}
@@ -10,7 +10,7 @@ use Rattle.board.specs.declared.one_turn.Begun.{Begun}
 use Rattle.probe.specs.declared.counts.Counts.{Counts}
 use Rattle.probe.specs.declared.counts.Tally.{Tally}
 use Rattle.probe.specs.Counts.{clocks_from, is_number, next_clock, place_of, type_of}
-use Rattle.probe.specs.Tallied.{first_clock, has, one_more, tallied_to, tally_at, tally_of, AreTallies, HasNoted, HasTallied}
+use Rattle.probe.specs.Tallied.{has, one_more, tallied_to, tally_at, tally_of, AreTallies, HasNoted, HasTallied}
 
 -- one more
 
@@ -116,6 +116,15 @@ pub if_text : {A E : Type 0} {P Q : A → Type 0} (result : Result A E) → IfOk
 if_text (Ok x) p f = f x p
 if_text (Err e) p f = p
 
-pub next_is : (bs : List Begun) (end : ℕ) → unwrap_or (first_clock bs) end ≡ next_clock bs end
-next_is [] end = refl
-next_is (b ∷ bs) end = refl
+-- the clocks before the first beginning
+
+pub first_stays : (all : List Begun) (old : Counts) (b : Begun) (end : ℕ) → old.latest ≡ Some b → HasNoted all old → old.first ≡ next_clock all end
+first_stays all old b end latest noted =
+    let first : old.first ≡ next_clock noted.earlier b.clock = subst (λ (l : Option Begun). IfSome l (λ b. old.first ≡ next_clock noted.earlier b.clock)) latest noted.first in
+    let whole : noted.earlier ++ b ∷ [] ≡ all = sym (noted.all ∙ ap (λ l. noted.earlier ++ option_to_list l) latest) in
+    first ∙ sym (next_more noted.earlier b end) ∙ ap (λ bs. next_clock bs end) whole
+
+pub first_comes : (all : List Begun) (old : Counts) (end : ℕ) → old.latest ≡ None → HasNoted all old → end ≡ next_clock all end
+first_comes all old end latest noted =
+    let none : all ≡ [] = noted.all ∙ (λ i. noted.none latest i ++ option_to_list (latest i)) in
+    sym (ap (λ bs. next_clock bs end) none)

@@ -22,9 +22,10 @@ use Rattle.board_plain.specs.Plain.{Plain, after_clock, after_clocks, clock_of, 
 use Rattle.board_plain.specs.Trail.{last, trail_in, trail_next}
 use Rattle.board_plain.specs.declared.trail.TrailEntry.{TrailEntry}
 use Rattle.board_plain.specs.declared.trail.TrailEvent.{TrailEvent}
+use Rattle.board_plain.specs.declared.trail.TrailEvent.TheVariants.{Instruction, Entry}
 use Rattle.board.proofs.Leap.{none_gathered}
 use Rattle.board.specs.declared.one_turn.Begun.{Begun}
-use Rattle.board.specs.OneTurn.{begun_of, HaveSameWires, IsOneTurn}
+use Rattle.board.specs.OneTurn.{begun_of, HaveSameWires, IsOneTurn, type_of}
 use Rattle.debugger_meaning.specs.Stands.{SessionState}
 use Rattle.keyboard.specs.Keyboard as keys
 use Rattle.keyboard.specs.Keyboard.{KeyboardState, after_clearing, after_sending, count_after_loss, has_room, sends}
@@ -47,8 +48,8 @@ use Rattle.probe.specs.declared.kinds.Kind.{Kind}
 use Rattle.probe.specs.declared.kinds.Kind.TheVariants.{Starts, Entries, Writes, Ports, Keys, Wires, States}
 use Rattle.probe.specs.declared.signals.Levels.{Levels}
 use Rattle.probe.specs.Listed.{event_line, events_text, listed_lines, lists_begun, lists_keys, lists_wires}
-use Rattle.probe.specs.Signals.{levels_of}
-use Rattle.probe.specs.Told.{arrivals_from, change_events, clock_lines, held_from, IsTold, key_lines, keys_seen, latched_from, levels_seen, lines_between, lines_seen, lists_beginnings, seen_of, waits_among, waiting_seen}
+use Rattle.probe.specs.Signalled.{levels_of}
+use Rattle.probe.specs.Told.{arrivals_from, change_events, clock_lines, held_from, IsTold, key_lines, keys_seen, latched_from, levels_seen, lines_between, lines_seen, lists_beginning, seen_of, waits_among, waiting_seen}
 use Rattle.probe.proofs.Listing.{listed_append, listed_none, listed_one, nothing_told, told_more}
 
 -- what began last
@@ -99,35 +100,37 @@ pub begun_told : {E : Type 0} (kinds : List Kind) (text more : List ℕ) (b : Be
 begun_told kinds text more b trail (Ok x) told = entry_told kinds text more b trail told
 begun_told kinds text more b trail (Err x) told = told
 
--- nothing that begins is listed
+-- what begins isn't listed
 
-either_false : (a b : Bool) → (a || b) ≡ false → (a ≡ false) × (b ≡ false)
-either_false false b is = (refl, is)
-either_false true b is = let never : true ≡ false = is in cc
+kind_begins : (kind : Kind) (event : TrailEvent) → lists_begun kind event ≡ lists_beginning kind (type_of event)
+kind_begins Starts (Instruction instr bytes) = refl
+kind_begins Starts (Entry type) = refl
+kind_begins Entries (Instruction instr bytes) = refl
+kind_begins Entries (Entry type) = refl
+kind_begins (Writes a b) event = refl
+kind_begins (Ports a b) event = refl
+kind_begins Keys event = refl
+kind_begins Wires event = refl
+kind_begins States event = refl
 
-kind_begins : (kind : Kind) (event : TrailEvent) → lists_beginnings kind ≡ false → lists_begun kind event ≡ false
-kind_begins Starts event is = let never : true ≡ false = is in cc
-kind_begins Entries event is = let never : true ≡ false = is in cc
-kind_begins (Writes a b) event is = refl
-kind_begins (Ports a b) event is = refl
-kind_begins Keys event is = refl
-kind_begins Wires event is = refl
-kind_begins States event is = refl
+any_begins : (kinds : List Kind) (event : TrailEvent) → list_any (λ kind. lists_begun kind event) kinds ≡ list_any (λ kind. lists_beginning kind (type_of event)) kinds
+any_begins kinds event = ap (λ (p : Kind → Bool). list_any p kinds) (λ i kind. kind_begins kind event i)
 
-none_begins : (kinds : List Kind) (event : TrailEvent) → list_any lists_beginnings kinds ≡ false → list_any (λ kind. lists_begun kind event) kinds ≡ false
-none_begins [] event is = refl
-none_begins (k ∷ ks) event is =
-    let parts = either_false (lists_beginnings k) (list_any lists_beginnings ks) is in
-    (λ i. kind_begins k event parts.0 i || none_begins ks event parts.1 i)
+unlisted : (kinds : List Kind) (b : Begun) (e : TrailEntry) → begun_of e ≡ b → list_any (λ kind. lists_beginning kind b.entered) kinds ≡ false → listed_lines kinds (Began e ∷ []) ≡ []
+unlisted kinds b e is none =
+    listed_one kinds (Began e)
+    ∙ ap (λ l. cond l (event_line (Began e)) [])
+    (any_begins kinds e.event ∙ ap (λ (b : Begun). list_any (λ kind. lists_beginning kind b.entered) kinds) is ∙ none)
 
-no_beginnings : (kinds : List Kind) (entries : List TrailEntry) → list_any lists_beginnings kinds ≡ false → listed_lines kinds (map Began entries) ≡ []
-no_beginnings kinds [] is = listed_none kinds
-no_beginnings kinds (e ∷ es) is =
-    listed_append kinds (Began e ∷ []) (map Began es)
-    ∙ (λ i. (listed_one kinds (Began e) ∙ ap (λ l. cond l (event_line (Began e)) []) (none_begins kinds e.event is)) i ++ no_beginnings kinds es is i)
+one_is : (entries : List TrailEntry) (b : Begun) (e : TrailEntry) → map begun_of entries ≡ b ∷ [] → entries ≡ e ∷ [] → begun_of e ≡ b
+one_is entries b e are one = let same : begun_of e ∷ [] ≡ b ∷ [] = sym (ap (map begun_of) one) ∙ are in cc
 
-pub nothing_begins_told : (kinds : List Kind) (text : List ℕ) (entries : List TrailEntry) → list_any lists_beginnings kinds ≡ false → text ≡ text ++ listed_lines kinds (map Began entries)
-nothing_begins_told kinds text entries is = sym (append-nil text) ∙ ap (λ ls. text ++ ls) (sym (no_beginnings kinds entries is))
+pub unlisted_told : (kinds : List Kind) (text : List ℕ) (b : Begun) (entries : List TrailEntry) → list_any (λ kind. lists_beginning kind b.entered) kinds ≡ false → map begun_of entries ≡ b ∷ [] → text ≡ text ++ listed_lines kinds (map Began entries)
+unlisted_told kinds text b entries none are =
+    let one = one_begun entries b are in
+    sym (append-nil text)
+    ∙ ap (λ ls. text ++ ls)
+    (sym (ap (λ (es : List TrailEntry). listed_lines kinds (map Began es)) one.1 ∙ unlisted kinds b one.0 (one_is entries b one.0 are one.1) none))
 
 -- the codes that arrive, by how many wait
 

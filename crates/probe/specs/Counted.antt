@@ -1,6 +1,6 @@
 -- How far clocks that are counted have been made.
 -- For proofs alone: no public contract rests on it.
-use Rattle.std.specs.Prelude.{ℕ, ◌≡◌, ◌≤◌, IfSome}
+use Rattle.std.specs.Prelude.{ℕ, ◌≡◌, ◌≤◌}
 use Rattle.board.specs.OneTurn.{begun_in}
 use Rattle.board_plain.specs.Board.{Ran}
 use Rattle.board_plain.specs.Plain.{clock_of}
@@ -17,4 +17,4 @@ pub record IsCounted (end : ℕ) (old new : SessionState) (c : Counts) : Type 0 
   pub within : clock_of new.board.plain ≤ end
   pub noted : HasNoted (begun_in old.board.plain passed) c
   pub before : IsBefore (clock_of new.board.plain) c
-  pub started : IfSome c.first (λ clock. clock_of old.board.plain ≤ clock)
+  pub started : clock_of old.board.plain ≤ c.first

@@ -20,7 +20,7 @@ use Rattle.probe.specs.declared.stops.Stop.{Stop}
 use Rattle.probe.specs.declared.stops.Stop.TheVariants.{Standing, When, Changes}
 use Rattle.probe.specs.declared.watched.Watched.{Watched}
 use Rattle.probe.specs.Listed.{lists_access, lists_keys, lists_states, lists_wires}
-use Rattle.probe.specs.Signals.{levels_of}
+use Rattle.probe.specs.Signalled.{levels_of}
 
 -- the byte that is copied of an address, if one is
 abbrev pub copied_at : ℕ → List ℕ → ℕ → Option ℕ

@@ -9,7 +9,7 @@ use Rattle.probe.specs.declared.counts.Counts.{Counts}
 use Rattle.probe.specs.declared.counts.Kind.{Kind}
 use Rattle.probe.specs.declared.counts.Kind.TheVariants.{Instruction, Entry}
 use Rattle.probe.specs.declared.counts.Tally.{Tally}
-use Rattle.probe.specs.Counts.{clocks_from, count_line, is_number, place_name, place_of, type_name, type_of}
+use Rattle.probe.specs.Counts.{clocks_from, count_line, is_number, next_clock, place_name, place_of, type_name, type_of}
 
 -- whether something that began has this number
 abbrev pub has : (Begun → Option ℕ) → ℕ → Begun → Bool
@@ -46,16 +46,12 @@ pub record HasTallied (begun : List Begun) (end : ℕ) (c : Counts) : Type 0 whe
   pub places : AreTallies place_of begun end c.places
   pub types : AreTallies type_of begun end c.types
 
-abbrev pub first_clock : List Begun → Option ℕ
-first_clock [] = None
-first_clock (b ∷ bs) = Some b.clock
-
 -- these have begun; the latest one isn't tallied yet
 pub record HasNoted (begun : List Begun) (c : Counts) : Type 0 where
   pub earlier : List Begun
   pub all : begun ≡ earlier ++ option_to_list c.latest
   pub tallied : HasTallied earlier (tallied_to c.latest) c
-  pub first : c.first ≡ first_clock begun
+  pub first : IfSome c.latest (λ b. c.first ≡ next_clock earlier b.clock)
   pub none : c.latest ≡ None → earlier ≡ []
 
 -- the latest is this one, if there is one

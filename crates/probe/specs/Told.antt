@@ -20,7 +20,7 @@ use Rattle.probe.specs.declared.kinds.Kind.{Kind}
 use Rattle.probe.specs.declared.kinds.Kind.TheVariants.{Starts, Entries}
 use Rattle.probe.specs.declared.signals.Levels.{Levels}
 use Rattle.probe.specs.Listed.{listed_lines}
-use Rattle.probe.specs.Signals.{levels_of}
+use Rattle.probe.specs.Signalled.{levels_of}
 
 -- a wire between two levels
 abbrev pub change_events : ℕ → Wire → Bool → Bool → List Event
@@ -95,11 +95,11 @@ clock_lines kinds asked before entries accesses s =
     ++ (keys_seen asked.keys kinds (before.clock + 1) before.waiting (codes_at s.keys (before.clock + 1)) s.chips.keyboard
     ++ lines_seen kinds (before.clock + 1) before.levels (levels_seen asked.wires s))))
 
--- a kind that lists what begins
-abbrev pub lists_beginnings : Kind → Bool
-lists_beginnings Starts = true
-lists_beginnings Entries = true
-lists_beginnings _ = false
+-- a kind that lists what begins: an instruction, or, if there is a type, an entry
+abbrev pub lists_beginning : Kind → Option ℕ → Bool
+lists_beginning Starts None = true
+lists_beginning Entries (Some type) = true
+lists_beginning _ _ = false
 
 -- some clocks are made, at most up to the clock `end`, and what happens in them is told
 pub record IsTold (kinds : List Kind) (end : ℕ) (old new : SessionState) (text : List ℕ) : Type 0 where

@@ -8,7 +8,7 @@ ghost use Rattle.std.specs.String.{string_bytes};
 ghost use Rattle.board.specs.declared.one_turn.Begun.{Begun};
 ghost use Rattle.board.specs.OneTurn.{begun_in};
 ghost use Rattle.board_plain.specs.Plain.{clock_of};
-ghost use Rattle.probe.specs.Counts.{count_line, counts_of, counts_text};
+ghost use Rattle.probe.specs.Counts.{count_line, counts_of, counts_text, next_clock};
 ghost use Rattle.probe.specs.Making.{AnswersMaking};
 ghost use Rattle.probe.specs.Tallied.{AreBelow, HasNoted, HasTallied, IsBefore, name_of, one_more, tally_line};
 
@@ -34,8 +34,8 @@ pub(crate) struct Tally {
 /// What began so far.
 #[derive(Drop)]
 pub(crate) struct Counts {
-    /// The clock of the first beginning.
-    first: Option<Clock>,
+    /// The clock of the first beginning, once there was one.
+    first: Clock,
     /// What began last: it is tallied once its clocks are known.
     latest: Option<Begun>,
     /// Of instructions, by CS:IP.
@@ -45,12 +45,13 @@ pub(crate) struct Counts {
 }
 
 impl Counts {
-    fn new(alloc: Global) -> Counts
+    fn new(alloc: Global, start: Clock) -> Counts
         ensures noted { HasNoted [] result }
+        ensures started { result.first ≡ start }
         ensures before { (clock : ℕ) → IsBefore clock result }
     {
         Counts {
-            first: None,
+            first: start,
             latest: None,
             places: BTreeMap::new(alloc),
             types: BTreeMap::new(alloc),
@@ -65,7 +66,7 @@ impl Counts {
         ensures before { OnOk result ((clock : ℕ) → IfSome begun (λ b. b.clock < clock) → IsBefore clock self.old
             → IsBefore clock self.new) }
         ensures started { OnOk result ((start : ℕ) → IfSome begun (λ b. start ≤ b.clock)
-            → IfSome self.old.first (λ first. start ≤ first) → IfSome self.new.first (λ first. start ≤ first)) }
+            → start ≤ self.old.first → start ≤ self.new.first) }
     {
         match begun {
             None => Ok(()),
@@ -79,27 +80,26 @@ impl Counts {
         ensures noted { OnOk result ((all : List Begun) → HasNoted all self.old
             → HasNoted (all ++ begun ∷ []) self.new) }
         ensures before { OnOk result ((clock : ℕ) → begun.clock < clock → IsBefore clock self.new) }
-        ensures started { OnOk result ((start : ℕ) → start ≤ begun.clock
-            → IfSome self.old.first (λ first. start ≤ first) → IfSome self.new.first (λ first. start ≤ first)) }
+        ensures started { OnOk result ((start : ℕ) → start ≤ begun.clock → start ≤ self.old.first
+            → start ≤ self.new.first) }
     {
         self.tally_latest(begun.clock)?;
-        if self.first.is_none() {
-            self.first = Some(begun.clock);
-        }
         self.latest = Some(begun);
         Ok(())
     }
 
-    /// Tallies what began last, whose clocks end at this one.
+    /// Tallies what began last, whose clocks end at this one. If nothing has begun, the clocks before the first beginning end there.
     fn tally_latest(&mut self, clock: Clock) -> Result<(), AllocError>
         requires { IsBefore clock self.old }
         ensures tallied { OnOk result ((all : List Begun) → HasNoted all self.old → HasTallied all clock self.new) }
         ensures places { OnOk result (AreBelow clock self.new.places) }
         ensures types { OnOk result (AreBelow clock self.new.types) }
-        ensures first { self.new.first ≡ self.old.first }
+        ensures before { OnOk result ((all : List Begun) → HasNoted all self.old → self.new.first ≡ next_clock all clock) }
+        ensures started { (start : ℕ) → start ≤ clock → start ≤ self.old.first → start ≤ self.new.first }
         ensures latest { self.new.latest ≡ self.old.latest }
     {
         let Some(begun) = self.latest else {
+            self.first = clock;
             return Ok(());
         };
         let clocks = clock.get() - begun.clock.get();
@@ -112,13 +112,13 @@ impl Counts {
     /// The clocks before the first beginning, and a line for each CS:IP and each type. The run ends at `end`.
     fn text(&mut self, alloc: Global, start: Clock, end: Clock) -> Result<String, AllocError>
         requires before { IsBefore end self.old }
-        requires started { IfSome self.old.first (λ first. start ≤ first) }
+        requires started { start ≤ self.old.first }
         requires ended { start ≤ end }
         ensures { IfOk result (λ text. (all : List Begun) → HasNoted all self.old
             → string_bytes text ≡ counts_of all start end) }
     {
         self.tally_latest(end)?;
-        let before = self.first.unwrap_or(end).get() - start.get();
+        let before = self.first.get() - start.get();
         let places = lines_of(alloc, Kind::Instruction, &self.places)?;
         let types = lines_of(alloc, Kind::Entry, &self.types)?;
         let (places, types) = (places.as_str(), types.as_str());
@@ -205,18 +205,17 @@ fn lines_of(alloc: Global, kind: Kind, tallies: &BTreeMap<u32, Tally>) -> Result
             kind,
             number: *number,
         };
-        let line = line_of(alloc, name, *tally)?;
-        text.push_str(line.as_str())?;
+        push_line(&mut text, name, *tally)?;
     }
     Ok(text)
 }
 
-fn line_of(alloc: Global, name: Name, tally: Tally) -> Result<String, AllocError>
-    ensures { IfOk result (λ text. string_bytes text
-        ≡ count_line (name_of name.kind name.number) tally.count tally.clocks) }
+fn push_line(text: &mut String, name: Name, tally: Tally) -> Result<(), AllocError>
+    ensures { OnOk result (string_bytes text.new
+        ≡ string_bytes text.old ++ count_line (name_of name.kind name.number) tally.count tally.clocks) }
 {
     let Tally { count, clocks } = tally;
-    format!(in alloc; "{name} {count} {clocks}\n")
+    write!(text, "{name} {count} {clocks}\n")
 }
 
 /// Makes `count` clocks, whatever the stops say, and tells where they went. Refused as `ClockLimit` past the last clock,
@@ -233,7 +232,7 @@ pub(crate) fn tell_counts(
         return Err(DebugFault::ClockLimit);
     }
     let end = Clock::new(start.get() + count).unwrap();
-    let mut counts = Counts::new(alloc);
+    let mut counts = Counts::new(alloc, start);
     'turns: while session.board().clock() < end {
         let begun = session.run_turn(end, end, &mut Unnoted, true)?;
         if counts.note(begun).is_err() {

@@ -12,7 +12,7 @@ ghost use Rattle.events.specs.Events.{is_same_state, state_events};
 ghost use Rattle.events.specs.declared.event.Event.TheVariants.{Began, Became, Keyed, Reached, Wired};
 ghost use Rattle.probe.specs.Listed.{access_text, begun_text, events_text, key_word, listed_lines, lists_access, lists_begun, lists_keys, lists_states, lists_wires, state_word, wire_name};
 ghost use Rattle.probe.specs.Making.{AnswersMaking};
-ghost use Rattle.probe.specs.Told.{arrivals_from, change_events, clock_lines, held_from, key_lines, keys_seen, latched_from, levels_seen, lines_between, lines_seen, lists_beginnings, seen_of, waiting_seen};
+ghost use Rattle.probe.specs.Told.{arrivals_from, change_events, clock_lines, held_from, key_lines, keys_seen, latched_from, levels_seen, lines_between, lines_seen, lists_beginning, seen_of, waiting_seen};
 
 use crate::kinds::Kind;
 use crate::making::lacking;
@@ -184,7 +184,6 @@ fn key_word(what: KeyEvent) -> &'static str
 /// Adds the line of what becomes of a key's code, if it is listed.
 #[tactic(auto, using(crate::proofs::Listing::told_listed, crate::proofs::Listing::not_told), unfolding(crate::specs::Listed::event_line))]
 fn push_key(
-    alloc: Global,
     text: &mut String,
     kinds: &[Kind],
     clock: u64,
@@ -199,13 +198,11 @@ fn push_key(
     }
     let code = HexByte(code);
     let word = key_word(what);
-    let line = format!(in alloc; "{clock} key {code} {word}\n")?;
-    text.push_str(line.as_str())
+    write!(text, "{clock} key {code} {word}\n")
 }
 
 /// Adds the lines of the codes that arrive while so many wait, and answers how many wait then.
 fn push_arrivals(
-    alloc: Global,
     text: &mut String,
     kinds: &[Kind],
     clock: u64,
@@ -220,10 +217,10 @@ fn push_arrivals(
     let mut held = waiting;
     for key in keys {
         if held < 16 {
-            push_key(alloc, text, kinds, clock, KeyEvent::Arrives, key.code)?;
+            push_key(text, kinds, clock, KeyEvent::Arrives, key.code)?;
             held += 1;
         } else {
-            push_key(alloc, text, kinds, clock, KeyEvent::IsLost, key.code)?;
+            push_key(text, kinds, clock, KeyEvent::IsLost, key.code)?;
         }
     }
     Ok(held)
@@ -243,7 +240,6 @@ pub(crate) fn waiting_of(keyboard: &Keyboard) -> usize
 
 /// Adds the line of the code that has moved into the latch, if one has and it is listed; before that so many waited.
 fn push_latched(
-    alloc: Global,
     text: &mut String,
     kinds: &[Kind],
     clock: u64,
@@ -257,7 +253,7 @@ fn push_latched(
         return Ok(());
     }
     match keyboard.latch() {
-        Some(code) => push_key(alloc, text, kinds, clock, KeyEvent::IsLatched, code),
+        Some(code) => push_key(text, kinds, clock, KeyEvent::IsLatched, code),
         None => Ok(()),
     }
 }
@@ -266,7 +262,6 @@ fn push_latched(
 /// still stands as that clock left it.
 #[tactic(auto, unfolding(crate::specs::Told::key_lines))]
 fn push_keys(
-    alloc: Global,
     text: &mut String,
     kinds: &[Kind],
     clock: Clock,
@@ -279,18 +274,13 @@ fn push_keys(
         ++ key_lines kinds.now clock waiting (codes_at board.now.plain.keys clock) board.now.plain.chips.keyboard) }
 {
     let keys = board.keys_at(clock);
-    let held = push_arrivals(alloc, text, kinds, clock.get(), waiting, keys)?;
-    push_latched(alloc, text, kinds, clock.get(), held, board.keyboard())
+    let held = push_arrivals(text, kinds, clock.get(), waiting, keys)?;
+    push_latched(text, kinds, clock.get(), held, board.keyboard())
 }
 
 /// Adds the line of what begins, if it is listed.
 #[tactic(auto, using(crate::proofs::Listing::told_listed, crate::proofs::Listing::not_told), unfolding(crate::specs::Listed::event_line))]
-fn push_begun(
-    alloc: Global,
-    text: &mut String,
-    kinds: &[Kind],
-    entry: &TrailEntry,
-) -> Result<(), AllocError>
+fn push_begun(text: &mut String, kinds: &[Kind], entry: &TrailEntry) -> Result<(), AllocError>
     ensures { OnOk result (string_bytes text.new
         ≡ string_bytes text.old ++ listed_lines kinds.now (Began entry.now ∷ [])) }
 {
@@ -299,14 +289,12 @@ fn push_begun(
     }
     let clock = entry.clock.get();
     let begun = BegunText(entry);
-    let line = format!(in alloc; "{clock} {begun}\n")?;
-    text.push_str(line.as_str())
+    write!(text, "{clock} {begun}\n")
 }
 
 /// Adds the line of an access in the clock that begins at this one, if it is listed.
 #[tactic(auto, using(crate::proofs::Listing::told_listed, crate::proofs::Listing::not_told), unfolding(crate::specs::Listed::event_line))]
 fn push_access(
-    alloc: Global,
     text: &mut String,
     kinds: &[Kind],
     clock: u64,
@@ -319,14 +307,12 @@ fn push_access(
         return Ok(());
     }
     let access = AccessText(access);
-    let line = format!(in alloc; "{clock} {access}\n")?;
-    text.push_str(line.as_str())
+    write!(text, "{clock} {access}\n")
 }
 
 /// Adds the lines of a clock's accesses that are listed.
 #[tactic(auto, using(crate::proofs::Listing::listed_append, crate::proofs::Listing::listed_none))]
 fn push_accesses(
-    alloc: Global,
     text: &mut String,
     kinds: &[Kind],
     clock: u64,
@@ -336,20 +322,14 @@ fn push_accesses(
         ≡ string_bytes text.old ++ listed_lines kinds.now (map (Reached clock) accesses.now)) }
 {
     for access in accesses {
-        push_access(alloc, text, kinds, clock, *access)?;
+        push_access(text, kinds, clock, *access)?;
     }
     Ok(())
 }
 
 /// Adds the line of a state that the processor comes to, if it is listed.
 #[tactic(auto, using(crate::proofs::Listing::told_listed, crate::proofs::Listing::not_told), unfolding(crate::specs::Listed::event_line))]
-fn push_state(
-    alloc: Global,
-    text: &mut String,
-    kinds: &[Kind],
-    clock: u64,
-    state: State,
-) -> Result<(), AllocError>
+fn push_state(text: &mut String, kinds: &[Kind], clock: u64, state: State) -> Result<(), AllocError>
     ensures { OnOk result (string_bytes text.new
         ≡ string_bytes text.old ++ listed_lines kinds.now (Became clock state ∷ [])) }
 {
@@ -357,14 +337,12 @@ fn push_state(
         return Ok(());
     }
     let word = state_word(state);
-    let line = format!(in alloc; "{clock} {word}\n")?;
-    text.push_str(line.as_str())
+    write!(text, "{clock} {word}\n")
 }
 
 /// Adds the line of a wire that comes to another level, if it is listed.
 #[tactic(auto, using(crate::proofs::Listing::told_listed, crate::proofs::Listing::not_told), unfolding(crate::specs::Listed::event_line))]
 fn push_wire(
-    alloc: Global,
     text: &mut String,
     kinds: &[Kind],
     clock: u64,
@@ -379,13 +357,11 @@ fn push_wire(
     }
     let name = wire_name(wire);
     let level = digit(level);
-    let line = format!(in alloc; "{clock} wire {name} {level}\n")?;
-    text.push_str(line.as_str())
+    write!(text, "{clock} wire {name} {level}\n")
 }
 
 /// Adds the line of a wire, if its level changes and it is listed.
 fn push_change(
-    alloc: Global,
     text: &mut String,
     kinds: &[Kind],
     clock: u64,
@@ -399,13 +375,12 @@ fn push_change(
     if before == after {
         return Ok(());
     }
-    push_wire(alloc, text, kinds, clock, wire, after)
+    push_wire(text, kinds, clock, wire, after)
 }
 
 /// Adds the lines of the wires that change, if they are listed.
 #[tactic(auto, unfolding(crate::specs::Told::lines_between))]
 fn push_changes(
-    alloc: Global,
     text: &mut String,
     kinds: &[Kind],
     clock: u64,
@@ -414,45 +389,12 @@ fn push_changes(
 ) -> Result<(), AllocError>
     ensures { OnOk result (string_bytes text.new ≡ string_bytes text.old ++ lines_between kinds.now clock before after) }
 {
+    push_change(text, kinds, clock, Wire::Out0, before.out_0, after.out_0)?;
+    push_change(text, kinds, clock, Wire::Out2, before.out_2, after.out_2)?;
+    push_change(text, kinds, clock, Wire::Ir0, before.ir_0, after.ir_0)?;
+    push_change(text, kinds, clock, Wire::Ir1, before.ir_1, after.ir_1)?;
+    push_change(text, kinds, clock, Wire::Int, before.int, after.int)?;
     push_change(
-        alloc,
-        text,
-        kinds,
-        clock,
-        Wire::Out0,
-        before.out_0,
-        after.out_0,
-    )?;
-    push_change(
-        alloc,
-        text,
-        kinds,
-        clock,
-        Wire::Out2,
-        before.out_2,
-        after.out_2,
-    )?;
-    push_change(
-        alloc,
-        text,
-        kinds,
-        clock,
-        Wire::Ir0,
-        before.ir_0,
-        after.ir_0,
-    )?;
-    push_change(
-        alloc,
-        text,
-        kinds,
-        clock,
-        Wire::Ir1,
-        before.ir_1,
-        after.ir_1,
-    )?;
-    push_change(alloc, text, kinds, clock, Wire::Int, before.int, after.int)?;
-    push_change(
-        alloc,
         text,
         kinds,
         clock,
@@ -526,7 +468,6 @@ pub(crate) fn is_same_state(before: State, after: State) -> bool
 
 /// Adds the line of the processor's state, if it changes and is listed.
 fn push_new_state(
-    alloc: Global,
     text: &mut String,
     kinds: &[Kind],
     clock: u64,
@@ -539,7 +480,7 @@ fn push_new_state(
     if is_same_state(before, after) {
         return Ok(());
     }
-    push_state(alloc, text, kinds, clock, after)
+    push_state(text, kinds, clock, after)
 }
 
 /// The last entry of a board's trail.
@@ -558,34 +499,38 @@ fn last_entry(board: &Board) -> Option<TrailEntry>
 }
 
 /// Adds the line of the trail's last entry, if it is listed.
-fn push_last(
-    alloc: Global,
-    text: &mut String,
-    kinds: &[Kind],
-    board: &Board,
-) -> Result<(), AllocError>
+fn push_last(text: &mut String, kinds: &[Kind], board: &Board) -> Result<(), AllocError>
     requires { length board.now.trail ≤ 32 }
     ensures { OnOk result ((entry : TrailEntry) → slice_get board.now.trail (length board.now.trail - 1) ≡ Some entry
         → string_bytes text.new ≡ string_bytes text.old ++ listed_lines kinds.now (Began entry ∷ [])) }
 {
     match last_entry(board) {
-        Some(entry) => push_begun(alloc, text, kinds, &entry),
+        Some(entry) => push_begun(text, kinds, &entry),
         None => Ok(()),
     }
 }
 
-/// Whether one of these kinds lists what begins.
-fn lists_beginnings(kinds: &[Kind]) -> bool
-    ensures { result ≡ list_any lists_beginnings kinds.now }
+/// Whether one of these kinds lists an instruction that begins, or, if there is a type, the entry of an interrupt.
+fn lists_beginning(kinds: &[Kind], entered: Option<u8>) -> bool
+    ensures { result ≡ list_any (λ kind. lists_beginning kind entered) kinds.now }
 {
     kinds
         .iter()
-        .any(|kind| matches!(kind, Kind::Starts | Kind::Entries))
+        .any(|kind| kind_lists_beginning(*kind, entered))
+}
+
+fn kind_lists_beginning(kind: Kind, entered: Option<u8>) -> bool
+    ensures { result ≡ lists_beginning kind entered }
+{
+    match (kind, entered) {
+        (Kind::Starts, None) => true,
+        (Kind::Entries, Some(_)) => true,
+        _ => false,
+    }
 }
 
 /// Adds the line of what began last, if something began and is listed.
 fn push_begun_last(
-    alloc: Global,
     text: &mut String,
     kinds: &[Kind],
     begun: Option<Begun>,
@@ -596,18 +541,17 @@ fn push_begun_last(
         → board.now.trail ≡ last 32 (before ++ entries)
         → string_bytes text.new ≡ string_bytes text.old ++ listed_lines kinds.now (map Began entries)) }
 {
-    if !lists_beginnings(kinds) {
+    let Some(begun) = begun else {
+        return Ok(());
+    };
+    if !lists_beginning(kinds, begun.entered) {
         return Ok(());
     }
-    match begun {
-        None => Ok(()),
-        Some(_) => push_last(alloc, text, kinds, board),
-    }
+    push_last(text, kinds, board)
 }
 
 /// Adds the lines of the wires, if they are seen.
 fn push_seen(
-    alloc: Global,
     text: &mut String,
     kinds: &[Kind],
     clock: u64,
@@ -620,14 +564,13 @@ fn push_seen(
         None => Ok(()),
         Some(before) => match after {
             None => Ok(()),
-            Some(after) => push_changes(alloc, text, kinds, clock, before, after),
+            Some(after) => push_changes(text, kinds, clock, before, after),
         },
     }
 }
 
 /// Adds the lines of the keys, if they are asked for.
 fn push_asked_keys(
-    alloc: Global,
     text: &mut String,
     kinds: &[Kind],
     asked: Asked,
@@ -645,14 +588,13 @@ fn push_asked_keys(
         return Ok(());
     }
     let clock = Clock::new(before.clock + 1).unwrap();
-    push_keys(alloc, text, kinds, clock, before.waiting, board)
+    push_keys(text, kinds, clock, before.waiting, board)
 }
 
 /// Adds the lines of a turn's first clock. It began at what was seen before; the board stands where the turn ends, and what is
 /// asked for is there as that clock left it.
 #[tactic(auto, unfolding(crate::specs::Told::clock_lines))]
 fn push_turn(
-    alloc: Global,
     text: &mut String,
     kinds: &[Kind],
     asked: Asked,
@@ -670,19 +612,12 @@ fn push_turn(
         → string_bytes text.new ≡ string_bytes text.old
         ++ clock_lines kinds.now asked before entries accesses.now board.now.plain) }
 {
-    push_begun_last(alloc, text, kinds, begun, board)?;
-    push_accesses(alloc, text, kinds, before.clock, accesses)?;
-    push_new_state(
-        alloc,
-        text,
-        kinds,
-        before.clock,
-        before.state,
-        board.state(),
-    )?;
-    push_asked_keys(alloc, text, kinds, asked, before, board)?;
+    push_begun_last(text, kinds, begun, board)?;
+    push_accesses(text, kinds, before.clock, accesses)?;
+    push_new_state(text, kinds, before.clock, before.state, board.state())?;
+    push_asked_keys(text, kinds, asked, before, board)?;
     let levels = levels_seen(board, asked.wires);
-    push_seen(alloc, text, kinds, before.clock + 1, before.levels, levels)
+    push_seen(text, kinds, before.clock + 1, before.levels, levels)
 }
 
 /// Makes `count` clocks, whatever the stops say, and tells what happens in them, of these kinds. Refused as `ClockLimit` past
@@ -711,7 +646,6 @@ pub(crate) fn tell_events(
         let begun = session.run_turn(end, end, &mut accesses, !asked.wires)?;
         let noted = accesses.as_slice();
         if push_turn(
-            alloc,
             &mut text,
             kinds,
             asked,

@@ -3,7 +3,7 @@ ghost use Rattle.std.specs.Prelude.{◌≡◌, ◌+◌, ◌<◌, ◌≤◌, ◌^
 ghost use Rattle.std.specs.List.{list_any};
 ghost use Rattle.board_plain.specs.Plain.{clock_of, codes_at};
 ghost use Rattle.probe.specs.Met.{happened, is_entries, is_met, is_starts, keys_moved, lists_entered, lists_some, met, one_differs, same_levels, wires_moved, write_differs};
-ghost use Rattle.probe.specs.Signals.{levels_of};
+ghost use Rattle.probe.specs.Signalled.{levels_of};
 ghost use Rattle.probe.specs.Stops.{HasBytes, standing, stands};
 ghost use Rattle.probe.specs.Watched.{IsWatched, stops_of};
 

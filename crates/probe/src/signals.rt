@@ -4,7 +4,8 @@ ghost use Rattle.std.specs.Fmt.{decimal};
 ghost use Rattle.std.specs.String.{string_bytes};
 ghost use Rattle.pic8259.specs.Levels.{contains};
 ghost use Rattle.probe.specs.Making.{AnswersMaking};
-ghost use Rattle.probe.specs.Signals.{change_line, changes_between, levels_of, signals_text};
+ghost use Rattle.probe.specs.Signals.{signals_text};
+ghost use Rattle.probe.specs.Signalled.{change_line, changes_between, levels_of};
 
 use crate::making::lacking;
 use crate::shown::digit;
@@ -29,7 +30,7 @@ pub(crate) struct Levels {
 }
 
 /// The levels of a board's wires.
-#[tactic(auto, unfolding(crate::specs::Signals::levels_of))]
+#[tactic(auto, unfolding(crate::specs::Signalled::levels_of))]
 pub(crate) fn levels_of(board: &Board) -> Levels
     ensures { result ≡ levels_of board.now.plain }
 {
@@ -57,9 +58,8 @@ fn lines_of(controller: &Pic) -> (bool, bool)
 }
 
 /// Adds a line for each wire that a clock has changed.
-#[tactic(auto, unfolding(crate::specs::Signals::changes_between))]
+#[tactic(auto, unfolding(crate::specs::Signalled::changes_between))]
 fn push_changes(
-    alloc: Global,
     text: &mut String,
     clock: u64,
     before: Levels,
@@ -67,17 +67,16 @@ fn push_changes(
 ) -> Result<(), AllocError>
     ensures { OnOk result (string_bytes text.new ≡ string_bytes text.old ++ changes_between clock before after) }
 {
-    push_change(alloc, text, "OUT0", clock, before.out_0, after.out_0)?;
-    push_change(alloc, text, "OUT2", clock, before.out_2, after.out_2)?;
-    push_change(alloc, text, "IR0", clock, before.ir_0, after.ir_0)?;
-    push_change(alloc, text, "IR1", clock, before.ir_1, after.ir_1)?;
-    push_change(alloc, text, "INT", clock, before.int, after.int)?;
-    push_change(alloc, text, "speaker", clock, before.speaker, after.speaker)
+    push_change(text, "OUT0", clock, before.out_0, after.out_0)?;
+    push_change(text, "OUT2", clock, before.out_2, after.out_2)?;
+    push_change(text, "IR0", clock, before.ir_0, after.ir_0)?;
+    push_change(text, "IR1", clock, before.ir_1, after.ir_1)?;
+    push_change(text, "INT", clock, before.int, after.int)?;
+    push_change(text, "speaker", clock, before.speaker, after.speaker)
 }
 
 /// Adds a line, if the wire has changed.
 fn push_change(
-    alloc: Global,
     text: &mut String,
     name: &str,
     clock: u64,
@@ -90,8 +89,7 @@ fn push_change(
         return Ok(());
     }
     let level = digit(after);
-    let line = format!(in alloc; "{clock} {name} {level}\n")?;
-    text.push_str(line.as_str())
+    write!(text, "{clock} {name} {level}\n")
 }
 
 /// Makes `count` clocks, whatever the stops say, and tells each change of the wires. Refused as `ClockLimit` past the
@@ -114,7 +112,7 @@ pub(crate) fn tell_signals(
         let clock = session.board().clock().get() + 1;
         session.run_turn(end, end, &mut Unnoted, false)?;
         let after = levels_of(session.board());
-        if push_changes(alloc, &mut text, clock, levels, after).is_err() {
+        if push_changes(&mut text, clock, levels, after).is_err() {
             return Err(lacking(session));
         }
         levels = after;

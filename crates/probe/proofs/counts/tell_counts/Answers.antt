@@ -17,6 +17,7 @@ turns-init c =
     ends_at c.new.result c.unwrap-end.result c.get-2.result c.clock-start.result (clock_of s.board.plain) c.args.count _ c.new.ensures c.unwrap-end.ensures c.get-2.ensures.value
     (c.clock-start.ensures ∙ ap (λ (b : BoardState). clock_of b.plain) c.board.ensures.board) in
     none_counted c.unwrap-end.result s c.new-counts.result c.board.ensures.few (omega (arith, end)) c.new-counts.ensures.noted c.new-counts.ensures.before
+    (c.new-counts.ensures.started ∙ c.clock-start.ensures ∙ ap (λ (b : BoardState). clock_of b.plain) c.board.ensures.board)
 
 pub returns-then-is_err : goal.returns-then-is_err
 returns-then-is_err c =

@@ -8,16 +8,18 @@ use Rattle.board_plain.specs.Trail.{last}
 use Rattle.board_plain.specs.declared.trail.TrailEntry.{TrailEntry}
 use Rattle.events.specs.declared.event.Event.TheVariants.{Began}
 use Rattle.probe.specs.Listed.{listed_lines}
-use Rattle.probe.proofs.Telling.{begun_told, none_begun_told, nothing_begins_told}
+use Rattle.probe.proofs.Telling.{begun_told, none_begun_told, unlisted_told}
 use Rattle.probe.proofs.event_lines.push_begun_last.Goals as goal
 
-pub returns-then-not-lists_beginnings : goal.returns-then-not-lists_beginnings
-returns-then-not-lists_beginnings c = λ before entries are ends. nothing_begins_told c.args.kinds.now (string_bytes c.args.text.now) entries (let is = c.lists_beginnings.ensures in let no = c.if-not-lists_beginnings.true in cc)
+pub returns-in_default : goal.returns-in_default
+returns-in_default c = λ before entries are ends. none_begun_told c.args.kinds.now (string_bytes c.args.text.now) entries (are ∙ ap option_to_list c.in_default.is)
 
-pub returns-in-None : goal.returns-in-None
-returns-in-None c = λ before entries are ends. none_begun_told c.args.kinds.now (string_bytes c.args.text.now) entries (are ∙ ap option_to_list c.in-None.is)
+pub returns-then-not-lists_beginning : goal.returns-then-not-lists_beginning
+returns-then-not-lists_beginning c = λ before entries are ends.
+    unlisted_told c.args.kinds.now (string_bytes c.args.text.now) c.in-Some.begun entries
+    (let is = c.lists_beginning.ensures in let no = c.if-not-lists_beginning.true in cc) (are ∙ ap option_to_list c.in-Some.is)
 
-pub returns-in-Some : goal.returns-in-Some
-returns-in-Some c =
+pub returns : goal.returns
+returns c =
     subst (λ (begun : Option Begun). OnOk c.push_last.result ((before entries : List TrailEntry) → map begun_of entries ≡ option_to_list begun → c.args.board.now.trail ≡ last 32 (before ++ entries) → string_bytes c.push_last.new.text ≡ string_bytes c.args.text.now ++ listed_lines c.args.kinds.now (map Began entries))) (sym c.in-Some.is)
-    (begun_told c.args.kinds.now (string_bytes c.args.text.now) (string_bytes c.push_last.new.text) c.in-Some.field-0 c.args.board.now.trail c.push_last.result c.push_last.ensures)
+    (begun_told c.args.kinds.now (string_bytes c.args.text.now) (string_bytes c.push_last.new.text) c.in-Some.begun c.args.board.now.trail c.push_last.result c.push_last.ensures)

@@ -7,9 +7,9 @@ use Rattle.board_plain.proofs.Runs.{runs_join}
 use Rattle.board_plain.specs.Board.{BoardState, Ran}
 use Rattle.board_plain.specs.Plain.{clock_of}
 use Rattle.debugger_meaning.specs.Stands.{SessionState}
-use Rattle.probe.specs.Signals.{levels_of}
 use Rattle.probe.proofs.Counting.{ends_at, on_ok, stands_short}
 use Rattle.probe.proofs.Signalling.{all_signalled, more_signalled, none_signalled, text_signalled}
+use Rattle.probe.specs.Signalled.{levels_of}
 use Rattle.probe.proofs.signals.tell_signals.Goals as goal
 
 pub turns-init : goal.turns-init

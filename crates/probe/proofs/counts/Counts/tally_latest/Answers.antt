@@ -3,8 +3,20 @@ use Rattle.std.specs.BTreeMap.{get}
 use Rattle.std.specs.Ordering.{nat_cmp}
 use Rattle.probe.specs.Counts.{place_of, place_unless, type_of}
 use Rattle.probe.specs.Tallied.{one_more}
-use Rattle.probe.proofs.Tallying.{if_ok, tallied_place, tallied_type}
+use Rattle.probe.proofs.Tallying.{first_comes, first_stays, if_ok, tallied_place, tallied_type}
 use Rattle.probe.proofs.counts.Counts.tally_latest.Goals as goal
+
+pub returns-in_default-clause-before : goal.returns-in_default-clause-before
+returns-in_default-clause-before c = λ all noted. first_comes all c.args.self.now c.args.clock c.in_default.is noted
+
+pub returns-in-None-clause-before : goal.returns-in-None-clause-before
+returns-in-None-clause-before c =
+    if_ok c.add.result c.add.ensures (λ added all noted. first_stays all c.args.self.now c.in-Some.begun c.args.clock c.in-Some.is noted)
+
+pub returns-in-Some-entered-clause-before : goal.returns-in-Some-entered-clause-before
+returns-in-Some-entered-clause-before c =
+    if_ok c.add-in-Some-entered.result c.add-in-Some-entered.ensures
+    (λ added all noted. first_stays all c.args.self.now c.in-Some.begun c.args.clock c.in-Some.is noted)
 
 pub returns-in-None-clause-tallied : goal.returns-in-None-clause-tallied
 returns-in-None-clause-tallied c =
