@@ -13,7 +13,7 @@ from toolbox import program
 class Events(ToolCase):
     def test_each_session_is_answered_as_told(self) -> None:
         found = cases('probe_events.cases')
-        self.assertEqual(len(found), 206)
+        self.assertEqual(len(found), 310)
         for case in found:
             with self.subTest(case.name):
                 status, out, err = answer(case, program.path('pcprobe'), self.room)

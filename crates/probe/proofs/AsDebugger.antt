@@ -23,7 +23,7 @@ use Rattle.probe.specs.declared.stops.Stop.TheVariants.{Standing}
 use Rattle.probe.specs.Inquiry.{inquiry_of}
 use Rattle.probe.specs.Laws.{AnswersAsDebugger, OnlyStand}
 use Rattle.probe.specs.Probe.{AddsStop, AnswersUnless, conditions_of, GoesBackToStop, GoesOn, ProbeState, RefusesBackToStop, RefusesGoing, RefusesStop, session_of}
-use Rattle.probe.specs.Requests.{request_by, request_in, request_of, stop_of}
+use Rattle.probe.specs.Requests.{request_by, request_in, request_of, request_with, stop_of, trial_of}
 use Rattle.probe.specs.Session.{AnswersOr}
 use Rattle.probe.specs.Stops.{IsEndOf, met_from, NoneMet}
 use Rattle.probe.proofs.Probes.{conditions_more}
@@ -169,6 +169,7 @@ commanded (Some commands.BackStep) line old new result is none stand answers = p
 commanded (Some commands.BackStop) line old new result is none stand answers = back old new result stand answers
 
 pub answers_as_debugger : AnswersAsDebugger
-answers_as_debugger line old new result stand no_stop no_inquiry answers =
+answers_as_debugger line old new result stand no_trial no_stop no_inquiry answers =
     commanded (command_of line) line old new result refl no_inquiry stand
-    (subst (λ stop. AnswersUnless (request_in stop (command_of line)) line old result new) no_stop answers)
+    (subst (λ stop. AnswersUnless (request_in stop (command_of line)) line old result new) no_stop
+    (subst (λ trial. AnswersUnless (request_with trial (stop_of line) (command_of line)) line old result new) no_trial answers))

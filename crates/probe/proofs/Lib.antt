@@ -18,3 +18,8 @@ mod Probes
 mod Passing
 mod AsDebugger
 mod Walking
+mod Waiting
+mod Ending
+mod Ranges
+mod Once
+mod Trying

@@ -318,7 +318,7 @@ met_on stops m j s p here is some met =
     let now : after_clocks s (m + j) ≡ after_clocks p j = iterate_add after_clock m j s ∙ ap (λ q. after_clocks q j) (sym is) in
     (λ i. meeting stops (before i) (now i)) ∙ met
 
-none_on : (stops : List Stop) (m n : ℕ) (s p : Plain) → p ≡ after_clocks s m → NoneMet stops m s → NoneMet stops n p → NoneMet stops (m + n) s
+pub none_on : (stops : List Stop) (m n : ℕ) (s p : Plain) → p ≡ after_clocks s m → NoneMet stops m s → NoneMet stops n p → NoneMet stops (m + n) s
 none_on stops m n s p is first second j some within =
     elim (cases_lt m j) [
       | inl later ↦
@@ -445,3 +445,22 @@ pub first_once : (stops : List Stop) (to : ℕ) (t u : BoardState) (new : List W
 first_once stops to t u new number turn within is =
     let some = turn.some in
     let clock = turn.ran.clock in omega (arith, some, clock, within, is)
+
+-- the next turn of a run that has met no stop: from the run's start it is one clock
+pub looks_on : (stops : List Stop) (asked : Asked) (next to end start : ℕ) (s t u : SessionState) (p b : BoardState) (before : Seen) (begun : Option Begun) (noted : List Access) (old new : List Watched) (number : Option ℕ) → (so_far : Met stops end s t old) → asked ≡ asked_by stops → before ≡ seen_of asked p.plain → p ≡ t.board → noted ≡ accesses_next t.board.plain → b ≡ u.board
+    → next ≡ before.clock + 1 → IsOneTurn (not asked.wires) next to t.board u.board begun
+    → (clock_of b.plain ≡ before.clock + 1 → LooksOn before begun noted b.plain old new number) → (before.clock + 1 < clock_of b.plain → number ≡ standing (stops_of old) b.plain) → (before.clock + 1 < clock_of b.plain → new ≡ old)
+    → start ≡ clock_of s.board.plain → (before.clock ≡ start → to ≡ before.clock + 1) → to ≤ end
+    → (turn : Turned stops t.board u.board new number) × ((so_far.passed ≡ 0 → turn.passed ≡ 1) × (clock_of u.board.plain ≤ end))
+looks_on stops asked next to end start s t u p b before begun noted old new number so_far is_asked seen at are here next_is one looks leap copied from first within =
+    let here_is : before.clock ≡ clock_of t.board.plain = ap (λ (x : Seen). x.clock) seen ∙ seen_clock asked p.plain ∙ ap (λ (x : BoardState). clock_of x.plain) at in
+    let turn = turned_by stops asked next to t.board u.board p b before begun noted old new number so_far.stops_are is_asked seen at are here next_is one so_far.copies so_far.watched looks leap copied in
+    let before_end = one.before_end in
+    let clock = one.ran.clock in
+    let gone = so_far.ran.clock in (
+      turn,
+      (
+        (λ none. first_once stops to t.board u.board new number turn (omega (arith, before_end, clock)) (first (omega (arith, here_is, gone, none, from)) ∙ ap (λ n. n + 1) here_is)),
+        omega (arith, before_end, clock, within),
+      ),
+    )

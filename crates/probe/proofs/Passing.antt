@@ -16,11 +16,12 @@ use Rattle.probe.specs.declared.inquiry.Inquiry.{Inquiry}
 use Rattle.probe.specs.declared.inquiry.Inquiry.TheVariants as inquiries
 use Rattle.probe.specs.declared.stops.Request.{Request}
 use Rattle.probe.specs.declared.stops.Request.TheVariants.{Add, Go, BackStop}
+use Rattle.probe.specs.declared.moments.Trial.{Trial}
 use Rattle.probe.specs.declared.stops.Stop.{Stop}
 use Rattle.probe.specs.Inquiry.{inquiry_of}
 use Rattle.probe.specs.Making.{AnswersMaking, RefusesMaking}
 use Rattle.probe.specs.Probe.{AnswersUnless, conditions_of}
-use Rattle.probe.specs.Requests.{request_by, request_in, request_of, stop_of}
+use Rattle.probe.specs.Requests.{request_by, request_of, request_with, stop_of, trial_of}
 use Rattle.probe.specs.Session.{AnswersInquiry, AnswersOr, AnswersProbe}
 
 abbrev same : SessionState → SessionState → Type 0
@@ -101,16 +102,17 @@ commanded (Some commands.BackStep) s t (Ok answer) none is = is.stops
 commanded (Some commands.BackStep) s t (Err fault) none is = refuses_back_to (Free ∷ []) s t fault is
 commanded (Some commands.BackStop) s t result none is = absurd (cc)
 
-no_request : (stop : Option Stop) (command : Option Command) → request_in stop command ≡ None → request_by command ≡ None
-no_request (Some stop) command none = absurd (cc)
-no_request None command none = none
+no_request : (trial : Option Trial) (stop : Option Stop) (command : Option Command) → request_with trial stop command ≡ None → request_by command ≡ None
+no_request (Some trial) stop command none = absurd (cc)
+no_request None (Some stop) command none = absurd (cc)
+no_request None None command none = none
 
 answered : (inquiry : Option Inquiry) (line : List ℕ) (s t : SessionState) (result : Result Answer DebugFault) → request_by (command_of line) ≡ None → AnswersOr inquiry line s result t → same s t
 answered None line s t result none is = commanded (command_of line) s t result none is
 answered (Some inquiry) line s t result none is = inquires inquiry s t result is
 
 pub stops_stay : (line : List ℕ) (s t : SessionState) (result : Result Answer DebugFault) → request_of line ≡ None → AnswersProbe line s result t → t.stops ≡ s.stops
-stops_stay line s t result none is = answered (inquiry_of line) line s t result (no_request (stop_of line) (command_of line) none) is
+stops_stay line s t result none is = answered (inquiry_of line) line s t result (no_request (trial_of line) (stop_of line) (command_of line) none) is
 
 -- what the session does by itself for a probe leaves its stops
 

@@ -45,7 +45,7 @@ all_standing (Changes address count ∷ stops) all = let never : false ≡ true 
 abbrev pub probe_of : SessionState → List Stop → ProbeState
 probe_of session stops = record { first = session.first; board = session.board; stops = stops }
 
-ends_of : (stops : List Stop) (n : ℕ) (s : Plain) (end : Option End) → stops ≡ map Standing (conditions_of stops) → IsStopOf (conditions_of stops) n s end → IsEndOf stops n s end
+pub ends_of : (stops : List Stop) (n : ℕ) (s : Plain) (end : Option End) → stops ≡ map Standing (conditions_of stops) → IsStopOf (conditions_of stops) n s end → IsEndOf stops n s end
 ends_of stops n s end are is = subst (λ xs. IsEndOf xs n s end) (sym are) (here (conditions_of stops) n s end is)
 
 none_of : (stops : List Stop) (n : ℕ) (s : Plain) → stops ≡ map Standing (conditions_of stops) → NoStop (conditions_of stops) n s → NoneMet stops n s
@@ -276,6 +276,12 @@ conditions_more [] stop = refl
 conditions_more (Standing condition ∷ stops) stop = ap (λ (xs : List Condition). condition ∷ xs) (conditions_more stops stop)
 conditions_more (When kinds ∷ stops) stop = conditions_more stops stop
 conditions_more (Changes address count ∷ stops) stop = conditions_more stops stop
+
+-- a stop that doesn't ask what stands has none
+pub unstanding : (stop : Stop) → ((condition : Condition) → stop ≡ Standing condition → ⊥) → conditions_of (stop ∷ []) ≡ []
+unstanding (Standing condition) none = absurd (none condition refl)
+unstanding (When kinds) none = refl
+unstanding (Changes address count) none = refl
 
 -- a probe with a stop more
 

@@ -19,7 +19,7 @@ use Rattle.debugger.proofs.Adding.{stands_after_with}
 use Rattle.probe.specs.declared.inquiry.Inquiry.{Inquiry}
 use Rattle.probe.specs.declared.inquiry.Inquiry.TheVariants as inquiries
 use Rattle.probe.specs.declared.stops.Request.{Request}
-use Rattle.probe.specs.declared.stops.Request.TheVariants.{Add, Go, BackStop}
+use Rattle.probe.specs.declared.stops.Request.TheVariants.{Add, Go, BackStop, Try}
 use Rattle.probe.specs.declared.stops.Stop.{Stop}
 use Rattle.probe.specs.Inquiry.{inquiry_of}
 use Rattle.probe.specs.Laws.{key_typed, ProbesStand, shown_with, Walk}
@@ -128,6 +128,7 @@ requested first (Go n) s t (Ok answer) at is = same_first first (session_of s) (
 requested first (Go n) s t (Err fault) at is = refuses_going first n s t fault at is
 requested first BackStop s t (Ok answer) at is = same_first first (session_of s) (session_of t) at is.first (is.last.passed, is.stands)
 requested first BackStop s t (Err fault) at is = refuses_back first s t fault at is
+requested first (Try trial) s t result at is = same_state first (session_of s) (session_of t) at (same_session s t is.1)
 
 answered : (first : Shown) (request : Option Request) (line : List ℕ) (s t : ProbeState) (result : Result Answer DebugFault) → StandsFrom first (session_of s) → AnswersUnless request line s result t
     → Leads first (key_typed request (inquiry_of line) (clock_of s.board.plain) result) (session_of t)

@@ -22,7 +22,7 @@ use Rattle.probe.specs.declared.stops.Stop.TheVariants.{Standing}
 use Rattle.probe.specs.Counts.{clocks_from, is_number, next_clock, numbers_of, place_of, type_of}
 use Rattle.probe.specs.Inquiry.{inquiry_of}
 use Rattle.probe.specs.Probe.{AnswersStopping, conditions_of, probe_about, ProbeState, session_of}
-use Rattle.probe.specs.Requests.{request_of, stop_of}
+use Rattle.probe.specs.Requests.{request_of, stop_of, trial_of}
 use Rattle.probe.specs.Stops.{IsEndOf, met_from}
 use Rattle.probe.specs.Typed.{typed_key}
 
@@ -56,7 +56,7 @@ OnlyStand s = s.stops ≡ map Standing (conditions_of s.stops)
 abbrev pub AnswersAsDebugger : Type 0
 AnswersAsDebugger =
     (line : List ℕ) (old new : ProbeState) (result : Result Answer DebugFault)
-    → OnlyStand old → stop_of line ≡ None → inquiry_of line ≡ None → AnswersStopping line old result new
+    → OnlyStand old → trial_of line ≡ None → stop_of line ≡ None → inquiry_of line ≡ None → AnswersStopping line old result new
     → AnswersLine (command_of line) (session_of old) result (session_of new) × OnlyStand new
 
 -- the key that a line types, if it is taken

@@ -14,6 +14,7 @@ pub mod Kinds
 pub mod Listed
 pub mod Told
 pub mod Stops
+pub mod Moments
 pub mod Requests
 pub mod Met
 pub mod Listing
@@ -22,3 +23,5 @@ pub mod Session
 pub mod Probe
 pub mod Watched
 pub mod Looked
+pub mod Tried
+pub mod MomentLaws

@@ -13,9 +13,10 @@ use Rattle.debugger_meaning.specs.declared.fault.DebugFault.TheVariants.{BadScan
 use Rattle.debugger_meaning.specs.Session.{told_of}
 use Rattle.debugger_meaning.specs.Stands.{SessionState, Shown, shown_of, StandsAt}
 use Rattle.probe.specs.declared.stops.Request.{Request}
-use Rattle.probe.specs.declared.stops.Request.TheVariants.{Add, Go, BackStop}
+use Rattle.probe.specs.declared.stops.Request.TheVariants.{Add, Go, BackStop, Try}
 use Rattle.probe.specs.declared.stops.Stop.{Stop}
 use Rattle.probe.specs.declared.stops.Stop.TheVariants.{Standing, When, Changes}
+use Rattle.probe.specs.Moments.{AnswersTrial}
 use Rattle.probe.specs.Requests.{asks_changes, request_of}
 use Rattle.probe.specs.Session.{AnswersProbe}
 use Rattle.probe.specs.Stops.{IsEndOf, MetLast, NoneMet, NoneMetFrom}
@@ -119,6 +120,7 @@ abbrev pub AnswersRequest : Request → ProbeState → Result Answer DebugFault 
 AnswersRequest (Add stop) old result new = MatchResult result (AddsStop stop old new) (RefusesStop stop old new)
 AnswersRequest (Go n) old result new = MatchResult result (GoesOn n old new) (RefusesGoing n old new)
 AnswersRequest BackStop old result new = MatchResult result (GoesBackToStop old new) (RefusesBackToStop old new)
+AnswersRequest (Try trial) old result new = AnswersTrial old.stops old.board.plain trial result × (new ≡ old)
 
 -- what has nothing to do with stops is answered as of the debugger's session, and leaves them
 abbrev pub AnswersUnless : Option Request → List ℕ → ProbeState → Result Answer DebugFault → ProbeState → Type 0

@@ -1,6 +1,6 @@
 -- What a line asks for that has to do with stops.
 -- To be believed by callers of this crate: the headline does not rest on it.
-use Rattle.std.specs.Prelude.{ℕ, ◌+◌, ◌^◌, Bool, true, false, ◌&&◌, nat_le, if◌then◌else◌, List, [], ◌∷◌, codes, Option, None, Some, option_map}
+use Rattle.std.specs.Prelude.{ℕ, ◌+◌, ◌≤◌, ◌^◌, Bool, true, false, ◌&&◌, nat_le, if◌then◌else◌, List, [], ◌∷◌, codes, Option, None, Some, option_map}
 use Rattle.std.specs.Str.{bytes_eq}
 use Rattle.board_plain.specs.declared.stop.Condition.TheVariants as conditions
 use Rattle.debugger_meaning.specs.declared.command.Command.{Command}
@@ -8,8 +8,9 @@ use Rattle.debugger_meaning.specs.declared.command.Command.TheVariants as comman
 use Rattle.debugger_meaning.specs.Commands.{command_of}
 use Rattle.debugger_meaning.specs.Words.{count_of, hex_number, words_of}
 use Rattle.probe.specs.declared.kinds.Kind.{Kind}
+use Rattle.probe.specs.declared.moments.Trial.{Trial}
 use Rattle.probe.specs.declared.stops.Request.{Request}
-use Rattle.probe.specs.declared.stops.Request.TheVariants.{Add, Go, BackStop}
+use Rattle.probe.specs.declared.stops.Request.TheVariants.{Add, Go, BackStop, Try}
 use Rattle.probe.specs.declared.stops.Stop.{Stop}
 use Rattle.probe.specs.declared.stops.Stop.TheVariants.{Standing, When, Changes}
 use Rattle.probe.specs.Kinds.{kinds_from}
@@ -45,6 +46,24 @@ stop_in (name ∷ words) =
 unfoldable pub stop_of : List ℕ → Option Stop
 stop_of line = stop_in (words_of line)
 
+-- a key that is tried at each clock from one up to another: `moments 1E 1000 4000 100000`
+abbrev pub trial_within : Option ℕ → Option ℕ → Option ℕ → Option ℕ → Option Trial
+trial_within (Some code) (Some first) (Some last) (Some count) =
+    if nat_le first last then Some (record { code = code; first = first; last = last; count = count }) else None
+trial_within (Some code) (Some first) (Some last) None = None
+trial_within (Some code) (Some first) None _ = None
+trial_within (Some code) None _ _ = None
+trial_within None _ _ _ = None
+
+abbrev pub trial_in : List (List ℕ) → Option Trial
+trial_in (name ∷ code ∷ first ∷ last ∷ count ∷ []) =
+    if bytes_eq name (codes "moments") then trial_within (hex_number 2 code) (count_of first) (count_of last) (count_of count)
+    else None
+trial_in _ = None
+
+unfoldable pub trial_of : List ℕ → Option Trial
+trial_of line = trial_in (words_of line)
+
 -- what a command asks for
 abbrev pub request_by : Option Command → Option Request
 request_by (Some (commands.Break cs ip)) = Some (Add (Standing (conditions.At cs ip)))
@@ -59,14 +78,23 @@ abbrev pub request_in : Option Stop → Option Command → Option Request
 request_in (Some stop) command = Some (Add stop)
 request_in None command = request_by command
 
-abbrev pub request_of : List ℕ → Option Request
-request_of line = request_in (stop_of line) (command_of line)
+abbrev pub request_with : Option Trial → Option Stop → Option Command → Option Request
+request_with (Some trial) stop command = Some (Try trial)
+request_with None stop command = request_in stop command
 
--- a stop that is to be added asks for bytes that have addresses
+abbrev pub request_of : List ℕ → Option Request
+request_of line = request_with (trial_of line) (stop_of line) (command_of line)
+
+-- the last clock of a trial isn't before its first
+abbrev pub IsRising : Trial → Type 0
+IsRising trial = trial.first ≤ trial.last
+
+-- a stop that is to be added asks for bytes that have addresses, and a trial's clocks rise
 abbrev pub IsRequest : Request → Type 0
 IsRequest (Add stop) = HasBytes stop
 IsRequest (Go count) = Unit {0}
 IsRequest BackStop = Unit {0}
+IsRequest (Try trial) = IsRising trial
 
 -- a stop asks what stands
 abbrev pub is_standing : Stop → Bool

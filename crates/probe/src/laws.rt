@@ -1,4 +1,5 @@
 //! What holds of counts, of stops and of probes, over the definitions alone.
+ghost use Rattle.probe.specs.MomentLaws.{EachMomentOnce, MomentsAreRuns, OneListOfRanges, PastTheEndAlike};
 ghost use Rattle.probe.specs.Laws.{AnswersAsDebugger, CountsAddUp, ProbesStand, StandingEndsAlike, StandingMetAlike};
 
 /// The clocks before the first beginning, those of each CS:IP and those of each type of interrupt add up to the clocks that
@@ -21,4 +22,17 @@ pub fn answers_as_debugger()
 /// After any lines a probe stands some clocks after the board with which it began, as if that had had the keys that were typed.
 pub fn probes_stand()
     ensures { ProbesStand }
+{}
+
+/// Each clock of a trial stands in one range, and in one alone; and there is one list of ranges.
+pub fn each_moment_stands_once()
+    ensures once { EachMomentOnce }
+    ensures one_list { OneListOfRanges }
+{}
+
+/// What `go` answers in a session in which the key has been typed is what its range says, and a key that comes after the run's
+/// end changes nothing of it.
+pub fn moments_are_runs()
+    ensures runs { MomentsAreRuns }
+    ensures past_the_end { PastTheEndAlike }
 {}

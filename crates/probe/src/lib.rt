@@ -16,6 +16,7 @@ mod list_text;
 mod looking;
 mod making;
 mod met;
+mod moments;
 pub mod probe;
 pub mod session;
 mod shown;

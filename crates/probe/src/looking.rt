@@ -24,7 +24,7 @@ use execute_noted::notes::Accesses;
 
 /// The least number of a stop that is met at the end of a turn of the board. It was one clock, or a leap in which nothing has
 /// happened.
-fn found(
+pub(crate) fn found(
     watches: &mut [Watched],
     before: Seen,
     begun: &Option<Begun>,
@@ -51,7 +51,7 @@ fn found(
 }
 
 /// Which parts of a board these stops ask for.
-fn asked_by(watches: &[Watched]) -> Asked
+pub(crate) fn asked_by(watches: &[Watched]) -> Asked
     ensures { result ≡ asked_of watches.now }
 {
     Asked {
@@ -94,7 +94,7 @@ fn asks_keys(stop: &Stop) -> bool
 
 /// The clock up to which a turn may lead in a run from `start` to `end`. What holds at the start may hold on, so the first clock
 /// is looked at by itself.
-fn turn_end(clock: u64, start: u64, end: Clock) -> Clock
+pub(crate) fn turn_end(clock: u64, start: u64, end: Clock) -> Clock
     requires { clock < end }
     ensures first { clock ≡ start → result ≡ clock + 1 }
     ensures later { clock < result }
@@ -108,7 +108,7 @@ fn turn_end(clock: u64, start: u64, end: Clock) -> Clock
 }
 
 /// The clock after one that isn't the last.
-fn next_clock(clock: u64, end: Clock) -> Clock
+pub(crate) fn next_clock(clock: u64, end: Clock) -> Clock
     requires { clock < end }
     ensures { result ≡ clock + 1 }
 {

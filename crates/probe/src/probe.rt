@@ -3,11 +3,14 @@ ghost use Rattle.std.specs.Prelude.{◌≡◌, ◌==◌, ◌<◌, ◌≤◌, ◌
 ghost use Rattle.std.specs.Result.{IfErr};
 ghost use Rattle.debugger_meaning.specs.Stands.{Stands, gone};
 ghost use Rattle.probe.specs.Looked.{FindsNoStop, answer_at, from_of, with_number};
+ghost use Rattle.probe.specs.Moments.{AnswersTrial};
 ghost use Rattle.probe.specs.Probe.{AddsStop, AnswersStopping, GoesBackToStop, GoesOn, RefusesBackToStop, RefusesGoing, RefusesStop, conditions_of, gone_by, probe_about, session_of};
+ghost use Rattle.probe.specs.Requests.{IsRising};
 ghost use Rattle.probe.specs.Stops.{HasBytes, MetLast};
 ghost use Rattle.probe.specs.Watched.{IsWatched, KeepsStops, stops_of};
 
 use crate::looking::{last_met, run_to_stop};
+use crate::moments::{Trial, tell_moments};
 use crate::session::command;
 use crate::stops::{Request, Stop, read_request};
 use crate::watched::{Watched, Watches, all_stand, with_room};
@@ -73,6 +76,7 @@ impl Probe {
             Some(Request::Add(stop)) => self.add(alloc, stop),
             Some(Request::Go(count)) => self.go(count),
             Some(Request::BackStop) => self.back_stop(),
+            Some(Request::Try(trial)) => self.moments(alloc, trial),
             None => command(&mut self.session, alloc, line),
         }
     }
@@ -141,6 +145,20 @@ impl Probe {
     {
         let count = self.session.board().clock().get() - clock.get();
         with_number(self.session.back(count), clock, number)
+    }
+
+    /// How runs would end with a key more, for each clock of the trial.
+    fn moments(&mut self, alloc: Global, trial: Trial) -> Result<Answer, DebugFault>
+        requires { IsRising trial }
+        ensures answers { AnswersTrial self.old.stops self.old.board.plain trial result }
+        ensures kept { self.new ≡ self.old }
+    {
+        tell_moments(
+            self.session.board(),
+            alloc,
+            self.watches.as_mut_slice(),
+            trial,
+        )
     }
 
     /// The last earlier clock at which a stop was met, and the least number of one there.

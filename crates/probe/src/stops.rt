@@ -2,9 +2,10 @@
 ghost use Rattle.std.specs.Prelude.{◌≡◌, ◌<◌, ◌^◌, IfSome, length};
 ghost use Rattle.debugger_meaning.specs.Words.{words_of};
 ghost use Rattle.probe.specs.Stops.{HasBytes};
-ghost use Rattle.probe.specs.Requests.{changes_in, is_standing, request_of, stop_of, IsRequest};
+ghost use Rattle.probe.specs.Requests.{changes_in, is_standing, request_of, stop_of, trial_of, IsRequest, IsRising};
 
 use crate::kinds::{Kinds, read_kinds};
+use crate::moments::Trial;
 use arrayvec::ArrayVec;
 use board_plain::stop::Condition;
 use debugger_meaning::command::{Command, read_command};
@@ -40,6 +41,8 @@ pub(crate) enum Request {
     Go(u64),
     /// Back to the last earlier clock at which a stop held.
     BackStop,
+    /// How a run would end with a key more, for each of some clocks.
+    Try(Trial),
 }
 
 /// What a line asks for, if that has to do with stops.
@@ -47,6 +50,9 @@ pub(crate) fn read_request(line: &str) -> Option<Request>
     ensures value { result ≡ request_of line.now }
     ensures within { IfSome result IsRequest }
 {
+    if let Some(trial) = read_trial(line) {
+        return Some(Request::Try(trial));
+    }
     if let Some(stop) = read_stop(line) {
         return Some(Request::Add(stop));
     }
@@ -82,6 +88,38 @@ fn read_stop(line: &str) -> Option<Stop>
         return changes(rest);
     }
     None
+}
+
+/// A key that is tried, as `moments` names one: its code, the first and the last clock, and how many clocks a run has.
+#[tactic(auto, unfolding(crate::specs::Requests::trial_of))]
+fn read_trial(line: &str) -> Option<Trial>
+    ensures value { result ≡ trial_of line.now }
+    ensures within { IfSome result IsRising }
+{
+    let (name, rest) = next_word(line.as_bytes())?;
+    if name != b"moments".as_slice() {
+        return None;
+    }
+    let (code, rest) = next_word(rest)?;
+    let (first, rest) = next_word(rest)?;
+    let (last, rest) = next_word(rest)?;
+    let (count, rest) = next_word(rest)?;
+    if next_word(rest).is_some() {
+        return None;
+    }
+    let code = hex_number(2, code)?;
+    let first = count_of(first)?;
+    let last = count_of(last)?;
+    let count = count_of(count)?;
+    if last < first {
+        return None;
+    }
+    Some(Trial {
+        code: code as u8,
+        first,
+        last,
+        count,
+    })
 }
 
 /// The bytes whose changes are a stop: an address, and how many from it on, one if that isn't said.

@@ -1,13 +1,15 @@
 //! Stops, each with a copy of the bytes whose changes it asks for.
-ghost use Rattle.std.specs.Prelude.{◌≡◌, All, IfOk, IsTrue, OnErr};
+ghost use Rattle.std.specs.Prelude.{◌≡◌, ◌≤◌, All, IfOk, IsTrue, OnErr, length};
+ghost use Rattle.probe.specs.Probe.{conditions_of};
 ghost use Rattle.probe.specs.Requests.{asks_changes};
 ghost use Rattle.probe.specs.Stops.{HasBytes};
-ghost use Rattle.probe.specs.Watched.{all_standing, AreCopies, IsWatched, KeepsStops, StaysCopied};
+ghost use Rattle.probe.specs.Watched.{all_standing, AreCopies, IsWatched, KeepsStops, StaysCopied, stops_of};
 
 use crate::bytes::Copied;
 use crate::stops::{Stop, is_standing};
 use arrayvec::ArrayVec;
 use board::board::Board;
+use board_plain::stop::Stops as Conditions;
 use events::access::Access;
 use std::alloc::{AllocError, Global};
 use std::default::MadeWith;
@@ -50,6 +52,20 @@ pub(crate) fn all_stand(watches: &[Watched]) -> bool
     ensures { result ≡ all_standing watches.now }
 {
     watches.iter().all(|watched| is_standing(&watched.stop))
+}
+
+/// What the stops ask that ask what stands.
+pub(crate) fn conditions_of(watches: &[Watched]) -> Conditions
+    requires few { length (stops_of watches.now) ≤ 16 }
+    ensures { result.items ≡ conditions_of (stops_of watches.now) }
+{
+    let mut conditions = Conditions::new();
+    for watched in watches {
+        if let Stop::Standing(condition) = &watched.stop {
+            conditions.push(*condition);
+        }
+    }
+    conditions
 }
 
 /// Copies the bytes of all stops anew.

@@ -1,0 +1,100 @@
+-- A run with stops ends in one way alone, and goes on.
+use Rattle.std.proofs.Common.{◌≡◌, ℕ, zero, suc, ◌+◌, ◌-◌, ◌<◌, ◌≤◌, List, Option, Some, None, inl, inr, refl, sym, ap, subst, ◌∙◌, arith}
+use Rattle.std.proofs.lemmas.Bool.{cases_lt}
+use Rattle.board_types.proofs.Iterate.{iterate_add}
+use Rattle.board_types.specs.declared.keys.StampedKey.{StampedKey}
+use Rattle.board_plain.specs.declared.stop.Stop.{Stop as End}
+use Rattle.board_plain.specs.Plain.{Plain, after_clock, after_clocks, clock_of}
+use Rattle.events_laws.proofs.KeyToCome.{key_waits}
+use Rattle.events_laws.specs.WithKey.{with_key}
+use Rattle.probe.specs.declared.stops.Stop.{Stop}
+use Rattle.probe.specs.Stops.{EndsAt, IsEndOf, meeting, meeting_at, NoneMet}
+use Rattle.probe.proofs.Waiting.{clock_same, meeting_waits, none_waited, none_waits}
+use Rattle.probe.proofs.Meeting.{met_on, none_on}
+
+-- a stop lies after the clocks at which none is met
+stop_is_later : (stops : List Stop) (n passed : ℕ) (s : Plain) (end : End) → NoneMet stops passed s → (is : EndsAt stops n s end) → passed < is.passed
+stop_is_later stops n passed s end none is =
+    let not_before : is.passed ≤ passed → ⊥ = λ before. let never : Some end.number ≡ None = sym is.met_there ∙ none is.passed is.after_start before in cc in
+    omega (arith, not_before)
+
+none_ends : (stops : List Stop) (n : ℕ) (s : Plain) (end : End) → NoneMet stops n s → EndsAt stops n s end → ⊥
+none_ends stops n s end none is = let later = stop_is_later stops n n s end none is in let within = is.within in absurd (omega (arith, later, within))
+
+same_parts : (a b : End) → a.number ≡ b.number → a.clock ≡ b.clock → a ≡ b
+same_parts a b number clock = ap (λ n. record { number = n; clock = a.clock }) number ∙ ap (λ c. record { number = b.number; clock = c }) clock
+
+same_end : (stops : List Stop) (n : ℕ) (s : Plain) (a b : End) → EndsAt stops n s a → EndsAt stops n s b → a ≡ b
+same_end stops n s a b first second =
+    let not_later = stop_is_later stops n (first.passed - 1) s b first.none_before second in
+    let not_sooner = stop_is_later stops n (second.passed - 1) s a second.none_before first in
+    let passed : first.passed ≡ second.passed = omega (arith, first.after_start, second.after_start, not_later, not_sooner) in
+    let number : Some a.number ≡ Some b.number = sym first.met_there ∙ ap (λ k. meeting_at stops s k) passed ∙ second.met_there in
+    let there : a.number ≡ b.number = cc in
+    let then : a.clock ≡ b.clock = first.clock ∙ ap (λ k. clock_of s + k) passed ∙ sym second.clock in
+    same_parts a b there then
+
+pub one_end : (stops : List Stop) (n : ℕ) (s : Plain) (a b : Option End) → IsEndOf stops n s a → IsEndOf stops n s b → a ≡ b
+one_end stops n s None None none is = refl
+one_end stops n s None (Some b) none is = absurd (none_ends stops n s b none is)
+one_end stops n s (Some a) None is none = absurd (none_ends stops n s a none is)
+one_end stops n s (Some a) (Some b) first second = ap Some (same_end stops n s a b first second)
+
+-- a run on from where none has been met
+pub ends_on : (stops : List Stop) (m n : ℕ) (s p : Plain) (end : Option End) → p ≡ after_clocks s m → clock_of p ≡ clock_of s + m → NoneMet stops m s → IsEndOf stops n p end → IsEndOf stops (m + n) s end
+ends_on stops m n s p None is clock none ends = none_on stops m n s p is none ends
+ends_on stops m n s p (Some end) is clock none ends =
+    let some = ends.after_start in
+    let within = ends.within in
+    record {
+      passed = m + ends.passed;
+      after_start = omega (arith, some);
+      within = omega (arith, within);
+      none_before = subst (λ k. NoneMet stops k s) (omega (arith, some)) (none_on stops m (ends.passed - 1) s p is none ends.none_before);
+      met_there = met_on stops m ends.passed s p (Some end.number) is some ends.met_there;
+      clock = let there = ends.clock in omega (arith, there, clock);
+    }
+
+-- a key that comes after a stop changes nothing of it
+pub end_waits : (stops : List Stop) (m n : ℕ) (s : Plain) (key : StampedKey) (end : End) → EndsAt stops m s end → m ≤ n → clock_of s + m < key.stamp → EndsAt stops n (with_key s key) end
+end_waits stops m n s key end is longer before =
+    let some = is.after_start in
+    let within = is.within in
+    record {
+      passed = is.passed;
+      after_start = some;
+      within = omega (arith, within, longer);
+      none_before = none_waits stops (is.passed - 1) s key (omega (arith, within, before)) is.none_before;
+      met_there = meeting_waits stops is.passed s key some (omega (arith, within, before)) ∙ is.met_there;
+      clock = is.clock ∙ ap (λ c. c + is.passed) (sym (clock_same s key));
+    }
+
+end_waited : (stops : List Stop) (n : ℕ) (s : Plain) (key : StampedKey) (end : End) → EndsAt stops n (with_key s key) end → clock_of s + n < key.stamp → EndsAt stops n s end
+end_waited stops n s key end is before =
+    let some = is.after_start in
+    let within = is.within in
+    record {
+      passed = is.passed;
+      after_start = some;
+      within = within;
+      none_before = none_waited stops (is.passed - 1) s key (omega (arith, within, before)) is.none_before;
+      met_there = sym (meeting_waits stops is.passed s key some (omega (arith, within, before))) ∙ is.met_there;
+      clock = is.clock ∙ ap (λ c. c + is.passed) (clock_same s key);
+    }
+
+pub past_end : (stops : List Stop) (n : ℕ) (s : Plain) (key : StampedKey) (end : Option End) → clock_of s + n < key.stamp → IsEndOf stops n s end → IsEndOf stops n (with_key s key) end
+past_end stops n s key None before none = none_waits stops n s key before none
+past_end stops n s key (Some end) before is = end_waits stops n n s key end is (omega arith) before
+
+pub past_end_back : (stops : List Stop) (n : ℕ) (s : Plain) (key : StampedKey) (end : Option End) → clock_of s + n < key.stamp → IsEndOf stops n (with_key s key) end → IsEndOf stops n s end
+past_end_back stops n s key None before none = none_waited stops n s key before none
+past_end_back stops n s key (Some end) before is = end_waited stops n s key end is before
+
+-- a board that runs without the key up to before its stamp, gets it there and goes on, ends as one that had it from the start
+pub ends_with_key : (stops : List Stop) (m n : ℕ) (s p : Plain) (key : StampedKey) (end : Option End) → p ≡ after_clocks s m → clock_of p ≡ clock_of s + m → clock_of s + m < key.stamp → NoneMet stops m s → IsEndOf stops n (with_key p key) end → IsEndOf stops (m + n) (with_key s key) end
+ends_with_key stops m n s p key end is clock before none ends =
+    ends_on stops m n (with_key s key) (with_key p key) end
+    (ap (λ (q : Plain). with_key q key) is ∙ sym (key_waits m s key before))
+    (clock_same p key ∙ clock ∙ ap (λ c. c + m) (sym (clock_same s key)))
+    (none_waits stops m s key before none)
+    ends

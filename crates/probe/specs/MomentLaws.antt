@@ -1,0 +1,59 @@
+-- What holds of the moments at which a key is tried.
+-- Laws: claims above the definitions, each proved as the contract of a function.
+use Rattle.std.specs.Prelude.{ℕ, ◌≡◌, ◌+◌, ◌<◌, ◌≤◌, ◌↔◌, Bool, ◌&&◌, nat_le, List, Contains, count_by, Option, None, Some}
+use Rattle.board_plain.specs.declared.stop.Stop.{Stop as End}
+use Rattle.board_plain.specs.Plain.{Plain, clock_of}
+use Rattle.debugger_meaning.specs.declared.answer.Answer.{Answer}
+use Rattle.debugger_meaning.specs.declared.answer.Answer.TheVariants.{Stop, Clock, StopAt, Text}
+use Rattle.probe.specs.declared.moments.Ends.{Ends}
+use Rattle.probe.specs.declared.moments.Moments.{Moments}
+use Rattle.probe.specs.declared.moments.Trial.{Trial}
+use Rattle.probe.specs.declared.stops.Stop.{Stop as ProbeStop}
+use Rattle.probe.specs.Moments.{AreRanges, EndsWith, key_tried}
+use Rattle.probe.specs.Probe.{GoesOn, ProbeState, session_of}
+use Rattle.probe.specs.Stops.{IsEndOf}
+use Rattle.probe.specs.Typed.{Takes}
+
+-- a clock stands in a range
+abbrev pub stands_in : ℕ → Moments → Bool
+stands_in stamp m = nat_le m.first stamp && nat_le stamp m.last
+
+-- each clock stands in exactly one range
+abbrev pub EachMomentOnce : Type 0
+EachMomentOnce =
+    (stops : List ProbeStop) (s : Plain) (trial : Trial) (first last : ℕ) (ranges : List Moments)
+    → AreRanges stops s trial first last ranges
+    → (stamp : ℕ) → first ≤ stamp → stamp ≤ last → count_by (stands_in stamp) ranges ≡ 1
+
+-- no other ranges are so
+abbrev pub OneListOfRanges : Type 0
+OneListOfRanges =
+    (stops : List ProbeStop) (s : Plain) (trial : Trial) (first last : ℕ) (ranges others : List Moments)
+    → AreRanges stops s trial first last ranges → AreRanges stops s trial first last others → others ≡ ranges
+
+-- the answer of a run that ends as these do
+abbrev pub IsAnswerOf : Option Ends → Answer → Type 0
+IsAnswerOf None (Clock clock) = Unit {0}
+IsAnswerOf (Some ends) (StopAt number clock) = (number ≡ ends.number) × ((ends.least ≤ clock) × (clock ≤ ends.greatest))
+IsAnswerOf None (Stop number) = ⊥
+IsAnswerOf None (StopAt number clock) = ⊥
+IsAnswerOf None (Text text) = ⊥
+IsAnswerOf (Some ends) (Stop number) = ⊥
+IsAnswerOf (Some ends) (Clock clock) = ⊥
+IsAnswerOf (Some ends) (Text text) = ⊥
+
+-- what `go` answers in the session in which the key was typed for a clock is what the clock's range says
+abbrev pub MomentsAreRuns : Type 0
+MomentsAreRuns =
+    (old keyed new : ProbeState) (trial : Trial) (ranges : List Moments) (m : Moments) (stamp : ℕ) (told answer : Answer)
+    → AreRanges old.stops old.board.plain trial trial.first trial.last ranges
+    → Contains ranges m → m.first ≤ stamp → stamp ≤ m.last
+    → Takes (key_tried trial stamp) (session_of old) (session_of keyed) told → keyed.stops ≡ old.stops
+    → GoesOn trial.count keyed new answer
+    → IsAnswerOf m.ends answer
+
+-- a key that comes after a run's end changes nothing of it
+abbrev pub PastTheEndAlike : Type 0
+PastTheEndAlike =
+    (stops : List ProbeStop) (s : Plain) (trial : Trial) (stamp : ℕ) (end : Option End) → clock_of s + trial.count < stamp
+    → EndsWith stops s trial stamp end ↔ IsEndOf stops trial.count s end

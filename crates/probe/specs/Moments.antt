@@ -1,0 +1,104 @@
+-- How a run ends with one key more, for each clock at which that could come.
+-- To be believed by callers of this crate: the headline does not rest on it.
+use Rattle.std.specs.Prelude.{ℕ, ◌≡◌, ◌≢◌, ◌+◌, ◌<◌, ◌≤◌, ◌^◌, ◌⊎◌, IsTrue, List, [], ◌∷◌, ◌++◌, codes, Option, None, Some, IfSome, Result, MatchResult}
+use Rattle.std.specs.Fmt.{decimal}
+use Rattle.std.specs.List.{flat_map}
+use Rattle.std.specs.Option.{option_map}
+use Rattle.board_types.specs.Keys.{names_key}
+use Rattle.board_types.specs.declared.keys.StampedKey.{StampedKey}
+use Rattle.board_plain.specs.declared.stop.Stop.{Stop as End}
+use Rattle.board_plain.specs.Plain.{Plain, clock_of}
+use Rattle.debugger_meaning.specs.declared.answer.Answer.{Answer}
+use Rattle.debugger_meaning.specs.declared.fault.DebugFault.{DebugFault}
+use Rattle.debugger_meaning.specs.declared.fault.DebugFault.TheVariants.{BadScan, StampsFall, ClockLimit, BadCommand, TooManyStops, Memory, BeforeStart}
+use Rattle.debugger_meaning.specs.Session.{IsText}
+use Rattle.events_laws.specs.WithKey.{with_key}
+use Rattle.probe.specs.declared.moments.Ends.{Ends}
+use Rattle.probe.specs.declared.moments.Moments.{Moments}
+use Rattle.probe.specs.declared.moments.Trial.{Trial}
+use Rattle.probe.specs.declared.stops.Stop.{Stop}
+use Rattle.probe.specs.Stops.{IsEndOf}
+
+-- the key, if it comes at this clock
+abbrev pub key_tried : Trial → ℕ → StampedKey
+key_tried trial stamp = record { stamp = stamp; code = trial.code }
+
+-- the run with it ends so
+abbrev pub EndsWith : List Stop → Plain → Trial → ℕ → Option End → Type 0
+EndsWith stops s trial stamp end = IsEndOf stops trial.count (with_key s (key_tried trial stamp)) end
+
+-- an end at their stop, not before their least clock nor after their greatest; or no end, as they have none
+abbrev pub IsAmong : Option Ends → Option End → Type 0
+IsAmong None None = Unit {0}
+IsAmong None (Some end) = ⊥
+IsAmong (Some ends) None = ⊥
+IsAmong (Some ends) (Some end) = (end.number ≡ ends.number) × ((ends.least ≤ end.clock) × (end.clock ≤ ends.greatest))
+
+-- one of these moments leads to an end at this clock
+pub record IsReached (stops : List Stop) (s : Plain) (trial : Trial) (m : Moments) (number clock : ℕ) : Type 0 where
+  pub stamp : ℕ
+  pub from : m.first ≤ stamp
+  pub to : stamp ≤ m.last
+  pub ends : EndsWith stops s trial stamp (Some (record { number = number; clock = clock }))
+
+-- moments with which the runs end alike
+pub record AreAlike (stops : List Stop) (s : Plain) (trial : Trial) (m : Moments) : Type 0 where
+  pub rising : m.first ≤ m.last
+  pub each : (stamp : ℕ) → m.first ≤ stamp → stamp ≤ m.last → (end : Option End) × (EndsWith stops s trial stamp end × IsAmong m.ends end)
+  pub least : IfSome m.ends (λ ends. IsReached stops s trial m ends.number ends.least)
+  pub greatest : IfSome m.ends (λ ends. IsReached stops s trial m ends.number ends.greatest)
+
+-- the number of their stop, if they have one
+abbrev pub stop_number : Moments → Option ℕ
+stop_number m = option_map (λ (ends : Ends). ends.number) m.ends
+
+-- those that follow have another stop
+abbrev pub DiffersNext : Moments → List Moments → Type 0
+DiffersNext m [] = Unit {0}
+DiffersNext m (next ∷ rest) = stop_number next ≢ stop_number m
+
+-- all clocks from the first up to the last, each in one range
+abbrev pub AreRanges : List Stop → Plain → Trial → ℕ → ℕ → List Moments → Type 0
+AreRanges stops s trial first last [] = last < first
+AreRanges stops s trial first last (m ∷ ms) =
+    (m.first ≡ first) × ((m.last ≤ last) × (AreAlike stops s trial m × (DiffersNext m ms × AreRanges stops s trial (m.last + 1) last ms)))
+
+-- `1 97 stop 1 1 97`, `98 200 none`
+abbrev pub ends_text : Option Ends → List ℕ
+ends_text None = codes " none\n"
+ends_text (Some ends) =
+    codes " stop " ++ (decimal ends.number ++ (codes " " ++ (decimal ends.least ++ (codes " " ++ (decimal ends.greatest ++ codes "\n")))))
+
+unfoldable pub moments_line : Moments → List ℕ
+moments_line m = decimal m.first ++ (codes " " ++ (decimal m.last ++ ends_text m.ends))
+
+-- a key that can be tried: its clocks are still to come, and the run ends in time
+pub record CanBeTried (clock : ℕ) (trial : Trial) : Type 0 where
+  pub within : trial.last ≤ 2 ^ 40
+  pub in_time : clock + trial.count ≤ 2 ^ 40
+  pub scan : IsTrue (names_key trial.code)
+  pub later : clock < trial.first
+
+-- the ranges of all its clocks are told, a line for each
+pub record TellsMoments (stops : List Stop) (s : Plain) (trial : Trial) (answer : Answer) : Type 0 where
+  pub can : CanBeTried (clock_of s) trial
+  pub ranges : List Moments
+  pub are : AreRanges stops s trial trial.first trial.last ranges
+  pub shows : IsText (flat_map moments_line ranges) answer
+
+-- why they aren't: the first of these that is so
+abbrev pub IsPastLimit : ℕ → Trial → Type 0
+IsPastLimit clock trial = (2 ^ 40 < trial.last) ⊎ (2 ^ 40 < clock + trial.count)
+
+abbrev pub CannotBeTried : ℕ → Trial → DebugFault → Type 0
+CannotBeTried clock trial ClockLimit = IsPastLimit clock trial
+CannotBeTried clock trial BadScan = ¬ (IsPastLimit clock trial) × ¬ (IsTrue (names_key trial.code))
+CannotBeTried clock trial StampsFall = ¬ (IsPastLimit clock trial) × (IsTrue (names_key trial.code) × (trial.first ≤ clock))
+CannotBeTried clock trial (Memory None) = CanBeTried clock trial
+CannotBeTried clock trial (Memory (Some at)) = ⊥
+CannotBeTried clock trial BadCommand = ⊥
+CannotBeTried clock trial TooManyStops = ⊥
+CannotBeTried clock trial BeforeStart = ⊥
+
+abbrev pub AnswersTrial : List Stop → Plain → Trial → Result Answer DebugFault → Type 0
+AnswersTrial stops s trial result = MatchResult result (TellsMoments stops s trial) (CannotBeTried (clock_of s) trial)

@@ -1,0 +1,411 @@
+//! How a run ends with one key more, for each clock at which that could come.
+ghost use Rattle.std.specs.Prelude.{ℕ, ◌≡◌, ◌+◌, ◌-◌, ◌<◌, ◌≤◌, ◌^◌, ◌++◌, ◌∷◌, [], All, IfOk, MatchResult, OnOk, true, length, min, max};
+ghost use Rattle.std.specs.List.{flat_map};
+ghost use Rattle.std.specs.Result.{IfErr};
+ghost use Rattle.std.specs.String.{string_bytes};
+ghost use Rattle.board_plain.specs.Plain.{Plain, clock_of};
+ghost use Rattle.debugger_meaning.specs.Kept.{LacksMemory};
+ghost use Rattle.debugger_meaning.specs.Stands.{session_about};
+ghost use Rattle.events_laws.specs.WithKey.{with_key};
+ghost use Rattle.probe.specs.Looked.{RanToStop};
+ghost use Rattle.probe.specs.Moments.{AnswersTrial, AreRanges, CanBeTried, CannotBeTried, moments_line};
+ghost use Rattle.probe.specs.Requests.{IsRising};
+ghost use Rattle.probe.specs.Stops.{IsEndOf};
+ghost use Rattle.probe.specs.Tried.{RunsTo, TriedNext, TriedSoFar, added, ends_of, ends_with, joined, moments_of};
+ghost use Rattle.probe.specs.Watched.{IsWatched, KeepsStops, all_standing, stops_of};
+
+use crate::event_lines::seen_of;
+use crate::looking::{asked_by, found, next_clock, turn_end};
+use crate::watched::{Watched, all_stand, conditions_of, copy_bytes};
+use board::board::Board;
+use board_plain::stop::{Stop, Stopped};
+use board_types::clock::Clock;
+use board_types::keys::{StampedKey, is_scan_code};
+use debugger_meaning::answer::Answer;
+use debugger_meaning::fault::DebugFault;
+use execute_noted::notes::Accesses;
+use std::alloc::{AllocError, Global};
+
+/// A key's code that is tried at each clock from the first up to the last, in a run of so many clocks.
+#[derive(Clone, Copy, Debug, PartialEq, Eq)]
+pub struct Trial {
+    pub code: u8,
+    pub first: u64,
+    pub last: u64,
+    pub count: u64,
+}
+
+/// The stop at which some runs end, and the least and the greatest clock of their ends.
+#[derive(Clone, Copy, Debug, PartialEq, Eq)]
+pub struct Ends {
+    pub number: usize,
+    pub least: Clock,
+    pub greatest: Clock,
+}
+
+/// Neighbouring clocks of a key with which runs end at one stop, or at none.
+#[derive(Clone, Copy, Debug, PartialEq, Eq)]
+pub struct Moments {
+    pub first: u64,
+    pub last: u64,
+    pub ends: Option<Ends>,
+}
+
+/// How runs from where the board stands end with one key more, for each clock of the trial. Refused as `ClockLimit` if the last of
+/// them, or the end of the run, is past the last clock, as `BadScan` if no key sends the code, as `StampsFall` if the first one
+/// isn't above the board's, and as `Memory`, in this order.
+pub(crate) fn tell_moments(
+    board: &Board,
+    alloc: Global,
+    watches: &mut [Watched],
+    trial: Trial,
+) -> Result<Answer, DebugFault>
+    requires rising { IsRising trial }
+    requires within { All IsWatched watches.old }
+    requires few { length (stops_of watches.old) ≤ 16 }
+    ensures answers { AnswersTrial (stops_of watches.old) board.now.plain trial result }
+    ensures keeps { KeepsStops watches.old watches.new }
+{
+    let end = end_of(board.clock(), trial)?;
+    let ranges = try_key(board, alloc, watches, trial, end)?;
+    Ok(Answer::Text(moments_text(alloc, ranges.as_slice())?))
+}
+
+/// The clock up to which the runs go, if the key can be tried.
+fn end_of(clock: Clock, trial: Trial) -> Result<Clock, DebugFault>
+    ensures { MatchResult result (λ end. (end ≡ clock + trial.count) × CanBeTried clock trial) (CannotBeTried clock trial) }
+{
+    if trial.last > Clock::LAST || Clock::LAST - clock.get() < trial.count {
+        return Err(DebugFault::ClockLimit);
+    }
+    if !is_scan_code(trial.code) {
+        return Err(DebugFault::BadScan);
+    }
+    if trial.first <= clock.get() {
+        return Err(DebugFault::StampsFall);
+    }
+    Ok(Clock::new(clock.get() + trial.count).unwrap())
+}
+
+/// Tries the key at one clock after another.
+fn try_key(
+    board: &Board,
+    alloc: Global,
+    watches: &mut [Watched],
+    trial: Trial,
+    end: Clock,
+) -> Result<Vec<Moments>, DebugFault>
+    requires rising { IsRising trial }
+    requires can { CanBeTried (clock_of board.now.plain) trial }
+    requires end { end ≡ clock_of board.now.plain + trial.count }
+    requires within { All IsWatched watches.old }
+    requires few { length (stops_of watches.old) ≤ 16 }
+    ensures ranges { IfOk result (λ ranges.
+        AreRanges (stops_of watches.old) board.now.plain trial trial.first trial.last ranges.items) }
+    ensures fault { IfErr result LacksMemory }
+    ensures keeps { KeepsStops watches.old watches.new }
+{
+    let mut ranges = Vec::new(alloc);
+    // without the key, up to the clock before each at which that is tried
+    let mut bare = copy_of(board)?;
+    'stamps: for stamp in trial.first..trial.last + 1 {
+        if try_at(&mut bare, alloc, watches, trial, end, stamp, &mut ranges)? {
+            return Ok(ranges);
+        }
+    }
+    Ok(ranges)
+}
+
+/// Lets the board without the key go on to the clock before the stamp, and tries the key there. Answers whether all ranges are
+/// known: a key that comes there or later is too late to change how the run ends.
+fn try_at(
+    bare: &mut Board,
+    alloc: Global,
+    watches: &mut [Watched],
+    trial: Trial,
+    end: Clock,
+    stamp: u64,
+    ranges: &mut Vec<Moments>,
+) -> Result<bool, DebugFault>
+    requires start { 1 ≤ stamp }
+    requires limit { stamp ≤ 2 ^ 40 }
+    requires before { clock_of bare.old.plain < stamp }
+    requires in_time { clock_of bare.old.plain ≤ end }
+    requires trail { length bare.old.trail ≤ 32 }
+    requires within { All IsWatched watches.old }
+    requires few { length (stops_of watches.old) ≤ 16 }
+    ensures tried { IfOk result (λ known. (s : Plain)
+        → TriedSoFar (stops_of watches.old) s bare.old.plain trial end stamp ranges.old.items watches.old
+        → TriedNext known (stops_of watches.old) s bare.new.plain trial end stamp ranges.new.items watches.new) }
+    ensures trail { IfOk result (λ known. length bare.new.trail ≤ 32) }
+    ensures fault { IfErr result LacksMemory }
+    ensures keeps { KeepsStops watches.old watches.new }
+{
+    let before = clock_before(stamp, end);
+    let stopped = run(bare, watches, before)?;
+    if stopped.is_some() || before == end {
+        add(ranges, stamp, trial.last, &stopped)?;
+        return Ok(true);
+    }
+    let key = StampedKey {
+        stamp: Clock::new(stamp).unwrap(),
+        code: trial.code,
+    };
+    let mut tried = copy_with(bare, alloc, key)?;
+    let stopped = run(&mut tried, watches, end)?;
+    // while the copy is there, so that its memory isn't given back and asked for again
+    add(ranges, stamp, stamp, &stopped)?;
+    drop(tried);
+    Ok(false)
+}
+
+/// The clock before a stamp, at most `end`.
+fn clock_before(stamp: u64, end: Clock) -> Clock
+    requires { 1 ≤ stamp }
+    ensures { result ≡ min (stamp - 1) end }
+{
+    if stamp - 1 < end.get() {
+        Clock::new(stamp - 1).unwrap()
+    } else {
+        end
+    }
+}
+
+/// A copy of a board with one key more.
+fn copy_with(board: &Board, alloc: Global, key: StampedKey) -> Result<Board, DebugFault>
+    ensures plain { IfOk result (λ copy. copy.plain ≡ with_key board.now.plain key) }
+    ensures few { IfOk result (λ copy. length copy.trail ≤ 32) }
+    ensures fault { IfErr result LacksMemory }
+{
+    let Ok(keys) = board.keys_with(alloc, key) else {
+        return Err(DebugFault::Memory(None));
+    };
+    let mut copy = copy_of(board)?;
+    copy.take_keys(keys);
+    Ok(copy)
+}
+
+fn copy_of(board: &Board) -> Result<Board, DebugFault>
+    ensures plain { IfOk result (λ copy. copy.plain ≡ board.now.plain) }
+    ensures few { IfOk result (λ copy. length copy.trail ≤ 32) }
+    ensures fault { IfErr result LacksMemory }
+{
+    match board.copy() {
+        Ok(copy) => Ok(copy),
+        Err(_) => Err(DebugFault::Memory(None)),
+    }
+}
+
+/// Runs a board to the clock `end`, or up to the first one after the start at which a stop is met.
+fn run(board: &mut Board, watches: &mut [Watched], end: Clock) -> Result<Stopped, DebugFault>
+    requires from { clock_of board.old.plain ≤ end }
+    requires trail { length board.old.trail ≤ 32 }
+    requires within { All IsWatched watches.old }
+    requires few { length (stops_of watches.old) ≤ 16 }
+    ensures runs { IfOk result (RunsTo (stops_of watches.old) end board.old.plain board.new.plain) }
+    ensures trail { IfOk result (λ stopped. length board.new.trail ≤ 32) }
+    ensures fault { IfErr result LacksMemory }
+    ensures keeps { KeepsStops watches.old watches.new }
+{
+    if all_stand(watches) {
+        return run_standing(board, watches, end);
+    }
+    match run_board(board, watches, end)? {
+        Some(number) => Ok(Some(Stop {
+            number,
+            clock: board.clock(),
+        })),
+        None => Ok(None),
+    }
+}
+
+/// Runs a board to the clock `end`, or up to the first clock after the start at which a stop is met, and answers the least number of
+/// one there.
+fn run_board(
+    board: &mut Board,
+    watches: &mut [Watched],
+    end: Clock,
+) -> Result<Option<usize>, DebugFault>
+    requires within { All IsWatched watches.old }
+    requires from { clock_of board.old.plain ≤ end }
+    requires trail { length board.old.trail ≤ 32 }
+    ensures ran { IfOk result (RanToStop (stops_of watches.old) end (session_about board.old)
+        (record (session_about board.old) { board = board.new })) }
+    ensures fault { IfErr result LacksMemory }
+    ensures keeps { KeepsStops watches.old watches.new }
+{
+    copy_bytes(watches, board);
+    let asked = asked_by(watches);
+    let mut accesses = Accesses::new();
+    let start = board.clock().get();
+    'turns: while board.clock() < end {
+        let before = seen_of(board, asked);
+        let to = turn_end(before.clock, start, end);
+        let next = next_clock(before.clock, to);
+        let Ok(begun) = board.run_turn(next, to, &mut accesses, !asked.wires) else {
+            return Err(DebugFault::Memory(None));
+        };
+        let noted = accesses.as_slice();
+        let number = found(watches, before, &begun, noted, board);
+        if number.is_some() {
+            return Ok(number);
+        }
+    }
+    Ok(None)
+}
+
+/// Runs a board by its own search, if each stop asks what stands.
+fn run_standing(board: &mut Board, watches: &[Watched], end: Clock) -> Result<Stopped, DebugFault>
+    requires from { clock_of board.old.plain ≤ end }
+    requires within { All IsWatched watches.now }
+    requires few { length (stops_of watches.now) ≤ 16 }
+    requires stand { all_standing watches.now ≡ true }
+    ensures runs { IfOk result (RunsTo (stops_of watches.now) end board.old.plain board.new.plain) }
+    ensures trail { IfOk result (λ stopped. length board.new.trail ≤ 32) }
+    ensures fault { IfErr result LacksMemory }
+{
+    let count = end.get() - board.clock().get();
+    match board.run_until(count, &conditions_of(watches)) {
+        Ok(stopped) => Ok(stopped),
+        Err(_) => Err(DebugFault::Memory(None)),
+    }
+}
+
+/// Adds clocks with which runs end so to the end of the list.
+fn add(
+    ranges: &mut Vec<Moments>,
+    first: u64,
+    last: u64,
+    stopped: &Stopped,
+) -> Result<(), AllocError>
+    ensures { OnOk result (ranges.new.items ≡ added ranges.old.items first last stopped.now) }
+{
+    let fresh = moments_of(first, last, stopped);
+    match ranges.pop() {
+        None => push(ranges, &fresh),
+        Some(range) => push_joined(ranges, &range, &fresh, stopped),
+    }
+}
+
+/// Adds a range with the clocks of the next one, if its runs end as those do, else both.
+fn push_joined(
+    ranges: &mut Vec<Moments>,
+    range: &Moments,
+    fresh: &Moments,
+    stopped: &Stopped,
+) -> Result<(), AllocError>
+    ensures { OnOk result
+        (ranges.new.items ≡ ranges.old.items ++ joined range.now fresh.now (ends_with range.now.ends stopped.now)) }
+{
+    match ends_with(&range.ends, stopped) {
+        Some(ends) => {
+            let joined = with_ends(range, fresh.last, ends);
+            push(ranges, &joined)
+        }
+        None => {
+            push(ranges, range)?;
+            push(ranges, fresh)
+        }
+    }
+}
+
+/// A range up to a later clock.
+fn with_ends(range: &Moments, last: u64, ends: Option<Ends>) -> Moments
+    ensures { result ≡ record range.now { last = last; ends = ends } }
+{
+    let first = range.first;
+    Moments { first, last, ends }
+}
+
+/// Adds a range.
+fn push(ranges: &mut Vec<Moments>, range: &Moments) -> Result<(), AllocError>
+    ensures { OnOk result (ranges.new.items ≡ ranges.old.items ++ range.now ∷ []) }
+{
+    let one = [*range];
+    ranges.extend_from_slice(&one)?;
+    Ok(())
+}
+
+fn moments_of(first: u64, last: u64, stopped: &Stopped) -> Moments
+    ensures { result ≡ moments_of first last stopped.now }
+{
+    Moments {
+        first,
+        last,
+        ends: ends_of(stopped),
+    }
+}
+
+/// The ends of runs of which one ends so.
+fn ends_of(stopped: &Stopped) -> Option<Ends>
+    ensures { result ≡ ends_of stopped.now }
+{
+    match stopped {
+        Some(stop) => Some(Ends {
+            number: stop.number,
+            least: stop.clock,
+            greatest: stop.clock,
+        }),
+        None => None,
+    }
+}
+
+/// The ends of runs and of one more, if that ends at their stop, or at none as they do.
+fn ends_with(ends: &Option<Ends>, stopped: &Stopped) -> Option<Option<Ends>>
+    ensures { result ≡ ends_with ends.now stopped.now }
+{
+    match (ends, stopped) {
+        (None, None) => Some(None),
+        (Some(ends), Some(stop)) => {
+            if ends.number != stop.number {
+                return None;
+            }
+            Some(Some(Ends {
+                number: ends.number,
+                least: earlier(ends.least, stop.clock),
+                greatest: later(ends.greatest, stop.clock),
+            }))
+        }
+        (None, Some(_)) | (Some(_), None) => None,
+    }
+}
+
+fn earlier(a: Clock, b: Clock) -> Clock
+    ensures { result ≡ min a b }
+{
+    if a <= b { a } else { b }
+}
+
+fn later(a: Clock, b: Clock) -> Clock
+    ensures { result ≡ max a b }
+{
+    if a <= b { b } else { a }
+}
+
+/// A line for each.
+fn moments_text(alloc: Global, ranges: &[Moments]) -> Result<String, AllocError>
+    ensures { IfOk result (λ text. string_bytes text ≡ flat_map moments_line ranges.now) }
+{
+    let mut text = String::new(alloc);
+    for range in ranges {
+        push_line(&mut text, range)?;
+    }
+    Ok(text)
+}
+
+#[tactic(auto, unfolding(crate::specs::Moments::moments_line))]
+fn push_line(text: &mut String, range: &Moments) -> Result<(), AllocError>
+    ensures { OnOk result (string_bytes text.new ≡ string_bytes text.old ++ moments_line range.now) }
+{
+    let first = range.first;
+    let last = range.last;
+    match &range.ends {
+        None => write!(text, "{first} {last} none\n"),
+        Some(ends) => {
+            let number = ends.number;
+            let least = ends.least.get();
+            let greatest = ends.greatest.get();
+            write!(text, "{first} {last} stop {number} {least} {greatest}\n")
+        }
+    }
+}
