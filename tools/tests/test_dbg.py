@@ -2,6 +2,7 @@
 import json
 import os
 import pty
+import re
 import select
 import stat
 import subprocess
@@ -267,6 +268,28 @@ class Sessions(ToolCase):
         self.assertIn('there are 16 stops', told[16])
         self.assertEqual(told[17:], ['no stops', 'stop 17: halted'])
         self.assertEqual(self.dbg('hello', *['halted'] * 17, 'stops')[-1], 'stop 16: halted')
+
+    def test_moments(self) -> None:
+        """Each line says what runs with the key do."""
+        stops, told = ['halted', 'when keys'], 0
+        lines = self.dbg('ticks', *stops, 'moments 1E 1 2000 1500')[2:]
+        for line in lines:
+            first, last, end = re.fullmatch(r' *(\d+) to +(\d+): (.*)', line).groups()  # type: ignore[union-attr]
+            self.assertEqual(int(first), told + 1)
+            told = int(last)
+            for stamp in {int(first), (int(first) + told) // 2, told}:
+                run = [it for it in self.dbg('ticks', *stops, f'key 1E {stamp}', 'go 1500') if ', clock ' in it][-1]
+                stop, least, greatest = re.fullmatch(r'(.*), clock (\d+)(?: to (\d+))?', end).groups()  # type: ignore[union-attr]
+                self.assertTrue(run.startswith(f'{stop}, clock '), (line, stamp, run))
+                self.assertIn(int(run.split('clock ')[1].split(':')[0]), range(int(least), int(greatest or least) + 1))
+        self.assertEqual(told, 2000)
+
+    def test_moments_that_cant_be_asked(self) -> None:
+        told = self.dbg('ticks', 'moments ctrl+c 1 2 3', 'moments 1E 0 5 5', 'moments FF 1 2 3', 'moments 1E 5 4 3', 'break tick if AX=5', 'moments 1E 1 2 3')
+        for line, said in zip(
+            told[:4] + told[5:], ('ctrl+c is not one key', 'a key comes at a later clock', 'no key sends FF', '5 is after 4', 'clear 1 first')
+        ):
+            self.assertIn(said, line)
 
 
 class Terminal(ToolCase):

@@ -38,6 +38,16 @@ def stroke_of_word(text: str) -> Stroke | None:
         raise Sorry(f'{text} is no key: a scan code of two hexadecimal digits, one sign, or names as enter, f1, ctrl+c') from None
 
 
+def code_of_word(text: str) -> int:
+    """The scan code that a word says, or that a sign's key sends as it goes down."""
+    stroke = stroke_of_word(text)
+    if stroke is None:
+        return int(text, 16)
+    if len(stroke.codes) != 1:
+        raise Sorry(f'{text} is not one key: a scan code, a sign without shift, or a name as enter')
+    return stroke.codes[0]
+
+
 def key_lines(board: SessionBoard) -> list[str]:
     """The run's keys, typed ones too: stamp, code, name, down or up."""
     known = names()

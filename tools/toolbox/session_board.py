@@ -4,6 +4,7 @@ from __future__ import annotations
 
 import threading
 import time
+from dataclasses import dataclass, replace
 from typing import TYPE_CHECKING, Callable, Collection, Iterable, Iterator, TypeVar
 
 from toolbox.command import Sorry
@@ -23,6 +24,7 @@ MOST_STOPS = 16
 MOST_PASSED = 64  # stops that nobody wants any more, before a session without them is begun
 FIRST_PIECE = 1 << 16
 LOGGED_AT_ONCE = 100_000  # clocks
+TRIED_AT_ONCE = 100  # clocks of a key
 BEFORE_START = 'fault 54 BeforeStart'
 T = TypeVar('T')
 HLT, ROM = b'\xF4', 0xF0000  # from there on no byte changes
@@ -44,6 +46,23 @@ class Paused(Sorry):
 
 class Left(Paused):
     """The client has left."""
+
+
+@dataclass(frozen=True)
+class Moments:
+    """Neighbouring clocks of a key with which a run ends at one stop, or at none, and the least and the greatest clock of its end."""
+
+    first: int
+    last: int
+    stop: str | None = None
+    least: int = 0
+    greatest: int = 0
+
+    def with_next(self, later: Moments) -> Moments | None:
+        """These and those that follow, if runs end alike with them."""
+        if self.stop != later.stop:
+            return None
+        return replace(self, last=later.last, least=min(self.least, later.least), greatest=max(self.greatest, later.greatest))
 
 
 def refused(answer: str) -> str:
@@ -227,6 +246,34 @@ class SessionBoard:
         if keys[-1][0] > LAST_CLOCK:
             raise Sorry(KEY_REFUSED[42])
         return [(self.type(code, stamp), code) for stamp, code in keys]
+
+    def moments(self, code: int, first: int, last: int, clocks: int) -> Iterator[Moments]:
+        """How a run of so many clocks would end, by the session's stops, if a key came at the first of these clocks, at the next one, and
+        so on up to the last. The board stays as it is."""
+        end, before = self.clock + clocks, None
+        while first <= last:
+            to = min(last, first + TRIED_AT_ONCE - 1) if first <= end else last
+            for line in self.many(f'moments {code:02X} {first} {to} {clocks}'):
+                found = self._moments_in(line, code)
+                joined = before.with_next(found) if before else found
+                if before and not joined:
+                    yield before
+                before = joined or found
+            first = to + 1
+            self.poll()
+        if before:
+            yield before
+
+    def _moments_in(self, line: str, code: int) -> Moments:
+        """What a line of the answer tells."""
+        fault = fault_in(line)
+        if fault and fault.number in KEY_REFUSED:
+            raise Sorry(KEY_REFUSED[fault.number].format(code=code, clock=self.clock))
+        words = refused(line).split()
+        first, last = map(int, words[:2])
+        if words[2] == 'none':
+            return Moments(first, last)
+        return Moments(first, last, self._stops[int(words[3]) - 1], *map(int, words[4:]))
 
     # Stops
 
