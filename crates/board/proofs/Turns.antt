@@ -353,6 +353,6 @@ if_whole passes end old new (Ok x) turn = inr turn
 if_whole passes end old new (Err e) turn = turn
 
 -- an act is a turn
-pub if_act : {E : Type 0} (within end : ℕ) (old left new : BoardState) (result : Result Unit E) → left ≡ old → OnOk result (IsActOn within left new) → OnOk result (IsTurnOn within end old new)
+pub if_act : {T E : Type 0} (within end : ℕ) (old left new : BoardState) (result : Result T E) → left ≡ old → OnOk result (IsActOn within left new) → OnOk result (IsTurnOn within end old new)
 if_act within end old left new (Ok x) same act = inr (subst (λ b. IsActOn within b new) same act)
 if_act within end old left new (Err e) same act = act

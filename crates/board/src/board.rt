@@ -399,45 +399,15 @@ impl<A: Allocator> Board<A> {
         ensures fault { IfErr result (λ fault. fault ≡ BoardFault.Memory) }
     {
         match boundary {
-            Boundary::Nothing => {
-                self.pass(notes, over_edges, within, end)?;
-                Ok(None)
-            }
+            Boundary::Nothing => self.pass(notes, over_edges, within, end),
             Boundary::Instruction => {
                 let next = self.engine.instruction();
-                self.begin(&next, notes, over_edges, within)
+                self.act(&next, notes, over_edges, within)
             }
-            Boundary::Request => self.begin(&Act::Request, notes, over_edges, within),
-            Boundary::SingleStep => self.begin(&Act::SingleStep, notes, over_edges, within),
-            Boundary::Iteration => self.begin(&Act::Iteration, notes, over_edges, within),
+            Boundary::Request => self.act(&Act::Request, notes, over_edges, within),
+            Boundary::SingleStep => self.act(&Act::SingleStep, notes, over_edges, within),
+            Boundary::Iteration => self.act(&Act::Iteration, notes, over_edges, within),
         }
-    }
-
-    /// What the processor does in this clock as a turn, and what begins by it.
-    #[inline(always)]
-    fn begin<N: Notes>(
-        &mut self,
-        next: &Act,
-        notes: &mut N,
-        over_edges: bool,
-        within: u64,
-    ) -> Result<Option<Begun>, BoardFault>
-        requires next { next.now ≡ next_act self.old.plain }
-        requires exact { IsExact self.old.plain.cpu self.old.plain.chips next.now }
-        requires works { 1 ≤ work_next self.old.plain }
-        requires before { clock_of self.old.plain < within }
-        requires limit { within ≤ 2 ^ 40 }
-        ensures ok { OnOk result (IsActOn within self.old self.new) }
-        ensures steady { ¬ (IsTrue over_edges) → OnOk result (WiresStayThen within self.old.plain self.new.plain) }
-        ensures begun { IfOk result (λ begun. option_to_list begun ≡ map begun_of (trail_next self.old.plain)) }
-        ensures clock { IfOk result (λ begun. IfSome begun (λ b. b.clock ≡ clock_of self.old.plain)) }
-        ensures noted { OnOk result (N.are notes.new (accesses_next self.old.plain)) }
-        ensures err { OnErr result (IsHeldBack self.old self.new) }
-        ensures fault { IfErr result (λ fault. fault ≡ BoardFault.Memory) }
-    {
-        let begun = self.engine.begins(next);
-        self.act(next, notes, over_edges, within)?;
-        Ok(begun)
     }
 
     /// A turn in which the processor does nothing: a leap of time, or where this clock has work, the clock, and the rest of a step.
@@ -448,20 +418,22 @@ impl<A: Allocator> Board<A> {
         over_edges: bool,
         within: u64,
         end: u64,
-    ) -> Result<(), BoardFault>
+    ) -> Result<Option<Begun>, BoardFault>
         requires idle { acts.Nothing ≡ next_act self.old.plain }
         requires before { clock_of self.old.plain < within }
         requires order { within ≤ end }
         requires limit { end ≤ 2 ^ 40 }
         ensures ok { OnOk result (IsTurnOn within end self.old self.new) }
         ensures steady { ¬ (IsTrue over_edges) → OnOk result (WiresStayThen within self.old.plain self.new.plain) }
+        ensures begun { IfOk result (λ begun. option_to_list begun ≡ map begun_of (trail_next self.old.plain)) }
+        ensures clock { IfOk result (λ begun. IfSome begun (λ b. b.clock ≡ clock_of self.old.plain)) }
         ensures noted { OnOk result (N.are notes.new (accesses_next self.old.plain)) }
         ensures err { OnErr result (IsHeldBack self.old self.new) }
         ensures fault { IfErr result (λ fault. fault ≡ BoardFault.Memory) }
     {
         if self.leap(over_edges, end) {
             notes.none();
-            return Ok(());
+            return Ok(None);
         }
         self.act(&Act::Nothing, notes, over_edges, within)
     }
@@ -485,7 +457,7 @@ impl<A: Allocator> Board<A> {
     }
 
     /// What the processor does in this clock, `next`, as a turn, with those of its clocks that end by `within`. The list of changes
-    /// grows before anything else changes.
+    /// grows before anything else changes. Answers what begins.
     #[inline(always)]
     fn act<N: Notes>(
         &mut self,
@@ -493,7 +465,7 @@ impl<A: Allocator> Board<A> {
         notes: &mut N,
         over_edges: bool,
         within: u64,
-    ) -> Result<(), BoardFault>
+    ) -> Result<Option<Begun>, BoardFault>
         requires next { next.now ≡ next_act self.old.plain }
         requires exact { IsExact self.old.plain.cpu self.old.plain.chips next.now }
         requires works { 1 ≤ work_next self.old.plain }
@@ -501,14 +473,17 @@ impl<A: Allocator> Board<A> {
         requires limit { within ≤ 2 ^ 40 }
         ensures ok { OnOk result (IsActOn within self.old self.new) }
         ensures steady { ¬ (IsTrue over_edges) → OnOk result (WiresStayThen within self.old.plain self.new.plain) }
+        ensures begun { IfOk result (λ begun. option_to_list begun ≡ map begun_of (trail_next self.old.plain)) }
+        ensures clock { IfOk result (λ begun. IfSome begun (λ b. b.clock ≡ clock_of self.old.plain)) }
         ensures noted { OnOk result (N.are notes.new (accesses_next self.old.plain)) }
         ensures err { OnErr result (IsHeldBack self.old self.new) }
         ensures fault { IfErr result (λ fault. fault ≡ BoardFault.Memory) }
     {
+        let begun = self.engine.begins(next);
         let high = self.engine.is_high_next(next);
         self.list_change(high)?;
         self.make(next, notes, over_edges, within);
-        Ok(())
+        Ok(begun)
     }
 
     /// Makes that turn, whose change is listed.

@@ -1,10 +1,13 @@
-use Rattle.std.proofs.Common.{◌≡◌, ◌++◌, ◌+◌, ◌≤◌, length, ap, ◌∙◌, subst}
+use Rattle.std.proofs.Common.{◌≡◌, ◌++◌, ◌+◌, ◌≤◌, length, map, sym, ap, ◌∙◌, subst}
+use Rattle.std.specs.Option.{option_to_list}
 use Rattle.board_plain.specs.Board.{BoardState}
-use Rattle.board_plain.specs.Plain.{Plain, after_clock, change_next}
+use Rattle.board_plain.specs.Plain.{Plain, after_clock, change_next, next_act}
+use Rattle.board_plain.specs.Trail.{trail_next}
 use Rattle.events.specs.Accesses.{accesses_next}
 use Rattle.board.specs.Alone.{PassesOver, WiresStay}
+use Rattle.board.specs.OneTurn.{begun_of}
 use Rattle.board.proofs.Beginning.{act_on}
-use Rattle.board.proofs.OneTurn.{passes_within, stay_after_first}
+use Rattle.board.proofs.OneTurn.{begins_by, passes_within, stay_after_first}
 use Rattle.board.proofs.board.Board.act.Goals as goal
 
 pub returns-clause-ok : goal.returns-clause-ok
@@ -34,3 +37,9 @@ returns-clause-noted g c =
     let s : BoardState = c.args.self.now in
     let plain : c.list_change.new.self.plain ≡ s.plain = c.list_change.ensures.plain ∙ c.is_high_next-high.ensures.plain ∙ ap (λ (b : BoardState). b.plain) c.self.view_is in
     subst (λ (p : Plain). g.N.Notes.are c.make.new.notes (accesses_next p)) plain c.make.ensures.noted
+
+pub returns-clause-begun : goal.returns-clause-begun
+returns-clause-begun g c =
+    subst (λ (b : BoardState). option_to_list c.begins-begun.result ≡ map begun_of (trail_next b.plain)) c.self.view_is
+    (begins_by c.self.inside.engine c.args.next.now (option_to_list c.begins-begun.result)
+    (subst (λ (b : BoardState). c.args.next.now ≡ next_act b.plain) (sym c.self.view_is) c.requires.next) c.begins-begun.ensures.begun)

@@ -1,13 +1,17 @@
-use Rattle.std.proofs.Common.{◌≡◌, ◌≤◌, List, inl, sym, subst, arith}
+use Rattle.std.proofs.Common.{◌≡◌, ◌≤◌, List, inl, map, sym, ap, subst, arith, IfOk, IfSome}
+use Rattle.std.specs.Option.{option_to_list}
 use Rattle.std.specs.Prelude.{OnErr, OnOk}
 use Rattle.board_plain.specs.Board.{BoardState}
 use Rattle.board_plain.specs.declared.act.Act.TheVariants as acts
-use Rattle.board_plain.specs.Plain.{next_act}
+use Rattle.board_plain.specs.Plain.{clock_of, next_act}
+use Rattle.board_plain.specs.Trail.{trail_next}
 use Rattle.board_plain.specs.Work.{work_next}
 use Rattle.events.specs.Accesses.{accesses_next}
 use Rattle.events.specs.declared.access.Access.{Access}
 use Rattle.board.specs.Alone.{WiresStayThen}
 use Rattle.board.specs.HeldBack.{IsHeldBack}
+use Rattle.board.specs.OneTurn.{begun_of}
+use Rattle.board.proofs.Leap.{nothing_begins}
 use Rattle.board.proofs.OneTurn.{stay_then}
 use Rattle.board.proofs.Turns.{if_act}
 use Rattle.board.proofs.Uneventful.{no_access}
@@ -50,3 +54,14 @@ returns-then-leap-clause-noted g c =
 pub returns-clause-noted : goal.returns-clause-noted
 returns-clause-noted g c =
     subst (λ (b : BoardState). OnOk c.act.result (g.N.Notes.are c.act.new.notes (accesses_next b.plain))) (c.leap.ensures.not_made (λ yes. let no = c.if-leap.false in cc)) c.act.ensures.noted
+
+pub returns-then-leap-clause-begun : goal.returns-then-leap-clause-begun
+returns-then-leap-clause-begun g c = sym (ap (map begun_of) (nothing_begins c.args.self.now.plain (sym c.requires.idle)))
+
+pub returns-clause-begun : goal.returns-clause-begun
+returns-clause-begun g c =
+    subst (λ (b : BoardState). IfOk c.act.result (λ begun. option_to_list begun ≡ map begun_of (trail_next b.plain))) (c.leap.ensures.not_made (λ yes. let no = c.if-leap.false in cc)) c.act.ensures.begun
+
+pub returns-clause-clock : goal.returns-clause-clock
+returns-clause-clock g c =
+    subst (λ (b : BoardState). IfOk c.act.result (λ begun. IfSome begun (λ o. o.clock ≡ clock_of b.plain))) (c.leap.ensures.not_made (λ yes. let no = c.if-leap.false in cc)) c.act.ensures.clock
