@@ -74,7 +74,7 @@ pub fn read_board<F: Opener>(
 
 /// The board at power-on of a HEX text, if `hex`, else of a source, under the text of a run file; or the first refusal,
 /// as `run_texts` tells it.
-fn board_of(alloc: Global, hex: bool, bytes: &[u8], run: &[u8]) -> Result<Board, Fault>
+pub fn board_of(alloc: Global, hex: bool, bytes: &[u8], run: &[u8]) -> Result<Board, Fault>
     ensures board { IfOk result (IsBoardOf hex bytes.now run.now) }
     ensures fault { IfErr result (IsTrueRefusal hex bytes.now run.now) }
 {
