@@ -1,5 +1,6 @@
-/* The memory of whole runs: the three calls that libzebludor_run.a makes, over malloc, realloc and free. Compile it with your
-   program, or define the three over an allocator of your own. zebludor_run and zebludor_run_hex free all that they took. */
+/* The memory of whole runs and sessions: the three calls that libzebludor_run.a and libzebludor_session.a make, over malloc,
+   realloc and free. Compile it with your program, or define the three over an allocator of your own. zebludor_run and
+   zebludor_run_hex free all that they took, and zebludor_session_drop what its session took. */
 #include <stdbool.h>
 #include <stddef.h>
 #include <stdlib.h>

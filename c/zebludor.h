@@ -1,6 +1,6 @@
 /* An IBM PC 5150 for benches in C and C++: the timer (Intel 8253 or 8254), the interrupt controller (Intel 8259A), the
- * parallel port (Intel 8255A, mode 0), and whole runs of the board. The chips are in libzebludor_chips.a, the runs in
- * libzebludor_run.a.
+ * parallel port (Intel 8255A, mode 0), whole runs of the board, and sessions. The chips are in libzebludor_chips.a, the runs
+ * in libzebludor_run.a, the sessions in libzebludor_session.a.
  *
  * A chip is a struct of numbers in the caller's memory, and each call works on that struct alone. Structs may be
  * copied, compared field by field, kept in files. Any bytes in one are some chip, so no call can be refused: a level or
@@ -11,12 +11,13 @@
  * type, and lead to what is declared, as long as the call lasts; what a call writes doesn't overlap with what else it is
  * given, and no other thread touches it meanwhile.
  *
- * What each call does is proved: its clause stands in crates/zebludor_chips/src and crates/zebludor_run/src, and the
- * definitions that clauses name in the specs/ of the crates below. That this header declares what stands there is only
+ * What each call does is proved: its clause stands in src/ of crates/zebludor_chips, zebludor_run and zebludor_session, and
+ * the definitions that clauses name in the specs/ of the crates below. That this header declares what stands there is only
  * tested. docs/for-test-benches.md tells how to build and link. */
 #ifndef ZEBLUDOR_H
 #define ZEBLUDOR_H
 
+#include <stdbool.h>
 #include <stddef.h>
 #include <stdint.h>
 
@@ -244,6 +245,65 @@ zebludor_outcome zebludor_run(const uint8_t *source, size_t source_length, const
 /* The same for a text of Intel HEX. */
 zebludor_outcome zebludor_run_hex(const uint8_t *text, size_t text_length, const uint8_t *run, size_t run_length,
                                   uint8_t *out, size_t out_length);
+
+/* Sessions: a board that stops at any clock and goes back to any, by the commands of docs/debugger.md and docs/probe.md. */
+
+/* A session, or none: `zebludor_session session = {0};` is none. Only the calls below make one and change it. It may be moved,
+ * but of two copies only one is used from then on. */
+typedef struct zebludor_session {
+    uint8_t *at;   /* what the session takes of memory: of no use to the caller */
+    bool is_there; /* whether there is a session */
+} zebludor_session;
+
+ZEBLUDOR_ASSERT(sizeof(zebludor_session) == 16);
+ZEBLUDOR_ASSERT(ZEBLUDOR_ALIGNOF(zebludor_session) == 8);
+ZEBLUDOR_ASSERT(offsetof(zebludor_session, is_there) == 8);
+
+/* What the beginning of a session came to. */
+typedef struct zebludor_begun {
+    uint64_t line; /* if it is refused, the refused line of the program, from 1 on, if the fault has one; else 0 */
+    uint8_t fault; /* if it is refused, the fault's number (docs/formats.md); 0 if the session has begun */
+} zebludor_begun;
+
+ZEBLUDOR_ASSERT(sizeof(zebludor_begun) == 16);
+ZEBLUDOR_ASSERT(ZEBLUDOR_ALIGNOF(zebludor_begun) == 8);
+ZEBLUDOR_ASSERT(offsetof(zebludor_begun, fault) == 8);
+
+/* How a line was answered. */
+typedef struct zebludor_told {
+    uint64_t length; /* how many bytes the text has; 0 at statuses 1 and 3 */
+    uint8_t status;  /* 0: `out` begins with the text, and is as it was after it
+                        1: there is no session; `out` is as it was
+                        2: the text is longer than `out`, which is as it was
+                        3: there is no memory to write the text; `out` is as it was */
+    uint8_t fault;   /* the number of the fault with which the line was refused (docs/formats.md); 0 if it was answered */
+} zebludor_told;
+
+ZEBLUDOR_ASSERT(sizeof(zebludor_told) == 16);
+ZEBLUDOR_ASSERT(ZEBLUDOR_ALIGNOF(zebludor_told) == 8);
+ZEBLUDOR_ASSERT(offsetof(zebludor_told, fault) == 9);
+
+/* Begins a session at clock 0 of the board that a source and the text of a run file give. One that was there is ended first. A
+ * refusal leaves none, and is true of the texts: it is the one that zebludor_run gives, or the want of memory for the session,
+ * fault 53. */
+zebludor_begun zebludor_session_new(zebludor_session *session, const uint8_t *source, size_t source_length,
+                                    const uint8_t *run, size_t run_length);
+
+/* Begins a session of a text of Intel HEX, else as zebludor_session_new. */
+zebludor_begun zebludor_session_new_hex(zebludor_session *session, const uint8_t *text, size_t text_length,
+                                        const uint8_t *run, size_t run_length);
+
+/* Does what a line commands, and writes what pcprobe prints of it: the answer's lines, or the line of a fault. The line has no
+ * line feed at its end. One with a line feed in it, one that isn't UTF-8 and `quit` are no commands: fault 51. The command is
+ * made whatever the status is, so at statuses 2 and 3 ask for its text by zebludor_session_text. */
+zebludor_told zebludor_session_command(zebludor_session *session, const uint8_t *line, size_t line_length, uint8_t *out,
+                                       size_t out_length);
+
+/* Writes the text of the session's last line again, as often as one likes; nothing before its first line. */
+zebludor_told zebludor_session_text(zebludor_session *session, uint8_t *out, size_t out_length);
+
+/* Ends a session, gives all of its memory back, and leaves none. Without a session it does nothing. */
+void zebludor_session_drop(zebludor_session *session);
 
 #ifdef __cplusplus
 }

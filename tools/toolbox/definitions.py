@@ -126,7 +126,10 @@ class Definitions:
         node: Node = (crate, '', item.name)
         members = items(item.text, '    ')
         if item.trait == 'Model':
-            value = next(each for each in members if each.name == 'Value')
+            value = next((each for each in members if each.name == 'Value'), None)
+            if not value:  # the type is as it stands, and owns memory beside its fields
+                self.edges[node] |= named(NOTE.sub('', ' '.join(each.text for each in members)), scope)
+                return
             lines = [*(f'    //{line}' for line in value.comment.splitlines()), f'    {" ".join(value.text.split())}']
             was = self.texts[node]
             self.texts[node] = was._replace(lines=(was.lines[0].removesuffix('{').removesuffix(';').rstrip(), *lines), scope=was.scope | scope)

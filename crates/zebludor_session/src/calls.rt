@@ -1,0 +1,213 @@
+//! What callers in C call.
+ghost use Rattle.std.specs.Prelude.{◌≡◌, false, true, length, None, Some, option_map, IfErr, IfOk, MatchResult};
+ghost use Rattle.zebludor_session.specs.Sessions.{Answers, Begins, BeginsSession, IsBegun, IsRefusal, IsRefused, Repeats, TellsReply, buffer_after, refusal_told, text_told};
+
+use crate::handle::Handle;
+use crate::parts::Parts;
+use crate::session::OpenSession;
+use pcboard_program::ready::board_of;
+use pcboard_texts::fault::Fault;
+use std::alloc::{AllocError, Global};
+
+/// The text is written.
+pub const WRITTEN: u8 = 0;
+
+/// There is no session.
+pub const NO_SESSION: u8 = 1;
+
+/// The text is longer than the buffer.
+pub const TOO_LONG: u8 = 2;
+
+/// There is no memory for the text.
+pub const NO_MEMORY: u8 = 3;
+
+/// What the beginning of a session came to.
+#[repr(C)]
+#[derive(Clone, Copy)]
+pub struct Begun {
+    /// The refused line of the source or of the HEX text, from 1 on; 0 if there is none.
+    pub line: u64,
+    /// The fault's number; 0 if the session has begun.
+    pub fault: u8,
+}
+
+/// How a line was answered.
+#[repr(C)]
+#[derive(Clone, Copy)]
+pub struct Told {
+    /// How many bytes the text has; 0 at statuses 1 and 3.
+    pub length: u64,
+    /// 0: `out` begins with the text, and is as it was after it. 1: there is no session. 2: the text is longer than `out`.
+    /// 3: there is no memory to write the text. But at 0 `out` is as it was.
+    pub status: u8,
+    /// The number of the fault with which the line was refused; 0 if it was answered.
+    pub fault: u8,
+}
+
+/// What is told if there is no session.
+const NONE: Told = Told {
+    length: 0,
+    status: NO_SESSION,
+    fault: 0,
+};
+
+/// Begins a session about the board of a source under the text of a run file. One that was there is ended.
+#[unsafe(no_mangle)]
+pub extern "C" fn zebludor_session_new(
+    alloc: Global,
+    session: &mut Handle,
+    source: &[u8],
+    run: &[u8],
+) -> Begun
+    ensures { Begins false source.now run.now session.new.session result }
+{
+    drop(taken(alloc, session));
+    hand_over(session, begin(alloc, false, source, run))
+}
+
+/// Begins a session about the board of a text of Intel HEX under the text of a run file. One that was there is ended.
+#[unsafe(no_mangle)]
+pub extern "C" fn zebludor_session_new_hex(
+    alloc: Global,
+    session: &mut Handle,
+    text: &[u8],
+    run: &[u8],
+) -> Begun
+    ensures { Begins true text.now run.now session.new.session result }
+{
+    drop(taken(alloc, session));
+    hand_over(session, begin(alloc, true, text, run))
+}
+
+/// Does what a line commands, keeps the reply, and writes its text into `out`.
+#[unsafe(no_mangle)]
+pub extern "C" fn zebludor_session_command(
+    alloc: Global,
+    session: &mut Handle,
+    line: &[u8],
+    out: &mut [u8],
+) -> Told
+    ensures { Answers line.now session.old.session session.new.session out.old out.new result }
+{
+    match taken(alloc, session) {
+        None => NONE,
+        Some(mut one) => {
+            one.answer(alloc, line);
+            let told = tell(alloc, &one, out);
+            hold(session, one);
+            told
+        }
+    }
+}
+
+/// Writes the text of the last reply into `out` again.
+#[unsafe(no_mangle)]
+pub extern "C" fn zebludor_session_text(alloc: Global, session: &mut Handle, out: &mut [u8]) -> Told
+    ensures { Repeats session.old.session session.new.session out.old out.new result }
+{
+    match taken(alloc, session) {
+        None => NONE,
+        Some(one) => {
+            let told = tell(alloc, &one, out);
+            hold(session, one);
+            told
+        }
+    }
+}
+
+/// Ends the session, if there is one, and gives all of its memory back.
+#[unsafe(no_mangle)]
+pub extern "C" fn zebludor_session_drop(alloc: Global, session: &mut Handle)
+    ensures { session.new.session ≡ None }
+{
+    drop(taken(alloc, session));
+}
+
+/// The session, taken out of the caller's hands.
+fn taken(alloc: Global, session: &mut Handle) -> Option<Box<OpenSession>>
+    ensures session { option_map (λ session. session.value) result ≡ session.old.session }
+    ensures none { session.new.session ≡ None }
+{
+    let (is_there, old) = std::mem::replace(session, Handle::none()).with_flag();
+    if is_there {
+        Some(old.into_parts(alloc).into_box())
+    } else {
+        None
+    }
+}
+
+/// Gives the session back into the caller's hands, which have none.
+fn hold(session: &mut Handle, one: Box<OpenSession>)
+    ensures { session.new.session ≡ Some one.value }
+{
+    *session = Handle::holding(Parts::of(one));
+}
+
+/// A session about the board of a HEX text, if `hex`, else of a source, under the text of a run file.
+fn begin(alloc: Global, hex: bool, bytes: &[u8], run: &[u8]) -> Result<Box<OpenSession>, Fault>
+    ensures session { IfOk result (λ session. BeginsSession hex bytes.now run.now session.value) }
+    ensures fault { IfErr result (IsRefusal hex bytes.now run.now) }
+{
+    let board = board_of(alloc, hex, bytes, run)?;
+    match OpenSession::new(alloc, board) {
+        Ok(session) => Ok(session),
+        Err(fault) => Err(Fault::Session(fault)),
+    }
+}
+
+/// Gives a session that has begun into the caller's hands, which have none, or tells its refusal.
+fn hand_over(session: &mut Handle, one: Result<Box<OpenSession>, Fault>) -> Begun
+    requires { session.old.session ≡ None }
+    ensures { MatchResult one (λ one. IsBegun one.value session.new.session result)
+        (λ fault. IsRefused fault session.new.session result) }
+{
+    match one {
+        Ok(one) => {
+            hold(session, one);
+            Begun { line: 0, fault: 0 }
+        }
+        Err(fault) => refused(&fault),
+    }
+}
+
+/// A refusal, as it is told.
+fn refused(fault: &Fault) -> Begun
+    ensures { result ≡ refusal_told fault.now }
+{
+    let line = fault.line().unwrap_or(0);
+    let fault = fault.number();
+    Begun { line, fault }
+}
+
+/// The text of a session's last reply, into a buffer that has room for it.
+fn tell(alloc: Global, session: &OpenSession, out: &mut [u8]) -> Told
+    ensures { TellsReply session.now.reply out.old out.new result }
+{
+    let fault = session.fault();
+    match session.text(alloc) {
+        Ok(text) => put(text.as_slice(), fault, out),
+        Err(AllocError) => Told {
+            length: 0,
+            status: NO_MEMORY,
+            fault,
+        },
+    }
+}
+
+/// A text into a buffer, if it has room for it.
+fn put(text: &[u8], fault: u8, out: &mut [u8]) -> Told
+    ensures told { result ≡ text_told text.now fault (length out.old) }
+    ensures buffer { out.new ≡ buffer_after text.now out.old }
+{
+    let length = text.len() as u64;
+    let has_room = text.len() <= out.len();
+    if has_room {
+        let (front, _) = out.split_at_mut(text.len());
+        front.copy_from_slice(text);
+    }
+    Told {
+        length,
+        status: if has_room { WRITTEN } else { TOO_LONG },
+        fault,
+    }
+}

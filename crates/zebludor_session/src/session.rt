@@ -1,0 +1,71 @@
+//! A session, which keeps what it answered last.
+ghost use Rattle.std.specs.Prelude.{◌≡◌, None, IfErr, IfOk};
+ghost use Rattle.pcboard_texts.specs.Transcript.{AnswersTyped, reply_text};
+ghost use Rattle.zebludor_session.specs.Sessions.{AnswersSession, IsAbout, fault_of};
+
+use board::board::Board;
+use debugger_meaning::answer::Answer;
+use debugger_meaning::fault::DebugFault;
+use pcboard_texts::debugging::print_reply;
+use probe::probe::Probe;
+use std::alloc::{AllocError, Global};
+
+/// A probe, and its last reply: no text, as long as it has answered no line.
+#[derive(Drop)]
+pub struct OpenSession {
+    pub probe: Probe,
+    pub reply: Result<Answer, DebugFault>,
+}
+
+impl OpenSession {
+    /// A session about a board as it stands. The board is dropped if there is no memory.
+    pub fn new(alloc: Global, board: Board) -> Result<Box<OpenSession>, DebugFault>
+        ensures session { IfOk result (λ session. IsAbout board session.value) }
+        ensures fault { IfErr result (λ fault. fault ≡ DebugFault.Memory None) }
+    {
+        let probe = Probe::new(alloc, board)?;
+        let reply = Ok(Answer::Text(String::new(alloc)));
+        match Box::new(alloc, OpenSession { probe, reply }) {
+            Ok(session) => Ok(session),
+            Err(_) => Err(DebugFault::Memory(None)),
+        }
+    }
+
+    /// Answers a line, and keeps the reply.
+    pub fn answer(&mut self, alloc: Global, line: &[u8])
+        ensures { AnswersTyped AnswersSession line.now self.old.probe self.new.reply self.new.probe }
+    {
+        self.reply = reply_to(alloc, &mut self.probe, line);
+    }
+
+    /// The text of the last reply, as `pcprobe` prints it.
+    pub fn text(&self, alloc: Global) -> Result<Vec<u8>, AllocError>
+        ensures { IfOk result (λ text. text.items ≡ reply_text self.now.reply) }
+    {
+        let mut text = Vec::new(alloc);
+        match print_reply(&self.reply, &mut text) {
+            Ok(()) => Ok(text),
+            Err(_) => Err(AllocError),
+        }
+    }
+
+    /// The number of the fault with which the last line was refused, or 0.
+    pub fn fault(&self) -> u8
+        ensures { result ≡ fault_of self.now.reply }
+    {
+        match &self.reply {
+            Ok(_) => 0,
+            Err(fault) => fault.number(),
+        }
+    }
+}
+
+/// What a probe answers to a line, or why it refuses it. A line that isn't UTF-8 is no command.
+fn reply_to(alloc: Global, probe: &mut Probe, line: &[u8]) -> Result<Answer, DebugFault>
+    ensures { AnswersTyped AnswersSession line.now probe.old result probe.new }
+{
+    match std::str::from_utf8(line) {
+        Ok(line) => probe.command(alloc, line),
+        Err(_) => Err(DebugFault::BadCommand),
+    }
+}
