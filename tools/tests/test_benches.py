@@ -26,6 +26,7 @@ class Header(unittest.TestCase):
         calls = benches().declared_calls()
         self.assertIn('zebludor_pit_advance', calls)
         self.assertIn('zebludor_run_hex', calls)
+        self.assertIn('zebludor_session_command', calls)
 
     def test_another_type_is_found(self) -> None:
         module = benches()
