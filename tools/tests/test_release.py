@@ -22,7 +22,7 @@ from toolbox.proved import PROGRAMS, Made, Proved
 from toolbox.sources import sum_of, sum_of_sources
 
 VERDICT = 'logic=proved functions=1 sum=0123456789abcdef native=nat'
-LIBRARIES = ('zebludor_chips', 'zebludor_run')
+LIBRARIES = ('zebludor_chips', 'zebludor_run', 'zebludor_session')
 CRATES = {it: {'low', it} for it in ('pcboard', *LIBRARIES)} | {'pcprobe': {'low', 'probe', 'pcprobe'}}
 NAME = release.name()
 MADE = (f'{NAME}.tar.gz', wheel.name(release.version()), debian.name(release.version()), 'Containerfile')
@@ -105,7 +105,10 @@ class Unpacked(Repository):
         os.makedirs(f'{self.top}/stored')
         for name in PROGRAMS:
             shutil.copy(program.path(name), f'{self.top}/stored/{name}')
-        self.file('top/crates.txt', 'low:\npcboard: low\nprobe: low\npcprobe: low probe\nzebludor_chips staticlib: low\nzebludor_run staticlib: low\n')
+        self.file(
+            'top/crates.txt',
+            'low:\npcboard: low\nprobe: low\npcprobe: low probe\nzebludor_chips staticlib: low\nzebludor_run staticlib: low\nzebludor_session staticlib: low\n',
+        )
         for name in release.LIBRARIES:
             for part in ('src', 'out'):
                 os.makedirs(f'{self.top}/crates/{name}/{part}')
@@ -262,6 +265,7 @@ class Release(Unpacked):
             'docs/book.txt',
             'lib/libzebludor_chips.a',
             'lib/libzebludor_chips.so',
+            'lib/libzebludor_session.so',
             'lib/pkgconfig/zebludor_run.pc',
             'editors/emacs.el',
         ):
@@ -277,9 +281,9 @@ class Release(Unpacked):
         self.assertEqual(lines[:3], heads)
         made = [(f'{top}/{path}', crate) for path, crate in (*((f'stored/{it}', it) for it in PROGRAMS), *((f'lib/lib{it}.a', it) for it in LIBRARIES))]
         self.assertEqual(
-            lines[3:7], [f'made {os.path.relpath(path, top)} {sum_of(path)} sources {sum_of_sources(CRATES[crate], self.top)}' for path, crate in made]
+            lines[3:8], [f'made {os.path.relpath(path, top)} {sum_of(path)} sources {sum_of_sources(CRATES[crate], self.top)}' for path, crate in made]
         )
-        self.assertEqual(lines[7:], [f'{it}: {VERDICT} of={it}' for it in ('low', 'pcboard', 'pcprobe', 'probe', *LIBRARIES)])
+        self.assertEqual(lines[8:], [f'{it}: {VERDICT} of={it}' for it in ('low', 'pcboard', 'pcprobe', 'probe', *LIBRARIES)])
 
     def test_sums(self) -> None:
         top = self.unpacked()
@@ -367,7 +371,7 @@ class Libraries(Unpacked):
     def test_the_shared_one_needs_only_the_c_library(self) -> None:
         if not is_there('readelf', 'what the shared library needs', 'binutils'):
             return
-        told = self.run_in(self.unpacked(), 'readelf', '-d', release.SHARED, path='/usr/bin:/bin')[1]
+        told = self.run_in(self.unpacked(), 'readelf', '-d', 'lib/libzebludor_chips.so', path='/usr/bin:/bin')[1]
         self.assertLessEqual(set(re.findall(r'Shared library: \[(.*)\]', told)), {'libc.so.6'})
         self.assertIn('soname: [libzebludor_chips.so]', told)
 

@@ -27,9 +27,14 @@ STORED_FILES = tuple(f'stored/{it}' for it in PROGRAMS)
 FILES = ('CHANGELOG.md', 'CONTRIBUTING.md', 'LICENSE-APACHE', 'LICENSE-MIT', 'README.md', 'VERSION', *PROGRAMS, *STORED_FILES, 'stored/PROVED')
 FOLDERS = ('c', 'docs', 'editors', 'examples', 'python', 'services', 'tools')
 LEFT_OUT = ('tools/test', 'tools/tests', 'editors/grammar')  # which want the sources
-LIBRARIES = {'zebludor_chips': 'timer, interrupt controller and parallel port of an IBM PC 5150', 'zebludor_run': 'whole runs of an IBM PC 5150'}
-SHARED = 'lib/libzebludor_chips.so'
-MEMORY = 'lib/libzebludor_memory.a'  # c/memory.c, by which whole runs call malloc, realloc and free
+LIBRARIES = {
+    'zebludor_chips': 'timer, interrupt controller and parallel port of an IBM PC 5150',
+    'zebludor_run': 'whole runs of an IBM PC 5150',
+    'zebludor_session': 'sessions with an IBM PC 5150, forth and back',
+}
+MEMORY = 'lib/libzebludor_memory.a'  # c/memory.c, by which what takes memory calls malloc, realloc and free
+TAKE_MEMORY = ('zebludor_run', 'zebludor_session')
+SHARED = ('zebludor_chips', 'zebludor_session')  # what python/zebludor.py loads
 TIME = 315532800  # of every file: the first second of 1980, the earliest that other kinds of archives have too
 PACKAGE = """prefix=${{pcfiledir}}/../..
 libdir=${{prefix}}/lib
@@ -143,12 +148,16 @@ def paths() -> list[str]:
     return [*FILES, *(it for it in inside if not is_left_out(it))]
 
 
-def shared(archive: str) -> bytes:
+def shared(crate: str, archive: str) -> bytes:
     """A static library as a shared one, which has nothing of the compiler's own files, names or times."""
-    name_of_it = os.path.basename(SHARED)
+    name_of_it = f'lib{crate}.so'
     whole = [f'-Wl,-soname,{name_of_it}', '-Wl,--build-id=none', '-Wl,--whole-archive', archive, '-Wl,--no-whole-archive', '-Wl,--no-undefined']
     with tempfile.TemporaryDirectory() as room:
-        path = f'{room}/{name_of_it}'
+        path, beside = f'{room}/{name_of_it}', f'{room}/memory.a'
+        if crate in TAKE_MEMORY:
+            with open(beside, 'wb') as to:
+                to.write(memory())
+            whole.append(beside)
         made_by(['cc', '-shared', '-nostartfiles', '-s', '-o', path, *whole], f'shared library of {archive}')
         with open(path, 'rb') as file:
             return file.read()
@@ -173,7 +182,7 @@ def made_by(words: list[str], what: str) -> None:
 
 def package(crate: str) -> str:
     """What pkg-config reads of a library. The static one is named, since its shared one stands beside it."""
-    libraries = f'-l:lib{crate}.a' + (f' -l:{os.path.basename(MEMORY)}' if crate == 'zebludor_run' else '')
+    libraries = f'-l:lib{crate}.a' + (f' -l:{os.path.basename(MEMORY)}' if crate in TAKE_MEMORY else '')
     return PACKAGE.format(name=crate, what=LIBRARIES[crate], version=version(), libraries=libraries)
 
 
@@ -203,7 +212,8 @@ def contents() -> dict[str, tuple[bytes, bool]]:
     for path, (octets, _) in found.items():
         if path.endswith('.md'):
             found[path] = linked(path, octets.decode(), found).encode(), False
-    found[SHARED] = shared(archive_of(crates, 'zebludor_chips')), False
+    for crate in SHARED:
+        found[f'lib/lib{crate}.so'] = shared(crate, archive_of(crates, crate)), False
     found[MEMORY] = memory(), False
     found['RELEASE'] = verdicts_of(crates).encode(), False
     book = Book(Definitions(), ['program'])
