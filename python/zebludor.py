@@ -17,12 +17,14 @@ from __future__ import annotations
 
 import contextlib
 import functools
+import io
 import json
 import os
 import re
 import subprocess
 import sys
 import tempfile
+import time
 from dataclasses import dataclass
 from typing import IO, TYPE_CHECKING, Any, Iterator, NamedTuple, NoReturn, Sequence
 
@@ -34,8 +36,12 @@ HERE = os.path.dirname(os.path.realpath(__file__))
 TOP = f'{HERE}/zebludor_files' if os.path.isdir(f'{HERE}/zebludor_files') else os.path.dirname(HERE)
 LAST_CLOCK = 1 << 40
 MEMORY = 1 << 20
+# A run by a library is made in parts of so many clocks, or of twice as many as long as a part takes less than a tenth of a second.
+PART = 10_000_000
 # The chips' library of a release, else the one that dev/build leaves.
 CHIPS = f'{TOP}/lib/libzebludor_chips.so', f'{TOP}/crates/zebludor_chips/out/libzebludor_chips.a'
+# The sessions' library, likewise.
+SESSIONS = f'{TOP}/lib/libzebludor_session.so', f'{TOP}/crates/zebludor_session/out/libzebludor_session.a'
 ROWS, COLUMNS = 25, 80
 REGISTER_LINES = (('AX', 'BX', 'CX', 'DX', 'SP', 'BP', 'SI', 'DI'), ('CS', 'DS', 'ES', 'SS', 'IP', 'FL'))
 REGISTERS = REGISTER_LINES[0] + REGISTER_LINES[1]
@@ -520,6 +526,174 @@ class Dialogue:
         return found
 
 
+# The libraries.
+
+
+class Header:
+    """The structs and calls that a header declares, as ctypes has them."""
+
+    def __init__(self, text: str) -> None:
+        import ctypes
+
+        self._numbers = {
+            'void': None,
+            'bool': ctypes.c_bool,
+            'uint8_t': ctypes.c_uint8,
+            'uint16_t': ctypes.c_uint16,
+            'uint64_t': ctypes.c_uint64,
+            'size_t': ctypes.c_size_t,
+        }
+        text = re.sub(r'/\*.*?\*/', '', text, flags=re.S)
+        self.structs: dict[str, type[ctypes.Structure]] = {}
+        for body, name in re.findall(r'typedef struct \w+ \{(.*?)\} (\w+);', text, re.S):
+            fields = [
+                (field.strip(' *'), self._type(kind + ' *' * ('*' in field)))
+                for kind, names in re.findall(r'(\w+) ([^;]+);', body)
+                for field in names.split(',')
+            ]
+            self.structs[name] = type(name, (ctypes.Structure,), {'_fields_': fields})
+        self.calls = {
+            name: (self._type(answer), [self._type(re.sub(r'\w+$', '', it.strip())) for it in words.split(',')])
+            for answer, name, words in re.findall(r'^(\w+) (zebludor_\w+)\(([^)]*)\);', text, re.M)
+        }
+
+    def _type(self, text: str) -> Any:
+        """A type as C writes it."""
+        import ctypes
+
+        if text == 'const uint8_t *':
+            return ctypes.c_char_p  # by which bytes are handed in
+        name = text.replace('const', '').replace('*', '').strip()
+        kind = self._numbers[name] if name in self._numbers else self.structs[name]
+        return ctypes.POINTER(kind) if '*' in text else kind
+
+
+def _shared(archive: str, *more: str) -> ctypes.CDLL:
+    """A static library, and sources that it needs, as a shared one, which the C compiler makes of them."""
+    import ctypes
+
+    with tempfile.TemporaryDirectory() as room:
+        path = f'{room}/shared.so'
+        words = ['cc', '-shared', '-fPIC', '-o', path, '-Wl,--whole-archive', archive, '-Wl,--no-whole-archive', *more, '-Wl,--no-undefined']
+        try:
+            done = subprocess.run(words, capture_output=True, text=True, check=False)
+        except OSError as error:
+            raise Unfit(f'cc makes a shared library of {archive}, and it can\'t be started: {error.strerror}') from None
+        if done.returncode:
+            raise Unfit(f'cc makes no shared library of {archive}: {done.stderr.strip()[-500:]}')
+        return ctypes.CDLL(path)
+
+
+class Library:
+    """A library's structs and calls, by the header's declarations: an archive, with sources that it needs, or a shared library."""
+
+    def __init__(self, path: str, *more: str) -> None:
+        import ctypes
+
+        with open(f'{TOP}/c/zebludor.h', encoding='utf-8') as file:
+            header = Header(file.read())
+        try:
+            library = _shared(path, *more) if path.endswith('.a') else ctypes.CDLL(path)
+        except OSError as error:
+            raise Unfit(f"{path} can't be loaded: {error}") from None
+        self.structs, self.calls, self.at = header.structs, dict[str, Any](), ctypes.byref
+        for name, (answer, parameters) in header.calls.items():
+            if hasattr(library, name):
+                self.calls[name] = call = getattr(library, name)
+                call.restype, call.argtypes = answer, parameters
+
+
+@functools.cache
+def sessions() -> Library | None:
+    """The sessions' library, loaded once, if it is there. One that ZEBLUDOR_SESSION doesn't name and that can't be loaded isn't."""
+    named = os.environ.get('ZEBLUDOR_SESSION')
+    path = named or next(filter(os.path.exists, SESSIONS), None)
+    if named and not os.path.exists(named):
+        raise Unfit(f"the sessions' library {named}, which ZEBLUDOR_SESSION names, isn't there")
+    try:
+        return Library(path, f'{TOP}/c/memory.c') if path else None
+    except Unfit:
+        if named:
+            raise
+        return None
+
+
+class Called(Dialogue):
+    """A session of pcprobe by the calls of the sessions' library, in this process: as a Dialogue, but for an interrupt, which comes
+    between the parts of a run, and else once a command is answered."""
+
+    def __init__(self, library: Library, source: bytes, run: bytes, is_hex: bool) -> None:
+        self._command = library.calls['zebludor_session_command']
+        self._text = library.calls['zebludor_session_text']
+        self._drop = library.calls['zebludor_session_drop']
+        begin = library.calls['zebludor_session_new_hex' if is_hex else 'zebludor_session_new']
+        session = library.structs['zebludor_session']()
+        self._session = library.at(session)
+        self.is_there = not begin(self._session, source, len(source), run, len(run)).fault
+        self.clock, self.is_idle = 0, True
+        self._make_room(1 << 16)
+
+    def _make_room(self, octets: int) -> None:
+        """Room for answers of so many bytes."""
+        import ctypes
+
+        self._size, self._room = octets, (ctypes.c_uint8 * octets)()
+
+    def close(self) -> None:
+        """Ends the session, and gives its memory back."""
+        self._drop(self._session)
+
+    def __del__(self) -> None:
+        self._drop(self._session)
+
+    def _send(self, text: str) -> None:
+        """Makes the commands, whose answers are read from then on."""
+        self.is_idle = False
+        self._out = io.BytesIO(b''.join(map(self.answer, text.encode().removesuffix(b'\n').split(b'\n'))))
+
+    def answer(self, line: bytes) -> bytes:
+        """The text of a command's answer. A run that isn't refused for its clocks is made in parts."""
+        clocks = int(line[3:]) if re.fullmatch(rb'go \d{8,13}', line) else 0
+        if clocks <= PART or int(self._made(b'go 0').split()[1]) + clocks > LAST_CLOCK:
+            return self._made(line)
+        part = PART
+        while clocks > part:
+            begun = time.monotonic()
+            text = self._made(b'go %d' % part)
+            if not text.startswith(b'clock '):
+                return text
+            clocks -= part
+            part *= 2 if time.monotonic() - begun < 0.1 else 1
+        return self._made(b'go %d' % clocks)
+
+    def _made(self, line: bytes) -> bytes:
+        """The text of the answer of a command, made at once."""
+        told = self._command(self._session, line, len(line), self._room, self._size)
+        if told.status == 2:
+            self._make_room(told.length)
+            told = self._text(self._session, self._room, self._size)
+        if told.status == 1:
+            raise Unfit('the session is closed')
+        if told.status == 3:
+            raise Fault(53, 'Memory')
+        return bytes(memoryview(self._room)[: told.length])
+
+
+def called_of(words: list[str]) -> Called | None:
+    """A session of the sessions' library about files, as a program's words name them. None if the library isn't there, if a
+    program is named or its memory limited, and if the files aren't read or are refused, which the program tells by name."""
+    is_chosen = any(os.environ.get(it) for it in ('PCBOARD', 'PCPROBE')) and not os.environ.get('ZEBLUDOR_SESSION')
+    library = None if is_chosen or _limits else sessions()
+    if not library:
+        return None
+    try:
+        with open(words[-2], 'rb') as source, open(words[-1], 'rb') as run:
+            called = Called(library, source.read(), run.read(), '--hex' in words[:-2])
+    except OSError:
+        return None
+    return called if called.is_there else None
+
+
 class Places:
     """Where the labels and the lines of a source stand, as the tools beside this file know it; of Intel HEX the labels and lines of a
     file of symbols, as --symbols takes it. A place that there isn't is Unfit."""
@@ -583,6 +757,10 @@ class Session:
         self.source, self._is_probe = Places(source, is_hex=is_hex, symbols=symbols), probe
         with _files(source, _fields(fields)) as names:
             words = [*_hex_words(source, is_hex), *names]
+            called = called_of(words)
+            if called:
+                self._dialogue: Dialogue = called
+                return
             self._dialogue = Dialogue(words, program('pcprobe')) if probe else Dialogue(['debug', *words])
             try:
                 self._dialogue.many('regs')  # behind its answer the files are read, and may go
@@ -741,65 +919,14 @@ class Session:
 # The chips.
 
 
-class Header:
-    """The structs and calls that a header declares, as ctypes has them."""
-
-    def __init__(self, text: str) -> None:
-        import ctypes
-
-        self._numbers = {'void': None, 'uint8_t': ctypes.c_uint8, 'uint16_t': ctypes.c_uint16, 'uint64_t': ctypes.c_uint64, 'size_t': ctypes.c_size_t}
-        text = re.sub(r'/\*.*?\*/', '', text, flags=re.S)
-        self.structs: dict[str, type[ctypes.Structure]] = {}
-        for body, name in re.findall(r'typedef struct \w+ \{(.*?)\} (\w+);', text, re.S):
-            fields = [(field.strip(), self._type(kind)) for kind, names in re.findall(r'(\w+) ([^;]+);', body) for field in names.split(',')]
-            self.structs[name] = type(name, (ctypes.Structure,), {'_fields_': fields})
-        self.calls = {
-            name: (self._type(answer), [self._type(re.sub(r'\w+$', '', it.strip())) for it in words.split(',')])
-            for answer, name, words in re.findall(r'^(\w+) (zebludor_\w+)\(([^)]*)\);', text, re.M)
-        }
-
-    def _type(self, text: str) -> Any:
-        """A type as C writes it."""
-        import ctypes
-
-        name = text.replace('const', '').replace('*', '').strip()
-        kind = self._numbers[name] if name in self._numbers else self.structs[name]
-        return ctypes.POINTER(kind) if '*' in text else kind
-
-
-def _shared(archive: str) -> ctypes.CDLL:
-    """A static library as a shared one, which the C compiler makes of it."""
-    import ctypes
-
-    with tempfile.TemporaryDirectory() as room:
-        path = f'{room}/chips.so'
-        words = ['cc', '-shared', '-o', path, '-Wl,--whole-archive', archive, '-Wl,--no-whole-archive', '-Wl,--no-undefined']
-        try:
-            done = subprocess.run(words, capture_output=True, text=True, check=False)
-        except OSError as error:
-            raise Unfit(f'cc makes a shared library of {archive}, and it can\'t be started: {error.strerror}') from None
-        if done.returncode:
-            raise Unfit(f'cc makes no shared library of {archive}: {done.stderr.strip()[-500:]}')
-        return ctypes.CDLL(path)
-
-
-class Chips:
-    """The static library's chips, by the header's declarations. ZEBLUDOR_CHIPS names another archive, or a shared library."""
+class Chips(Library):
+    """The static library's chips. ZEBLUDOR_CHIPS names another archive, or a shared library."""
 
     def __init__(self) -> None:
-        import ctypes
-
-        with open(f'{TOP}/c/zebludor.h', encoding='utf-8') as file:
-            header = Header(file.read())
         path = os.environ.get('ZEBLUDOR_CHIPS') or next(filter(os.path.exists, CHIPS), CHIPS[-1])
         if not os.path.exists(path):
             raise Unfit(f"the chips' library {path} isn't there; dev/build zebludor_chips builds it, or ZEBLUDOR_CHIPS names another")
-        library = _shared(path) if path.endswith('.a') else ctypes.CDLL(path)
-        self.structs, self.calls, self.at = header.structs, dict[str, Any](), ctypes.byref
-        for name, (answer, parameters) in header.calls.items():
-            if hasattr(library, name):
-                self.calls[name] = call = getattr(library, name)
-                call.restype, call.argtypes = answer, parameters
+        super().__init__(path)
 
     def calls_of(self, chip: str) -> dict[str, Any]:
         """The library's calls of a chip, by the names behind its own."""
