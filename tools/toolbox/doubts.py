@@ -53,7 +53,7 @@ def idle_prefix(line: str) -> re.Match[str] | None:
 
 def doubts(lines: Sequence[str]) -> Iterator[Doubt]:
     """Each line of a source that is hardly meant."""
-    labels = {it.upper() for it in map(label_in, lines) if it}
+    labels = {label.upper() for label in map(label_in, lines) if label}
     for number, line in enumerate(lines):
         if (found := name_in_byte(line)) and found[1].upper() in labels:
             yield Doubt('offset-in-byte', number, *found.span(1), f'{found[1]} is a number here, its offset; the byte at it is [{found[1]}]')

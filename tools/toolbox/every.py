@@ -34,12 +34,12 @@ def names_of(line: str) -> set[str]:
     plain = re.match(r'\s*([A-Za-z_]\w*)\s*(?:=|\s(\w+))', code)
     if plain and (plain[2] is None or DEFINING.fullmatch(plain[2]) or plain[2].upper() in STATEMENTS):
         found = found or (None if plain[1].upper() in STATEMENTS | WORDS else plain)
-    return {it.upper() for it in (label, found and found[1]) if it}
+    return {name.upper() for name in (label, found and found[1]) if name}
 
 
 def uses(line: str, names: set[str]) -> bool:
     """Whether a line has one of these names outside quotes."""
-    return any(it.upper() in names for it in re.findall(r'[A-Za-z_]\w*', re.sub(r"'[^']*'", '', code_of(line))))
+    return any(word.upper() in names for word in re.findall(r'[A-Za-z_]\w*', re.sub(r"'[^']*'", '', code_of(line))))
 
 
 class Copy:
@@ -56,10 +56,10 @@ class Copy:
     def fault(self) -> Fault | None:
         """The copy's first fault. A listing is made faster than Intel HEX."""
         ran = given_text(['asm', '--list'], self.text)
-        told = fault_in(ran.err)
-        if ran.status and told is None:
+        fault = fault_in(ran.err)
+        if ran.status and fault is None:
             raise Sorry(refusal(ran.status, ran.err))
-        return told
+        return fault
 
     def take_out(self, fault: Fault) -> Fault | None:
         """Puts something harmless for the fault's line, and returns the next fault."""
@@ -91,16 +91,16 @@ def refused_in(copy: Copy, say: Callable[[str], None] = lambda _: None) -> Itera
     """The refused lines of a source, and of each whether it was judged without the earlier ones, which then may be why it
     doesn't fit its place. A line that uses a name whose own line is refused isn't judged, and None. The copy is at the end
     what is left of the source; `say` is told how far it is."""
-    opened, told = True, False
+    opened, is_after = True, False
     fault = copy.fault()
     while fault is not None:
         if fault.line is None:
-            yield fault, told
+            yield fault, is_after
             return
         line = copy.lines[fault.line - 1]
         follows = uses(line, copy.lost) or fault.number == NO_SEGMENT and not opened
-        yield None if follows else (fault, told and fault.number in SHORT_OF_A_LINE)
-        told = True
+        yield None if follows else (fault, is_after and fault.number in SHORT_OF_A_LINE)
+        is_after = True
         opened = opened and not OPENING.match(line)
         if fault.number == NO_SEGMENT:
             fault, opened = copy.take_out_to_the_next_segment(fault), True

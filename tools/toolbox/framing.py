@@ -63,10 +63,10 @@ class Reader:
         header = self._header()
         if header is None:
             return None
-        told = re.search(r'(?:^|\n)Content-Length: *(\d{1,12})\s*$', header, re.I | re.M)
-        if not told:
+        found = re.search(r'(?:^|\n)Content-Length: *(\d{1,12})\s*$', header, re.I | re.M)
+        if not found:
             return Broken('a header has no line "Content-Length: N"')
-        length = int(told[1])
+        length = int(found[1])
         body = self._body(length)
         if body is None:
             return None

@@ -173,7 +173,7 @@ def of_characters(line: str) -> str | None:
 
 def near(word: str, known: list[str]) -> str:
     """The known word that a word was most likely meant for, or nothing."""
-    lower = {it.lower(): it for it in known}
+    lower = {candidate.lower(): candidate for candidate in known}
     found = difflib.get_close_matches(word.lower(), lower, 1, 0.6)
     return lower[found[0]] if found else ''
 
@@ -187,17 +187,17 @@ def of_a_statement(code: str) -> str | None:
 
 def of_a_name(code: str, source: list[str]) -> str | None:
     """A hint where no line defines a name: those that resemble it."""
-    names = [it for it in map(label_in, source) if it]
+    names = [name for name in map(label_in, source) if name]
     names += re.findall(r'(?im)^\s*(?:segment\s+)?([a-z_]\w*)\s+(?:equ|at)\b', '\n'.join(map(code_of, source)))
-    known = {it.upper() for it in names} | STATEMENTS | WORDS
+    known = {name.upper() for name in names} | STATEMENTS | WORDS
     unknown = [
-        it
-        for it in re.findall(r"(?<![\w.'])[A-Z_]\w*", re.sub(r'^\s*\w+\s*:', '', code))
-        if it not in known and not re.fullmatch(f'{REGISTER}|{SEGMENTS}|D[BWD]', it)
+        each
+        for each in re.findall(r"(?<![\w.'])[A-Z_]\w*", re.sub(r'^\s*\w+\s*:', '', code))
+        if each not in known and not re.fullmatch(f'{REGISTER}|{SEGMENTS}|D[BWD]', each)
     ]
-    lower = {it.lower(): it for it in names}
+    lower = {name.lower(): name for name in names}
     for word in unknown:
-        meant = [lower[it] for it in difflib.get_close_matches(word.lower(), lower, 3, 0.6)]
+        meant = [lower[match] for match in difflib.get_close_matches(word.lower(), lower, 3, 0.6)]
         if meant:
             return f'no line defines {word.lower()}; is {" or ".join(meant)} meant?'
     if unknown and re.fullmatch(r'[A-F][0-9A-F]*\d[0-9A-F]*', unknown[0]):
@@ -228,6 +228,6 @@ def hint_of(line: str, number: int, source: list[str] | None = None) -> str | No
         return None
     if number == 11:
         return 'code, data and labels stand in a segment: SEGMENT MAIN AT 50h before them, and ENDS behind'
-    looks = LOOKS if number != 8 else tuple(it for it in LOOKS if 'target' in it[1] or 'port' in it[1])
+    looks = LOOKS if number != 8 else tuple(pair for pair in LOOKS if 'target' in pair[1] or 'port' in pair[1])
     found = next((hint for look, hint in looks if re.search(look, code)), None)
     return found or (of_a_statement(code) if number == 4 else RANGES if number == 8 else None)

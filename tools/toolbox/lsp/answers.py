@@ -54,17 +54,17 @@ class Answers:
         """Looks for one more refused line. A hundred after the first are the most, and a second is the longest."""
         begun = used()
         try:
-            told = next(self._more, self)
+            refusal = next(self._more, self)
         except Sorry as sorry:
             self.is_over, self.broken = True, str(sorry)
             return
-        if isinstance(told, Answers):
+        if isinstance(refusal, Answers):
             self.is_over = self.is_known = True
             return
-        if told:
-            self.refused.append(told)
-        self._spent += used() - begun if len(self.refused) > 1 or not told else 0.0
-        self.is_over = len(self.refused) >= MOST_REFUSED or self._spent > MOST_SECONDS or bool(told and told[0].line is None)
+        if refusal:
+            self.refused.append(refusal)
+        self._spent += used() - begun if len(self.refused) > 1 or not refusal else 0.0
+        self.is_over = len(self.refused) >= MOST_REFUSED or self._spent > MOST_SECONDS or bool(refusal and refusal[0].line is None)
 
     def finish(self) -> None:
         """Looks for all of them."""
@@ -75,7 +75,7 @@ class Answers:
     @cached_property
     def lines(self) -> list[str]:
         """The text's lines as the program counts them."""
-        return [it.rstrip('\r') for it in self.source.text.whole.split('\n')]
+        return [line.rstrip('\r') for line in self.source.text.whole.split('\n')]
 
     def accepts(self, line: int, new: str) -> bool:
         """Whether a refused line, from 0, isn't refused any more if this stands in its place, and no other line either."""
@@ -101,14 +101,14 @@ class Answers:
             return {}
         rows = ran.out.split('\n')[:-1]
         found = ((line_of(number, row), '+' in row[:ADDRESS_COLUMNS]) for number, row in enumerate(rows, 1))
-        return {self.source.text.line_of(it.number): Placed(it.address, it.shown, more) for it, more in found if it.address}
+        return {self.source.text.line_of(line.number): Placed(line.address, line.shown, more) for line, more in found if line.address}
 
     @cached_property
     def labels(self) -> dict[str, tuple[int, int]]:
         """Segment and offset of each label, by its name in upper case, of the text without its refused lines."""
         self.finish()
         gone = {self.source.text.line_of(fault.line) for fault, _ in self.refused if fault.line}
-        names = [it.name.key for it in self.source.labels() if it.line not in gone]
+        names = [label.name.key for label in self.source.labels() if label.line not in gone]
         return probed(self.copy.text, names) if names and self.is_known else {}
 
     @cached_property
@@ -119,7 +119,7 @@ class Answers:
 
     def has(self, address: int) -> bool:
         """Whether a line places a byte at a physical address."""
-        spans = ((physical(*it.address), len(it.shown), it.has_more) for it in self.rows.values())
+        spans = ((physical(*placed.address), len(placed.shown), placed.has_more) for placed in self.rows.values())
         return any(first <= address and (more and address in self.image or address < first + count) for first, count, more in spans)
 
     def octets(self, line: int) -> bytes:

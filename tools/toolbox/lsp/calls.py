@@ -13,34 +13,40 @@ from toolbox.lsp.text import Fields
 
 def target_of(source: Source, line: Parsed) -> Token | None:
     """The label that a CALL or JMP goes to."""
-    if not line.does('CALL', 'JMP') or any(it.text == '[' for it in line.operands):
+    if not line.does('CALL', 'JMP') or any(token.text == '[' for token in line.operands):
         return None
-    name = next((it for it in line.operands if it.kind == 'name'), None)
+    name = next((token for token in line.operands if token.kind == 'name'), None)
     found = source.definitions.get(name.key) if name else None
     return name if found and found.kind == LABEL else None
 
 
 def routines(source: Source) -> list[Definition]:
     """The labels at which routines begin, in their order."""
-    called = {it.key for it in (target_of(source, line) for line in source.lines) if it}
-    labels = sorted(source.labels(), key=lambda it: it.line)
-    firsts = {next((it.name.key for it in labels if span.first <= it.line <= span.last), '') for span in source.spans}
-    return [it for it in labels if it.name.key in called | firsts]
+    called = {target.key for target in (target_of(source, line) for line in source.lines) if target}
+    labels = sorted(source.labels(), key=lambda label: label.line)
+    firsts = {next((label.name.key for label in labels if span.first <= label.line <= span.last), '') for span in source.spans}
+    return [label for label in labels if label.name.key in called | firsts]
 
 
-def end_of(source: Source, it: Definition, them: list[Definition]) -> int:
+def end_of(source: Source, routine: Definition, them: list[Definition]) -> int:
     """A routine's last line, among these."""
-    span = source.span_of(it.line)
+    span = source.span_of(routine.line)
     last = span.last if span else len(source.lines) - 1
-    following = next((other.line for other in them if other.line > it.line), last + 1)
-    return max(it.line, min(following - 1, last))
+    following = next((other.line for other in them if other.line > routine.line), last + 1)
+    return max(routine.line, min(following - 1, last))
 
 
-def item(document: Document, it: Definition, them: list[Definition]) -> Fields:
+def item(document: Document, routine: Definition, them: list[Definition]) -> Fields:
     """One of the routines as the protocol has it."""
     text = document.text
-    span = text.lines_range(it.line, end_of(document.source, it, them))
-    return {'name': it.name.text, 'kind': FUNCTION, 'uri': document.uri, 'range': span, 'selectionRange': text.range(it.line, it.name.start, it.name.end)}
+    span = text.lines_range(routine.line, end_of(document.source, routine, them))
+    return {
+        'name': routine.name.text,
+        'kind': FUNCTION,
+        'uri': document.uri,
+        'range': span,
+        'selectionRange': text.range(routine.line, routine.name.start, routine.name.end),
+    }
 
 
 def prepare(document: Document, asked: Fields) -> list[Fields] | None:
@@ -65,10 +71,10 @@ def incoming(document: Document, asked: Fields) -> list[Fields]:
         name = target_of(source, line)
         if callee and name and name.key == callee.name.key:
             span = source.span_of(number)
-            inside = [it for it in them if it.line <= number and span and it.line >= span.first]
+            inside = [routine for routine in them if routine.line <= number and span and routine.line >= span.first]
             if inside:
                 found.setdefault(inside[-1].name.key, (inside[-1], []))[1].append(document.text.range(number, name.start, name.end))
-    return [{'from': item(document, it, them), 'fromRanges': ranges} for it, ranges in found.values()]
+    return [{'from': item(document, routine, them), 'fromRanges': ranges} for routine, ranges in found.values()]
 
 
 def outgoing(document: Document, asked: Fields) -> list[Fields]:

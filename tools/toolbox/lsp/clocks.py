@@ -43,13 +43,13 @@ class Cost:
     def __str__(self) -> str:
         if self.otherwise is not None:
             return f'{self.fixed} if it {self.otherwise[0]}, else {self.otherwise[1]}'
-        told = f'{self.fixed}'
+        text = f'{self.fixed}'
         if self.each:
             times, by = self.each
-            told += f' + {times} × {by}, {self.fixed} to {self.fixed + times * MOST_COUNT[by]:,}'
+            text += f' + {times} × {by}, {self.fixed} to {self.fixed + times * MOST_COUNT[by]:,}'
         if len(self.parts) > 1:
-            told += ' (' + ', '.join(f'{what} {clocks}' for clocks, what in self.parts) + ')'
-        return told + (f'; {self.failed} more if it fails' if self.failed else '')
+            text += ' (' + ', '.join(f'{what} {clocks}' for clocks, what in self.parts) + ')'
+        return text + (f'; {self.failed} more if it fails' if self.failed else '')
 
 
 def address_parts(place: int) -> list[tuple[int, str]]:
@@ -59,10 +59,10 @@ def address_parts(place: int) -> list[tuple[int, str]]:
     return [(ADDRESS[kind], f'address by {kind}' if kind != 'direct' else 'direct address')] + ([(DISPLACEMENT, 'displacement')] if mod in (1, 2) else [])
 
 
-def words_of(it: Instruction) -> int:
+def words_of(instruction: Instruction) -> int:
     """How many words of data a step, or an element of a repeat, reads and writes in memory."""
-    name, kinds = it.row.names[0], it.row.kinds
-    is_word = [kind == 'rm16' and it.is_memory or kind == '[n]' and 'AX' in kinds for kind in kinds] + [False, False]
+    name, kinds = instruction.row.names[0], instruction.row.kinds
+    is_word = [kind == 'rm16' and instruction.is_memory or kind == '[n]' and 'AX' in kinds for kind in kinds] + [False, False]
     a, b = int(is_word[0]), int(is_word[1])
     if name in FIXED:
         return FIXED[name]
@@ -73,31 +73,31 @@ def words_of(it: Instruction) -> int:
     return a + b if name in READ_ALONE else a + 1 if name in ONE_MORE else 0
 
 
-def own_parts(it: Instruction) -> tuple[list[tuple[int, str]], str]:
+def own_parts(instruction: Instruction) -> tuple[list[tuple[int, str]], str]:
     """The row's own clocks with those of an address, and the rest of what the page says of them."""
-    register, _, memory = it.row.clocks.partition('; ')
-    text = (memory or register) if it.is_memory else register
+    register, _, memory = instruction.row.clocks.partition('; ')
+    text = (memory or register) if instruction.is_memory else register
     number = re.match(r'\d+', text)
-    assert number, it.row
-    parts = [(int(number[0]), 'memory' if it.is_memory else 'itself')]
-    return parts + (address_parts(it.place) if it.is_memory and it.place is not None else []), text
+    assert number, instruction.row
+    parts = [(int(number[0]), 'memory' if instruction.is_memory else 'itself')]
+    return parts + (address_parts(instruction.place) if instruction.is_memory and instruction.place is not None else []), text
 
 
-def cost_of(it: Instruction, is_second: bool) -> Cost:
+def cost_of(instruction: Instruction, is_second: bool) -> Cost:
     """What it costs by the first table, or by the second."""
-    parts, text = own_parts(it)
-    words = words_of(it) if is_second else 0
-    before = [(PREFIX * len(it.prefixes), 'prefixes')] if it.prefixes else []
-    if it.is_repeated:
+    parts, text = own_parts(instruction)
+    words = words_of(instruction) if is_second else 0
+    before = [(PREFIX * len(instruction.prefixes), 'prefixes')] if instruction.prefixes else []
+    if instruction.is_repeated:
         again = re.search(r'repeated (\d+)', text)
         element = (int(again[1]) if again else parts[0][0]) + WORD * words
         return Cost((*before, (START, 'start of the repeat')), (element, 'elements'))
     data = [(WORD * words, f'{words} word{"s" * (words > 1)} of data')] if words else []
     other = re.search(r'else (\d+)', text)
     if other:
-        enters = it.row.names == ('INTO',)
+        enters = instruction.row.names == ('INTO',)
         data = [(ENTRY * WORD, f'{ENTRY} words of data')] if is_second and enters else []
         return Cost((*before, *parts, *data), otherwise=('enters' if enters else 'jumps', int(other[1]) + sum(n for n, _ in before)))
     each = (SHIFT, 'CL') if '×CL' in text else None
-    failed = FAILED + (ENTRY * WORD if is_second else 0) if it.row.names[0] in ('DIV', 'IDIV') else None
+    failed = FAILED + (ENTRY * WORD if is_second else 0) if instruction.row.names[0] in ('DIV', 'IDIV') else None
     return Cost((*before, *parts, *data), each, failed=failed)

@@ -10,12 +10,12 @@ MODIFIERS = ['declaration']
 BY_KIND = {'text': 'string', 'mnemonic': 'keyword', 'directive': 'macro', 'prefix': 'modifier', 'register': 'property'}
 
 
-def type_of(document: Document, it: Token) -> str | None:
+def type_of(document: Document, token: Token) -> str | None:
     """A token's type, or None for signs and for names that nothing defines."""
-    if it.kind != 'name':
-        found = BY_KIND.get(it.kind, it.kind)
+    if token.kind != 'name':
+        found = BY_KIND.get(token.kind, token.kind)
         return found if found in TYPES else None
-    definition = document.source.definitions.get(it.key)
+    definition = document.source.definitions.get(token.key)
     if definition is None:
         return None
     if definition.kind in (CONSTANT, SEGMENT):
@@ -28,12 +28,12 @@ def semantic_tokens(document: Document, _: Fields) -> Fields:
     data, line_before, column_before = list[int](), 0, 0
     for number, line in enumerate(document.source.lines):
         own = [name for _, name in line.definitions]
-        for it in line.tokens:
-            kind = type_of(document, it)
+        for token in line.tokens:
+            kind = type_of(document, token)
             if kind is None:
                 continue
-            column, end = (units(document.text.lines[number], at) for at in (it.start, it.end))
+            column, end = (units(document.text.lines[number], at) for at in (token.start, token.end))
             before = column_before if number == line_before else 0
-            data += [number - line_before, column - before, end - column, TYPES.index(kind), int(it in own)]
+            data += [number - line_before, column - before, end - column, TYPES.index(kind), int(token in own)]
             line_before, column_before = number, column
     return {'data': data}

@@ -27,21 +27,21 @@ def statements(is_upper: bool) -> list[Fields]:
         found.append(item(word, KEYWORD, rows[0].does if rows else '', 1))
     found += [item(word, KEYWORD, 'directive', 2) for word in words_of('directive') if word not in ('AT', 'DUP')]
     found += [item(word, KEYWORD, 'prefix', 3) for word in words_of('prefix')]
-    return found if is_upper else [it | {'label': it['label'].lower()} for it in found]
+    return found if is_upper else [entry | {'label': entry['label'].lower()} for entry in found]
 
 
 def names(document: Document) -> list[Fields]:
     """The source's own names."""
     constants = document.source.constants
     found = list[Fields]()
-    for it in document.source.definitions.values():
-        line = document.text.lines[it.line].strip()
-        if it.kind == LABEL:
-            found.append(item(it.name.text, LABEL_ITEM, line[:80], 1))
+    for definition in document.source.definitions.values():
+        line = document.text.lines[definition.line].strip()
+        if definition.kind == LABEL:
+            found.append(item(definition.name.text, LABEL_ITEM, line[:80], 1))
         else:
-            value = constants.get(it.name.key)
-            kind = CONSTANT_ITEM if it.kind == CONSTANT else SEGMENT_ITEM
-            found.append(item(it.name.text, kind, f'{value:X}h, {value}' if value is not None and value >= 0 else line[:80], 2))
+            value = constants.get(definition.name.key)
+            kind = CONSTANT_ITEM if definition.kind == CONSTANT else SEGMENT_ITEM
+            found.append(item(definition.name.text, kind, f'{value:X}h, {value}' if value is not None and value >= 0 else line[:80], 2))
     return found
 
 
@@ -52,19 +52,19 @@ def port_items(least: int, most: int) -> list[Fields]:
 
 def operands(document: Document, line: Parsed) -> list[Fields]:
     """What an operand may be, where the line ends at the asked place."""
-    count = sum(it.text == ',' for it in line.operands)
-    in_brackets = [it.text for it in line.operands if it.text in '[]'][-1:] == ['[']
+    count = sum(token.text == ',' for token in line.operands)
+    in_brackets = [token.text for token in line.operands if token.text in '[]'][-1:] == ['[']
     if in_brackets:
-        return [item(it, REGISTER, '', 3) for it in ADDRESSING] + names(document)
+        return [item(word, REGISTER, '', 3) for word in ADDRESSING] + names(document)
     found = list[Fields]()
     if line.does('OUT') and count == 0 or line.does('IN') and count == 1:
         found += port_items(0, SHORT_PORT)
     if line.does('MOV') and count == 1 and line.operands[0].key == 'DX':
         found += port_items(SHORT_PORT + 1, 0xFFFF)
     if line.statement and line.statement.kind == 'directive':
-        return names(document) + [item(it, KEYWORD, '', 4) for it in ('DUP', 'SEG', 'AT')]
-    registers = [item(it, REGISTER, '', 3) for it in words_of('register')]
-    return found + names(document) + registers + [item(it, KEYWORD, 'operator', 4) for it in words_of('operator')]
+        return names(document) + [item(word, KEYWORD, '', 4) for word in ('DUP', 'SEG', 'AT')]
+    registers = [item(word, REGISTER, '', 3) for word in words_of('register')]
+    return found + names(document) + registers + [item(word, KEYWORD, 'operator', 4) for word in words_of('operator')]
 
 
 def completion(document: Document, asked: Fields) -> Fields:
@@ -87,17 +87,17 @@ def signature_help(document: Document, asked: Fields) -> Fields | None:
     before = parsed(document.text.lines[line][:column])
     if before.comment or before.statement is None or before.statement.kind != 'mnemonic' or before.statement.end == column:
         return None
-    forms = [it for it in forms_of(before.statement.text) if it.operands]
+    forms = [form for form in forms_of(before.statement.text) if form.operands]
     if not forms:
         return None
-    active = sum(it.text == ',' for it in before.operands)
-    told = [
+    active = sum(token.text == ',' for token in before.operands)
+    signatures = [
         {
-            'label': f'{before.statement.key} {it.operands}',
-            'documentation': f'{it.octets}, clocks {it.clocks}',
-            'parameters': [{'label': kind} for kind in it.kinds],
+            'label': f'{before.statement.key} {form.operands}',
+            'documentation': f'{form.octets}, clocks {form.clocks}',
+            'parameters': [{'label': kind} for kind in form.kinds],
         }
-        for it in forms
+        for form in forms
     ]
-    fitting = next((at for at, it in enumerate(forms) if len(it.kinds) > active), 0)
-    return {'signatures': told, 'activeSignature': fitting, 'activeParameter': active}
+    fitting = next((at for at, form in enumerate(forms) if len(form.kinds) > active), 0)
+    return {'signatures': signatures, 'activeSignature': fitting, 'activeParameter': active}

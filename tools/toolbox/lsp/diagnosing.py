@@ -17,7 +17,7 @@ LONGEST_REPAIRED, MOST_REPAIRED = 1000, 5
 
 def code_range(document: Document, line: int) -> Fields:
     """A line without its comment and the spaces around."""
-    tokens = [it for it in document.source.lines[line].tokens if it.kind != 'comment'] or document.source.lines[line].tokens
+    tokens = [token for token in document.source.lines[line].tokens if token.kind != 'comment'] or document.source.lines[line].tokens
     length = len(document.text.lines[line])
     return document.text.range(line, tokens[0].start if tokens else 0, tokens[-1].end if tokens else length)
 
@@ -34,12 +34,18 @@ def diagnostics(document: Document) -> list[Fields]:
     if document.note:
         note = document.note
         return [{'range': code_range(document, note.line), 'severity': INFORMATION, 'source': 'zebludor', 'message': note.text}]
-    found = [of_a_fault(document, *it) for it in document.answers.refused]
+    found = [of_a_fault(document, *refusal) for refusal in document.answers.refused]
     if document.answers.is_over and document.answers.is_whole:
         found += [
-            {'range': document.text.range(it.line, it.first, it.last), 'severity': WARNING, 'code': it.name, 'source': 'zebludor', 'message': it.text}
-            for it in doubts_of(document.source, document.answers)
-            if it.name not in document.settings.off
+            {
+                'range': document.text.range(doubt.line, doubt.first, doubt.last),
+                'severity': WARNING,
+                'code': doubt.name,
+                'source': 'zebludor',
+                'message': doubt.text,
+            }
+            for doubt in doubts_of(document.source, document.answers)
+            if doubt.name not in document.settings.off
         ]
     return found
 
@@ -48,23 +54,23 @@ def repairs(document: Document, line: int) -> list[str]:
     """Other texts for a refused line, which the program doesn't refuse."""
     if len(document.text.lines[line]) > LONGEST_REPAIRED:
         return []
-    them = dict.fromkeys(it for it in candidates(document.source, line) if it != document.text.lines[line])
-    return [it for it in itertools.islice(them, 2 * MOST) if document.answers.accepts(line, it)][:MOST]
+    them = dict.fromkeys(text for text in candidates(document.source, line) if text != document.text.lines[line])
+    return [text for text in itertools.islice(them, 2 * MOST) if document.answers.accepts(line, text)][:MOST]
 
 
 def code_actions(document: Document, asked: Fields) -> list[Fields]:
     """For each refused line of a range the edits that mend it."""
     span, found = want(asked, 'range', dict), list[Fields]()
     only = want(want(asked, 'context', dict, {}), 'only', list, ['quickfix'])
-    first, last = (document.text.place(span.get(it))[0] for it in ('start', 'end'))
+    first, last = (document.text.place(span.get(edge))[0] for edge in ('start', 'end'))
     if document.note or 'quickfix' not in only and '' not in only:
         return []
     document.answers.finish()
-    faults = [it for it in document.answers.refused if it[0].line and first <= document.text.line_of(it[0].line) <= last]
+    faults = [refusal for refusal in document.answers.refused if refusal[0].line and first <= document.text.line_of(refusal[0].line) <= last]
     for fault, is_after in faults[:MOST_REPAIRED]:
         line = document.text.line_of(fault.line or 1)
         for at, text in enumerate(repairs(document, line)):
             edit = {'range': document.text.range(line, 0, len(document.text.lines[line])), 'newText': text}
-            told = {'title': f'Write {text.partition(";")[0].strip()}', 'kind': 'quickfix', 'isPreferred': at == 0}
-            found.append(told | {'diagnostics': [of_a_fault(document, fault, is_after)], 'edit': {'changes': {document.uri: [edit]}}})
+            action = {'title': f'Write {text.partition(";")[0].strip()}', 'kind': 'quickfix', 'isPreferred': at == 0}
+            found.append(action | {'diagnostics': [of_a_fault(document, fault, is_after)], 'edit': {'changes': {document.uri: [edit]}}})
     return found

@@ -26,7 +26,7 @@ class Settings:
         found = given if isinstance(given, dict) else {}
         found = found[OWN] if isinstance(found.get(OWN), dict) else found
         off = found.get('off')
-        names = [it for it in off if isinstance(it, str)] if isinstance(off, list) else []
+        names = [name for name in off if isinstance(name, str)] if isinstance(off, list) else []
         return Settings(found.get('hints') is True, OWN if found.get('dialect') == OWN else '', frozenset(names))
 
 
@@ -47,8 +47,8 @@ class Document:
     def change(self, changes: list[Any], version: Any) -> None:
         """Makes the client's changes, one after another."""
         text = self.text
-        for it in changes:
-            text = text.changed(it)
+        for change in changes:
+            text = text.changed(change)
         self.take(text, version)
 
     def set(self, settings: Settings) -> None:

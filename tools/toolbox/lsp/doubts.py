@@ -17,8 +17,8 @@ ROM, RESET, OF_THE_SERVICES = 0xF000, 0xFFFF0, range(0x10, 0x22)
 
 def lone_label(source: Source, tokens: tuple[Token, ...]) -> Token | None:
     """The label of an expression that has one, and no other name, SEG or $ beside it."""
-    names = [it for it in tokens if it.kind == 'name']
-    if len(names) != 1 or any(it.kind in ('operator', 'register') or it.text in '[]$' for it in tokens):
+    names = [token for token in tokens if token.kind == 'name']
+    if len(names) != 1 or any(token.kind in ('operator', 'register') or token.text in '[]$' for token in tokens):
         return None
     found = source.definitions.get(names[0].key)
     return names[0] if found and found.kind == LABEL else None
@@ -42,8 +42,8 @@ def variables_in_rom(source: Source, _: Answers) -> Iterator[Doubt]:
         if not groups or not line.does(*WRITERS):
             continue
         inside = addressed(groups)
-        overridden = any(it.key in ('ES', 'SS', 'DS') for it in groups[0])
-        name = lone_label(source, tuple(it for it in inside if it.kind != 'register' and it.text != '+')) if not overridden else None
+        overridden = any(token.key in ('ES', 'SS', 'DS') for token in groups[0])
+        name = lone_label(source, tuple(token for token in inside if token.kind != 'register' and token.text != '+')) if not overridden else None
         if name and in_rom(source, name):
             yield Doubt(
                 'variable-in-rom', number, name.start, name.end, f'{name.text} stands in ROM, where a write is lost: variables stand in a segment of RAM'
@@ -65,8 +65,8 @@ def no_vectors(source: Source, answers: Answers) -> Iterator[Doubt]:
     for number, value in wanted:
         places = {4 * value + at for at in range(4)}
         if not places & written and not any(map(answers.has, places)):
-            it = source.lines[number].operands
-            yield Doubt('no-vector', number, it[0].start, it[-1].end, f'no line sets the vector of interrupt {value:X}h, at {4 * value:05X}h')
+            operands = source.lines[number].operands
+            yield Doubt('no-vector', number, operands[0].start, operands[-1].end, f'no line sets the vector of interrupt {value:X}h, at {4 * value:05X}h')
 
 
 def interrupts(source: Source) -> list[tuple[int, int]]:
@@ -77,13 +77,13 @@ def interrupts(source: Source) -> list[tuple[int, int]]:
 
 def addressed(groups: list[tuple[Token, ...]]) -> tuple[Token, ...]:
     """What stands in the brackets of a first operand."""
-    texts = [it.text for it in groups[0]] if groups else []
+    texts = [token.text for token in groups[0]] if groups else []
     return groups[0][texts.index('[') + 1 : -1] if '[' in texts else ()
 
 
 def writes_through_a_register(groups: list[tuple[Token, ...]], is_writer: bool) -> bool:
     """Whether the first operand is memory by a register."""
-    return is_writer and any(it.kind == 'register' for it in addressed(groups))
+    return is_writer and any(token.kind == 'register' for token in addressed(groups))
 
 
 def no_reset(source: Source, answers: Answers) -> Iterator[Doubt]:
@@ -109,4 +109,4 @@ NAMES = (*doubts.NAMES, 'variable-in-rom', 'no-vector', 'no-reset', 'comment-not
 
 def doubts_of(source: Source, answers: Answers) -> list[Doubt]:
     """All of an accepted source."""
-    return sorted((it for look in DOUBTS for it in look(source, answers)), key=lambda it: (it.line, it.first))
+    return sorted((doubt for look in DOUBTS for doubt in look(source, answers)), key=lambda doubt: (doubt.line, doubt.first))

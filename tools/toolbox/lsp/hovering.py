@@ -19,41 +19,41 @@ MOST_USES = 20
 def hover(document: Document, asked: Fields) -> Fields | None:
     """The text for the asked place."""
     line, column = document.text.place(want(asked, 'position', dict))
-    it = document.source.lines[line].at(column)
-    told = told_of(document, line, it) if it and not document.note else []
-    if it is None or not told:
+    token = document.source.lines[line].at(column)
+    paragraphs = told_of(document, line, token) if token and not document.note else []
+    if token is None or not paragraphs:
         return None
-    return {'contents': {'kind': 'markdown', 'value': '\n\n'.join(told)}, 'range': document.text.range(line, it.start, it.end)}
+    return {'contents': {'kind': 'markdown', 'value': '\n\n'.join(paragraphs)}, 'range': document.text.range(line, token.start, token.end)}
 
 
-def told_of(document: Document, line: int, it: Token) -> list[str]:
+def told_of(document: Document, line: int, token: Token) -> list[str]:
     """The paragraphs for a token."""
-    if it.kind == 'mnemonic':
-        return of_a_mnemonic(document, line, it) + of_a_port(document, line) + forms_told(it)
-    definition = document.source.definitions.get(it.key) if it.kind == 'name' else None
+    if token.kind == 'mnemonic':
+        return of_a_mnemonic(document, line, token) + of_a_port(document, line) + forms_told(token)
+    definition = document.source.definitions.get(token.key) if token.kind == 'name' else None
     if definition and definition.kind == LABEL:
         return of_a_label(document, definition)
-    value = document.source.constants.get(it.key) if definition else number_in(it) if it.kind in ('number', 'text') else None
-    told = [f'`{it.text}` {as_number(value)}'] if value is not None else []
-    return told + (of_a_port(document, line) if it.kind in ('number', 'name', 'register') else [])
+    value = document.source.constants.get(token.key) if definition else number_in(token) if token.kind in ('number', 'text') else None
+    paragraphs = [f'`{token.text}` {as_number(value)}'] if value is not None else []
+    return paragraphs + (of_a_port(document, line) if token.kind in ('number', 'name', 'register') else [])
 
 
-def of_a_mnemonic(document: Document, line: int, it: Token) -> list[str]:
+def of_a_mnemonic(document: Document, line: int, token: Token) -> list[str]:
     """What it does, the line's bytes and clocks, and the flags."""
-    forms = forms_of(it.text)
-    told = [f'**{it.key}** {forms[0].does}'] if forms else []
+    forms = forms_of(token.text)
+    paragraphs = [f'**{token.key}** {forms[0].does}'] if forms else []
     row = document.answers.rows.get(line)
     found = instruction_of(document.answers.octets(line)) if row else None
     if row and found:
-        told.append(f'`{row}`{partly(document)}')
-        told += [f'Clocks by {name}: {cost_of(found, is_second)}' for name, is_second in (('C1', False), ('C2', True))]
-        told.append(f'Flags that change: {found.row.flags or "none"}')
-    return told
+        paragraphs.append(f'`{row}`{partly(document)}')
+        paragraphs += [f'Clocks by {name}: {cost_of(found, is_second)}' for name, is_second in (('C1', False), ('C2', True))]
+        paragraphs.append(f'Flags that change: {found.row.flags or "none"}')
+    return paragraphs
 
 
-def forms_told(it: Token) -> list[str]:
+def forms_told(token: Token) -> list[str]:
     """The mnemonic's forms, as a table."""
-    rows = [f'|{it.key if it.key in row.names else row.names[0]} {row.operands}|{row.octets}|{row.clocks}|' for row in forms_of(it.text)]
+    rows = [f'|{token.key if token.key in row.names else row.names[0]} {row.operands}|{row.octets}|{row.clocks}|' for row in forms_of(token.text)]
     return ['\n'.join(['|Form|Bytes|Clocks|', '|-|-|-|', *rows])] if rows else []
 
 
@@ -67,29 +67,29 @@ def of_a_port(document: Document, line: int) -> list[str]:
     port = port_of(document.source, line)
     if port is None:
         return []
-    told = [f'port {port:X}h: {ports().get(port, "nothing answers")}']
+    paragraphs = [f'port {port:X}h: {ports().get(port, "nothing answers")}']
     before = bytes_before(document.source, line)
     for at, byte in bytes_out(document.source, line):
         says = written(at, byte, before)
-        told += [f'{byte:02X}h there: {says}' if at == port else f'{byte:02X}h at port {at:X}h: {says}'] if says else []
+        paragraphs += [f'{byte:02X}h there: {says}' if at == port else f'{byte:02X}h at port {at:X}h: {says}'] if says else []
         before = [*before, (at, byte)]
-    return told
+    return paragraphs
 
 
-def of_a_label(document: Document, it: Definition) -> list[str]:
+def of_a_label(document: Document, definition: Definition) -> list[str]:
     """A label's address, its comment or first bytes, and its uses."""
-    far = document.answers.labels.get(it.name.key)
-    told = [f'**{it.name.text}** label' + (f', `{far[0]:04X}:{far[1]:04X}`{partly(document)}' if far else '')]
-    comment = comment_of(document, it.line)
-    first = next((document.answers.rows[at] for at in range(it.line, len(document.text.lines)) if at in document.answers.rows), None)
+    far = document.answers.labels.get(definition.name.key)
+    paragraphs = [f'**{definition.name.text}** label' + (f', `{far[0]:04X}:{far[1]:04X}`{partly(document)}' if far else '')]
+    comment = comment_of(document, definition.line)
+    first = next((document.answers.rows[at] for at in range(definition.line, len(document.text.lines)) if at in document.answers.rows), None)
     if comment:
-        told.append(comment)
+        paragraphs.append(comment)
     elif first and first.address == far:
-        told.append(f'begins with `{first.shown.hex(" ").upper()}`')
-    uses = [number + 1 for number, name in document.source.places[it.name.key] if name in document.source.lines[number].uses]
+        paragraphs.append(f'begins with `{first.shown.hex(" ").upper()}`')
+    uses = [number + 1 for number, name in document.source.places[definition.name.key] if name in document.source.lines[number].uses]
     more = ' ..' if len(uses) > MOST_USES else ''
     lines = ', '.join(map(str, dict.fromkeys(uses[:MOST_USES])))
-    return told + [f'used in line{"s" * (len(set(uses)) > 1)} {lines}{more}' if uses else 'used nowhere']
+    return paragraphs + [f'used in line{"s" * (len(set(uses)) > 1)} {lines}{more}' if uses else 'used nowhere']
 
 
 def comment_of(document: Document, line: int) -> str:
@@ -104,11 +104,11 @@ def comment_of(document: Document, line: int) -> str:
 
 def as_number(value: int) -> str:
     """A number in hexadecimal, decimal and binary, and as text if it is one."""
-    width = next(it for it in (8, 16, 32, 64) if -(1 << it - 1) <= value < 1 << it)
+    width = next(size for size in (8, 16, 32, 64) if -(1 << size - 1) <= value < 1 << size)
     bits = value % (1 << width)
     hexadecimal = f'{bits:X}h' if f'{bits:X}'[0].isdigit() else f'0{bits:X}h'
     octets = bits.to_bytes(width // 8, 'big').lstrip(b'\0')
-    text = f", '{octets.decode('ascii')}'" if octets and all(0x20 <= it <= 0x7E for it in octets) else ''
+    text = f", '{octets.decode('ascii')}'" if octets and all(0x20 <= octet <= 0x7E for octet in octets) else ''
     return f'is {hexadecimal}, {value}, {bits:b}b{text}'
 
 
@@ -117,7 +117,7 @@ def inlay_hints(document: Document, asked: Fields) -> list[Fields]:
     if not document.settings.hints or document.note:
         return []
     span = want(asked, 'range', dict)
-    first, last = (document.text.place(span.get(it))[0] for it in ('start', 'end'))
+    first, last = (document.text.place(span.get(edge))[0] for edge in ('start', 'end'))
     return [hint for line in range(first, last + 1) if (hint := hint_of(document, line))]
 
 
@@ -128,5 +128,5 @@ def hint_of(document: Document, line: int) -> Fields | None:
         return None
     found = instruction_of(document.answers.octets(line)) if parsed.statement and parsed.statement.kind == 'mnemonic' else None
     label = f'{row} {cost_of(found, False).short}' if found else str(row)
-    told = {'position': document.text.position(line, len(document.text.lines[line])), 'label': label, 'paddingLeft': True}
-    return told if document.answers.is_whole else told | {'tooltip': WITHOUT}
+    hint = {'position': document.text.position(line, len(document.text.lines[line])), 'label': label, 'paddingLeft': True}
+    return hint if document.answers.is_whole else hint | {'tooltip': WITHOUT}

@@ -53,13 +53,13 @@ class Instruction:
     @property
     def is_repeated(self) -> bool:
         """Whether it is a string instruction under a repeat prefix."""
-        return any(it in REPEATS for it in self.prefixes) and self.row.names[0][:4] in ('CMPS', 'LODS', 'MOVS', 'SCAS', 'STOS')
+        return any(prefix in REPEATS for prefix in self.prefixes) and self.row.names[0][:4] in ('CMPS', 'LODS', 'MOVS', 'SCAS', 'STOS')
 
 
 def table(page: str, head: str) -> list[list[str]]:
     """The cells of a page's table whose first line begins so."""
     lines = page.partition(f'\n{head}')[2].partition('\n\n')[0].splitlines()[2:]
-    return [it[1:-1].split('|') for it in lines]
+    return [line[1:-1].split('|') for line in lines]
 
 
 def parted(cell: str, count: int) -> list[str]:
@@ -79,7 +79,7 @@ def expanded(row: Row, forms: list[list[str]], k: str) -> list[Row]:
         mine = re.search(rf', {row.names[0]} (.*)', clocks)
         first, _, memory = re.sub(r', [A-Z]+ .*', '', clocks).partition('; ')
         clocks = '; '.join(filter(None, (first, mine[1] if mine else memory)))
-        octets = re.sub(r'([0-9A-F]{2})h\+8k', lambda it: f'{int(it[1], 16) + 8 * int(k):02X}h', octets)
+        octets = re.sub(r'([0-9A-F]{2})h\+8k', lambda match: f'{int(match[1], 16) + 8 * int(k):02X}h', octets)
         found.append(replace(row, operands=operands, octets=octets.replace('/k', f'/{k}'), clocks=clocks))
     return found
 
@@ -129,12 +129,12 @@ def by_opcode() -> dict[tuple[int, int | None], Row]:
     """The rows by opcode, and by the digit of the second byte if that names one."""
     found = dict[tuple[int, int | None], Row]()
     for row in rows():
-        told = BYTES.match(row.octets)
-        assert told, row
-        step, count = WAYS.get(told[2], (1, 1))
+        shape = BYTES.match(row.octets)
+        assert shape, row
+        step, count = WAYS.get(shape[2], (1, 1))
         for number in range(count):
-            digit = int(told[3]) if told[3] and told[3].isdigit() else None
-            found.setdefault((int(told[1], 16) + step * number, digit), row)
+            digit = int(shape[3]) if shape[3] and shape[3].isdigit() else None
+            found.setdefault((int(shape[1], 16) + step * number, digit), row)
     return found
 
 
@@ -157,7 +157,7 @@ def by_name() -> dict[str, list[Row]]:
     """The rows by mnemonic."""
     found = dict[str, list[Row]]()
     for row in rows():
-        for name in dict.fromkeys(it.partition(' ')[0] for it in row.names):
+        for name in dict.fromkeys(full_name.partition(' ')[0] for full_name in row.names):
             found.setdefault(name, []).append(row)
     return found
 

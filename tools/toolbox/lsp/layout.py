@@ -15,33 +15,33 @@ def padded(text: str, column: int) -> str:
     return text + ' ' * max(column - len(text), 1)
 
 
-def statement_of(line: str, it: Parsed) -> str:
+def statement_of(line: str, parts: Parsed) -> str:
     """The statement, with one space after its mnemonic and prefixes."""
-    first = it.prefixes[0] if it.prefixes else it.statement
-    code = [token for token in it.tokens if token.kind != 'comment' and first and token.start >= first.start]
-    if not code or it.statement is None:
+    first = parts.prefixes[0] if parts.prefixes else parts.statement
+    code = [token for token in parts.tokens if token.kind != 'comment' and first and token.start >= first.start]
+    if not code or parts.statement is None:
         return line[code[0].start : code[-1].end] if code else ''
-    told = ' '.join(token.text + ':' * (token.kind == 'register') for token in it.prefixes)
-    operands = line[it.operands[0].start : it.operands[-1].end] if it.operands else ''
-    return ' '.join(filter(None, (told, it.statement.text, operands)))
+    prefixes = ' '.join(token.text + ':' * (token.kind == 'register') for token in parts.prefixes)
+    operands = line[parts.operands[0].start : parts.operands[-1].end] if parts.operands else ''
+    return ' '.join(filter(None, (prefixes, parts.statement.text, operands)))
 
 
-def laid_out(line: str, it: Parsed) -> str:
+def laid_out(line: str, parts: Parsed) -> str:
     """A line in its columns."""
-    has_open_text = any(token.kind == 'text' and (len(token.text) < 2 or not token.text.endswith("'")) for token in it.tokens)
-    if has_open_text or it.comment and len(it.tokens) == 1:
+    has_open_text = any(token.kind == 'text' and (len(token.text) < 2 or not token.text.endswith("'")) for token in parts.tokens)
+    if has_open_text or parts.comment and len(parts.tokens) == 1:
         return line
-    statement, head = statement_of(line, it), f'{it.label.text}:' if it.label else ''
-    if it.defined and it.defined[0] == CONSTANT:
-        head = f'{head} {it.defined[1].text}'.lstrip()
-    elif it.does('SEGMENT', 'ENDS') and not it.label:
-        return with_comment(statement, it)
-    return with_comment(padded(head, STATEMENT) + statement if statement else head, it)
+    statement, head = statement_of(line, parts), f'{parts.label.text}:' if parts.label else ''
+    if parts.defined and parts.defined[0] == CONSTANT:
+        head = f'{head} {parts.defined[1].text}'.lstrip()
+    elif parts.does('SEGMENT', 'ENDS') and not parts.label:
+        return with_comment(statement, parts)
+    return with_comment(padded(head, STATEMENT) + statement if statement else head, parts)
 
 
-def with_comment(code: str, it: Parsed) -> str:
+def with_comment(code: str, parts: Parsed) -> str:
     """The code with the line's comment."""
-    return padded(code, COMMENT) + it.comment.text if it.comment else code.rstrip()
+    return padded(code, COMMENT) + parts.comment.text if parts.comment else code.rstrip()
 
 
 def edits(document: Document, first: int, last: int) -> list[Fields]:
@@ -65,5 +65,5 @@ def formatting(document: Document, _: Fields) -> list[Fields]:
 def range_formatting(document: Document, asked: Fields) -> list[Fields]:
     """What lays out the lines of a range."""
     span = want(asked, 'range', dict)
-    first, last = (document.text.place(span.get(it)) for it in ('start', 'end'))
+    first, last = (document.text.place(span.get(edge)) for edge in ('start', 'end'))
     return edits(document, first[0], last[0] - (last[1] == 0 and last[0] > first[0]))

@@ -55,13 +55,13 @@ class Parsed:
     @property
     def names(self) -> list[Token]:
         """All names, those that it defines too."""
-        return [it for it in self.tokens if it.kind == 'name']
+        return [token for token in self.tokens if token.kind == 'name']
 
     @property
     def uses(self) -> list[Token]:
         """The names that it doesn't define."""
         own = [name for _, name in self.definitions]
-        return [it for it in self.names if it not in own]
+        return [name for name in self.names if name not in own]
 
     def does(self, *words: str) -> bool:
         """Whether its statement is one of these."""
@@ -69,18 +69,18 @@ class Parsed:
 
     def at(self, column: int) -> Token | None:
         """The token at a column, or the word that ends there."""
-        found = [it for it in self.tokens if it.start <= column <= it.end]
-        return next((it for it in found if column < it.end and it.kind != 'sign'), found[0] if found else None)
+        found = [token for token in self.tokens if token.start <= column <= token.end]
+        return next((token for token in found if column < token.end and token.kind != 'sign'), found[0] if found else None)
 
     def groups(self) -> list[tuple[Token, ...]]:
         """The operands, as the commas part them."""
         found: list[list[Token]] = [[]]
-        for it in self.operands:
-            if it.text == ',':
+        for token in self.operands:
+            if token.text == ',':
                 found.append([])
             else:
-                found[-1].append(it)
-        return [tuple(it) for it in found] if self.operands else []
+                found[-1].append(token)
+        return [tuple(group) for group in found] if self.operands else []
 
 
 def kind_of(found: re.Match[str]) -> str:
@@ -92,14 +92,14 @@ def kind_of(found: re.Match[str]) -> str:
 @functools.lru_cache(maxsize=1 << 16)
 def parsed(line: str) -> Parsed:
     """A line without its end."""
-    tokens = tuple(Token(kind_of(it), it[0], it.start()) for it in TOKEN.finditer(line))
-    rest = [it for it in tokens if it.kind != 'comment']
+    tokens = tuple(Token(kind_of(match), match[0], match.start()) for match in TOKEN.finditer(line))
+    rest = [token for token in tokens if token.kind != 'comment']
     label = rest[0] if len(rest) > 1 and rest[0].kind == 'name' and rest[1].text == ':' else None
     rest = rest[2:] if label else rest
     at = 0
     while at < len(rest) and (rest[at].kind == 'prefix' or rest[at].key in SEGMENT_REGISTERS):
         at += 2 if rest[at].kind == 'register' else 1
-    prefixes, rest = tuple(it for it in rest[:at] if it.text != ':'), rest[at:]
+    prefixes, rest = tuple(token for token in rest[:at] if token.text != ':'), rest[at:]
     if len(rest) > 1 and rest[0].kind == 'name' and rest[1].key == 'EQU':
         return Parsed(tokens, label, (CONSTANT, rest[0]), prefixes, rest[1], tuple(rest[2:]))
     defined = (SEGMENT, rest[1]) if len(rest) > 1 and rest[0].key == 'SEGMENT' and rest[1].kind == 'name' else None

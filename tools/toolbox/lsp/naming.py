@@ -38,14 +38,14 @@ def references(document: Document, asked: Fields) -> list[Fields]:
         return []
     with_definitions = want(want(asked, 'context', dict, {}), 'includeDeclaration', bool, False)
     lines = document.source.lines
-    defines = [(number, it) for number, it in document.source.places[name.key] if it in [own for _, own in lines[number].definitions]]
-    return [location(document, *it) for it in document.source.places[name.key] if with_definitions or it not in defines]
+    defines = [(number, token) for number, token in document.source.places[name.key] if token in [own for _, own in lines[number].definitions]]
+    return [location(document, *place) for place in document.source.places[name.key] if with_definitions or place not in defines]
 
 
 def highlights(document: Document, asked: Fields) -> list[Fields]:
     """Each place of the name in this document."""
     name = named(document, asked)
-    return [{'range': document.text.range(line, it.start, it.end)} for line, it in document.source.places[name.key]] if name else []
+    return [{'range': document.text.range(line, token.start, token.end)} for line, token in document.source.places[name.key]] if name else []
 
 
 def renamed_at(document: Document, asked: Fields) -> Fields:
@@ -65,7 +65,7 @@ def rename(document: Document, asked: Fields) -> Fields:
     if why := unfit(document, name, new):
         raise Unfit(why, FAILED)
     places = document.source.places[name.key]
-    return {'changes': {document.uri: [{'range': document.text.range(line, it.start, it.end), 'newText': new} for line, it in places]}}
+    return {'changes': {document.uri: [{'range': document.text.range(line, token.start, token.end), 'newText': new} for line, token in places]}}
 
 
 def unfit(document: Document, name: Token, new: str) -> str:

@@ -15,37 +15,37 @@ NAMESPACE, FUNCTION, VARIABLE, CONSTANT_SYMBOL = 3, 12, 13, 14
 MOST_FILES, LONGEST_FILE, MOST_FOUND = 500, 1 << 20, 1000
 
 
-def symbol_kind(source: Source, it: Definition) -> int:
+def symbol_kind(source: Source, definition: Definition) -> int:
     """What the protocol calls a name."""
-    if it.kind == LABEL:
-        return VARIABLE if source.is_data[it.line] else FUNCTION
-    return NAMESPACE if it.kind == SEGMENT else CONSTANT_SYMBOL
+    if definition.kind == LABEL:
+        return VARIABLE if source.is_data[definition.line] else FUNCTION
+    return NAMESPACE if definition.kind == SEGMENT else CONSTANT_SYMBOL
 
 
-def symbol(document: Document, it: Definition, last: int, children: list[Fields]) -> Fields:
+def symbol(document: Document, definition: Definition, last: int, children: list[Fields]) -> Fields:
     """A name with the lines that belong to it."""
     text = document.text
-    told = {'name': it.name.text, 'kind': symbol_kind(document.source, it), 'range': text.lines_range(it.line, last)}
-    return told | {'selectionRange': text.range(it.line, it.name.start, it.name.end), 'children': children}
+    entry = {'name': definition.name.text, 'kind': symbol_kind(document.source, definition), 'range': text.lines_range(definition.line, last)}
+    return entry | {'selectionRange': text.range(definition.line, definition.name.start, definition.name.end), 'children': children}
 
 
 def document_symbols(document: Document, _: Fields) -> list[Fields]:
     """The segments with their labels, and beside them the constants and what is in no segment."""
     source = document.source
-    labels, found, told = sorted(source.labels(), key=lambda it: it.line), list[Fields](), set[str]()
+    labels, found, keys = sorted(source.labels(), key=lambda label: label.line), list[Fields](), set[str]()
     for span in source.spans:
-        inside = [it for it in labels if span.first <= it.line <= span.last]
-        told |= {it.name.key for it in inside}
-        ends = [it.line for it in inside[1:]] + [span.last]
-        children = [symbol(document, it, max(it.line, end - 1), []) for it, end in zip(inside, ends)]
+        inside = [label for label in labels if span.first <= label.line <= span.last]
+        keys |= {label.name.key for label in inside}
+        ends = [label.line for label in inside[1:]] + [span.last]
+        children = [symbol(document, label, max(label.line, end - 1), []) for label, end in zip(inside, ends)]
         found.append(symbol(document, Definition(SEGMENT, span.first, span.name), span.last, children))
-    rest = [it for it in source.definitions.values() if it.kind != SEGMENT and it.name.key not in told]
-    return found + [symbol(document, it, it.line, []) for it in rest]
+    rest = [definition for definition in source.definitions.values() if definition.kind != SEGMENT and definition.name.key not in keys]
+    return found + [symbol(document, definition, definition.line, []) for definition in rest]
 
 
 def folds(document: Document, _: Fields) -> list[Fields]:
     """The segments, and comments of two lines or more."""
-    found = [{'startLine': it.first, 'endLine': it.last, 'kind': 'region'} for it in document.source.spans if it.last > it.first]
+    found = [{'startLine': span.first, 'endLine': span.last, 'kind': 'region'} for span in document.source.spans if span.last > span.first]
     first = None
     for number, line in enumerate([*document.source.lines, None]):
         is_comment = line is not None and len(line.tokens) == 1 and line.comment is not None
@@ -68,8 +68,8 @@ def sources_below(folders: Iterable[str]) -> Iterator[str]:
     count = 0
     for top in folders:
         for folder, inner, names in os.walk(top):
-            inner[:] = sorted(it for it in inner if not it.startswith('.'))
-            for name in sorted(it for it in names if it.lower().endswith('.asm')):
+            inner[:] = sorted(child for child in inner if not child.startswith('.'))
+            for name in sorted(file for file in names if file.lower().endswith('.asm')):
                 count += 1
                 if count > MOST_FILES:
                     return
@@ -88,20 +88,20 @@ def read(path: str) -> Source | None:
 
 def workspace_symbols(documents: Iterable[Document], folders: list[str], query: str) -> list[Fields]:
     """The names that have the query's letters in their order, of open documents and of the folders' sources."""
-    sources = {it.uri: it.source for it in documents if not it.note}
+    sources = {document.uri: document.source for document in documents if not document.note}
     for path in sources_below(folders):
         uri = Path(path).as_uri()
         source = read(path) if uri not in sources else None
         if source:
             sources[uri] = source
-    return [told for uri, source in sources.items() for told in matching(uri, source, query)][:MOST_FOUND]
+    return [entry for uri, source in sources.items() for entry in matching(uri, source, query)][:MOST_FOUND]
 
 
 def matching(uri: str, source: Source, query: str) -> Iterator[Fields]:
     """A source's names that match."""
-    for it in source.definitions.values():
-        letters = iter(it.name.key)
+    for definition in source.definitions.values():
+        letters = iter(definition.name.key)
         if all(sign in letters for sign in query.upper()):
-            span: Span | None = source.span_of(it.line) if it.kind != CONSTANT else None
-            at = {'uri': uri, 'range': source.text.range(it.line, it.name.start, it.name.end)}
-            yield {'name': it.name.text, 'kind': symbol_kind(source, it), 'location': at, 'containerName': span.name.text if span else ''}
+            span: Span | None = source.span_of(definition.line) if definition.kind != CONSTANT else None
+            at = {'uri': uri, 'range': source.text.range(definition.line, definition.name.start, definition.name.end)}
+            yield {'name': definition.name.text, 'kind': symbol_kind(source, definition), 'location': at, 'containerName': span.name.text if span else ''}

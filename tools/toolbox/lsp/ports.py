@@ -20,7 +20,7 @@ def ports() -> dict[int, str]:
     """Each port with its chip and register."""
     found = dict[int, str]()
     for numbers, what in table(read_text(f'{TOP}/docs/machine.md'), '|Port|'):
-        them = [int(it.rstrip('h'), 16) for it in numbers.split(', ') if re.fullmatch(r'[0-9A-F]+h', it)]
+        them = [int(number.rstrip('h'), 16) for number in numbers.split(', ') if re.fullmatch(r'[0-9A-F]+h', number)]
         found.update(zip(them, registers_of(what, len(them))))
     return found
 
@@ -30,16 +30,16 @@ def registers_of(what: str, count: int) -> list[str]:
     if by_line := re.fullmatch(r'(.* = )(\d) and (\d)', what):
         return [by_line[1] + by_line[2], by_line[1] + by_line[3]]
     if named := re.fullmatch(r'(\w+?)s (\w, \w, \w) of (.*)', what):
-        return [f'{named[1]} {it} of {named[3]}' for it in named[2].split(', ')]
+        return [f'{named[1]} {letter} of {named[3]}' for letter in named[2].split(', ')]
     if listed := re.fullmatch(r'(.*): (.*)', what):
-        return [f'{listed[1]}, {it}' for it in listed[2].split(', ')]
+        return [f'{listed[1]}, {part}' for part in listed[2].split(', ')]
     return [{'its control register': 'control register of the parallel port'}.get(what, what)] * count
 
 
 @functools.cache
 def modes() -> dict[int, str]:
     """The timer's modes by their names."""
-    return {int(it[0].partition(', ')[0]): it[0].partition(', ')[2] for it in table(read_text(f'{TOP}/docs/chips.md'), '|Mode|Counts while|')}
+    return {int(row[0].partition(', ')[0]): row[0].partition(', ')[2] for row in table(read_text(f'{TOP}/docs/chips.md'), '|Mode|Counts while|')}
 
 
 def timer_word(byte: int) -> str:
@@ -56,12 +56,12 @@ def timer_word(byte: int) -> str:
 def command_word(byte: int) -> str:
     """ICW1, OCW2 or OCW3 of the interrupt controller."""
     if byte & 0x10:
-        told = [('no ICW4', 'ICW4 comes')[byte & 1], ('slaves, so ICW3 comes', 'no slaves')[byte >> 1 & 1], ('edges', 'levels')[byte >> 3 & 1]]
-        return f'ICW1: {", ".join(told)}'
+        parts = [('no ICW4', 'ICW4 comes')[byte & 1], ('slaves, so ICW3 comes', 'no slaves')[byte >> 1 & 1], ('edges', 'levels')[byte >> 3 & 1]]
+        return f'ICW1: {", ".join(parts)}'
     if byte & 8:
-        told = {2: ['special mask mode off'], 3: ['special mask mode on']}.get(byte >> 5 & 3, [])
-        told += {2: ['reads give the requests'], 3: ['reads give the levels in service']}.get(byte & 3, []) + (['a poll'] if byte & 4 else [])
-        return f'OCW3: {", ".join(told) or "nothing"}'
+        parts = {2: ['special mask mode off'], 3: ['special mask mode on']}.get(byte >> 5 & 3, [])
+        parts += {2: ['reads give the requests'], 3: ['reads give the levels in service']}.get(byte & 3, []) + (['a poll'] if byte & 4 else [])
+        return f'OCW3: {", ".join(parts) or "nothing"}'
     return f'OCW2: {OCW2[byte >> 5].format(byte & 7)}'
 
 
@@ -78,7 +78,7 @@ def mask_word(byte: int, before: list[tuple[int, int]]) -> str:
                 'ICW3': 'ICW3: without effect, since there are no slaves',
                 'ICW4': f'ICW4: {"8086 mode" if byte & 1 else "not in 8086 mode"}{", automatic end of interrupt" if byte & 2 else ""}',
             }[sequence[place]]
-    masked = ' '.join(f'IR{it}' for it in range(LEVELS) if byte >> it & 1)
+    masked = ' '.join(f'IR{level}' for level in range(LEVELS) if byte >> level & 1)
     return f'OCW1, outside a sequence: masks {masked or "none"}'
 
 
@@ -92,9 +92,9 @@ def parallel_word(byte: int) -> str:
 
 def speaker_word(byte: int) -> str:
     """Port B's lines."""
-    told = [f'gate 2 is {byte & 1}', f'OUT2 {"goes" if byte & 2 else "does not go"} to the speaker']
-    told += [f'the switches by line 2: {byte >> 2 & 1}', f'the keyboard {"sends" if byte & 0x40 else "sends nothing"}']
-    return ', '.join(told + (['its latch is emptied'] if byte & 0x80 else []))
+    parts = [f'gate 2 is {byte & 1}', f'OUT2 {"goes" if byte & 2 else "does not go"} to the speaker']
+    parts += [f'the switches by line 2: {byte >> 2 & 1}', f'the keyboard {"sends" if byte & 0x40 else "sends nothing"}']
+    return ', '.join(parts + (['its latch is emptied'] if byte & 0x80 else []))
 
 
 def written(port: int, byte: int, before: list[tuple[int, int]]) -> str:

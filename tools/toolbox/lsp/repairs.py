@@ -33,11 +33,11 @@ REWRITES: tuple[tuple[str, str], ...] = (
 )
 
 
-def sized(source: Source, line: str, it: Parsed) -> Iterator[str]:
+def sized(source: Source, line: str, parts: Parsed) -> Iterator[str]:
     """The line with a size before its memory, the size of the label's data first, and with brackets around a name that is its operand."""
-    names = [source.definitions.get(token.key) for token in it.uses]
+    names = [source.definitions.get(token.key) for token in parts.uses]
     data = [source.lines[name.line] for name in names if name]
-    sizes = ('BYTE', 'WORD') if any(it.does('DB') for it in data) else ('WORD', 'BYTE')
+    sizes = ('BYTE', 'WORD') if any(datum.does('DB') for datum in data) else ('WORD', 'BYTE')
     name = re.fullmatch(r'(\s*(?:\w+\s*:)?\s*\w+\s+)([A-Za-z_]\w*)(\s*)', line)
     for size in sizes:
         if name and name[2].upper() in source.definitions:
@@ -49,10 +49,10 @@ def sized(source: Source, line: str, it: Parsed) -> Iterator[str]:
             yield f'{line[:at]}{size} {line[at:]}'
 
 
-def spelt(source: Source, line: str, it: Parsed) -> Iterator[str]:
+def spelt(source: Source, line: str, parts: Parsed) -> Iterator[str]:
     """The line with a mnemonic or a name that resembles what it has."""
-    words = [it.statement] if it.statement and it.statement.kind == 'name' else []
-    for token, known in [(token, sorted(STATEMENTS)) for token in words] + [(token, list(source.definitions)) for token in it.uses if token not in words]:
+    words = [parts.statement] if parts.statement and parts.statement.kind == 'name' else []
+    for token, known in [(token, sorted(STATEMENTS)) for token in words] + [(token, list(source.definitions)) for token in parts.uses if token not in words]:
         if token.key in source.definitions and token not in words:
             continue
         for meant in difflib.get_close_matches(token.key, [word for word in known if word != token.key], 3, 0.6):
@@ -62,12 +62,12 @@ def spelt(source: Source, line: str, it: Parsed) -> Iterator[str]:
 
 def candidates(source: Source, number: int) -> Iterator[str]:
     """Other lines for a line, its comment kept."""
-    it, line = source.lines[number], source.text.lines[number]
-    end = it.comment.start if it.comment else len(line)
+    parts, line = source.lines[number], source.text.lines[number]
+    end = parts.comment.start if parts.comment else len(line)
     code, rest = line[:end], line[end:]
     rewritten = code
     for look, new in REWRITES:
-        if "'" in rewritten and '"' not in look and not it.does(*DATA):
+        if "'" in rewritten and '"' not in look and not parts.does(*DATA):
             continue
         is_word = re.match(r'\s*(\w+)', rewritten)
         if new.startswith(r'\1\2:') and is_word and is_word[1].upper() in kinds():
@@ -77,5 +77,5 @@ def candidates(source: Source, number: int) -> Iterator[str]:
             yield after + rest
             rewritten = after
     for way in (sized, spelt):
-        for after in way(source, code, it):
+        for after in way(source, code, parts):
             yield after + rest

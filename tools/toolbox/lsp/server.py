@@ -70,7 +70,7 @@ class Server:
         self.waiting = deque[Read]()
         self.documents, self.folders, self.settings = dict[str, Document](), list[str](), Settings()
         self.due = dict[str, list[Fields] | None]()  # documents that are being judged, with what was told last of this text
-        self.client, self.is_begun, self.is_shut, self.is_over, self.told = 0, False, False, False, ''
+        self.client, self.is_begun, self.is_shut, self.is_over, self.logged = 0, False, False, False, ''
 
     def serve(self) -> int:
         """Answers messages until the client leaves, and gives the exit status."""
@@ -104,9 +104,9 @@ class Server:
             raise Left
         if isinstance(message, dict) and message.get('method') == '$/cancelRequest':
             number = message['params'].get('id') if isinstance(message.get('params'), dict) else None
-            for it in self.waiting:
-                if isinstance(it, dict) and 'method' in it and number is not None and it.get('id') == number:
-                    it['method'] = '$/cancelled'
+            for queued in self.waiting:
+                if isinstance(queued, dict) and 'method' in queued and number is not None and queued.get('id') == number:
+                    queued['method'] = '$/cancelled'
         else:
             self.waiting.append(message)
 
@@ -148,8 +148,8 @@ class Server:
         except (Left, BrokenPipeError):
             raise
         except Exception as error:  # pylint: disable=broad-exception-caught
-            told = f"{message['method']} can't be answered: {type(error).__name__}: {error}"
-            self.fail(Unfit(told, INTERNAL), number, is_request)
+            why = f"{message['method']} can't be answered: {type(error).__name__}: {error}"
+            self.fail(Unfit(why, INTERNAL), number, is_request)
 
     def fail(self, unfit: Unfit, number: Any, is_request: bool) -> None:
         """Tells why a message does nothing: as the answer if it wants one, else in the client's log."""
@@ -160,8 +160,8 @@ class Server:
 
     def log(self, text: str) -> None:
         """Tells the client's log, once."""
-        if text != self.told:
-            self.told = text
+        if text != self.logged:
+            self.logged = text
             self.write({'method': 'window/logMessage', 'params': {'type': LOG_ERROR, 'message': text}})
 
     def answer(self, method: str, asked: Fields, is_request: bool) -> Any:
@@ -202,8 +202,8 @@ class Server:
         client = asked.get('processId')
         self.client = client if isinstance(client, int) and 0 < client <= MOST else 0
         given = asked.get('workspaceFolders')
-        roots = [it.get('uri') for it in given] if isinstance(given, list) else [asked.get('rootUri')]
-        self.folders = [path for it in roots if isinstance(it, str) and (path := outline.path_of(it))]
+        roots = [folder.get('uri') for folder in given] if isinstance(given, list) else [asked.get('rootUri')]
+        self.folders = [path for root in roots if isinstance(root, str) and (path := outline.path_of(root))]
         self.settings = Settings.of(asked.get('initializationOptions'))
         return {'capabilities': CAPABILITIES, 'serverInfo': {'name': 'zebludor'}}
 
@@ -218,9 +218,9 @@ class Server:
         if not isinstance(given, dict) or not isinstance(given.get(OWN), dict):
             return
         self.settings = Settings.of(given)
-        for it in self.documents.values():
-            it.set(self.settings)
-            self.due[it.uri] = None
+        for document in self.documents.values():
+            document.set(self.settings)
+            self.due[document.uri] = None
 
     # Documents
 
@@ -265,12 +265,12 @@ class Server:
 
     def judge_on(self, uri: str) -> None:
         """A piece of that: the first refused line is told at once, the others together."""
-        document, told = self.documents[uri], self.due[uri]
+        document, published = self.documents[uri], self.due[uri]
         answers = document.answers
-        if told is None and not document.note:
+        if published is None and not document.note:
             if not answers.is_over and not answers.refused:
                 answers.step()
-            refused = [diagnosing.of_a_fault(document, *it) for it in answers.refused]
+            refused = [diagnosing.of_a_fault(document, *refusal) for refusal in answers.refused]
             self.due[uri] = refused
             self.publish(document, refused)
         elif not document.note and not answers.is_over:
@@ -278,16 +278,16 @@ class Server:
         else:
             del self.due[uri]
             found = diagnosing.diagnostics(document)
-            if found != told:
+            if found != published:
                 self.publish(document, found)
             if answers.broken:
                 self.log(answers.broken)
 
     def publish(self, document: Document, found: list[Fields]) -> None:
         """Tells what is underlined."""
-        told: Fields = {'uri': document.uri, 'diagnostics': found}
+        params: Fields = {'uri': document.uri, 'diagnostics': found}
         version = {'version': document.version} if document.version is not None else {}
-        self.write({'method': 'textDocument/publishDiagnostics', 'params': told | version})
+        self.write({'method': 'textDocument/publishDiagnostics', 'params': params | version})
 
     REQUESTS: dict[str, Callable[[Server, Fields], Any]] = {'initialize': initialize, 'shutdown': shutdown, 'workspace/symbol': workspace_symbols}
     NOTIFICATIONS: dict[str, Callable[[Server, Fields], None]] = {

@@ -32,7 +32,7 @@ class Source:
 
     def __init__(self, text: Text) -> None:
         self.text = text
-        self.lines: list[Parsed] = [parsed(it) for it in text.lines]
+        self.lines: list[Parsed] = [parsed(line) for line in text.lines]
         if text.whole.startswith('\ufeff'):
             self.lines[0] = parsed(text.lines[0].replace('\ufeff', ' ', 1))
 
@@ -50,8 +50,8 @@ class Source:
         """Where each name stands, by the name in upper case."""
         found = dict[str, list[tuple[int, Token]]]()
         for number, line in enumerate(self.lines):
-            for it in line.names:
-                found.setdefault(it.key, []).append((number, it))
+            for name in line.names:
+                found.setdefault(name.key, []).append((number, name))
         return found
 
     @cached_property
@@ -69,7 +69,7 @@ class Source:
 
     def span_of(self, line: int) -> Span | None:
         """The segment that a line is in."""
-        return next((it for it in self.spans if it.first <= line <= it.last), None)
+        return next((span for span in self.spans if span.first <= line <= span.last), None)
 
     def named(self, line: int, column: int) -> Token | None:
         """The name at a place, if it is one that the source defines."""
@@ -80,8 +80,8 @@ class Source:
     def is_data(self) -> list[bool]:
         """Of each line whether it, or else the next one that does something, places data."""
         found, last = list[bool](), False
-        for it in reversed(self.lines):
-            last = it.does(*DATA) if it.statement else last
+        for line in reversed(self.lines):
+            last = line.does(*DATA) if line.statement else last
             found.append(last)
         return found[::-1]
 
@@ -103,7 +103,7 @@ class Source:
 
     def labels(self) -> list[Definition]:
         """The labels in their order."""
-        return [it for it in self.definitions.values() if it.kind == LABEL]
+        return [definition for definition in self.definitions.values() if definition.kind == LABEL]
 
 
 def number_in(token: Token) -> int | None:
@@ -119,11 +119,11 @@ def number_in(token: Token) -> int | None:
 def value_of(tokens: tuple[Token, ...], names: dict[str, int]) -> int | None:
     """The value of terms joined by + and -, perhaps after a -; None if a term is no number and none of these names."""
     total, sign, is_wanted = 0, 1, True
-    for at, it in enumerate(tokens):
-        if it.text in ('+', '-') and (not is_wanted or at == 0 and it.text == '-'):
-            sign, is_wanted = (1 if it.text == '+' else -1), True
+    for at, token in enumerate(tokens):
+        if token.text in ('+', '-') and (not is_wanted or at == 0 and token.text == '-'):
+            sign, is_wanted = (1 if token.text == '+' else -1), True
             continue
-        term = names.get(it.key) if it.kind == 'name' else number_in(it) if it.kind in ('number', 'text') else None
+        term = names.get(token.key) if token.kind == 'name' else number_in(token) if token.kind in ('number', 'text') else None
         if term is None or not is_wanted:
             return None
         total, is_wanted = total + sign * term, False

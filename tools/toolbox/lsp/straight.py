@@ -18,10 +18,10 @@ def above(source: Source, line: int) -> Iterator[int]:
     for at in range(line, max(line - MOST_LINES, 0), -1):
         if source.lines[at].label:
             return
-        it = source.lines[at - 1]
-        if it.statement is None:
+        parts = source.lines[at - 1]
+        if parts.statement is None:
             continue
-        if it.does(*LEAVING) or it.statement.kind == 'directive':
+        if parts.does(*LEAVING) or parts.statement.kind == 'directive':
             return
         yield at - 1
 
@@ -39,15 +39,15 @@ def touches(first: str, register: str) -> bool:
 def held(source: Source, line: int, register: str) -> int | None:
     """The constant that a register holds before a line, or None if that isn't known."""
     for at in above(source, line):
-        it = source.lines[at]
-        groups = it.groups()
-        if it.does(*KEEPING) or not groups and not it.does(*NO_OPERANDS_AX):
+        parts = source.lines[at]
+        groups = parts.groups()
+        if parts.does(*KEEPING) or not groups and not parts.does(*NO_OPERANDS_AX):
             continue
         first = register_in(groups[0]) if groups else ''
-        if it.does(*NO_OPERANDS_AX) or it.does('XCHG') and touches(register_in(groups[-1]), register):
+        if parts.does(*NO_OPERANDS_AX) or parts.does('XCHG') and touches(register_in(groups[-1]), register):
             return None
         if touches(first, register):
-            value = source.value(groups[1]) if it.does('MOV') and len(groups) == 2 else None
+            value = source.value(groups[1]) if parts.does('MOV') and len(groups) == 2 else None
             if value is None or first != register and register not in HALVES.get(first, ()):
                 return None
             value = value >> 8 if first != register and register.endswith('H') else value
@@ -57,10 +57,10 @@ def held(source: Source, line: int, register: str) -> int | None:
 
 def port_of(source: Source, line: int) -> int | None:
     """The port that a line's IN or OUT names, in its number or in DX."""
-    it, groups = source.lines[line], source.lines[line].groups()
-    if not it.does('IN', 'OUT') or len(groups) != 2:
+    parts, groups = source.lines[line], source.lines[line].groups()
+    if not parts.does('IN', 'OUT') or len(groups) != 2:
         return None
-    operand = groups[0] if it.does('OUT') else groups[1]
+    operand = groups[0] if parts.does('OUT') else groups[1]
     return held(source, line, 'DX') if register_in(operand) == 'DX' else source.value(operand)
 
 
@@ -77,4 +77,4 @@ def bytes_out(source: Source, line: int) -> list[tuple[int, int]]:
 
 def bytes_before(source: Source, line: int) -> list[tuple[int, int]]:
     """The ports and bytes that the lines above write, in their order, as far as they are known."""
-    return [it for at in reversed(list(above(source, line))) if source.lines[at].does('OUT') for it in bytes_out(source, at)]
+    return [pair for at in reversed(list(above(source, line))) if source.lines[at].does('OUT') for pair in bytes_out(source, at)]

@@ -17,7 +17,7 @@ Place = tuple[int, int]  # a line and a column in characters, both from 0
 @functools.lru_cache(maxsize=1 << 12)
 def wide(line: str) -> list[int]:
     """The columns of a line's characters that take two UTF-16 units."""
-    return [] if line.isascii() else [at for at, it in enumerate(line) if it > '\uffff']
+    return [] if line.isascii() else [at for at, sign in enumerate(line) if sign > '\uffff']
 
 
 def units(line: str, column: int) -> int:
@@ -49,8 +49,8 @@ class Text:
     def of(whole: str) -> Text:
         """A text by its characters."""
         ends = list(END.finditer(whole))
-        starts = [0, *(it.end() for it in ends)]
-        return Text(whole, [whole[a:b] for a, b in zip(starts, [*(it.start() for it in ends), len(whole)])], starts)
+        starts = [0, *(end.end() for end in ends)]
+        return Text(whole, [whole[a:b] for a, b in zip(starts, [*(end.start() for end in ends), len(whole)])], starts)
 
     def place(self, position: Any) -> Place:
         """A position of the protocol. One past the end of its line, or of the text, is that end."""
@@ -87,12 +87,12 @@ class Text:
             raise Unfit('a range ends before it begins')
         return Text.of(self.whole[:first] + new + self.whole[last:])
 
-    def line_of(self, told: int) -> int:
+    def line_of(self, program_line: int) -> int:
         """The line, from 0, of one that the program tells: it counts from 1, and by LF alone."""
         if '\r' not in self.whole:
-            return min(told - 1, len(self.lines) - 1)
+            return min(program_line - 1, len(self.lines) - 1)
         at = 0
-        for _ in range(told - 1):
+        for _ in range(program_line - 1):
             at = self.whole.find('\n', at) + 1
             if not at:
                 return len(self.lines) - 1

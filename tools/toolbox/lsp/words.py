@@ -30,4 +30,4 @@ def kinds() -> dict[str, str]:
 
 def words_of(kind: str) -> list[str]:
     """All words of a kind."""
-    return [word for word, it in kinds().items() if it == kind]
+    return [word for word, own in kinds().items() if own == kind]
