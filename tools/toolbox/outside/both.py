@@ -50,4 +50,4 @@ def kept(port: int) -> bytes:
 
 def with_bytes(image: Image, at: int, octets: bytes) -> None:
     """Puts bytes into an image, from an address on."""
-    image.update((at + it, octet) for it, octet in enumerate(octets))
+    image.update((at + n, octet) for n, octet in enumerate(octets))

@@ -15,7 +15,7 @@ from toolbox.outside.sequences import Kind
 SHOWN = 10  # differences that are told in full
 
 
-def told(text: str) -> None:
+def tell(text: str) -> None:
     """Prints a line at once."""
     print(text, flush=True)
 
@@ -25,7 +25,7 @@ def of_screens(program: str, _seed: int, _count: int) -> bool:
     are_alike = True
     for name in screens.names():
         is_alike, line = screens.compared(program, name)
-        told(f'  {line}')
+        tell(f'  {line}')
         are_alike = are_alike and is_alike
     return are_alike
 
@@ -37,18 +37,20 @@ def of_instructions(program: str, seed: int, count: int) -> bool:
 
 def instructions_alike(name: str, run_there: Callable[[Image, list[Case]], Answer], flaws: tuple[Flaw, ...], random_cases: list[Case]) -> bool:
     """Random instructions, and the witnesses of what is listed."""
-    made = [it.witness for it in flaws] + random_cases
+    made = [flaw.witness for flaw in flaws] + random_cases
     found = instructions.differences(name, run_there, made)
-    strange = [it for it in found if instruction_flaws.unexplained(it, flaws)]
-    for it in strange[:SHOWN]:
-        told(f'  {it.case.name}: {bytes(it.case.prefixes + list(it.case.code)).hex(" ").upper()} differs in {", ".join(it.places)}')
-        told(f'    found {values(it.case.registers)} FL={it.case.flags | 0xF002:04X} SP={it.case.stack:04X}')
-        told(f'    here  {values(instructions.registers_in(it.here))}')
-        told(f'    {name:5} {values(instructions.registers_in(it.there))}')
-    shown = Counter(flaw.name for it in found for flaw in flaws if flaw.holds(it.case) and flaw.where & set(it.places))
-    gone = [it.name for it in flaws if not any(it.witness is that.case for that in found)]
-    told(f'  {len(made):,} cases, {len(found):,} differ, {len(strange):,} of them by nothing that is listed')
-    tell_flaws([(it.name, it.why, shown[it.name]) for it in flaws], gone)
+    strange = [difference for difference in found if instruction_flaws.unexplained(difference, flaws)]
+    for difference in strange[:SHOWN]:
+        tell(
+            f'  {difference.case.name}: {bytes(difference.case.prefixes + list(difference.case.code)).hex(" ").upper()} differs in {", ".join(difference.places)}'
+        )
+        tell(f'    found {values(difference.case.registers)} FL={difference.case.flags | 0xF002:04X} SP={difference.case.stack:04X}')
+        tell(f'    here  {values(instructions.registers_in(difference.here))}')
+        tell(f'    {name:5} {values(instructions.registers_in(difference.there))}')
+    shown = Counter(flaw.name for difference in found for flaw in flaws if flaw.holds(difference.case) and flaw.where & set(difference.places))
+    gone = [flaw.name for flaw in flaws if not any(flaw.witness is that.case for that in found)]
+    tell(f'  {len(made):,} cases, {len(found):,} differ, {len(strange):,} of them by nothing that is listed')
+    tell_flaws([(flaw.name, flaw.why, shown[flaw.name]) for flaw in flaws], gone)
     return not strange and not gone
 
 
@@ -56,24 +58,24 @@ def of_unicorn(library: unicorn.Library, seed: int, count: int) -> bool:
     """Random instructions on Unicorn."""
 
     def run_there(image: Image, made: list[Case]) -> Answer:
-        with unicorn.processor(library) as it:
-            return unicorn.run(it, image, made)
+        with unicorn.processor(library) as processor:
+            return unicorn.run(processor, image, made)
 
     return instructions_alike('Unicorn', run_there, unicorn_flaws.FLAWS, unicorn.cases(seed, count))
 
 
 def of_texts(program: str, seed: int, count: int) -> bool:
     """The texts of random instructions, and of the witnesses of what is listed, by ndisasm."""
-    made = [it.witness for it in nasm.FLAWS] + nasm.cases(seed, count)
+    made = [flaw.witness for flaw in nasm.FLAWS] + nasm.cases(seed, count)
     found = nasm.differences(program, made)
-    strange = [it for it in found if not nasm.known(it.octets)]
-    for it in strange[:SHOWN]:
-        told(f'  {it.octets.hex(" ").upper()} is {it.here} here, and {it.there} there')
-    shown = Counter(name for it in found for name in nasm.known(it.octets))
-    different = {it.octets for it in found}
-    gone = [it.name for it in nasm.FLAWS if it.witness not in different]
-    told(f'  {len(made):,} instructions, {len(found):,} differ, {len(strange):,} of them by nothing that is listed')
-    tell_flaws([(it.name, it.why, shown[it.name]) for it in nasm.FLAWS], gone)
+    strange = [difference for difference in found if not nasm.known(difference.octets)]
+    for difference in strange[:SHOWN]:
+        tell(f'  {difference.octets.hex(" ").upper()} is {difference.here} here, and {difference.there} there')
+    shown = Counter(name for difference in found for name in nasm.known(difference.octets))
+    different = {difference.octets for difference in found}
+    gone = [flaw.name for flaw in nasm.FLAWS if flaw.witness not in different]
+    tell(f'  {len(made):,} instructions, {len(found):,} differ, {len(strange):,} of them by nothing that is listed')
+    tell_flaws([(flaw.name, flaw.why, shown[flaw.name]) for flaw in nasm.FLAWS], gone)
     return not strange and not gone
 
 
@@ -86,25 +88,25 @@ def of_sequences(kind: Kind, program: str, seed: int, count: int) -> bool:
     """Random sequences on a chip, held against its model without the flaws here and with all of them there."""
     made = sequences.sequences(kind, seed, count)
     found = sequences.differences(kind, program, made)
-    for it in found[:SHOWN]:
-        told(f'  {it.side}: {"; ".join(it.operations[len(kind.begin):])}')
-        told(f'    wanted {it.wanted.hex(" ").upper()}, came {it.came.hex(" ").upper()}')
-    without = {it.name: sum(changes(kind, operations, it.name) for operations in made) for it in kind.flaws}
-    told(f'  {len(made):,} sequences, {len(found):,} differ from what the rules and the list say')
-    tell_flaws([(it.name, it.why, without[it.name]) for it in kind.flaws], [name for name, times in without.items() if not times])
+    for difference in found[:SHOWN]:
+        tell(f'  {difference.side}: {"; ".join(difference.operations[len(kind.begin):])}')
+        tell(f'    wanted {difference.wanted.hex(" ").upper()}, came {difference.came.hex(" ").upper()}')
+    without = {flaw.name: sum(changes(kind, operations, flaw.name) for operations in made) for flaw in kind.flaws}
+    tell(f'  {len(made):,} sequences, {len(found):,} differ from what the rules and the list say')
+    tell_flaws([(flaw.name, flaw.why, without[flaw.name]) for flaw in kind.flaws], [name for name, times in without.items() if not times])
     return not found and all(without.values())
 
 
 def changes(kind: Kind, operations: tuple[str, ...], name: str) -> bool:
     """Whether a flaw changes what MAME answers to a sequence."""
-    flaws = frozenset(it.name for it in kind.flaws)
+    flaws = frozenset(flaw.name for flaw in kind.flaws)
     return kind.answers(operations, flaws) != kind.answers(operations, flaws - {name})
 
 
 def tell_flaws(flaws: list[tuple[str, str, int]], gone: list[str]) -> None:
     """The list, with how often each shows."""
     for name, why, times in flaws:
-        told(f'    {name}: {why}; ' + ('SHOWS NO MORE' if name in gone else f'shown by {times:,}'))
+        tell(f'    {name}: {why}; ' + ('SHOWS NO MORE' if name in gone else f'shown by {times:,}'))
 
 
 def of_controller(program: str, seed: int, count: int) -> bool:
@@ -119,15 +121,15 @@ def of_timer(program: str, seed: int, count: int) -> bool:
     """The timer's cases. MAME now and then makes an operation a tick late, so what differs is made once more, and told if it does again."""
     made = timer.cases(seed, count)
     once = timer.mame_differences(made, timer.played(program, made))
-    again = [it.case for it in once]
+    again = [difference.case for difference in once]
     twice = timer.mame_differences(again, timer.played(program, again)) if again else []
     found = timer.rule_differences(made) + twice
-    for it in found:
-        told(f'  {it.side}: {it.case.text}, {it.ahead} ticks later: wanted {it.wanted}, came {it.came}')
-    told(f'  {len(made):,} cases, {len(found):,} differ from what the rules and the list say, {len(once) - len(twice):,} did so once')
-    gone = [it.name for it in CAUSES if it.witness in {case.case.text for case in found}]
+    for difference in found:
+        tell(f'  {difference.side}: {difference.case.text}, {difference.ahead} ticks later: wanted {difference.wanted}, came {difference.came}')
+    tell(f'  {len(made):,} cases, {len(found):,} differ from what the rules and the list say, {len(once) - len(twice):,} did so once')
+    gone = [known.name for known in CAUSES if known.witness in {case.case.text for case in found}]
     for cause in CAUSES:
-        told(f'    {cause.name}: {cause.why}; ' + ('SHOWS NO MORE' if cause.name in gone else f'shown by {cause.witness}'))
+        tell(f'    {cause.name}: {cause.why}; ' + ('SHOWS NO MORE' if cause.name in gone else f'shown by {cause.witness}'))
     return not found
 
 
@@ -138,7 +140,7 @@ def compared(program: str, parts: list[str], seed: int, count: int) -> bool:
     """Whether each part is alike but for what is listed."""
     are_alike = True
     for name in parts:
-        told(name)
+        tell(name)
         with waiting(name):
             are_alike = PARTS[name](program, seed, count) and are_alike
     return are_alike

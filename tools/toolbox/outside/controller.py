@@ -22,10 +22,16 @@ PLAIN = {'high': out(0x43, 0x14) + PAUSE, 'low': out(0x43, 0x10) + PAUSE, 'STI':
 FLAWS = (
     Flaw('masked service', 'a read of the levels in service leaves out masked ones; chips.md, "Reads": it gives all', ('high', 'STI', 'mask FF')),
     Flaw('choice lost', 'OCW3 with bit 1 clear makes the next reads 0; chips.md, "OCW3": only 10 and 11 choose', ('high', 'OCW3 08', 'read')),
-    Flaw('choice kept', 'ICW1 leaves the levels in service chosen for reads; chips.md, "ICW1": it selects requests', ('OCW3 0B', 'ICW 13 40 01', 'high', 'read')),
+    Flaw(
+        'choice kept', 'ICW1 leaves the levels in service chosen for reads; chips.md, "ICW1": it selects requests', ('OCW3 0B', 'ICW 13 40 01', 'high', 'read')
+    ),
     Flaw('level forgotten', 'after ICW1 in level mode a line that is high asks no more; chips.md, "Asking": it does', ('high', 'ICW 1B 40 01')),
     Flaw('poll kept', 'a poll stays pending until the next OCW3; chips.md, "Reads": a read ends it', ('poll 0C', 'high', 'read')),
-    Flaw('slave on IR0', 'where ICW3 names a slave on IR0 the vector is 0 and the rise stays, and special fully nested mode lets it in again; chips.md, "ICW3" and "ICW4": no effect', ('ICW 11 40 01 01', 'low', 'high', 'STI')),
+    Flaw(
+        'slave on IR0',
+        'where ICW3 names a slave on IR0 the vector is 0 and the rise stays, and special fully nested mode lets it in again; chips.md, "ICW3" and "ICW4": no effect',
+        ('ICW 11 40 01 01', 'low', 'high', 'STI'),
+    ),
 )
 
 
@@ -36,7 +42,7 @@ def initialisation(chance: random.Random) -> str:
     if not is_single:
         words.append(chance.randrange(256))
     words.append(1 | chance.choice((0, 0, 2)) | chance.choice((0, 0, 0, 0x10, 8, 12)))
-    return 'ICW ' + ' '.join(f'{it:02X}' for it in words)
+    return 'ICW ' + ' '.join(f'{control:02X}' for control in words)
 
 
 def mask(chance: random.Random) -> str:
@@ -73,7 +79,7 @@ def sequence(chance: random.Random) -> tuple[str, ...]:
     """Random operations behind an initialisation."""
     made = [chance.choice(MAKERS) for _ in range(chance.randrange(4, 14))]
     first = [initialisation(chance)] if chance.random() < 0.5 else []
-    return (*first, *(it if isinstance(it, str) else it(chance) for it in made))
+    return (*first, *(operation if isinstance(operation, str) else operation(chance) for operation in made))
 
 
 def code_of(operation: str) -> bytes:
@@ -81,9 +87,9 @@ def code_of(operation: str) -> bytes:
     if operation in PLAIN:
         return PLAIN[operation]
     kind, *words = operation.split()
-    values = [int(it, 16) for it in words]
+    values = [int(digits, 16) for digits in words]
     if kind == 'ICW':
-        return out(0x20, values[0]) + b''.join(out(0x21, it) for it in values[1:])
+        return out(0x20, values[0]) + b''.join(out(0x21, value) for value in values[1:])
     return out(0x21 if kind == 'mask' else 0x20, values[0]) + (kept(0x20) if kind == 'poll' else b'')
 
 
@@ -171,7 +177,7 @@ class Controller:
     def does(self, operation: str) -> list[int]:
         """The bytes that an operation keeps."""
         kind, *words = operation.split()
-        values = [int(it, 16) for it in words if kind != 'IRR']
+        values = [int(digits, 16) for digits in words if kind != 'IRR']
         if kind in ('high', 'low'):
             self.line(kind == 'high')
         elif kind == 'ICW':
@@ -197,7 +203,7 @@ class Controller:
 def answers(operations: tuple[str, ...], flaws: frozenset[str]) -> bytes:
     """What the model answers."""
     chip = Controller(flaws)
-    return bytes(it for operation in operations for it in chip.does(operation))
+    return bytes(octet for operation in operations for octet in chip.does(operation))
 
 
 KIND = Kind('controller', BEGIN, (BOTH,), FLAWS, sequence, code_of, start, answers)

@@ -15,21 +15,39 @@ class Cause(NamedTuple):
 
 CAUSES = (
     Cause('load tick', 'each full count costs one tick more; "Loading": it is loaded at the next tick', 'C14 W01 T1'),
-    Cause('shown at once', 'a count that is to be loaded is read, and its OUT seen, before the tick that loads it; "Reading": the running count', 'C35 W00 W01 R00 C00'),
-    Cause('free running', 'modes 1, 4 and 5 count from a control word on; "Control word": nothing counts until a count is loaded', 'C22 WC8 G0 G1 T5 T3 G0 C33'),
+    Cause(
+        'shown at once',
+        'a count that is to be loaded is read, and its OUT seen, before the tick that loads it; "Reading": the running count',
+        'C35 W00 W01 R00 C00',
+    ),
+    Cause(
+        'free running', 'modes 1, 4 and 5 count from a control word on; "Control word": nothing counts until a count is loaded', 'C22 WC8 G0 G1 T5 T3 G0 C33'
+    ),
     Cause('count 1', 'in mode 2 taken as 2, in mode 3 as 0; "A load of 1"', 'C14 W01 T1'),
-    Cause('gate holds loads', 'modes 2 to 4 load nothing, and a strobe stays, while the gate is low; "Loading": whatever the gate', 'C22 R00 G0 W00 G1 G0 W03 WFF C28 T1 W00'),
-    Cause('trigger', 'a rise starts modes 1, 2 and 5 without a count; "Loading": after a full count', 'C34 WFE WFF WD0 W07 W00 C32 G0 G1 T5 WFF W7F WFF W7F T5 C00'),
+    Cause(
+        'gate holds loads',
+        'modes 2 to 4 load nothing, and a strobe stays, while the gate is low; "Loading": whatever the gate',
+        'C22 R00 G0 W00 G1 G0 W03 WFF C28 T1 W00',
+    ),
+    Cause(
+        'trigger',
+        'a rise starts modes 1, 2 and 5 without a count; "Loading": after a full count',
+        'C34 WFE WFF WD0 W07 W00 C32 G0 G1 T5 WFF W7F WFF W7F T5 C00',
+    ),
     Cause('loaded 0', 'a 0 ends modes 4 and 5 as it is loaded; "Counts": 0 is the largest', 'C18 W00 T2 W04 WED T4 W1D T2'),
     Cause('square wave', 'an odd count loses its last bit, and has its longer half once; "3, square wave"', 'C3F WFF WFF'),
     Cause('gate of mode 3', 'a rise loads nothing, and the half goes on; "In modes 2 and 3"', 'C16 W00 T3 W01 W61 T1 G0 G1'),
     Cause('short gate', 'a low gate sets OUT of modes 2 and 3 at the next tick or count; "In modes 2 and 3": at once', 'C14 W06 T13 G0 G1'),
     Cause('strobe', 'a load leaves it low in modes 4 and 5; "4, software triggered strobe": the next tick ends it', 'C1A W02 G0 G1 T4 G0 G1'),
-    Cause('digits', 'digits above 9 are shown as they fall, one by one, and OUT follows their weight; "Counts": modulo 10,000', 'C33 WFF W9F G0 G1 T3 T1 W10 T2 WA7 T2 WF0'),
+    Cause(
+        'digits',
+        'digits above 9 are shown as they fall, one by one, and OUT follows their weight; "Counts": modulo 10,000',
+        'C33 WFF W9F G0 G1 T3 T1 W10 T2 WA7 T2 WF0',
+    ),
     Cause('read amid a write', 'gives the inverted low byte between the two bytes of a count; "Reading"', 'C36 W09 W00 W88 R00 C00 C00 WEB T5 R00'),
     Cause('latch', 'is kept over a control word; none is made between the two bytes of a read, or of one byte a second time; "Reading"', 'C35 W00 W01 R00 C00'),
 )
-ALL = frozenset(it.name for it in CAUSES)
+ALL = frozenset(cause.name for cause in CAUSES)
 
 
 def weight(count: int) -> int:

@@ -7,7 +7,7 @@ from typing import NamedTuple
 
 from toolbox.outside.instructions import FLAGS, NAMES, NUMBERS, WINDOW, Case, Difference
 
-EVERYWHERE = frozenset((*NAMES, *(f'FL:{it}' for it in FLAGS), 'mark', 'data', 'stack'))
+EVERYWHERE = frozenset((*NAMES, *(f'FL:{flag}' for flag in FLAGS), 'mark', 'data', 'stack'))
 HALVES = ('AL', 'CL', 'DL', 'BL', 'AH', 'CH', 'DH', 'BH')
 BY_NUMBER = {number: name for name, number in NUMBERS.items()}
 
@@ -100,8 +100,8 @@ def is_judged_by_zero(case: Case) -> bool:
 
 def is_lost(case: Case) -> bool:
     """Whether an override comes before a repeat prefix, and no string instruction behind them."""
-    overrides = [at for at, it in enumerate(case.prefixes) if it in (0x26, 0x2E, 0x36, 0x3E)]
-    repeats = [at for at, it in enumerate(case.prefixes) if it in (0xF2, 0xF3)]
+    overrides = [at for at, prefix in enumerate(case.prefixes) if prefix in (0x26, 0x2E, 0x36, 0x3E)]
+    repeats = [at for at, prefix in enumerate(case.prefixes) if prefix in (0xF2, 0xF3)]
     return bool(overrides and repeats) and min(overrides) < max(repeats) and not case.name.startswith('string')
 
 
@@ -119,12 +119,12 @@ def carries(case: Case) -> bool:
 
 def with_flags(letters: str) -> int:
     """A flags word."""
-    return sum(1 << FLAGS[it] for it in letters)
+    return sum(1 << FLAGS[letter] for letter in letters)
 
 
 def witness(name: str, code: str, flags: str = '', prefixes: str = '', **registers: int) -> Case:
     """A case by hand, on registers of 0, with bytes A5h in the window; ES:BX leads there, DS:BX before it."""
-    given = {it: 0 for it in NUMBERS if it != 'SP'} | {'BX': WINDOW - 32} | registers
+    given = {each: 0 for each in NUMBERS if each != 'SP'} | {'BX': WINDOW - 32} | registers
     data = bytearray(b'\xa5' * WINDOW)
     return Case(name, bytes.fromhex(code), list(bytes.fromhex(prefixes)), given, with_flags(flags), 0x190, data, place=WINDOW)
 
@@ -138,7 +138,7 @@ SUMS, ADJUSTMENTS, PRODUCTS = '"Sums and differences"', '"Adjustments"', '"Produ
 FLAWS = (
     flaw('AF of ADC and SBB', f"isn't set where the second operand ends in Fh and CF is set; {SUMS}", 'FL:A', carries_a_digit, witness('ADC', '14 0F', 'C')),
     flaw('OF of ADC and SBB', f'another where the second operand is the greatest and CF is set; {SUMS}', 'FL:O', carries_a_sign, witness('ADC', '14 7F', 'C')),
-    flaw('opcode 82h', f'CF; {SUMS}', 'FL:C', lambda it: it.code[0] == 0x82, witness('ADD 82', '82 C0 FF', AX=0x80)),
+    flaw('opcode 82h', f'CF; {SUMS}', 'FL:C', lambda case: case.code[0] == 0x82, witness('ADD 82', '82 C0 FF', AX=0x80)),
     flaw(
         'IDIV',
         f'enters no interrupt 0 for a quotient that has no room; {PRODUCTS}',
@@ -153,17 +153,23 @@ FLAWS = (
         is_judged_by_zero,
         witness('IMUL', 'F6 E9', AX=0xFF, CX=1),
     ),
-    flaw('ZF of AAM', f'follows AX; {ADJUSTMENTS}: AL', 'FL:Z', lambda it: it.name == 'AAM' and low(it) % 10 == 0 < low(it), witness('AAM', 'D4 0A', AX=20)),
+    flaw(
+        'ZF of AAM',
+        f'follows AX; {ADJUSTMENTS}: AL',
+        'FL:Z',
+        lambda case: case.name == 'AAM' and low(case) % 10 == 0 < low(case),
+        witness('AAM', 'D4 0A', AX=20),
+    ),
     flaw(
         'JL',
         'never jumps with ZF set; "c": where SF differs from OF',
         'mark',
-        lambda it: it.code[0] == 0x7C and has(it, 'Z') and has(it, 'S') != has(it, 'O'),
+        lambda case: case.code[0] == 0x7C and has(case, 'Z') and has(case, 'S') != has(case, 'O'),
         Case('jump 7C', b'\x7c', flags=with_flags('ZO'), stack=0x190, target='byte'),
     ),
     Flaw('lost override', 'one before a repeat prefix; "Prefixes": the last one counts', EVERYWHERE, is_lost, witness('MOV', '8A 07', prefixes='26 F3')),
     flaw('AH of AAA and AAS', f'changes once more where AL leaves its byte; {ADJUSTMENTS}: by 1', 'AX', carries, witness('AAA', '37', AX=0xFF)),
-    flaw('PUSH SP by FFh', 'stores the old SP; "PUSH": the lowered one', 'stack', lambda it: it.code == b'\xff\xf4', witness('PUSH FF', 'FF F4')),
+    flaw('PUSH SP by FFh', 'stores the old SP; "PUSH": the lowered one', 'stack', lambda case: case.code == b'\xff\xf4', witness('PUSH FF', 'FF F4')),
     flaw(
         'DAS',
         f'judges by 9Fh what its first correction leaves; {ADJUSTMENTS}: by 99h AL as it was found',
@@ -171,20 +177,20 @@ FLAWS = (
         subtracts_otherwise,
         witness('DAS', '2F', AX=0x9A),
     ),
-    flaw('ZF of MUL and IMUL', 'undefined in the manual', 'FL:Z', lambda it: it.name in ('MUL', 'IMUL'), witness('MUL', 'F6 E1')),
-    flaw('AF of TEST', 'undefined in the manual', 'FL:A', lambda it: it.name == 'TEST', witness('TEST', 'F6 C0 00', 'A')),
+    flaw('ZF of MUL and IMUL', 'undefined in the manual', 'FL:Z', lambda case: case.name in ('MUL', 'IMUL'), witness('MUL', 'F6 E1')),
+    flaw('AF of TEST', 'undefined in the manual', 'FL:A', lambda case: case.name == 'TEST', witness('TEST', 'F6 C0 00', 'A')),
     flaw(
         'OF of shifts by CL',
         'undefined in the manual above 1',
         'FL:O',
-        lambda it: it.name.endswith('by CL') and it.registers.get('CX', 0) & 0xFF > 1,
+        lambda case: case.name.endswith('by CL') and case.registers.get('CX', 0) & 0xFF > 1,
         witness('SHL by CL', 'D2 E0', AX=0x40, CX=2),
     ),
     flaw(
         'OF of shifts by CL 1',
         'stays; "Shifts": that of the last single shift',
         'FL:O',
-        lambda it: it.name.endswith('by CL') and it.registers.get('CX', 0) & 0xFF == 1,
+        lambda case: case.name.endswith('by CL') and case.registers.get('CX', 0) & 0xFF == 1,
         witness('SHL by CL', 'D2 E0', AX=0x40, CX=1),
     ),
 )
@@ -192,5 +198,5 @@ FLAWS = (
 
 def unexplained(difference: Difference, flaws: tuple[Flaw, ...]) -> frozenset[str]:
     """Where a case differs by none of these that holds for it."""
-    known = (it.where for it in flaws if it.holds(difference.case))
+    known = (listed.where for listed in flaws if listed.holds(difference.case))
     return frozenset(difference.places).difference(*known)

@@ -87,7 +87,7 @@ class Maker:
         """A case."""
         chance = self.chance
         self.case = case = Case()
-        case.registers = {it: self.number() for it in NUMBERS if it != 'SP'}
+        case.registers = {register: self.number() for register in NUMBERS if register != 'SP'}
         case.stack = chance.randrange(0x1A0, 0x1E0) - 48
         case.flags = sum(1 << at for name, at in FLAGS.items() if name != 'T' and chance.random() < 0.5)
         case.data = bytearray(chance.randrange(0x100) for _ in range(0x100))
@@ -254,9 +254,9 @@ def segment_moved(name: str, paragraph: int) -> bytes:
 
 def begun(case: Case, paragraph: int) -> bytes:
     """What sets a case's segments, flags and registers."""
-    code = b''.join(segment_moved(it, paragraph + SEGMENTS[it][1]) for it in ('ES', 'SS', 'DS'))
+    code = b''.join(segment_moved(segment, paragraph + SEGMENTS[segment][1]) for segment in ('ES', 'SS', 'DS'))
     code += moved('SP', case.stack) + moved('AX', case.flags | 0xF002) + b'\x50\x9d'  # PUSH AX; POPF
-    return code + b''.join(moved(it, number) for it, number in case.registers.items())
+    return code + b''.join(moved(register, number) for register, number in case.registers.items())
 
 
 def ended(paragraph: int) -> bytes:
@@ -336,7 +336,7 @@ def places(here: bytes, there: bytes) -> tuple[str, ...]:
     """Where two blocks differ. The flags lie on the stack too, which tells nothing new."""
     mine, theirs = registers_in(here), registers_in(there)
     flags = mine['FL'] ^ theirs['FL']
-    found = [it for it in NAMES[:-1] if mine[it] != theirs[it]] + [f'FL:{it}' for it, at in FLAGS.items() if flags >> at & 1]
+    found = [register for register in NAMES[:-1] if mine[register] != theirs[register]] + [f'FL:{flag}' for flag, at in FLAGS.items() if flags >> at & 1]
     parts = {'mark': (MARK, MARK + 1), 'code': (0, KEPT), 'data': (WINDOW, 0x180), 'stack': (0x180, STACK_END - 2)}
     return (*found, *(name for name, (first, end) in parts.items() if here[first:end] != there[first:end]))
 
@@ -350,9 +350,9 @@ def differences(name: str, run_there: Callable[[Image, list[Case]], Answer], mad
         here, there = both.run_here(image), run_there(image, some)
         if here.place != there.place:
             raise Sorry(f'{name} went astray: it halted at {there.place[0]:04X}:{there.place[1]:04X}')
-        blocks = ((it, FIRST + BLOCK * at) for at, it in enumerate(some))
-        pairs = ((it, here.ram[at : at + BLOCK], there.ram[at : at + BLOCK]) for it, at in blocks)
-        found += [Difference(it, where, mine, theirs) for it, mine, theirs in pairs if (where := places(mine, theirs))]
+        blocks = ((case, FIRST + BLOCK * at) for at, case in enumerate(some))
+        pairs = ((case, here.ram[at : at + BLOCK], there.ram[at : at + BLOCK]) for case, at in blocks)
+        found += [Difference(case, where, mine, theirs) for case, mine, theirs in pairs if (where := places(mine, theirs))]
     return found
 
 

@@ -95,10 +95,10 @@ def path() -> str | None:
 def version(program: str) -> str:
     """Which MAME it is."""
     try:
-        told = subprocess.run([program, '-version'], stdin=subprocess.DEVNULL, capture_output=True, text=True, check=False, timeout=60).stdout
+        printed = subprocess.run([program, '-version'], stdin=subprocess.DEVNULL, capture_output=True, text=True, check=False, timeout=60).stdout
     except (OSError, subprocess.TimeoutExpired) as error:
         raise Sorry(f"{program} can't be started: {error}") from None
-    found = re.match(r'(\d+\.\d+)', told)
+    found = re.match(r'(\d+\.\d+)', printed)
     if not found:
         raise Sorry(f'{program} is no MAME: it tells no version')
     return found[1]
@@ -113,7 +113,7 @@ def image_of(hex_text: str) -> Image:
         if record[3] == 2:
             base = int.from_bytes(octets, 'big') * 16
         elif record[3] == 0:
-            image.update((base + (offset + it) % 0x10000, octet) for it, octet in enumerate(octets))
+            image.update((base + (offset + place) % 0x10000, octet) for place, octet in enumerate(octets))
     return image
 
 
@@ -157,14 +157,14 @@ def write_roms(folder: str, image: Image) -> None:
                 raise Sorry(f"a byte at {address:05X}h: MAME's 5150 has ROM from {ROM:05X}h on")
             octets[address - ROM] = octet
     os.makedirs(f'{folder}/roms/ibm5150', exist_ok=True)
-    for name, content in (*((it, octets[SIZE * at : SIZE * at + SIZE]) for at, it in enumerate(FILES)), (FONT, font())):
+    for name, content in (*((file_name, octets[SIZE * at : SIZE * at + SIZE]) for at, file_name in enumerate(FILES)), (FONT, font())):
         with open(f'{folder}/roms/ibm5150/{name}', 'wb') as file:
             file.write(content)
 
 
 def words(program: str, folder: str, seconds: int, *more: str) -> list[str]:
     """How it is started, without picture, sound or hurry; it ends after so many seconds of its own time."""
-    slots = [it for slot in ('-isa2', '-isa3', '-isa4', '-isa5', '-kbd') for it in (slot, '')]
+    slots = [word for slot in ('-isa2', '-isa3', '-isa4', '-isa5', '-kbd') for word in (slot, '')]
     quiet = ['-video', 'none', '-sound', 'none', '-nothrottle', '-skip_gameinfo', '-noreadconfig']
     kept = ['-rompath', f'{folder}/roms', '-cfg_directory', f'{folder}/cfg', '-nvram_directory', f'{folder}/nvram']
     return [program, 'ibm5150', '-isa1', 'mda', *slots, '-ramsize', '640K', *quiet, *kept, '-seconds_to_run', str(seconds), *more]
@@ -194,11 +194,11 @@ def run(program: str, image: Image, seconds: float, halts: bool = True, has_scre
     with tempfile.TemporaryDirectory() as folder:
         write_roms(folder, image)
         with open(f'{folder}/ram', 'wb') as file:
-            file.write(bytes(image.get(it, 0) for it in range(RAM)))
+            file.write(bytes(image.get(address, 0) for address in range(RAM)))
         ran(program, folder, SCRIPT, seconds, HALTS=str(int(halts)), POINTS=str(int(has_screen)))
         try:
             with open(f'{folder}/state', encoding='ascii') as file:
-                segment, offset, halted = (int(it, 16) for it in file)
+                segment, offset, halted = (int(number, 16) for number in file)
             with open(f'{folder}/memory', 'rb') as memory:
                 octets = memory.read()
             screen = read_screen(f'{folder}/points') if has_screen else ()
@@ -211,13 +211,13 @@ def read_screen(file_name: str) -> tuple[str, ...]:
     """The characters of the points, by the font of codes; nothing where the picture hasn't the size of 25 lines of 80."""
     with open(file_name, encoding='ascii') as file:
         points = file.read().split()
-    if len(points) != ROWS * HEIGHT or {len(it) for it in points} != {COLUMNS * WIDTH}:
+    if len(points) != ROWS * HEIGHT or {len(line) for line in points} != {COLUMNS * WIDTH}:
         return ()
     return tuple(''.join(character(points, row, column) for column in range(COLUMNS)) for row in range(ROWS))
 
 
 def character(points: list[str], row: int, column: int) -> str:
     """A cell's character: each of its rows of points is its code. Without a point it is a space."""
-    rows = {points[HEIGHT * row + it][WIDTH * column : WIDTH * column + 8] for it in range(HEIGHT)}
+    rows = {points[HEIGHT * row + n][WIDTH * column : WIDTH * column + 8] for n in range(HEIGHT)}
     code = int(rows.pop().replace('#', '1').replace('.', '0'), 2) if len(rows) == 1 else -1
     return ' ' if code == 0 else chr(code) if 0x20 <= code < 0x7F else '.'

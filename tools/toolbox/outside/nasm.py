@@ -54,14 +54,14 @@ class Flaw(NamedTuple):
 
 def opcode(octets: bytes) -> int:
     """The first byte behind the prefixes."""
-    return next(it for it in octets if it not in CODES)
+    return next(octet for octet in octets if octet not in CODES)
 
 
 FLAWS = (
-    Flaw('ESC', "has an 8087's name, or none", lambda it: 0xD8 <= opcode(it) < 0xE0, b'\xd8\xe6'),
-    Flaw('opcode 82h', 'begins none', lambda it: opcode(it) == 0x82, b'\x82\xc0\x01'),
-    Flaw('WAIT', 'is taken for a part of the next one', lambda it: opcode(it) == 0x9B, b'\x26\x9b'),
-    Flaw('REP NOP', "is a later processor's PAUSE", lambda it: opcode(it) == 0x90 and 0xF3 in it[:-1], b'\xf3\x90'),
+    Flaw('ESC', "has an 8087's name, or none", lambda octets: 0xD8 <= opcode(octets) < 0xE0, b'\xd8\xe6'),
+    Flaw('opcode 82h', 'begins none', lambda octets: opcode(octets) == 0x82, b'\x82\xc0\x01'),
+    Flaw('WAIT', 'is taken for a part of the next one', lambda octets: opcode(octets) == 0x9B, b'\x26\x9b'),
+    Flaw('REP NOP', "is a later processor's PAUSE", lambda octets: opcode(octets) == 0x90 and 0xF3 in octets[:-1], b'\xf3\x90'),
 )
 
 
@@ -95,8 +95,8 @@ def said(text: str, length: int) -> Text:
     if inside:
         prefixes.add(inside[1])
         rest = rest.replace(inside[0], '[')
-    rest = re.sub(r'\b0x([0-9a-f]+)\b|\b([0-9][0-9a-f]*)h\b', lambda it: str(int(it[1] or it[2], 16)), rest)
-    rest = re.sub(r'-(\d+)', lambda it: f'+{0x10000 - int(it[1])}', rest).replace(',+', ',')
+    rest = re.sub(r'\b0x([0-9a-f]+)\b|\b([0-9][0-9a-f]*)h\b', lambda number: str(int(number[1] or number[2], 16)), rest)
+    rest = re.sub(r'-(\d+)', lambda number: f'+{0x10000 - int(number[1])}', rest).replace(',+', ',')
     rest = re.sub(r'^(call|jmp) (far (?=\d)|word (?=\[))', r'\1 ', rest)
     operation, _, operands = rest.partition(' ')
     if operation == 'xchg':
@@ -107,7 +107,7 @@ def said(text: str, length: int) -> Text:
 def cases(seed: int, count: int) -> list[bytes]:
     """Random instructions of a seed."""
     chance = random.Random(f'nasm {seed}')
-    return [bytes(it.prefixes) + it.code + chance.randbytes(TARGETS.get(it.target, 0)) for it in instructions.cases(seed, count)]
+    return [bytes(case.prefixes) + case.code + chance.randbytes(TARGETS.get(case.target, 0)) for case in instructions.cases(seed, count)]
 
 
 def ours(offset: int, octets: bytes) -> tuple[str, int]:
@@ -119,13 +119,13 @@ def ours(offset: int, octets: bytes) -> tuple[str, int]:
 def theirs(program: str, made: list[bytes]) -> list[tuple[str, int]]:
     """ndisasm's texts, each of a place of its own."""
     with tempfile.NamedTemporaryFile() as file:
-        file.write(b''.join(it.ljust(SLOT, NOP) for it in made))
+        file.write(b''.join(octets.ljust(SLOT, NOP) for octets in made))
         file.flush()
         printed = subprocess.run([program, '-b', '16', file.name], stdin=subprocess.DEVNULL, capture_output=True, text=True, check=False).stdout
     rows = re.findall(r'^([0-9A-F]{8})  ([0-9A-F]+) +(.*)$', printed, re.M)
     found = {int(at, 16): (text, len(octets) // 2) for at, octets, text in rows}
     try:
-        return [found[SLOT * it] for it in range(len(made))]
+        return [found[SLOT * n] for n in range(len(made))]
     except KeyError:
         raise Sorry(f'{program} goes astray, or tells nothing') from None
 
@@ -135,11 +135,11 @@ def differences(program: str, made: list[bytes]) -> list[Difference]:
     found = list[Difference]()
     for first in range(0, len(made), MOST):
         some = made[first : first + MOST]
-        pairs = ((it, ours(SLOT * at, it), there) for at, (it, there) in enumerate(zip(some, theirs(program, some))))
-        found += [Difference(it, here[0], there[0]) for it, here, there in pairs if said(*here) != said(*there)]
+        pairs = ((octets, ours(SLOT * at, octets), there) for at, (octets, there) in enumerate(zip(some, theirs(program, some))))
+        found += [Difference(octets, here[0], there[0]) for octets, here, there in pairs if said(*here) != said(*there)]
     return found
 
 
 def known(octets: bytes) -> list[str]:
     """The flaws that hold for an instruction, by their names."""
-    return [it.name for it in FLAWS if it.holds(octets)]
+    return [flaw.name for flaw in FLAWS if flaw.holds(octets)]

@@ -17,8 +17,16 @@ BEGIN = ('mode 99', 'out 61 C0', 'out 61 40', 'timer B0')
 FLAWS = (
     Flaw('lines high', "port B's lines are high before a mode word makes it an output; chips.md, \"Line of B\": they are 0", ('mode 9B',)),
     Flaw('cassette', 'bit 4 of port C is high, or with lines 0 and 3 of port B high OUT2; chips.md, "Pins": it is 0', ()),
-    Flaw('keyboard shift', 'line 6 going low while line 7 is low shifts a 1 into the latch; chips.md, "The keyboard": only a key fills it', ('out 61 00', 'out 61 40')),
-    Flaw('trigger without a count', 'a rise of the gate starts mode 1 before a count is written; chips.md, "Loading": only after a full count', ('out 61 40', 'timer B2', 'out 61 41')),
+    Flaw(
+        'keyboard shift',
+        'line 6 going low while line 7 is low shifts a 1 into the latch; chips.md, "The keyboard": only a key fills it',
+        ('out 61 00', 'out 61 40'),
+    ),
+    Flaw(
+        'trigger without a count',
+        'a rise of the gate starts mode 1 before a count is written; chips.md, "Loading": only after a full count',
+        ('out 61 40', 'timer B2', 'out 61 41'),
+    ),
 )
 
 
@@ -45,13 +53,13 @@ MAKERS = (*(2 * (mode,)), *(2 * (bit,)), *(5 * (write,)), *(3 * (timer,)), *(7 *
 def sequence(chance: random.Random) -> tuple[str, ...]:
     """Random operations."""
     made = [chance.choice(MAKERS) for _ in range(chance.randrange(3, 14))]
-    return tuple(it if isinstance(it, str) else it(chance) for it in made)
+    return tuple(operation if isinstance(operation, str) else operation(chance) for operation in made)
 
 
 def code_of(operation: str) -> bytes:
     """The instructions of an operation; `read` keeps all three ports."""
     kind, *words = operation.split()
-    values = [int(it, 16) for it in words]
+    values = [int(digits, 16) for digits in words]
     if kind == 'read':
         return READS
     if kind == 'timer':
@@ -91,7 +99,7 @@ class Port:
     def does(self, operation: str) -> list[int]:
         """The bytes that an operation keeps."""
         kind, *words = operation.split()
-        values = [int(it, 16) for it in words]
+        values = [int(digits, 16) for digits in words]
         if kind == 'read':
             return [self.port_a(), self.port_b(), self.port_c()]
         if kind == 'timer':
@@ -127,7 +135,7 @@ class Port:
 def answers(operations: tuple[str, ...], flaws: frozenset[str]) -> bytes:
     """What the model answers."""
     chip = Port(flaws)
-    return bytes(it for operation in operations for it in chip.does(operation))
+    return bytes(octet for operation in operations for octet in chip.does(operation))
 
 
 KIND = Kind('port', BEGIN, ('read',), FLAWS, sequence, code_of, start, answers)

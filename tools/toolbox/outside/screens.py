@@ -22,7 +22,7 @@ EXCEPTIONS = {
 def names() -> list[str]:
     """The examples that are sources."""
     found = glob.glob(f'{TOP}/examples/*.asm') + glob.glob(f'{TOP}/examples/moments/*.asm')
-    return sorted(os.path.relpath(it, f'{TOP}/examples')[:-4] for it in found)
+    return sorted(os.path.relpath(path, f'{TOP}/examples')[:-4] for path in found)
 
 
 def fields_of(name: str) -> dict[str, Any]:
@@ -40,8 +40,8 @@ def compared(program: str, name: str) -> tuple[bool, str]:
     source = read_text(f'{TOP}/examples/{name}.asm')
     wanted = run(source, **(fields | {'keys': []})).screen
     shown = mame.run(program, mame.image_of(assemble(source)), fields['budget'] / mame.HERTZ, halts=False, has_screen=True).screen
-    told = ', without its keys' if fields['keys'] else ''
+    note = ', without its keys' if fields['keys'] else ''
     if list(shown) == wanted:
-        return True, f'{name}: alike{told}' + (', and blank' if not ''.join(wanted).strip() else '')
-    row = next((it for it, line in enumerate(wanted) if list(shown[it : it + 1]) != [line]), 0)
-    return False, f"{name}: line {row + 1} is '{wanted[row].rstrip()}' here and '{''.join(shown[row : row + 1]).rstrip()}' there{told}"
+        return True, f'{name}: alike{note}' + (', and blank' if not ''.join(wanted).strip() else '')
+    row = next((n for n, line in enumerate(wanted) if list(shown[n : n + 1]) != [line]), 0)
+    return False, f"{name}: line {row + 1} is '{wanted[row].rstrip()}' here and '{''.join(shown[row : row + 1]).rstrip()}' there{note}"

@@ -46,12 +46,12 @@ class Difference(NamedTuple):
 def sequences(kind: Kind, seed: int, count: int) -> list[tuple[str, ...]]:
     """The flaws' witnesses, and so many random sequences of a seed."""
     chance = random.Random(f'{kind.name} {seed}')
-    made = [it.witness for it in kind.flaws]
+    made = [flaw.witness for flaw in kind.flaws]
     while len(made) < len(kind.flaws) + count:
         operations = kind.make(chance)
         if len(kind.answers((*kind.begin, *operations, *kind.end), frozenset())) <= MOST:
             made.append(operations)
-    return [(*kind.begin, *it, *kind.end) for it in made]
+    return [(*kind.begin, *middle, *kind.end) for middle in made]
 
 
 def images(kind: Kind, made: list[tuple[str, ...]]) -> list[tuple[Image, int]]:
@@ -76,7 +76,7 @@ def images(kind: Kind, made: list[tuple[str, ...]]) -> list[tuple[Image, int]]:
 
 def differences(kind: Kind, program: str, made: list[tuple[str, ...]]) -> list[Difference]:
     """Where this board answers otherwise than the model, or MAME otherwise than the model with all flaws."""
-    found, at, all_flaws = list[Difference](), 0, frozenset(it.name for it in kind.flaws)
+    found, at, all_flaws = list[Difference](), 0, frozenset(flaw.name for flaw in kind.flaws)
     for image, count in images(kind, made):
         sides = (('here', frozenset[str](), both.run_here(image, sw1=0x6D, sw2=0x12).ram), ('MAME', all_flaws, both.run_there(program, image).ram))
         for number, operations in enumerate(made[at : at + count]):

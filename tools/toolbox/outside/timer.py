@@ -82,8 +82,8 @@ class Difference(NamedTuple):
 def case_of(line: str) -> Case:
     """A line of chip_cases."""
     first, now, *later = line.partition(':')[2].split('|')
-    operations = tuple((it[0], int(it[1:] or '0', 10 if it[0] in 'TG' else 16)) for it in first.split())
-    states = [(0, *now.split()[:2]), *((int(it.split()[0]), *it.split()[1:3]) for it in later)]
+    operations = tuple((operation[0], int(operation[1:] or '0', 10 if operation[0] in 'TG' else 16)) for operation in first.split())
+    states = [(0, *now.split()[:2]), *((int(state.split()[0]), *state.split()[1:3]) for state in later)]
     return Case(first.strip(), operations, tuple((at, out, count) for at, out, count in states if at <= FARTHEST))
 
 
@@ -99,10 +99,10 @@ def is_fit(case: Case) -> bool:
 
 def cases(seed: int, count: int) -> list[Case]:
     """The causes' witnesses, and so many others by a seed; all, where there are no more."""
-    found = [it for it in map(case_of, (line for line in read_text(CASES).splitlines() if line.startswith('counter:'))) if is_fit(it)]
-    shown = {it.witness for it in CAUSES}
-    others = [it for it in found if it.text not in shown]
-    return [it for it in found if it.text in shown] + random.Random(f'timer {seed}').sample(others, min(count, len(others)))
+    found = [case for case in map(case_of, (line for line in read_text(CASES).splitlines() if line.startswith('counter:'))) if is_fit(case)]
+    shown = {cause.witness for cause in CAUSES}
+    others = [case for case in found if case.text not in shown]
+    return [case for case in found if case.text in shown] + random.Random(f'timer {seed}').sample(others, min(count, len(others)))
 
 
 def access_of(case: Case) -> int:
@@ -196,5 +196,5 @@ def mame_differences(made: list[Case], came: list[list[Answer]]) -> list[Differe
 
 def shows(cause: Cause) -> bool:
     """Whether MAME would answer otherwise to a cause's witness without it."""
-    case = next(it for it in cases(0, 0) if it.text == cause.witness)
+    case = next(candidate for candidate in cases(0, 0) if candidate.text == cause.witness)
     return answers(case, ALL) != answers(case, ALL - {cause.name})

@@ -139,33 +139,33 @@ def version_of(number: int) -> str:
     return '.'.join(str(number >> at & 0xFF) for at in (24, 16, 8))
 
 
-def run(it: Processor, image: Image, made: list[Case]) -> Answer:
+def run(machine: Processor, image: Image, made: list[Case]) -> Answer:
     """Runs the image of such cases up to its halt. Where an instruction makes a fault, what is pushed is where the next one begins, as
     on an 8086."""
     behind = dict(instructions.place_of(at, case) for at, case in enumerate(made))
-    it.write(0, bytes(image.get(at, 0) for at in range(SIZE)))
+    machine.write(0, bytes(image.get(at, 0) for at in range(SIZE)))
     for name, value in (('CS', 0xFFFF), ('IP', 0), ('FL', 2)):
-        it.put(name, value)
-    while (kind := it.go()) != NO_INTERRUPT:
-        place = 16 * it.get('CS') + it.get('IP')
-        enter(it, kind, behind.get(place, it.get('IP')))
-    return Answer(it.read(0, mame.RAM), it.read(mame.TEXT, mame.TEXT_SIZE), True, (it.get('CS'), it.get('IP')))
+        machine.put(name, value)
+    while (kind := machine.go()) != NO_INTERRUPT:
+        place = 16 * machine.get('CS') + machine.get('IP')
+        enter(machine, kind, behind.get(place, machine.get('IP')))
+    return Answer(machine.read(0, mame.RAM), machine.read(mame.TEXT, mame.TEXT_SIZE), True, (machine.get('CS'), machine.get('IP')))
 
 
-def enter(it: Processor, kind: int, offset: int) -> None:
+def enter(machine: Processor, kind: int, offset: int) -> None:
     """Enters an interrupt, from which a return goes to this offset."""
-    flags, top = it.get('FL'), it.get('SP')
-    for word in (flags | UNDEFINED, it.get('CS'), offset):
+    flags, top = machine.get('FL'), machine.get('SP')
+    for word in (flags | UNDEFINED, machine.get('CS'), offset):
         top = (top - 2) & 0xFFFF
-        it.write(16 * it.get('SS') + top, word.to_bytes(2, 'little'))
-    vector = it.read(4 * kind, 4)
+        machine.write(16 * machine.get('SS') + top, word.to_bytes(2, 'little'))
+    vector = machine.read(4 * kind, 4)
     places = {'SP': top, 'FL': flags & ~STEP_AND_INTERRUPTS, 'IP': int.from_bytes(vector[:2], 'little'), 'CS': int.from_bytes(vector[2:], 'little')}
     for name, value in places.items():
-        it.put(name, value)
+        machine.put(name, value)
 
 
 def cases(seed: int, count: int) -> list[Case]:
     """Random cases of a seed, without LOCK: most instructions are none behind it for a later processor, and Unicorn 2.0.1 ends the
     whole process at a repeated string instruction behind it."""
     made = instructions.cases(seed, count)
-    return [replace(it, prefixes=[prefix for prefix in it.prefixes if prefix != LOCK]) for it in made]
+    return [replace(case, prefixes=[prefix for prefix in case.prefixes if prefix != LOCK]) for case in made]
