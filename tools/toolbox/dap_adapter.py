@@ -114,7 +114,7 @@ class Adapter:
     def answer(self, request: Fields, body: Fields, error: str = '') -> None:
         """The response to a request."""
         number, command = request.get('seq'), request.get('command')
-        told: Fields = {
+        response: Fields = {
             'type': 'response',
             'request_seq': number if isinstance(number, int) else 0,
             'success': not error,
@@ -122,8 +122,8 @@ class Adapter:
             'body': body,
         }
         if error:
-            told |= {'message': error, 'body': {'error': {'id': 1, 'format': re.sub(r'[{}]', '', error), 'showUser': True}}}
-        self.send(told)
+            response |= {'message': error, 'body': {'error': {'id': 1, 'format': re.sub(r'[{}]', '', error), 'showUser': True}}}
+        self.send(response)
 
     def send(self, message: Fields) -> None:
         """Writes a message with its own number."""
@@ -201,14 +201,14 @@ class Adapter:
             here, lines = self.holding(reason), self.board().many('screen')
         except Gone as gone:
             return self.end(gone)
-        screen = '\n'.join(it.rstrip() for it in lines).rstrip()
+        screen = '\n'.join(line.rstrip() for line in lines).rstrip()
         if screen != self.screen:
             self.screen = screen
             edge = '-' * 80
             self.output(f'screen at clock {self.board().clock}\n{edge}\n{screen}\n{edge}\n', 'stdout')
         hit = [self.breakpoints[kind][stop] for kind, them in self.asked.items() for stop in here if stop in them and self.is_hit(them[stop])]
-        told = {'reason': reason, 'description': text, 'text': text, 'threadId': THREAD, 'allThreadsStopped': True}
-        self.event('stopped', told | ({'hitBreakpointIds': hit} if hit else {}))
+        body = {'reason': reason, 'description': text, 'text': text, 'threadId': THREAD, 'allThreadsStopped': True}
+        self.event('stopped', body | ({'hitBreakpointIds': hit} if hit else {}))
 
     def holding(self, reason: str) -> list[str]:
         """The stops that hold where the board has stopped at one."""
@@ -245,7 +245,7 @@ class Adapter:
         files = copied(Files(self.program, run_file, is_hex, os.path.realpath(symbols) if symbols else None), self.room)
         try:
             budget, listing = budget_of(files), listing_of(files)
-            places = [os.path.realpath(path_in(it)) for it in field(given, 'sources', list, []) if isinstance(it, str)]
+            places = [os.path.realpath(path_in(source)) for source in field(given, 'sources', list, []) if isinstance(source, str)]
             self.sources = Sources(self.program, listing, places, self.has_uris)
             self.machine = Machine(files, listing, budget, self.poll)
             self.variables = Variables(self.machine, lambda: labels_of_data(files, listing), self.knows)
@@ -275,16 +275,16 @@ class Adapter:
         why = [PYTHON, '-S', f'{TOP}/tools/why']
         first = ''
         if not is_hex:
-            told = subprocess.run(
+            result = subprocess.run(
                 [*why, '--lines', '--', self.program], stdin=subprocess.DEVNULL, capture_output=True, text=True, errors='replace', check=False
             )
-            for line in told.stdout.splitlines():
+            for line in result.stdout.splitlines():
                 number, kind, text = line.removeprefix(f'{self.program}:').split(': ', 2)
                 at = {'source': Sources(self.program, Listing(), [], self.has_uris).described(''), 'line': int(number) - 1 + self.line_base}
                 self.output(f'{line}\n', 'stderr', at)
                 first = first or (f'{os.path.basename(self.program)}, line {number}: {text}' if kind == 'error' else '')
         if not first:
-            told = subprocess.run(
+            result = subprocess.run(
                 [*why, 'run', *(['--hex'] if is_hex else []), '--', self.program, run_file],
                 stdin=subprocess.DEVNULL,
                 capture_output=True,
@@ -292,8 +292,8 @@ class Adapter:
                 errors='replace',
                 check=False,
             )
-            lines = [it.removeprefix('why: ') for it in told.stderr.splitlines() if it.startswith('why: ')]
-            self.output(''.join(f'{it}\n' for it in lines) or f'{sorry}\n', 'stderr')
+            lines = [reason.removeprefix('why: ') for reason in result.stderr.splitlines() if reason.startswith('why: ')]
+            self.output(''.join(f'{reason}\n' for reason in lines) or f'{sorry}\n', 'stderr')
             first = lines[0] if lines else str(sorry)
         return Sorry(first)
 
@@ -315,38 +315,38 @@ class Adapter:
     def wanted(self) -> list[str]:
         """The stops of all breakpoints. Of those that hold at a clock the first is told: those that ask nothing more stand first."""
         them = dict.fromkeys(stop for kind in ('data', *self.breakpoints) for stop in self.breakpoints.get(kind, ()))
-        return sorted(them, key=lambda it: (bool(place_of(it)), it in self.board().asked))
+        return sorted(them, key=lambda stop: (bool(place_of(stop)), stop in self.board().asked))
 
     def set_breakpoints(self, kind: str, asked: list[Any], stop_of: Callable[[Any], tuple[str, Fields]]) -> Fields:
         """Puts these breakpoints for those of a kind, and tells of each where it is, or why it is nowhere."""
-        self.breakpoints[kind], self.asked[kind], told = {}, {}, list[Fields]()
-        for it in asked:
+        self.breakpoints[kind], self.asked[kind], answers = {}, {}, list[Fields]()
+        for point in asked:
             self.count += 1
             try:
-                stop, more = stop_of(it)
-                wants = self.wants(it)
+                stop, more = stop_of(point)
+                wants = self.wants(point)
                 if len({*self.wanted(), stop}) > MOST_BREAKPOINTS:
                     raise Sorry(f'there are {MOST_BREAKPOINTS} breakpoints already, the most that go')
                 number = self.breakpoints[kind].setdefault(stop, self.count)
                 self.asked[kind].setdefault(stop, wants)
                 place = place_of(stop)
-                told.append({'id': number, 'verified': True} | ({'instructionReference': f'0x{physical(*place):05X}'} if place else {}) | more)
+                answers.append({'id': number, 'verified': True} | ({'instructionReference': f'0x{physical(*place):05X}'} if place else {}) | more)
             except Sorry as sorry:
-                told.append({'id': self.count, 'verified': False, 'message': str(sorry)})
+                answers.append({'id': self.count, 'verified': False, 'message': str(sorry)})
         stops = {stop: [them[stop] for them in self.asked.values() if stop in them] for stop in self.wanted()}
-        self.board().asked = {stop: them for stop, them in stops.items() if all(it.holds or it.count or it.log for it in them)}
-        return {'breakpoints': told}
+        self.board().asked = {stop: them for stop, them in stops.items() if all(wish.holds or wish.count or wish.log for wish in them)}
+        return {'breakpoints': answers}
 
     def wants(self, breakpoint: Any) -> Asked:
         """What a breakpoint asks besides its place. What can't be evaluated is refused here."""
-        condition, count, log = (field(breakpoint, it, str, '').strip() for it in ('condition', 'hitCondition', 'logMessage'))
+        condition, count, log = (field(breakpoint, name, str, '').strip() for name in ('condition', 'hitCondition', 'logMessage'))
         board, listing = self.board(), self.board().listing
         parts = re.split(r'\{([^{}]*)\}', log)
         for text in [*([condition] if condition else []), *parts[1::2]]:
             Expression(board, listing, text).value()
 
         def tell(at: SessionBoard) -> None:
-            shown = [Expression(at, listing, it).value().shown() if number % 2 else it for number, it in enumerate(parts)]
+            shown = [Expression(at, listing, part).value().shown() if number % 2 else part for number, part in enumerate(parts)]
             self.output(''.join([*shown, '\n']), 'stdout')
 
         holds = (lambda at: Expression(at, listing, condition).holds()) if condition else None
@@ -354,12 +354,12 @@ class Adapter:
 
     def on_setBreakpoints(self, given: Fields) -> Fields:
         source = field(given, 'source', dict)
-        asked, sources = field(given, 'breakpoints', list, [{'line': it} for it in given.get('lines') or []]), self.of_launch()
+        asked, sources = field(given, 'breakpoints', list, [{'line': line} for line in given.get('lines') or []]), self.of_launch()
         name = sources.named(source)
         if name is None:
             return {'breakpoints': [{'verified': False, 'message': sources.unlike(source)} for _ in asked]}
         self.tell_edited()
-        return self.set_breakpoints(f'line {name}', asked, lambda it: self.of_line(name, field(it, 'line', int) + 1 - self.line_base))
+        return self.set_breakpoints(f'line {name}', asked, lambda point: self.of_line(name, field(point, 'line', int) + 1 - self.line_base))
 
     def of_line(self, name: str, number: int) -> tuple[str, Fields]:
         """The place of a source's line, or that of the next line with code."""
@@ -367,7 +367,7 @@ class Adapter:
         if not lines:
             raise Sorry('this Intel HEX has no source lines; symbols may name the listing that its assembler wrote')
         here = lines[number - 1] if 1 <= number <= len(lines) else None
-        found = here if here and here.address else next((it for it in lines[max(0, number - 1) :] if is_code(it)), None)
+        found = here if here and here.address else next((line for line in lines[max(0, number - 1) :] if is_code(line)), None)
         if found is None or found.address is None or number < 1:
             raise Sorry(f'no line of the source from {number} on places an instruction')
         more: Fields = {'line': found.number - 1 + self.line_base, 'source': self.of_launch().described(name)}
@@ -377,11 +377,11 @@ class Adapter:
 
     def on_setFunctionBreakpoints(self, given: Fields) -> Fields:
         listing = self.board().listing
-        return self.set_breakpoints('function', field(given, 'breakpoints', list), lambda it: (break_at(far_of(listing, field(it, 'name', str))), {}))
+        return self.set_breakpoints('function', field(given, 'breakpoints', list), lambda point: (break_at(far_of(listing, field(point, 'name', str))), {}))
 
     def on_setInstructionBreakpoints(self, given: Fields) -> Fields:
-        def stop_of(it: Any) -> tuple[str, Fields]:
-            address = self.address(field(it, 'instructionReference', str)) + field(it, 'offset', int, 0)
+        def stop_of(point: Any) -> tuple[str, Fields]:
+            address = self.address(field(point, 'instructionReference', str)) + field(point, 'offset', int, 0)
             return break_at(self.far(address)), {}
 
         return self.set_breakpoints('instruction', field(given, 'breakpoints', list), stop_of)
@@ -402,11 +402,11 @@ class Adapter:
         return {'dataId': f'{places[0]:05X} {len(places)}', 'description': described, 'accessTypes': ['write'], 'canPersist': False}
 
     def on_setDataBreakpoints(self, given: Fields) -> Fields:
-        def stop_of(it: Any) -> tuple[str, Fields]:
-            found = re.fullmatch(r'([0-9A-F]{5}) (\d{1,5})', field(it, 'dataId', str))
+        def stop_of(point: Any) -> tuple[str, Fields]:
+            found = re.fullmatch(r'([0-9A-F]{5}) (\d{1,5})', field(point, 'dataId', str))
             if not found:
-                raise Sorry(f'{it["dataId"]} is no data that can be watched')
-            if field(it, 'accessType', str, 'write') != 'write':
+                raise Sorry(f'{point["dataId"]} is no data that can be watched')
+            if field(point, 'accessType', str, 'write') != 'write':
                 raise Sorry(NO_READS)
             return watch_of(int(found[1], 16), int(found[2])), {}
 
@@ -414,15 +414,15 @@ class Adapter:
 
     def on_setExceptionBreakpoints(self, given: Fields) -> Fields:
         asked = field(given, 'filters', list, [])
-        self.filters = {it for it in asked if it in FILTERS}
-        told = [{'verified': True} if it in FILTERS else {'verified': False, 'message': f'{it} is none of {", ".join(FILTERS)}'} for it in asked]
-        return {'breakpoints': told}
+        self.filters = {name for name in asked if name in FILTERS}
+        answers = [{'verified': True} if name in FILTERS else {'verified': False, 'message': f'{name} is none of {", ".join(FILTERS)}'} for name in asked]
+        return {'breakpoints': answers}
 
     def far(self, address: int) -> Far:
         """CS:IP of a physical address: a line's or label's there, else by the present CS."""
         listing, segment = self.board().listing, self.board().registers()['CS']
         line = listing.line_from(address)
-        label = next((it for it in listing.labels.values() if physical(*it) == address), None)
+        label = next((place for place in listing.labels.values() if physical(*place) == address), None)
         offset = (address - 16 * segment) % (1 << 20)
         if line and line.address or label:
             return line.address if line and line.address else label or (0, 0)
@@ -438,7 +438,7 @@ class Adapter:
 
     # moving
 
-    def told(self, met: str | None, reason: str, text: str) -> tuple[str, str]:
+    def why_stopped(self, met: str | None, reason: str, text: str) -> tuple[str, str]:
         """Why the board stands where it does."""
         if met:
             kinds = [kind for kind, them in self.breakpoints.items() if met in them]
@@ -454,7 +454,7 @@ class Adapter:
         board = self.board()
         if board.why in ENDS:
             return 'pause', f'clock {board.clock}: {ENDS[board.why]}'
-        return self.told(met, 'step', text)
+        return self.why_stopped(met, 'step', text)
 
     def run_on(self) -> tuple[str, str]:
         board, begun, met = self.board(), self.board().clock, None
@@ -462,7 +462,7 @@ class Adapter:
             # Breakpoints may change while it runs.
             met = board.run(self.wanted(), board.budget)
             met = met if met in self.wanted() else None
-        return self.exception(begun) or self.told(met, 'pause', 'the run ends')
+        return self.exception(begun) or self.why_stopped(met, 'pause', 'the run ends')
 
     def exception(self, begun: int) -> tuple[str, str] | None:
         """What is wanted beside breakpoints, if the run from a clock on came to it; the board is where that began then."""
@@ -520,7 +520,7 @@ class Adapter:
             board.why = 'returned'
             board.step()
 
-        return {}, lambda: self.told(self.way(lambda _: self.by_lines(given, step)), 'step', 'step')
+        return {}, lambda: self.why_stopped(self.way(lambda _: self.by_lines(given, step)), 'step', 'step')
 
     def on_stepOut(self, _: Fields) -> tuple[Fields, Callable[[], tuple[str, str]]]:
         board = self.unless_ended()
@@ -530,7 +530,7 @@ class Adapter:
         """A way by instructions, at most to a breakpoint. An instruction that is under way, as at data that has changed, ends first."""
         board, wanted = self.board(), self.wanted()
         board.end_instruction()
-        return board.to_stops(lambda: way([it for it in wanted if place_of(it)]), wanted)
+        return board.to_stops(lambda: way([stop for stop in wanted if place_of(stop)]), wanted)
 
     def on_stepBack(self, _: Fields) -> tuple[Fields, Callable[[], tuple[str, str]]]:
         board = self.board()
@@ -550,7 +550,7 @@ class Adapter:
 
         def back() -> tuple[str, str]:
             met = board.back_to(self.wanted())
-            return self.told(met, 'entry', 'no breakpoint was passed before: the start of the run')
+            return self.why_stopped(met, 'entry', 'no breakpoint was passed before: the start of the run')
 
         return {}, back
 
@@ -585,7 +585,7 @@ class Adapter:
 
     def on_stackTrace(self, given: Fields) -> Fields:
         board = self.board()
-        frames = [self.frame(number, place) for number, place in enumerate([board.place(), *(it for it, _ in board.callers())], 1)]
+        frames = [self.frame(number, place) for number, place in enumerate([board.place(), *(caller for caller, _ in board.callers())], 1)]
         first, count = field(given, 'startFrame', int, 0), field(given, 'levels', int, 0)
         return {'stackFrames': frames[first : first + count if count else None], 'totalFrames': len(frames)}
 
@@ -593,11 +593,11 @@ class Adapter:
         """A frame: the label, and the source line that placed what stands there."""
         listing, address = self.board().listing, physical(*place)
         name = listing.label_before(*place) or '{:04X}:{:04X}'.format(*place)
-        told: Fields = {'id': number, 'name': name, 'line': 0, 'column': 0, 'instructionPointerReference': f'0x{address:05X}'}
+        frame: Fields = {'id': number, 'name': name, 'line': 0, 'column': 0, 'instructionPointerReference': f'0x{address:05X}'}
         line = listing.line_from(address)
         if line and self.board().dump(address, len(line.shown)) == line.shown:
-            told |= {'line': line.number - 1 + self.line_base, 'column': self.line_base, 'source': self.of_launch().described(line.source)}
-        return told
+            frame |= {'line': line.number - 1 + self.line_base, 'column': self.line_base, 'source': self.of_launch().described(line.source)}
+        return frame
 
     def on_scopes(self, _: Fields) -> Fields:
         self.board()
@@ -662,10 +662,10 @@ class Adapter:
             raise Sorry('instructionCount goes to 10000')
         address = self.address(field(given, 'memoryReference', str)) + field(given, 'offset', int, 0)
         self.board().trail()
-        told = []
+        instructions = []
         for row in Disassembly(self.board()).rows(address, field(given, 'instructionOffset', int, 0), count):
-            it: Fields = {'address': f'0x{max(row.address, 0):05X}', 'instruction': row.text or '??', 'instructionBytes': row.octets.hex(' ').upper()}
+            instruction: Fields = {'address': f'0x{max(row.address, 0):05X}', 'instruction': row.text or '??', 'instructionBytes': row.octets.hex(' ').upper()}
             if row.line:
-                it |= {'location': self.of_launch().described(row.line.source), 'line': row.line.number - 1 + self.line_base}
-            told.append(it | ({} if row.text and not row.text.startswith('DB ') else {'presentationHint': 'invalid'}))
-        return {'instructions': told}
+                instruction |= {'location': self.of_launch().described(row.line.source), 'line': row.line.number - 1 + self.line_base}
+            instructions.append(instruction | ({} if row.text and not row.text.startswith('DB ') else {'presentationHint': 'invalid'}))
+        return {'instructions': instructions}

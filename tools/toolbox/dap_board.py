@@ -31,7 +31,7 @@ class Machine(SessionBoard):
     def trail(self) -> list[Event]:
         """The last instruction starts and entries. What they tell of instructions is kept for disassembly."""
         found = super().trail()
-        self.known.update((it.address, it) for it in found if it.entry is None)
+        self.known.update((event.address, event) for event in found if event.entry is None)
         return found
 
     def step(self) -> Event | None:
@@ -42,7 +42,7 @@ class Machine(SessionBoard):
                 return None
         here = self.clock
         self.one('step')
-        return next((it for it in self.trail() if it.clock >= here), None)
+        return next((event for event in self.trail() if event.clock >= here), None)
 
     def back(self) -> None:
         """To where the processor was free before; within a halt to its HLT."""
@@ -100,7 +100,7 @@ class Machine(SessionBoard):
 
     def to_stops(self, way: Callable[[], str | None], wanted: Collection[str]) -> str | None:
         """A way that ends at places, at most to one of these stops: for those that aren't places it is gone once more."""
-        here, met, others = self.clock, way(), [it for it in wanted if not place_of(it)]
+        here, met, others = self.clock, way(), [stop for stop in wanted if not place_of(stop)]
         if others and (there := self.clock) > here:
             self.go_to(here)
             found = self.run(others, there)

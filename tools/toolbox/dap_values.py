@@ -156,12 +156,12 @@ class Expression:
             self._close(':')
         if not self._take('['):
             raise Sorry(f'{self.text}: memory is written BYTE [..] or WORD ES:[..]')
-        is_stack = 'BP' in [it.upper() for it in self.words]
+        is_stack = 'BP' in [word.upper() for word in self.words]
         offset = self._sum().number % 0x10000
         self._close(']')
         segment = self.registers['SS' if is_stack else 'DS'] if segment is None else segment % 0x10000
         address = physical(segment, offset)
-        octets = b''.join(self.board.dump(physical(segment, (offset + it) % 0x10000), 1) for it in range(size))
+        octets = b''.join(self.board.dump(physical(segment, (offset + n) % 0x10000), 1) for n in range(size))
         return Value(int.from_bytes(octets, 'little'), size, address)
 
     def _name(self) -> Value:
@@ -212,10 +212,10 @@ class Disassembly:
         """Bytes of memory, each read once."""
         if not 0 <= address < 1 << 20:
             return b''
-        if any(it not in self.memory for it in range(address, min(address + count, 1 << 20))):
+        if any(place not in self.memory for place in range(address, min(address + count, 1 << 20))):
             base = max(0, address - 256)
             self.memory.update(enumerate(self.machine.dump(base, 1024), base))
-        return bytes(self.memory[it] for it in range(address, min(address + count, 1 << 20)))
+        return bytes(self.memory[place] for place in range(address, min(address + count, 1 << 20)))
 
     def at(self, address: int) -> Row:
         """The row that begins at an address."""

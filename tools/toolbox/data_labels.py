@@ -58,9 +58,9 @@ def data_of(listing: Listing, image: dict[int, int]) -> list[Datum]:
             labelled.append(name)
         kind = kind_in(line.text)
         if kind and line.address and labelled:
-            end = next((it for it in range(at + 1, len(lines)) if not goes_on(lines[it].text, kind)), len(lines))
+            end = next((n for n in range(at + 1, len(lines)) if not goes_on(lines[n].text, kind)), len(lines))
             length = length_of(lines[at:end], lines[end:], image)
-            found += [Datum(it, line.number, kind, line.address, length) for it in labelled]
+            found += [Datum(label, line.number, kind, line.address, length) for label in labelled]
         if kind or not is_empty(line.text):
             labelled.clear()
     return found
@@ -68,8 +68,8 @@ def data_of(listing: Listing, image: dict[int, int]) -> list[Datum]:
 
 def length_of(own: list[Line], later: list[Line], image: dict[int, int]) -> int:
     """How many bytes lines place: as far as the source has bytes, and not into a later line's."""
-    first = next(it.address for it in own if it.address)
-    begin, others = physical(*first), {physical(*it.address) for it in later if it.address}
+    first = next(line.address for line in own if line.address)
+    begin, others = physical(*first), {physical(*line.address) for line in later if line.address}
     end = begin
     while end in image and (end == begin or end not in others):
         end += 1
@@ -80,14 +80,14 @@ def values_of(data: list[Datum], dump: Callable[[int, int], bytes]) -> list[dict
     """The labels with what memory holds there."""
     return [
         {
-            'name': it.name,
-            'line': it.line,
-            'kind': it.kind,
-            'place': '%04X:%04X' % it.place,
-            'length': it.length,
-            'bytes': dump(physical(*it.place), min(it.length, MOST_BYTES)).hex(),
+            'name': datum.name,
+            'line': datum.line,
+            'kind': datum.kind,
+            'place': '%04X:%04X' % datum.place,
+            'length': datum.length,
+            'bytes': dump(physical(*datum.place), min(datum.length, MOST_BYTES)).hex(),
         }
-        for it in data
+        for datum in data
     ]
 
 

@@ -81,7 +81,7 @@ class Board:
 
     def __init__(self, room: str, source: str, fields: Fields, is_hex: bool, symbols: str | None = None) -> None:
         self.room, self.is_hex, self.symbols, self.used = room, is_hex, symbols, time.monotonic()
-        self.source, self._fields = source, {name: it for name, it in fields.items() if name != 'keys'}
+        self.source, self._fields = source, {name: value for name, value in fields.items() if name != 'keys'}
         given = fields.get('keys')
         self.keys = [Key(stamp, code) for stamp, code in given] if is_key_list(given) else []
         self._lock, self._marking = threading.Lock(), threading.Lock()
@@ -201,7 +201,7 @@ class Board:
         while held and self.clock < end:
             self._held = here, _ = self.clock, held
             if held == ['halted'] and self.machine.is_halted:
-                met = self.machine.leave_halt([it for it in self.stops if it not in held], end)
+                met = self.machine.leave_halt([stop for stop in self.stops if stop not in held], end)
                 if met:
                     return met
             if self.clock == here:
@@ -210,7 +210,7 @@ class Board:
                 if met and (watched_by(met) or place_of(met) and not self.machine.is_halted):
                     return met
                 now = self._holding() if met else []
-                if more := [it for it in now if it not in held]:
+                if more := [stop for stop in now if stop not in held]:
                     return more[0]
                 held = now
             self._held = self.clock, held
@@ -355,7 +355,7 @@ class Board:
         if seen != self._screen_number:
             found['screen'] = self._rows
         if not is_light:
-            found |= {'trail': [self._event(it) for it in trail], 'callers': self._callers()}
+            found |= {'trail': [self._event(event) for event in trail], 'callers': self._callers()}
             found |= {'stack': self._stack(registers), 'keys': self._keys()}
             self._vectors = self.machine.dump(0, 4 * 256)
         return found
@@ -405,14 +405,14 @@ class Board:
     def _keys(self) -> list[list[Any]]:
         """The keys: stamp, name, whether it goes down, code."""
         known = names()
-        return [[it.stamp, known.get(it.code % 0x80, '?'), it.code < 0x80, it.code] for it in self.keys]
+        return [[key.stamp, known.get(key.code % 0x80, '?'), key.code < 0x80, key.code] for key in self.keys]
 
     def memory(self, place: str, count: int) -> Fields:
         """Bytes from a place on: a label, SEGMENT:OFFSET, an address, or two registers, as SS:SP."""
         text = place.strip()
-        if all(it.upper() in REGISTERS for it in text.split(':')) and text.count(':') == 1:
+        if all(name.upper() in REGISTERS for name in text.split(':')) and text.count(':') == 1:
             registers = self.machine.registers()
-            address = physical(*(registers[it.upper()] for it in text.split(':')))
+            address = physical(*(registers[name.upper()] for name in text.split(':')))
         else:
             address = address_of(self.listing, text)
         return {'address': address, 'bytes': self.machine.dump(address, min(max(count, 16), 4096)).hex()}
@@ -439,7 +439,7 @@ class Board:
         """A row of the instructions."""
         line = self.whole.line_from(physical(*place))
         labels = [name for name, at in self.listing.labels.items() if at == place]
-        return ['%04X:%04X' % place, ' '.join(labels[:1]), octets.hex().upper(), text, self.whole.told(line) if line else '']
+        return ['%04X:%04X' % place, ' '.join(labels[:1]), octets.hex().upper(), text, self.whole.source_text(line) if line else '']
 
     def chips(self) -> Fields:
         """What the chips hold, and what in them keeps an interrupt or a key away."""
@@ -458,16 +458,16 @@ class Board:
         clock, registers = self.clock, self.machine.registers()
         report = Report(clock, registers, self._chips().value('processor', 'state'), 0, [], self.machine.many('screen'))
         try:
-            told = told_of_end(report, self.files, self.machine, self.listing, REACH)
+            lines = told_of_end(report, self.files, self.machine, self.listing, REACH)
         finally:
             self.machine.go_to(clock)
-        return {'clock': clock, 'told': told}
+        return {'clock': clock, 'told': lines}
 
     # Stops and keys
 
     def set_stops(self, texts: list[str]) -> Fields:
         """These are the stops. Of those that hold at a clock the first is told."""
-        stops = sorted(dict.fromkeys(map(self._stop, texts)), key=lambda it: ORDER.index(it.split()[0]))
+        stops = sorted(dict.fromkeys(map(self._stop, texts)), key=lambda stop: ORDER.index(stop.split()[0]))
         if len(stops) > MOST_BREAKPOINTS:
             raise Sorry(f'{MOST_BREAKPOINTS} stops are the most')
         self.stops, self._held = stops, (-1, [])
@@ -504,7 +504,7 @@ class Board:
 
     def type(self, codes: list[int], pauses: list[int], seen: int) -> Fields:
         """Codes typed now, each so many clocks behind the one before. Keys that come later are dropped."""
-        kept = [it for it in self.keys if not self._comes_later(it)]
+        kept = [key for key in self.keys if not self._comes_later(key)]
         stamp = max(self.clock + AHEAD, kept[-1].stamp + GAP if kept else 0)
         if stamp + sum(pauses) > LAST_CLOCK:
             raise Sorry('the last key would lie past clock 2^40')
@@ -594,8 +594,8 @@ class Board:
     def _interrupts(self, until: int) -> tuple[list[tuple[int, int]], int]:
         """The interrupts of the run, and up to which clock they were looked for."""
         if until <= SHORT_RUN:
-            told = self._helpers.lines(self.files, commands(0, until))
-            return sorted({it.clock: it.entry or 0 for it in map(event_of, (line for line in told if ' entry ' in line))}.items()), until
+            lines = self._helpers.lines(self.files, commands(0, until))
+            return sorted({entry.clock: entry.entry or 0 for entry in map(event_of, (line for line in lines if ' entry ' in line))}.items()), until
         deadline, found = time.monotonic() + MARKS_SECONDS, dict[int, int]()
         with self._helpers.session(self.files) as session:
             for place in self._handlers():
@@ -612,7 +612,7 @@ class Board:
         """The places to which the vectors lead, those of requests first, at most sixteen."""
         at, octets = dict[Far, None](), self._vectors
         for number in (*range(8, 16), 0, 1, *range(2, 8), *range(16, 256)):
-            offset, segment = (int.from_bytes(octets[4 * number + it : 4 * number + it + 2], 'little') for it in (0, 2))
+            offset, segment = (int.from_bytes(octets[4 * number + start : 4 * number + start + 2], 'little') for start in (0, 2))
             if offset or segment:
                 at[segment, offset] = None
         return list(at)[:16]
@@ -626,4 +626,4 @@ def state_of(chips: Chips) -> str:
 
 def is_key_list(given: Any) -> bool:
     """Whether a field `keys` is a list of pairs of numbers, which may be shown."""
-    return isinstance(given, list) and all(isinstance(it, list) and len(it) == 2 and all(type(n) is int for n in it) for it in given)
+    return isinstance(given, list) and all(isinstance(pair, list) and len(pair) == 2 and all(type(n) is int for n in pair) for pair in given)

@@ -86,18 +86,22 @@ class Drafts:
     def settled(self, of: str | None, source: str, fields: Fields) -> Fields | None:
         """A file's latest draft that says what the file says: its stops are taken with the file. Earlier ones are forgotten."""
         found: Fields | None = None
-        for page in [it['id'] for it in self.of_file(of)]:
+        for page in [entry['id'] for entry in self.of_file(of)]:
             draft = self.one(of, page)
             if draft['source'] == source.replace('\r\n', '\n') and fields | draft['run'] == fields:
                 if found:
                     self.drop(of, page)
-                found = found or {'id': page, 'stops': [it for it in draft['stops'] if isinstance(it, str)]}
+                found = found or {'id': page, 'stops': [stop for stop in draft['stops'] if isinstance(stop, str)]}
         return found
 
     def _all(self, start: str) -> list[str]:
         """The drafts' files whose names begin so, the latest first."""
         try:
-            paths = [it.path for it in os.scandir(self.folder) if it.name.startswith(start) and it.name.endswith('.json') and not it.name.startswith('.')]
+            paths = [
+                entry.path
+                for entry in os.scandir(self.folder)
+                if entry.name.startswith(start) and entry.name.endswith('.json') and not entry.name.startswith('.')
+            ]
             return sorted(paths, key=os.path.getmtime, reverse=True)
         except OSError:
             return []

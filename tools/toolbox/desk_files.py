@@ -67,7 +67,7 @@ def with_ends(text: str, old: str) -> str:
     usual = '\r\n' if 2 * pairs >= all_ends else '\n'
     before, now = old.splitlines(keepends=True), text.split('\n')
     ends = [usual] * len(now)
-    plain = [it.rstrip('\r\n') for it in before]
+    plain = [old_line.rstrip('\r\n') for old_line in before]
     for first, at, count in difflib.SequenceMatcher(None, plain, now, autojunk=False).get_matching_blocks():
         for line in range(count):
             ends[at + line] = before[first + line][len(plain[first + line]) :] or usual
@@ -76,7 +76,7 @@ def with_ends(text: str, old: str) -> str:
 
 def difference(before: str, after: str, names: tuple[str, str]) -> list[str]:
     """What differs between two texts, as `diff -u` tells it; ends of lines don't count."""
-    pair = [it.replace('\r\n', '\n').split('\n') for it in (before, after)]
+    pair = [text.replace('\r\n', '\n').split('\n') for text in (before, after)]
     found = list(difflib.unified_diff(*pair, *names, lineterm=''))
     return found if len(found) <= LONGEST_DIFFERENCE else [*found[:LONGEST_DIFFERENCE], f'.. and {len(found) - LONGEST_DIFFERENCE} lines more']
 
@@ -172,8 +172,8 @@ class Kept:
 
     def _there(self) -> tuple[list[str], list[bytes | None]]:
         """The files, and what they hold now."""
-        paths = [it for it in (self.given.file, self.given.run_file) if it]
-        return paths, [octets_of(it) for it in paths]
+        paths = [path for path in (self.given.file, self.given.run_file) if path]
+        return paths, [octets_of(path) for path in paths]
 
     def changed(self, source: str, sums: list[Any]) -> Fields:
         """What another hand has changed since the files had these sums, as `write` tells it; nothing where none has."""
@@ -181,7 +181,7 @@ class Kept:
 
     def _changed(self, source: str, sums: list[Any], paths: list[str], there: list[bytes | None]) -> Fields:
         """Which files have no longer these sums, the sums of now, and how the page's text differs from FILE's."""
-        now = [sum_of(it) for it in there]
+        now = [sum_of(octets) for octets in there]
         changed = [path for path, is_now, was in zip(paths, now, sums) if is_now != was]
         if not changed:
             return {}

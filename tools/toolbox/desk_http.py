@@ -43,7 +43,9 @@ class Refused(Exception):
 def policy_of(page: str, scripts: list[str]) -> str:
     """The page's content security policy: its own style by its sum, its modules by their addresses, and requests to where it
     comes from."""
-    styles = ' '.join(f"'sha256-{base64.b64encode(hashlib.sha256(it.encode()).digest()).decode()}'" for it in re.findall('<style>(.*?)</style>', page, re.S))
+    styles = ' '.join(
+        f"'sha256-{base64.b64encode(hashlib.sha256(style.encode()).digest()).decode()}'" for style in re.findall('<style>(.*?)</style>', page, re.S)
+    )
     return (
         f"default-src 'none'; script-src {' '.join(scripts)}; style-src {styles}; connect-src 'self'; img-src data:; "
         "base-uri 'none'; form-action 'none'; frame-ancestors 'none'"
@@ -139,10 +141,10 @@ class Server(http.server.ThreadingHTTPServer):
         """Ends the connections that haven't shown the token in time, and those whose request comes too slowly."""
         now = time.monotonic()
         with self._lock:
-            late = [it for it, since in self._strangers.items() if since < now - self.seconds_of_a_stranger]
+            late = [each for each, since in self._strangers.items() if since < now - self.seconds_of_a_stranger]
             for connection in late:
                 del self._strangers[connection]
-            late += [it for it, since in self._reading.items() if since < now - self.seconds_of_a_request]
+            late += [each for each, since in self._reading.items() if since < now - self.seconds_of_a_request]
         for connection in late:
             shut(connection)
 

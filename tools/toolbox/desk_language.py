@@ -36,9 +36,9 @@ class Language:
                     found = hover(document, place)
                     return {'html': as_html(found['contents']['value']) if found else ''}
                 if what == 'completion':
-                    return {'items': sorted(completion(document, place)['items'], key=lambda it: str(it['sortText']))}
+                    return {'items': sorted(completion(document, place)['items'], key=lambda item: str(item['sortText']))}
             except Unfit as unfit:
                 raise Sorry(str(unfit)) from None
             document.answers.finish()
-            them = [of_a_fault(document, *it) for it in document.answers.refused]
-            return {'refused': [{'line': it['range']['start']['line'] + 1, 'text': it['message']} for it in them]}
+            them = [of_a_fault(document, *refusal) for refusal in document.answers.refused]
+            return {'refused': [{'line': diagnostic['range']['start']['line'] + 1, 'text': diagnostic['message']} for diagnostic in them]}

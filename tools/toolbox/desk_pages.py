@@ -26,11 +26,11 @@ class Example:
 def examples() -> list[Example]:
     """The examples that have a source and a run file, in the order of docs/examples.md. Their first comment says what they are."""
     page = read_text(f'{TOP}/docs/examples.md')
-    there = sorted(it[:-4] for it in os.listdir(f'{TOP}/examples') if it.endswith('.asm'))
-    rows = [it.split('|')[1:4] for it in page.splitlines() if re.match(r'\|[a-z, ]+\|.*\|.*\|$', it)]
-    told = {name.strip(): cells for cells in rows for name in cells[0].split(',')}
-    order = [it for it in told if it in there] + [it for it in there if it not in told]
-    return [example_of(it, told.get(it, ['', '', '']), page) for it in order]
+    there = sorted(file[:-4] for file in os.listdir(f'{TOP}/examples') if file.endswith('.asm'))
+    rows = [line.split('|')[1:4] for line in page.splitlines() if re.match(r'\|[a-z, ]+\|.*\|.*\|$', line)]
+    cells_by_name = {name.strip(): cells for cells in rows for name in cells[0].split(',')}
+    order = [name for name in cells_by_name if name in there] + [name for name in there if name not in cells_by_name]
+    return [example_of(name, cells_by_name.get(name, ['', '', '']), page) for name in order]
 
 
 def example_of(name: str, cells: list[str], page: str) -> Example:
@@ -39,13 +39,13 @@ def example_of(name: str, cells: list[str], page: str) -> Example:
     link = re.search(r'\]\((\w[\w.-]*\.md)(?:#([\w-]+))?\)', cells[2])
     if link:
         return Example(name, first, link[1], link[2] or '')
-    heads = [it for it in re.findall(r'^# (.*)$', page, re.M) if name[:6] in it.lower() or name == 'readback' and 'read back' in it]
+    heads = [head for head in re.findall(r'^# (.*)$', page, re.M) if name[:6] in head.lower() or name == 'readback' and 'read back' in head]
     return Example(name, first, 'examples.md', anchor_of(heads[0]) if heads else '')
 
 
 def files_of(name: str) -> tuple[str, str]:
     """An example's source and run file."""
-    if name not in {it.name for it in examples()}:
+    if name not in {example.name for example in examples()}:
         raise Sorry(f'there is no example {name}')
     return read_text(f'{TOP}/examples/{name}.asm'), read_text(f'{TOP}/examples/{name}.json')
 
@@ -61,7 +61,7 @@ def grammar() -> list[dict[str, str]]:
 
 def page_of(name: str) -> str:
     """A page of docs/ as HTML."""
-    there = [it for it in os.listdir(f'{TOP}/docs') if it.endswith('.md')]
+    there = [file for file in os.listdir(f'{TOP}/docs') if file.endswith('.md')]
     if name not in there:
         raise Sorry(f'there is no page {name}')
     return as_html(read_text(f'{TOP}/docs/{name}'))
@@ -89,13 +89,13 @@ def inline(text: str) -> str:
     text = html.escape(re.sub(r'`([^`]+)`', keep, text.replace('\0', '')))
     text = re.sub(r'!?\[([^\]]*)\]\(([^)\s]*)\)', link, text)
     text = re.sub(r'\*\*(.+?)\*\*', r'<b>\1</b>', text)
-    return re.sub('\0(\\d+)\0', lambda it: kept[int(it[1])], text)
+    return re.sub('\0(\\d+)\0', lambda place: kept[int(place[1])], text)
 
 
 def row(line: str, tag: str) -> str:
     """A row of a table."""
     cells = re.split(r'(?<!\\)\|', line.strip()[1:-1])
-    return '<tr>' + ''.join(f'<{tag}>{inline(it.replace(chr(92) + "|", "|").strip())}</{tag}>' for it in cells) + '</tr>'
+    return '<tr>' + ''.join(f'<{tag}>{inline(cell.replace(chr(92) + "|", "|").strip())}</{tag}>' for cell in cells) + '</tr>'
 
 
 def as_html(text: str) -> str:
@@ -116,7 +116,7 @@ def as_html(text: str) -> str:
             out.append(table([line, *taken(lines, '|')]))
         elif line.startswith('- '):
             items = [line, *taken(lines, '- ')]
-            out.append('<ul>' + ''.join(f'<li>{inline(it[2:])}</li>' for it in items) + '</ul>')
+            out.append('<ul>' + ''.join(f'<li>{inline(entry[2:])}</li>' for entry in items) + '</ul>')
         elif line.strip():
             out.append(f'<p>{inline(line)}</p>')
     return '\n'.join(out)
@@ -134,4 +134,4 @@ def table(lines: list[str]) -> str:
     """A table, whose second line parts its head."""
     head, body = lines[0], lines[2:]
     first = row(head, 'th') if head.strip('| ') else ''
-    return f'<div class="wide"><table>{first}{"".join(row(it, "td") for it in body)}</table></div>'
+    return f'<div class="wide"><table>{first}{"".join(row(line, "td") for line in body)}</table></div>'

@@ -29,7 +29,7 @@ class Speaker:
     def stretches(self, low: int, high: int, parts: int) -> list[list[int]]:
         """The stretches of clocks from low to high in which it was high. What lies closer than one of so many parts is joined, so
         there are no more than parts."""
-        edges = [low + (high - low) * it // parts for it in range(parts + 1)]
+        edges = [low + (high - low) * n // parts for n in range(parts + 1)]
         found = list[list[int]]()
         for begin, end in zip(edges, edges[1:]):
             at = bisect_right(self._clocks, begin)
@@ -54,5 +54,5 @@ class Speaker:
         """Its mean level over each sample from one clock to another, `slow` times as long as on a real board: a byte each."""
         clocks = HERTZ / RATE / slow
         count = max(1, min(int((end - begin) / clocks), MOST_SAMPLES))
-        marks = [self.high_before(min(begin + it * clocks, self.until)) for it in range(count + 1)]
+        marks = [self.high_before(min(begin + n * clocks, self.until)) for n in range(count + 1)]
         return bytes(min(LOUDEST, int(LOUDEST * (b - a) / clocks + 0.5)) for a, b in zip(marks, marks[1:]))

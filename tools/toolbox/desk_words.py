@@ -45,7 +45,7 @@ def want(fields: Fields, name: str, kind: type, default: Any = None) -> Any:
 
 def numbers(given: list[Any], least: int, most: int) -> list[int]:
     """A list of numbers within bounds."""
-    if len(given) > 10_000 or not all(type(it) is int and least <= it <= most for it in given):
+    if len(given) > 10_000 or not all(type(number) is int and least <= number <= most for number in given):
         raise Refused(400, f'a list of numbers from {least} to {most} is wanted')
     return given
 
@@ -53,7 +53,7 @@ def numbers(given: list[Any], least: int, most: int) -> list[int]:
 def sums_in(fields: Fields) -> list[Any]:
     """The sums by which a page names what it has read of the command's files."""
     sums = want(fields, 'sums', list)
-    if len(sums) != 2 or not all(it is None or isinstance(it, str) for it in sums):
+    if len(sums) != 2 or not all(checksum is None or isinstance(checksum, str) for checksum in sums):
         raise Refused(400, 'the sums of two files are wanted')
     return sums
 
@@ -78,7 +78,7 @@ class Desk:
         """Ends the boards that nobody has asked for a while."""
         before = time.monotonic() - self.idle_seconds
         with self._lock:
-            gone = {name: it for name, it in self._boards.items() if it and it.used < before}
+            gone = {name: known for name, known in self._boards.items() if known and known.used < before}
             for name in gone:
                 del self._boards[name]
         for name, board in gone.items():
@@ -90,10 +90,10 @@ class Desk:
         with self._lock:
             if len(self._boards) < MOST_BOARDS:
                 return
-            idle = {name: it for name, it in self._boards.items() if it and it.used < before and not it.is_at_work}
+            idle = {name: board for name, board in self._boards.items() if board and board.used < before and not board.is_at_work}
             if not idle:
                 raise Sorry(f'{MOST_BOARDS} boards run: pause one, or close its page')
-            name = min(idle, key=lambda it: idle[it].used)
+            name = min(idle, key=lambda candidate: idle[candidate].used)
             del self._boards[name]
         self._end(name, idle[name])
 
@@ -144,14 +144,14 @@ class Desk:
     def _hello(self, _: Fields) -> Fields:
         """What the page begins with. It is offered the drafts of FILE, and those of no file that were written since this desk began;
         without FILE all of no file."""
-        found = {'examples': [asdict(it) for it in examples()], 'defaults': DEFAULTS, 'grammar': grammar(), 'given': None}
+        found = {'examples': [asdict(example) for example in examples()], 'defaults': DEFAULTS, 'grammar': grammar(), 'given': None}
         free = self.drafts.of_file(None)
         if not self.given.file:
             return found | {'drafts': free}
         given = self.files.read()
         settled = self.drafts.settled(self.given.file, given['source'], DEFAULTS | given['run'])
-        drafts = [it for it in self.drafts.of_file(self.given.file) if not settled or it['id'] != settled['id']]
-        drafts += [it for it in free if it['time'] >= self.drafts.begun]
+        drafts = [draft for draft in self.drafts.of_file(self.given.file) if not settled or draft['id'] != settled['id']]
+        drafts += [draft for draft in free if draft['time'] >= self.drafts.begun]
         return found | {'given': given | {'settled': settled}, 'drafts': drafts}
 
     def _example(self, fields: Fields) -> Fields:
@@ -199,7 +199,7 @@ class Desk:
                     self._boards.pop(name, None)
             if not board:
                 self._end(name, None)
-        lines = {str(it.number): '%04X:%04X' % it.address for it in board.listing.lines if it.address}
+        lines = {str(line.number): '%04X:%04X' % line.address for line in board.listing.lines if line.address}
         return {'board': name, 'lines': lines, 'budget': board.budget} | board.view('there', 0)
 
     def _symbols(self, source: str) -> str | None:
@@ -319,9 +319,9 @@ class Desk:
     def _stops(self, board: Board, fields: Fields) -> Fields:
         """Sets the stops."""
         stops = want(fields, 'stops', list)
-        if len(stops) > 1000 or not all(isinstance(it, str) for it in stops):
+        if len(stops) > 1000 or not all(isinstance(stop, str) for stop in stops):
             raise Refused(400, 'texts of stops are wanted')
-        return board.set_stops([it.strip() for it in stops])
+        return board.set_stops([stop.strip() for stop in stops])
 
     def _type(self, board: Board, fields: Fields) -> Fields:
         """Keys typed now: codes, or a text as tools/keys takes it."""
@@ -338,14 +338,14 @@ class Desk:
         else:
             codes = numbers(want(fields, 'codes', list), 1, 211)
             pauses = [0] + [1000] * (len(codes) - 1)
-        if not codes or any(not 1 <= it % 128 <= 83 for it in codes):
+        if not codes or any(not 1 <= code % 128 <= 83 for code in codes):
             raise Refused(400, 'scan codes are wanted')
         return self._do(board, lambda: board.type(codes, pauses, seen))
 
     def _drop_keys(self, board: Board, fields: Fields) -> Fields:
         """Takes keys out of the list, by their places in it."""
         gone, seen = set(numbers(want(fields, 'keys', list), 0, 1 << 20)), want(fields, 'seen', int, 0)
-        kept = [it for at, it in enumerate(board.keys) if at not in gone]
+        kept = [key for at, key in enumerate(board.keys) if at not in gone]
         return self._do(board, lambda: board.with_keys(kept, seen))
 
     def _speaker(self, board: Board, fields: Fields) -> Fields:
@@ -397,9 +397,9 @@ class Desk:
     }
 
 
-def refusals(files: Files, told: str) -> list[Fields]:
+def refusals(files: Files, refusal: str) -> list[Fields]:
     """The refused lines of a source, the first twenty, with hints; else what was told, with its line if it has one."""
-    fault = fault_in(told.replace('the program refuses: ', '').replace("the board's process has ended: ", '').partition(' (')[0])
+    fault = fault_in(refusal.replace('the program refuses: ', '').replace("the board's process has ended: ", '').partition(' (')[0])
     if fault and fault.kind.of == 'source' and not files.is_hex:
         until, found = time.monotonic() + MESSAGES_SECONDS, list[Fields]()
         for line, text in itertools.islice(messages(files.file, is_told=False), MOST_MESSAGES):
@@ -407,7 +407,7 @@ def refusals(files: Files, told: str) -> list[Fields]:
             if time.monotonic() > until:
                 break
         return found
-    text = f'{fault.kind.name}: {fault.kind.meaning}' if fault else told
+    text = f'{fault.kind.name}: {fault.kind.meaning}' if fault else refusal
     return [{'line': fault.line if fault else None, 'text': text, 'of': fault.kind.of if fault else ''}]
 
 

@@ -95,7 +95,7 @@ class Helpers:
     def lines(self, files: Files, commands: Iterable[str]) -> Iterator[str]:
         """The answers to commands of debug, which are handed over all at once."""
         with tempfile.TemporaryFile() as given:
-            given.writelines(f'{it}\n'.encode() for it in commands)
+            given.writelines(f'{command}\n'.encode() for command in commands)
             given.seek(0)
             process = started([path(), *files.words('debug')], stdin=given, stdout=subprocess.PIPE, stderr=subprocess.DEVNULL, start_new_session=True)
             self.add(process)

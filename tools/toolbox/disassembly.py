@@ -77,7 +77,7 @@ def instructions(memory: Callable[[int, int], bytes], segment: int, offset: int,
         return
     for _ in range(count):
         octets = (
-            b''.join(memory((16 * segment + (offset + it) % 0x10000) % (1 << 20), 1) for it in range(LONGEST))
+            b''.join(memory((16 * segment + (offset + n) % 0x10000) % (1 << 20), 1) for n in range(LONGEST))
             if offset + LONGEST > 0x10000 or 16 * segment + offset + LONGEST > 1 << 20
             else memory(16 * segment + offset, LONGEST)
         )

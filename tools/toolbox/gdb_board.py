@@ -67,7 +67,7 @@ class Board(SessionBoard):
 
     def _undone(self, watches: Iterable[str]) -> Met | None:
         """A change of a watched byte in the clock that led to here."""
-        return next((Met('watch', found[0].address) for found in (changed(self, it) for it in watches) if found), None)
+        return next((Met('watch', found[0].address) for found in (changed(self, watch) for watch in watches) if found), None)
 
     def recover(self) -> None:
         """Behind a client that has gone: from a way back that nobody ends any more, the board is begun anew where it was."""
@@ -96,7 +96,7 @@ def far_of_address(listing: Listing, address: int, segment: int) -> tuple[int, i
     """The CS:IP by which an address is most likely come to, and whether the source says so: that of its line or label, else by the
     present CS if it reaches so far, else by the multiple of 1000h below."""
     known = [line.address for line in (listing.line_from(address),) if line and line.address]
-    known += [it for it in listing.labels.values() if physical(*it) == address]
+    known += [place for place in listing.labels.values() if physical(*place) == address]
     if known:
         return *known[0], True
     offset = (address - 16 * segment) % MEMORY

@@ -59,7 +59,7 @@ def word_in(segment: int, base: int, offset: int) -> tuple[bytes, ...]:
     return register(segment), FOUR, LEFT, bytes([BREG + base]) + sleb(offset), WORD_AT, PLUS
 
 
-def told(at: int) -> bytes:
+def recorded(at: int) -> bytes:
     """A word of the frame's record: how far its end is from SP, how far its caller's SP, where that goes on, and its record."""
     return BREGX + uleb(RECORD) + sleb(RECORDS + at) + AT
 
@@ -67,15 +67,15 @@ def told(at: int) -> bytes:
 def by_record() -> bytes:
     """The rule by the record. With none, which is 0, the caller is the same frame, with which gdb ends."""
     stack, here = bytes([BREG + ESP, 0]), (bytes([BREG + EIP, 0]), register(RECORD), ZERO, EQUAL, TIMES)
-    next_one = value_is(EIP, told(8), *here, PLUS) + value_is(RECORD, told(12))
-    return CFA_IS + expression(stack, told(0), PLUS) + value_is(ESP, stack, told(4), PLUS) + next_one
+    next_one = value_is(EIP, recorded(8), *here, PLUS) + value_is(RECORD, recorded(12))
+    return CFA_IS + expression(stack, recorded(0), PLUS) + value_is(ESP, stack, recorded(4), PLUS) + next_one
 
 
 def returns_at(base: int, offset: int, has_saved: bool) -> bytes:
     """The rule where the return address stands so far from a register, and BP's value before it if it is saved."""
     there, above = word_in(CS, base, offset), bytes([BREG + base]) + sleb(offset + 2)
     saved = value_is(EBP, *word_in(SS, EBP, 0)) if has_saved else SAME + uleb(EBP)
-    return CFA_AT + uleb(base) + uleb(offset) + value_is(ESP, above) + value_is(EIP, *there) + value_is(RECORD, told(12)) + saved
+    return CFA_AT + uleb(base) + uleb(offset) + value_is(ESP, above) + value_is(EIP, *there) + value_is(RECORD, recorded(12)) + saved
 
 
 def rules_of(octets: bytes) -> bytes:
@@ -93,7 +93,7 @@ def rules_of(octets: bytes) -> bytes:
 def memory_of(listing: Listing) -> dict[int, int]:
     """The bytes that a listing tells."""
     parts = [*listing.parts.items(), *((address, line.shown) for address, line in listing.at.items())]
-    return {first + it: octet for first, octets in parts for it, octet in enumerate(octets)}
+    return {first + place: octet for first, octets in parts for place, octet in enumerate(octets)}
 
 
 def frames_of(listing: Listing, routines: list[tuple[int, int]]) -> bytes:
@@ -101,7 +101,7 @@ def frames_of(listing: Listing, routines: list[tuple[int, int]]) -> bytes:
     their own."""
     common = struct.pack('<IB', 0xFFFFFFFF, 3) + b'\x00' + uleb(1) + sleb(1) + uleb(EIP) + by_record()
     memory = memory_of(listing)
-    texts = [(first, end, bytes(memory.get(it, 0) for it in range(first, end))) for first, end in routines]
+    texts = [(first, end, bytes(memory.get(address, 0) for address in range(first, end))) for first, end in routines]
     framed = [(first, end, rules_of(octets)) for first, end, octets in texts if octets[:3] in PROLOGUES]
     entries, here = counted(common), 0
     for first, end, rules in sorted([*framed, *((first, end, NO_CALLER) for first, end in outermost(listing)), (MEMORY, MEMORY, b'')]):

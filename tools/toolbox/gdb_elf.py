@@ -19,7 +19,7 @@ def runs_of(listing: Listing) -> list[list[tuple[int, Line]]]:
     """The lines that place bytes, by address, in runs of which each line ends where the next begins."""
     runs: list[list[tuple[int, Line]]] = []
     end = -1
-    for address, line in sorted([*listing.at.items(), *listing.modules.items()], key=lambda it: it[0]):
+    for address, line in sorted([*listing.at.items(), *listing.modules.items()], key=lambda pair: pair[0]):
         if not line.shown:
             continue
         # The listing shows a long line's first bytes alone; it reaches to the next line of its segment.
@@ -58,11 +58,11 @@ def lines_of(listing: Listing, paths: dict[str, str]) -> bytes:
     """`.debug_line`. The first file is the unit's own, by its name in the unit's folder."""
     lengths = bytes([0, 1, 1, 1, 1, 0, 0, 0, 1, 0, 0, 1])  # how many operands each standard step has
     names = [path if number else os.path.basename(path) for number, path in enumerate(paths.values())]
-    files = b'\x00' + b''.join(it.encode('utf-8', 'surrogateescape') + b'\x00\x00\x00\x00' for it in names) + b'\x00'
+    files = b'\x00' + b''.join(name.encode('utf-8', 'surrogateescape') + b'\x00\x00\x00\x00' for name in names) + b'\x00'
     header = bytes([1, 1, 0xFB, 14, 13]) + lengths + files
     # Without any line gdb would leave out the unit: so of Intel HEX with labels alone the last byte of memory has one.
     runs = runs_of(listing) or [[(MEMORY - 1, Line(1, '', None, b'\x00', next(iter(paths))))]]
-    program = b''.join(steps_of(it, list(paths)) for it in runs)
+    program = b''.join(steps_of(run, list(paths)) for run in runs)
     return counted(struct.pack('<HI', 3, len(header)) + header + program)
 
 
@@ -72,10 +72,10 @@ def unit_of(path: str, extents: dict[str, tuple[int, int]]) -> tuple[bytes, byte
     forms = ((0x03, 0x08), (0x1B, 0x08), (0x25, 0x08), (0x13, 0x05), (0x10, 0x06), (0x11, 0x01), (0x12, 0x01))
     of_routines = ((0x03, 0x08), (0x11, 0x01), (0x12, 0x01))
     shapes = [(1, 0x11, 1, forms), (2, 0x2E, 0, of_routines)]
-    abbreviation = b''.join(bytes([*it[:3], *(one for pair in it[3] for one in pair), 0, 0]) for it in shapes) + b'\x00'
-    folder, name = (it.encode('utf-8', 'surrogateescape') + b'\x00' for it in os.path.split(path))
+    abbreviation = b''.join(bytes([*shape[:3], *(one for pair in shape[3] for one in pair), 0, 0]) for shape in shapes) + b'\x00'
+    folder, name = (part.encode('utf-8', 'surrogateescape') + b'\x00' for part in os.path.split(path))
     unit = b'\x01' + name + folder + PRODUCER + struct.pack('<HIII', ASSEMBLER, 0, 0, MEMORY)
-    routines = (b'\x02' + it.encode() + b'\x00' + struct.pack('<II', *place) for it, place in extents.items() if place[0] < place[1])
+    routines = (b'\x02' + label.encode() + b'\x00' + struct.pack('<II', *place) for label, place in extents.items() if place[0] < place[1])
     return abbreviation, counted(struct.pack('<HIB', 3, 0, 4) + unit + b''.join(routines) + b'\x00')
 
 
@@ -120,16 +120,16 @@ def extents_of(listing: Listing) -> dict[str, tuple[int, int]]:
     gdb would take it for all that follows. One behind a CALL has none, and the one before reaches over it: where a call returns to
     gdb wants to find the routine that made it."""
     behind, places = places_behind_calls(listing), {name: physical(*at) for name, at in listing.labels.items()}
-    parts = [(run[0][0], end_of(run)) for run in runs_of(listing)] + [(it, it + len(octets)) for it, octets in listing.parts.items()]
+    parts = [(run[0][0], end_of(run)) for run in runs_of(listing)] + [(first, first + len(octets)) for first, octets in listing.parts.items()]
     ends = sorted({*places.values(), *(end for _, end in parts)} - behind)
 
     def end(address: int) -> int:
         if address in behind:
             return address
         is_in_part = any(first <= address < last for first, last in parts)
-        return next((it for it in ends if it > address), address) if is_in_part else address + 1
+        return next((bound for bound in ends if bound > address), address) if is_in_part else address + 1
 
-    return {name: (address, end(address)) for name, address in sorted(places.items(), key=lambda it: it[1])}
+    return {name: (address, end(address)) for name, address in sorted(places.items(), key=lambda pair: pair[1])}
 
 
 def symbols_of(extents: dict[str, tuple[int, int]]) -> tuple[bytes, bytes]:

@@ -3,7 +3,7 @@ behind it those of the 8086 that the core shows as addresses."""
 from __future__ import annotations
 
 CORE = ('eax', 'ecx', 'edx', 'ebx', 'esp', 'ebp', 'esi', 'edi', 'eip', 'eflags', 'cs', 'ss', 'ds', 'es', 'fs', 'gs')
-FLOATS, CONTROLS = [f'st{it}' for it in range(8)], ('fctrl', 'fstat', 'ftag', 'fiseg', 'fioff', 'foseg', 'fooff', 'fop')
+FLOATS, CONTROLS = [f'st{number}' for number in range(8)], ('fctrl', 'fstat', 'ftag', 'fiseg', 'fioff', 'foseg', 'fooff', 'fop')
 FLAGS = {'CF': 0, 'PF': 2, 'AF': 4, 'ZF': 6, 'SF': 7, 'TF': 8, 'IF': 9, 'DF': 10, 'OF': 11}
 OWN = {'ip': 'IP', 'sp16': 'SP', 'bp16': 'BP'}  # their names in gdb
 TYPES = {'esp': 'data_ptr', 'ebp': 'data_ptr', 'eip': 'code_ptr', 'eflags': 'i386_eflags'}
@@ -24,9 +24,9 @@ def register(name: str, bits: int, kind: str, more: str = '') -> str:
 def description() -> str:
     """The whole of it."""
     flags = ''.join(f'<field name="{name}" start="{bit}" end="{bit}"/>' for name, bit in FLAGS.items())
-    core = ''.join(register(it, 32, TYPES.get(it, 'int32')) for it in CORE)
-    floats = ''.join(register(it, 80, 'i387_ext') for it in FLOATS) + ''.join(register(it, 32, 'int', ' group="float"') for it in CONTROLS)
-    own = ''.join(register(it, 16, 'uint16') for it in OWN)
+    core = ''.join(register(name, 32, TYPES.get(name, 'int32')) for name in CORE)
+    floats = ''.join(register(name, 80, 'i387_ext') for name in FLOATS) + ''.join(register(name, 32, 'int', ' group="float"') for name in CONTROLS)
+    own = ''.join(register(name, 16, 'uint16') for name in OWN)
     return (
         '<?xml version="1.0"?><!DOCTYPE target SYSTEM "gdb-target.dtd"><target version="1.0"><architecture>i8086</architecture>'
         f'<osabi>none</osabi><feature name="org.gnu.gdb.i386.core"><flags id="i386_eflags" size="4">{flags}</flags>{core}{floats}</feature>'

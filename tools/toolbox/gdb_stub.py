@@ -151,7 +151,7 @@ class Stub:
     def _registers(self) -> list[int]:
         """The registers of `g`, but FS and GS, which the 8086 hasn't."""
         found = self._board.registers()
-        return [physical(found[SEGMENT_OF[it]], found[it]) if it in SEGMENT_OF else found[it] for it in NAMES]
+        return [physical(found[SEGMENT_OF[name]], found[name]) if name in SEGMENT_OF else found[name] for name in NAMES]
 
     def _register(self, text: str) -> str:
         """A register by its number."""
@@ -170,7 +170,7 @@ class Stub:
         found = re.fullmatch('qXfer:features:read:target.xml:([0-9a-f]{1,8}),([0-9a-f]{1,8})', request)
         if not found:
             return 'E00' if request.startswith('qXfer:features:') else ''
-        first, count = (int(it, 16) for it in found.groups())
+        first, count = (int(number, 16) for number in found.groups())
         text = description()
         return ('m' if first + count < len(text) else 'l') + text[first : first + count]
 
@@ -216,7 +216,7 @@ class Stub:
             return f'E.{NO_READS}'
         stop = watch_of(int(found[3], 16), int(found[4], 16))
         if found[1] == 'z':
-            self._watches = [it for it in self._watches if it != stop]
+            self._watches = [watch for watch in self._watches if watch != stop]
         elif stop not in self._watches:
             if self._is_full():
                 return f'E.{FULL}'
@@ -247,7 +247,7 @@ class Stub:
                 (segment, offset), is_known = self._frames.returns[address], True
             found.append(break_at((segment, offset)))
             if conditions := self._addresses[address]:
-                self._board.asked[found[-1]] = [Asked(functools.partial(self._holds, it)) for it in conditions]
+                self._board.asked[found[-1]] = [Asked(functools.partial(self._holds, condition)) for condition in conditions]
             if not is_known and address not in self._told:
                 self._told.add(address)
                 self.tell(f'breakpoint at {address:05x}: where CS:IP is {segment:04X}:{offset:04X}; by another CS it is passed')
@@ -306,7 +306,7 @@ class Stub:
             self.tell(here)
             return self._stopped(TRAP, 'swbreak:;' if self._can_name_breaks else '')
         if met.how == 'watch':
-            stops = [it for it in self._watches if met.number in watched_by(it)] if self._board.clock > before else []
+            stops = [watch for watch in self._watches if met.number in watched_by(watch)] if self._board.clock > before else []
             self.tell(f'{here}: {what_was_seen(self._board, self._listing, stops[0])}' if stops else here)
             return self._stopped(TRAP, f'watch:{met.number:x};')
         if met.how == 'stop':
@@ -351,7 +351,7 @@ class Stub:
         elif words[0] in RUNS:
             self.tell(f"{words[0]} passes gdb's breakpoints: ./pcprobe FILE RUN answers it")
         else:
-            self.tell('\n'.join(it.rstrip() for it in self._board.many(command)))
+            self.tell('\n'.join(line.rstrip() for line in self._board.many(command)))
         return 'OK'
 
     def _typed(self, words: list[str]) -> str:

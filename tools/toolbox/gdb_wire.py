@@ -22,7 +22,7 @@ def framed(payload: str) -> bytes:
 def unescaped(octets: bytes) -> bytes:
     """A packet's payload without its escapes."""
     first, *others = octets.split(b'}')
-    return first + b''.join(bytes([it[0] ^ 0x20]) + it[1:] for it in others if it)
+    return first + b''.join(bytes([part[0] ^ 0x20]) + part[1:] for part in others if part)
 
 
 class Wire:
@@ -69,9 +69,9 @@ class Wire:
             self._held = self._held[start:] if start >= 0 else self._held if self._is_dropping else b''
             end = self._held.find(b'#')
             if 0 <= end <= len(self._held) - 3:
-                octets, told = self._held[1:end], self._held[end + 1 : end + 3]
+                octets, digits = self._held[1:end], self._held[end + 1 : end + 3]
                 self._held = self._held[end + 3 :]
-                found = self._judged(octets, told)
+                found = self._judged(octets, digits)
                 if found is not None:
                     return found
                 continue
@@ -79,9 +79,9 @@ class Wire:
                 self._held, self._is_dropping = b'$', True
             self._more()
 
-    def _judged(self, octets: bytes, told: bytes) -> str | None:
+    def _judged(self, octets: bytes, digits: bytes) -> str | None:
         """A packet's request, or nothing where it was too long or its sum is wrong."""
-        is_right = not self._is_dropping and len(octets) <= MOST_BYTES and told.lower() == b'%02x' % (sum(octets) % 256)
+        is_right = not self._is_dropping and len(octets) <= MOST_BYTES and digits.lower() == b'%02x' % (sum(octets) % 256)
         self._is_dropping = False
         if self.has_acknowledgements:
             self._write(b'+' if is_right else b'-')

@@ -51,7 +51,7 @@ class Listing:
         """The line whose bytes, or a part of them, begin at a physical address."""
         return self.at.get(address) or self.modules.get(address)
 
-    def told(self, line: Line) -> str:
+    def source_text(self, line: Line) -> str:
         """A line beside a place: of one source without its comment, of several with its file."""
         return f'{os.path.basename(line.source)}:{line.number}: {line.text.strip()}' if self.modules else f'{line.number}: {code_of(line.text).strip()}'
 
@@ -61,7 +61,7 @@ class Listing:
 
     def label_before(self, segment: int, offset: int) -> str:
         """`label` or `label+N` for an address: the nearest label at or before it in the same paragraph, or nothing."""
-        best = max(((at, name) for name, (para, at) in self.labels.items() if para == segment and at <= offset), key=lambda it: it[0], default=None)
+        best = max(((at, name) for name, (para, at) in self.labels.items() if para == segment and at <= offset), key=lambda pair: pair[0], default=None)
         if best is None:
             return ''
         return best[1] if best[0] == offset else f'{best[1]}+{offset - best[0]:X}'
@@ -70,7 +70,7 @@ class Listing:
         """A label's segment and offset; upper and lower case are one."""
         if name.lower() in map(str.lower, self.absent):
             raise Sorry(f'{name} is not in the image: --symbols FILE,ram=PARAGRAPH tells where its section stands')
-        return next((at for it, at in self.labels.items() if it.lower() == name.lower()), None)
+        return next((at for label, at in self.labels.items() if label.lower() == name.lower()), None)
 
 
 def code_of(line: str) -> str:
@@ -109,7 +109,7 @@ def probed(source: str, names: list[str]) -> dict[str, tuple[int, int]]:
         for closing in ('', 'ENDS\n'):  # most sources close their last segment by themselves
             ran = given_text(['asm', '--list'], f'{source}\n{closing}SEGMENT {PROBE_NAME} AT {paragraph:05X}h\n{text}')
             if ran.status == 0:
-                rows = [line_of(0, it).shown for it in ran.out.splitlines()[-len(names) :]]
+                rows = [line_of(0, row).shown for row in ran.out.splitlines()[-len(names) :]]
                 return {name: (int.from_bytes(row[2:4], 'little'), int.from_bytes(row[:2], 'little')) for name, row in zip(names, rows)}
     return {}
 
@@ -140,7 +140,7 @@ def listing_of(files: Files) -> Listing:
     for line in lines:
         if line.address:
             found.at.setdefault(physical(*line.address), line)
-    names = [name for name in map(label_in, (it.text for it in lines)) if name]
+    names = [name for name in map(label_in, (each.text for each in lines)) if name]
     if names:
         with open(handed(files.file), encoding='utf-8', errors='surrogateescape', newline='') as file:
             found.labels.update(probed(file.read(), names))

@@ -15,7 +15,7 @@ PREFIXES = ('ES:', 'CS:', 'SS:', 'DS:', 'LOCK', 'REP', 'REPNE')
 
 def operation_of(text: str) -> str:
     """An instruction's mnemonic, without its prefixes."""
-    return next((it for it in text.split() if it not in PREFIXES), '')
+    return next((word for word in text.split() if word not in PREFIXES), '')
 
 
 def is_repeated(text: str) -> bool:
@@ -35,7 +35,7 @@ def told_of(listing: Listing, event: Event) -> str:
     """A line of the trail, with label and source line, and without its clock."""
     label, line = listing.label_before(event.segment, event.offset), line_at(listing, event) or listing.modules.get(event.address)
     what = f'interrupt {event.entry:02X}' if event.entry is not None else event.text
-    source = f'| {listing.told(line)}' if line and event.entry is None else ''
+    source = f'| {listing.source_text(line)}' if line and event.entry is None else ''
     return f'{event.segment:04X}:{event.offset:04X} {label:<12} {what:<28} {source}'.rstrip()
 
 
@@ -68,10 +68,10 @@ def far_of(listing: Listing, text: str) -> tuple[int, int]:
 
 def of_line(listing: Listing, number: int, name: str = '') -> tuple[int, int]:
     """Where the first bytes of a source line, or of the next one that places some, stand."""
-    source = next((it for it in listing.files if name and os.path.basename(it) == name), '')
+    source = next((path for path in listing.files if name and os.path.basename(path) == name), '')
     if name and not source:
         raise Sorry(f'no lines of {name} are known; those are of {", ".join(map(os.path.basename, listing.files)) or "none"}')
-    found = next((it.address for it in listing.of_file(source)[max(0, number - 1) :] if it.address), None)
+    found = next((line.address for line in listing.of_file(source)[max(0, number - 1) :] if line.address), None)
     if number < 1 or found is None:
         raise Sorry(f'no line of the source from {number} on places bytes')
     return found

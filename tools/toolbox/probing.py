@@ -135,9 +135,9 @@ class Counting(Probe):
 
     def events(self) -> Iterator[tuple[Event, int, int]]:
         """What began, with its times and clocks: the instructions that stand there now, and entries."""
-        places = [it for it in self.sums if not it.startswith('entry')]
+        places = [place for place in self.sums if not place.startswith('entry')]
         for at in range(0, len(places), LISTED):
-            for line in self.answers([f'list {it} 1' for it in places[at : at + LISTED]]):
+            for line in self.answers([f'list {place} 1' for place in places[at : at + LISTED]]):
                 event = event_of(f'0 {line}')
                 yield event, *self.sums[f'{event.segment:04X}:{event.offset:04X}']
         for name in itertools.filterfalse(set(places).__contains__, self.sums):

@@ -95,8 +95,8 @@ def refusal(status: int, err: str) -> str:
     """A sentence for a run that printed no answer."""
     if status < 0:
         return f'the program was ended by signal {-status} ({signal.strsignal(-status)})'
-    told = err.strip() or ("a file couldn't be opened, read or written" if status == 3 else f'status {status}')
-    return f'the program refuses: {told} ({tool("why")} tells more)'
+    reason = err.strip() or ("a file couldn't be opened, read or written" if status == 3 else f'status {status}')
+    return f'the program refuses: {reason} ({tool("why")} tells more)'
 
 
 class Session(zebludor.Dialogue):
@@ -140,9 +140,9 @@ class Session(zebludor.Dialogue):
     def go_to(self, clock: int) -> None:
         """Goes to this clock, back or on, past every stop."""
         while self.clock != clock:
-            told = self.one(f'back {self.clock - clock}' if clock < self.clock else f'go {clock - self.clock}')
-            if told.startswith('fault'):
-                raise Sorry(f'the debugger refuses: {told}')
+            answer = self.one(f'back {self.clock - clock}' if clock < self.clock else f'go {clock - self.clock}')
+            if answer.startswith('fault'):
+                raise Sorry(f'the debugger refuses: {answer}')
 
 
 class ProbeSession(Session):

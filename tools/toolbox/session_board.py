@@ -168,7 +168,7 @@ class SessionBoard:
     def trail(self) -> list[Event]:
         """The last instruction starts and entries."""
         if self._trail[0] != self.clock:
-            self._trail = self.clock, [event_of(it) for it in self.many('trail')]
+            self._trail = self.clock, [event_of(line) for line in self.many('trail')]
         return self._trail[1]
 
     def chips(self) -> list[str]:
@@ -198,7 +198,7 @@ class SessionBoard:
         """What happens up to a clock, to which the board goes past all stops, as lines of the probe's events."""
         while self.clock < end:
             command = f'events {min(LOGGED_AT_ONCE, end - self.clock)} {kinds}'
-            *lines, last = self._talk(lambda it=command: self._session.happenings(it))  # type: ignore[misc]
+            *lines, last = self._talk(lambda words=command: self._session.happenings(words))  # type: ignore[misc]
             refused(last)
             yield from lines
             self.poll()
@@ -308,10 +308,10 @@ class SessionBoard:
         """Sees to it that the session stops at these. Of the stops that hold at a clock the first is told, so that one which isn't
         wanted could hide one that is, and those that aren't places stand before or behind these as is wanted; but no two places hold
         at once."""
-        more = [it for it in stops if it not in self._stops]
+        more = [each for each in stops if each not in self._stops]
         them = [*self._stops, *more]
-        unwanted = next((at for at, it in enumerate(them) if it not in stops), len(them))
-        is_in_order = [place_of(it) is None for it in them if it in stops] == [place_of(it) is None for it in stops]
+        unwanted = next((at for at, each in enumerate(them) if each not in stops), len(them))
+        is_in_order = [place_of(each) is None for each in them if each in stops] == [place_of(each) is None for each in stops]
         if len(them) > MOST_STOPS or not is_in_order or not all(map(place_of, them[unwanted:])):
             self.begin_anew(stops)
             return
@@ -375,13 +375,13 @@ class SessionBoard:
         """Whether one of those who want a stop, to which the board has come, wants it here. Since a clock it has been met whenever it
         held; without one the board goes back."""
         asked = self.asked.get(stop)
-        return asked is None or any([it.is_met(self, stop, since) for it in asked])
+        return asked is None or any([wish.is_met(self, stop, since) for wish in asked])
 
-    def _met_of(self, told: str, wanted: Collection[str], since: int | None = None) -> str | None:
+    def _met_of(self, first: str, wanted: Collection[str], since: int | None = None) -> str | None:
         """The first stop that is met where this one was told. Others on what happens may hold there too, which aren't told: no place does,
         since an instruction is under way then."""
-        others = [it for it in wanted if it != told and it in self.asked and not place_of(told) and self._has_happened(it)]
-        return next((it for it, is_met in [(it, self.is_met(it, since)) for it in (told, *others)] if is_met), None)
+        others = [other for other in wanted if other != first and other in self.asked and not place_of(first) and self._has_happened(other)]
+        return next((stop for stop, is_met in [(stop, self.is_met(stop, since)) for stop in (first, *others)] if is_met), None)
 
     def _has_happened(self, stop: str) -> bool:
         """Whether a stop on what happens holds here."""
@@ -414,7 +414,7 @@ class SessionBoard:
     def leave_halt(self, wanted: Collection[str], end: int) -> str | None:
         """From within a halt to where the interrupt that ends it begins to be taken, at most to this clock, or to one of these stops,
         which it returns. The place behind the HLT is none: there it would hold at each clock."""
-        kept = [it for it in wanted if place_of(it) != self.place()]
+        kept = [stop for stop in wanted if place_of(stop) != self.place()]
         if self.place() in map(place_of, self._stops):
             self.begin_anew(kept)
         self.want(kept)

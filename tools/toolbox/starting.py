@@ -24,20 +24,20 @@ class Starter:
 
     def started(self, words: list[str], how: dict[str, Any]) -> subprocess.Popen[bytes]:
         """The process of a command, begun in this thread; OSError where it can't be."""
-        told = queue.SimpleQueue[Any]()
-        self._asked.put((words, how, told))
-        found = told.get()
+        answers = queue.SimpleQueue[Any]()
+        self._asked.put((words, how, answers))
+        found = answers.get()
         if isinstance(found, BaseException):
             raise found
         return found
 
     def _start_them(self) -> None:
         while True:
-            words, how, told = self._asked.get()
+            words, how, answers = self._asked.get()
             try:
-                told.put(subprocess.Popen(words, preexec_fn=self._bind, **how))
+                answers.put(subprocess.Popen(words, preexec_fn=self._bind, **how))
             except BaseException as error:  # pylint: disable=broad-exception-caught
-                told.put(error)
+                answers.put(error)
 
     def _bind(self) -> None:
         """In the new process: its end is bound to this one's, which may have ended already."""

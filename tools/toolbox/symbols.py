@@ -37,7 +37,7 @@ def image_of(text: str) -> dict[int, int]:
         octets = bytes.fromhex(record[: len(record) // 2 * 2])
         at, kind, data = int.from_bytes(octets[1:3], 'big'), octets[3], octets[4:-1]
         if kind == 0:
-            found.update(((base + at + place) % MEMORY, it) for place, it in enumerate(data))
+            found.update(((base + at + place) % MEMORY, octet) for place, octet in enumerate(data))
         elif kind in (2, 4):
             base = int.from_bytes(data, 'big') << (4 if kind == 2 else 16)
     return found
@@ -46,7 +46,7 @@ def image_of(text: str) -> dict[int, int]:
 def path_of(given: str) -> str:
     """The path of such a file, without the places of its first byte and of what has none: as much of it as is a file's name."""
     without_ram = re.sub(RAM + '$', '', given)
-    return next((it for it in (given, without_ram) if os.path.exists(it)), re.sub(PLACE, '', given))
+    return next((path for path in (given, without_ram) if os.path.exists(path)), re.sub(PLACE, '', given))
 
 
 def symbols_of(given: str, image: dict[int, int]) -> Listing:
@@ -56,15 +56,15 @@ def symbols_of(given: str, image: dict[int, int]) -> Listing:
     assert place
     far, ram = (int(place[1] or 'F000', 16), int(place[2] or '0', 16)), int(place[3], 16) if place[3] else None
     rows = read_text(path).removesuffix('\n').replace('\r', '').split('\n')
-    told = [it for it in rows if it]
-    if any(it.startswith('- NASM Map file') for it in told[:1]):
+    filled = [row for row in rows if row]
+    if any(row.startswith('- NASM Map file') for row in filled[:1]):
         found = of_a_map(rows, far, ram)
-    elif told and all(re.match(r' *\d+ ', it) for it in told):
-        found = with_source(of_nasm(told, far, ram), path)
-    elif told and all(re.match(OURS, it) for it in told):
+    elif filled and all(re.match(r' *\d+ ', row) for row in filled):
+        found = with_source(of_nasm(filled, far, ram), path)
+    elif filled and all(re.match(OURS, row) for row in filled):
         found = with_source(of_ours(rows), path)
     else:
-        found = with_modules(of_labels(told, far if place[1] else None, ram), path, told)
+        found = with_modules(of_labels(filled, far if place[1] else None, ram), path, filled)
     if not found.lines and not found.labels and not found.absent:
         raise Sorry(
             f'{path} is no NASM listing or map file (nasm -l FILE, [map all FILE]), no listing of pcboard asm --list, '
@@ -128,28 +128,28 @@ def of_nasm(rows: list[str], far: tuple[int, int], ram: int | None) -> Listing:
     found, above = Listing(), ''
     waiting = Waiting(found, ram)
     for row in rows:
-        told, text, number = NASM_ROW.match(row), row[NASM_TEXT:].rstrip(), int(row.split()[0])
+        placed, text, number = NASM_ROW.match(row), row[NASM_TEXT:].rstrip(), int(row.split()[0])
         reserved, section = NASM_RESERVED.match(row), NASM_SECTION.match(text)
-        told = None if reserved else told
+        placed = None if reserved else placed
         if section:
             waiting.begins(section[1].lower())
-        at = (far[0], (far[1] + int(told[2], 16)) % 0x10000) if told else None
+        at = (far[0], (far[1] + int(placed[2], 16)) % 0x10000) if placed else None
         is_inner = bool(re.match(r'[^<]*<\d+> ', row[:NASM_TEXT]))
         if found.lines and (is_inner or found.lines[-1].number == number):
             number, inner = found.lines[-1].number, text if is_inner else ''
         else:
             found.lines.append(Line(number, text, None, b''))
             inner = text
-        if told and at:
-            line = Line(number, found.lines[-1].text, at, octets_of(told[3], told[4]))
+        if placed and at:
+            line = Line(number, found.lines[-1].text, at, octets_of(placed[3], placed[4]))
             found.at.setdefault(physical(*at), line)
             found.lines[-1] = found.lines[-1] if found.lines[-1].address else line
         label = NASM_LABEL.match(inner.strip())
         if label and not label[1].startswith('..'):
             above = above if label[1].startswith('.') else label[1]
             waiting.add(above + label[1] if label[1].startswith('.') else label[1])
-        if told and at:
-            waiting.row(at, octets_of(told[3], told[4]))
+        if placed and at:
+            waiting.row(at, octets_of(placed[3], placed[4]))
         elif reserved:
             waiting.reserved(int(reserved[1], 16), len(reserved[2]) // 2 if reserved[2] else int(reserved[3], 16))
     waiting.begins('')
@@ -166,10 +166,12 @@ def of_a_map(rows: list[str], far: tuple[int, int], ram: int | None) -> Listing:
     """A map file of NASM's, which has labels alone. Its numbers count ORG in, so only the segment is added; those of a section without
     bytes are counted from its beginning."""
     found = Listing()
-    starts = {it[2]: int(it[1], 16) for it in (re.match(r' *([0-9A-F]+) +[0-9A-F]+ +[0-9A-F]+ +[0-9A-F]+  nobits +(\S+)', row) for row in rows) if it}
+    starts = {
+        nobits[2]: int(nobits[1], 16) for nobits in (re.match(r' *([0-9A-F]+) +[0-9A-F]+ +[0-9A-F]+ +[0-9A-F]+  nobits +(\S+)', row) for row in rows) if nobits
+    }
     section = ''
     for row in rows:
-        section = it[1] if (it := re.match(r'---- Section (\S+) -', row)) else section
+        section = heading[1] if (heading := re.match(r'---- Section (\S+) -', row)) else section
         if symbol := NASM_SYMBOL.match(row):
             offset, start = int(symbol[2], 16), starts.get(section)
             if start is None:
@@ -205,27 +207,27 @@ def of_labels(rows: list[str], far: tuple[int, int] | None, ram: int | None) -> 
 def check(path: str, found: Listing, image: dict[int, int]) -> None:
     """Each line's bytes are the program's, or the file is of another one, or stands elsewhere."""
     for line in (*found.lines, *found.at.values(), *found.modules.values()):
-        if line.address and any(image.get(physical(line.address[0], line.address[1] + place)) != it for place, it in enumerate(line.shown)):
+        if line.address and any(image.get(physical(line.address[0], line.address[1] + place)) != octet for place, octet in enumerate(line.shown)):
             name = line.source if found.modules else path
             raise Sorry(f'{name}, line {line.number}: at {line.address[0]:04X}:{line.address[1]:04X} the program has other bytes. {WHERE}')
-    if found.labels and not any(physical(*it) in image for it in found.labels.values()):
+    if found.labels and not any(physical(*place) in image for place in found.labels.values()):
         raise Sorry(f'{path}: the program has no byte at any of its labels. {WHERE}')
 
 
 def finished(found: Listing, image: dict[int, int]) -> Listing:
     """The lines with the program's own bytes, by their addresses too."""
 
-    def told(line: Line) -> Line:
+    def as_loaded(line: Line) -> Line:
         if line.address is None:
             return line
         first = physical(*line.address)
-        return replace(line, shown=bytes(image[it % MEMORY] for it in takewhile(lambda it: it % MEMORY in image, range(first, first + 8))))
+        return replace(line, shown=bytes(image[address % MEMORY] for address in takewhile(lambda address: address % MEMORY in image, range(first, first + 8))))
 
-    files = {source: list(map(told, lines)) for source, lines in found.files.items()}
+    files = {source: list(map(as_loaded, lines)) for source, lines in found.files.items()}
     lines = next(iter(files.values())) if found.lines else []
-    at = {where: told(it) for where, it in found.at.items()}
+    at = {where: as_loaded(source_line) for where, source_line in found.at.items()}
     for line in lines:
         if line.address:
             at.setdefault(physical(*line.address), line)
-    modules = {where: told(it) for where, it in found.modules.items()}
+    modules = {where: as_loaded(source_line) for where, source_line in found.modules.items()}
     return Listing(lines, at, found.labels, absent=found.absent, files=files, modules=modules)

@@ -115,4 +115,4 @@ class Live(Machine):
         """Where the board stands: clock, place, label and source line."""
         segment, offset = self.place()
         line, label = self.listing.line_from(physical(segment, offset)), self.listing.label_before(segment, offset)
-        return f'clock {self.clock:,}: {segment:04X}:{offset:04X} {label} {f"| {self.listing.told(line)}" if line else ""}'.rstrip()
+        return f'clock {self.clock:,}: {segment:04X}:{offset:04X} {label} {f"| {self.listing.source_text(line)}" if line else ""}'.rstrip()

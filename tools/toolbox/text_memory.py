@@ -43,8 +43,8 @@ def shown(memory: bytes, word: int) -> str:
 
 def starts(screen: list[str], memory: bytes) -> list[int]:
     """The start addresses with which text memory shows this screen; the adapter's own can't be read."""
-    signs, wanted = ''.join(shown(memory, it) for it in range(WORDS)) * 2, ''.join(screen)
-    return [it for it in range(WORDS) if signs.startswith(wanted, it)]
+    signs, wanted = ''.join(shown(memory, n) for n in range(WORDS)) * 2, ''.join(screen)
+    return [start for start in range(WORDS) if signs.startswith(wanted, start)]
 
 
 def cells_at(screen: list[str], memory: bytes, start: int) -> list[list[Cell]]:
@@ -58,10 +58,10 @@ def cells_at(screen: list[str], memory: bytes, start: int) -> list[list[Cell]]:
 
 def look_alike(memory: bytes, found: list[int]) -> bool:
     """Whether the screen's cells have the same attributes from each of these start addresses on, as far as they are seen."""
-    cells = [cell_of(' ', memory[2 * it + 1]) for it in range(WORDS)]
-    looks = bytes(it.is_bright + 2 * it.is_underlined + 4 * it.is_reverse for it in cells) * 2
+    cells = [cell_of(' ', memory[2 * n + 1]) for n in range(WORDS)]
+    looks = bytes(cell.is_bright + 2 * cell.is_underlined + 4 * cell.is_reverse for cell in cells) * 2
     first = looks[found[0] : found[0] + ROWS * COLUMNS]
-    return all(looks.startswith(first, it) for it in found)
+    return all(looks.startswith(first, start) for start in found)
 
 
 def cells_of(files: Files, report: Report, start: int | None) -> list[list[Cell]]:

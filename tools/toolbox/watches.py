@@ -60,7 +60,7 @@ class Written:
     value: int
     after: int
 
-    def told(self, labels: dict[int, str]) -> str:
+    def in_words(self, labels: dict[int, str]) -> str:
         """In words."""
         name = ' '.join(filter(None, (f'{self.address:05X}', labels.get(self.address, ''))))
         if self.before != self.after:
@@ -91,7 +91,7 @@ def what_was_seen(board: SessionBoard, listing: Listing, stop: str) -> str:
     if not watched_by(stop):
         return ', '.join(board.happened(stop.removeprefix('when '))) if stop.startswith('when ') else ''
     labels = {physical(*place): name for name, place in listing.labels.items()}
-    what, last = ', '.join(each.told(labels) for each in changed(board, stop)), board.trail()[-1:]
+    what, last = ', '.join(each.in_words(labels) for each in changed(board, stop)), board.trail()[-1:]
     return f'{what}: clock {last[0].clock}, {" ".join(told_of(listing, last[0]).split())}' if what and last else what
 
 
@@ -101,7 +101,7 @@ def happening_text(listing: Listing, line: str) -> str:
     if what == 'start':
         place = int(words[0][:4], 16), int(words[0][5:], 16)
         source = listing.line_from(physical(*place))
-        words += [listing.label_before(*place), f'| {listing.told(source)}' if source else '']
+        words += [listing.label_before(*place), f'| {listing.source_text(source)}' if source else '']
     elif what == 'write':
         words += [name for name, place in listing.labels.items() if physical(*place) == int(words[0], 16)]
     return ' '.join([f'{clock:>9}', what, *filter(None, words)])
