@@ -628,7 +628,7 @@ class Dos(ServiceCase):
             self.assertEqual({it: seen.registers[it] for it in STAY}, STAY)
             self.assertEqual(seen.screen, [''] * 25)
         _, left = self.whole(' MOV AX,3D02h\n INT 21h')
-        self.assertEqual(left.told(), ["INT 21h function 3Dh, called at 0100:0103, isn't among the services (docs/services.md)"])
+        self.assertEqual(left.remarks(), ["INT 21h function 3Dh, called at 0100:0103, isn't among the services (docs/services.md)"])
 
     def test_interrupts_beside(self) -> None:
         """24h fails, 25h and 26h leave the flags on the stack, 28h returns, 29h shows AL."""

@@ -38,7 +38,7 @@ class Class:
     @property
     def outcomes(self) -> list[Outcome]:
         """What is expected, as of a file that never ran."""
-        return [Outcome(one.said(it.title), '', one.weight, False) for it in self.planned for one in it.expectations]
+        return [Outcome(one.said(planned.title), '', one.weight, False) for planned in self.planned for one in planned.expectations]
 
     def row(self, file: str, folder: str | None) -> Row:
         """A file's row. Its judge hears no Control-C, so that what is done stays done, and is ended with this process."""
@@ -52,16 +52,18 @@ class Class:
             end(process)
         try:
             out, err = process.communicate(timeout=given.seconds)
-            told = json.loads(out) if process.returncode == 0 else {'why': why_not(process.returncode, err)}
+            answer = json.loads(out) if process.returncode == 0 else {'why': why_not(process.returncode, err)}
         except subprocess.TimeoutExpired:
             end(process)
             process.communicate()
-            told = {'why': f'over {given.seconds} s, and was ended'}
+            answer = {'why': f'over {given.seconds} s, and was ended'}
         finally:
             self.at_work.discard(process)
         if self.is_over and process.returncode:
             raise BrokenOff
-        row = Row(file, [Outcome(*it) for it in told['outcomes']] if 'outcomes' in told else self.outcomes, told.get('why', ''), told.get('image', ''))
+        row = Row(
+            file, [Outcome(*fields) for fields in answer['outcomes']] if 'outcomes' in answer else self.outcomes, answer.get('why', ''), answer.get('image', '')
+        )
         if folder:
             feedback.close(folder, row, words_of(given))
         return row
@@ -94,7 +96,7 @@ def why_not(status: int, err: str) -> str:
 
 def words_of(given: argparse.Namespace) -> list[str]:
     """The words that each file's judge is given too."""
-    words = [f'--{it}' for it in ('hex', 'services', 'com') if getattr(given, it)]
+    words = [f'--{option}' for option in ('hex', 'services', 'com') if getattr(given, option)]
     return words + ([f'--args={given.args}'] if given.args is not None else []) + [f'--memory={given.memory or MEMORY}']
 
 
@@ -102,7 +104,7 @@ def rows_of(them: Class, files: list[str], folders: list[str]) -> Iterator[Row]:
     """Each file's row as it is ready, in the order of the files. Once that is broken off, the others that are done come, and what is
     at work is ended."""
     pool = ThreadPoolExecutor(os.cpu_count() or 1)
-    waited = [pool.submit(them.row, it, folder) for it, folder in zip_longest(files, folders)]
+    waited = [pool.submit(them.row, file, folder) for file, folder in zip_longest(files, folders)]
     try:
         while waited:
             row = waited[0].result()
@@ -111,7 +113,7 @@ def rows_of(them: Class, files: list[str], folders: list[str]) -> Iterator[Row]:
     except KeyboardInterrupt:
         them.stop()
         pool.shutdown(cancel_futures=True)
-        yield from [it.result() for it in waited if not it.cancelled() and not it.exception()]
+        yield from [future.result() for future in waited if not future.cancelled() and not future.exception()]
         raise
     finally:
         them.stop()
@@ -122,8 +124,8 @@ def table(page: str, planned: list[Planned], files: list[str], given: argparse.N
     """Prints a row for each file, writes what else is asked for, and returns the exit status."""
     program_path()
     them, folders = Class(page, planned, given), feedback.folders_of(files, given.feedback) if given.feedback else []
-    said, rows = [it.said for it in them.outcomes], list[Row]()
-    has_marks = any(it.weight > 1 for it in them.outcomes)
+    said, rows = [outcome.said for outcome in them.outcomes], list[Row]()
+    has_marks = any(outcome.weight > 1 for outcome in them.outcomes)
     is_shown = '-' not in (given.csv, given.junit)
     show(['file', 'met', *said, 'why not', *(['mark', 'of'] if has_marks else [])], is_shown)
     try:
@@ -138,7 +140,7 @@ def table(page: str, planned: list[Planned], files: list[str], given: argparse.N
         for path, text in ((given.csv, as_csv(said, rows)), (given.junit, as_junit(page, rows))):
             if path:
                 write_text(path, text)
-    return 0 if all(it.met == len(said) for it in rows) else 1
+    return 0 if all(each.met == len(said) for each in rows) else 1
 
 
 def show(cells: list[str], is_shown: bool) -> None:

@@ -27,7 +27,7 @@ CHIPS = (
     'adapter (index|start|cursor|video|raster)',
     'processor (state|busy|IF|inhibits|step|repeat)',
 )
-HALVES = [it + half for it in 'ABCD' for half in 'LH']
+HALVES = [letter + half for letter in 'ABCD' for half in 'LH']
 
 
 class NotThere(Exception):
@@ -134,9 +134,9 @@ def judge_line(subject: Subject, name: str, wanted: str) -> str | None:
 
 def judge_shows(subject: Subject, _: str, wanted: str) -> str | None:
     """A text anywhere on the screen."""
-    if any(plain(wanted) in it for it in subject.report.screen):
+    if any(plain(wanted) in line for line in subject.report.screen):
         return None
-    filled = [it.rstrip() for it in subject.report.screen if it.strip()]
+    filled = [line.rstrip() for line in subject.report.screen if line.strip()]
     if not filled:
         return 'a blank screen'
     return repr(filled[0]) if len(filled) == 1 else f'a screen with {len(filled)} lines, the first {filled[0]!r}'
@@ -168,7 +168,7 @@ def judge_memory(subject: Subject, name: str, wanted: str) -> str | None:
         octets = wanted[1:-1].encode()
         came = subject.memory(name.split()[1], len(octets))
         return None if came == octets else repr(came.decode('ascii', 'backslashreplace'))
-    octets = bytes(number_of(it, 0xFF) for it in wanted.split())
+    octets = bytes(number_of(word, 0xFF) for word in wanted.split())
     came = subject.memory(name.split()[1], len(octets))
     return None if came == octets else came.hex(' ').upper()
 
@@ -197,7 +197,7 @@ def hexadecimal(text: str) -> int | None:
 
 def judge_not_shown(subject: Subject, _: str, wanted: str) -> str | None:
     """A text nowhere on the screen."""
-    found = next((n for n, it in enumerate(subject.report.screen, 1) if plain(wanted) in it), None)
+    found = next((n for n, line in enumerate(subject.report.screen, 1) if plain(wanted) in line), None)
     return f'line {found}, {subject.report.screen[found - 1].rstrip()!r}' if found else None
 
 
@@ -255,7 +255,7 @@ def first_start(subject: Subject, segment: int, offset: int) -> int | None:
     if trail and trail[-1].startswith(f'{clock} {segment:04X}:{offset:04X} ') and ' entry ' not in trail[-1]:
         return clock
     # Free there, but halted, or an interrupt came first: so each instruction behind is looked at.
-    return next((it.clock for it in events(files, clock, end) if (it.segment, it.offset, it.entry) == (segment, offset, None)), None)
+    return next((event.clock for event in events(files, clock, end) if (event.segment, event.offset, event.entry) == (segment, offset, None)), None)
 
 
 def span(text: str) -> tuple[int, int]:
@@ -334,7 +334,7 @@ class Planned:
 
 def expectation_of(name: str, wanted: str, where: str, line: str, weight: int = 1) -> Expectation:
     """A line of a page that is an expectation, whose words any run could be held against."""
-    judge = next((it for form, it in JUDGES if re.fullmatch(form, name, re.I)), None)
+    judge = next((judging for form, judging in JUDGES if re.fullmatch(form, name, re.I)), None)
     if not wanted or judge is None:
         raise Sorry(f'{where} is no expectation: {line.strip()} ({tool("judge")} --help)')
     found = Expectation(name, wanted, judge, where, weight)
@@ -342,7 +342,7 @@ def expectation_of(name: str, wanted: str, where: str, line: str, weight: int = 
     if place and not re.fullmatch(PLACE, place):
         raise Sorry(f'{where}: {place} is no label, no hexadecimal address, no SEGMENT:OFFSET and no :LINE')
     if judge is judge_memory and not wanted.startswith("'"):
-        _ = [checked(where, it) for it in wanted.split()]
+        _ = [checked(where, word) for word in wanted.split()]
     elif judge is judge_halt:
         try:
             span(wanted)
@@ -390,7 +390,7 @@ def page_of(path: str) -> list[Planned]:
         if line.strip() and not line.lstrip().startswith('#'):
             read_line(runs, line, f'{path}, line {number}')
     runs = runs if runs[0].fields or runs[0].is_hidden or runs[0].expectations or len(runs) == 1 else runs[1:]
-    empty = next((it for it in runs if not it.expectations), None)
+    empty = next((planned for planned in runs if not planned.expectations), None)
     if empty:
         raise Sorry(f'{path} has no expectations' + (f' of the run {empty.title}' if empty.title else ''))
     return runs
@@ -400,7 +400,7 @@ def read_line(runs: list[Planned], line: str, where: str) -> None:
     """Adds to the runs what a line says."""
     weighed = WEIGHT.match(line)
     weight = weight_of(weighed[1], where) if weighed else 1
-    name, _, wanted = (it.strip() for it in (weighed[2] if weighed else line).partition('='))
+    name, _, wanted = (part.strip() for part in (weighed[2] if weighed else line).partition('='))
     name, word = ' '.join(name.split()), ' '.join(name.split()).lower()
     is_head = word in (*FIELDS, 'hidden', 'run') and wanted != ''
     if is_head and weighed:

@@ -32,7 +32,7 @@ def lines_of(path: str) -> list[str]:
     """A file's lines, or none where it can't be read."""
     try:
         with open(path, 'rb') as file:
-            return [it.decode('utf-8', 'replace').rstrip('\r') for it in file.read().split(b'\n')]
+            return [line.decode('utf-8', 'replace').rstrip('\r') for line in file.read().split(b'\n')]
     except OSError:
         return []
 
@@ -43,15 +43,15 @@ def of_a_line(path: str, fault: Fault) -> list[str]:
     if not fault.line or not 1 <= fault.line <= len(lines):
         return []
     text = lines[fault.line - 1]
-    told = [f'  {fault.line:5} | {seen(text)}']
+    sentences = [f'  {fault.line:5} | {seen(text)}']
     hint = hint_of(text, fault.number, lines) if fault.kind.of == 'source' else of_a_record(text, fault.number)
-    told += earlier(lines, fault) + ([f'hint: {hint}'] if hint else [])
-    return told
+    sentences += earlier(lines, fault) + ([f'hint: {hint}'] if hint else [])
+    return sentences
 
 
 def seen(text: str) -> str:
     """A line as a terminal may show it: other characters as escapes, and no more than its beginning."""
-    plain = ''.join(it if it.isprintable() or it == '\t' else it.encode('unicode_escape').decode('ascii') for it in text)
+    plain = ''.join(sign if sign.isprintable() or sign == '\t' else sign.encode('unicode_escape').decode('ascii') for sign in text)
     return plain if len(plain) <= LONGEST else plain[:LONGEST] + ' ..'
 
 
@@ -99,11 +99,11 @@ def bad_fields(fields: Any) -> list[str]:
         return ['a run file is one JSON object: {"version":1, ..}']
     version = fields.get('version', 2 if CHOICES.keys() & fields.keys() else 1)
     wanted = DEFAULTS | ({'version': 2} | FIRST_CHOICES if version == 2 else {})
-    told = [f'the field "{name}" is missing; "{name}":{json.dumps(it)} would do' for name, it in wanted.items() if name not in fields]
-    told += [f'the field {json.dumps(name)} is unknown' for name in fields if name not in DEFAULTS | CHOICES]
+    sentences = [f'the field "{name}" is missing; "{name}":{json.dumps(value)} would do' for name, value in wanted.items() if name not in fields]
+    sentences += [f'the field {json.dumps(name)} is unknown' for name in fields if name not in DEFAULTS | CHOICES]
     for name, (least, most) in RANGES.items():
-        told += bad_number(f'"{name}"', fields[name], least, most) if name in fields else []
-    return told + bad_choices(fields) + bad_keys(fields.get('keys', []))
+        sentences += bad_number(f'"{name}"', fields[name], least, most) if name in fields else []
+    return sentences + bad_choices(fields) + bad_keys(fields.get('keys', []))
 
 
 def bad_choices(fields: dict[str, Any]) -> list[str]:
@@ -135,14 +135,14 @@ def bad_keys(keys: Any) -> list[str]:
     """Each entry of `keys` that isn't [stamp, code]."""
     if not isinstance(keys, list):
         return ['"keys" is no list: [[500,35],[700,163]], or []']
-    told: list[str] = []
+    sentences: list[str] = []
     for place, key in enumerate(keys, 1):
         if not isinstance(key, list) or len(key) != 2:
-            told.append(f'entry {place} of "keys", {json.dumps(key)}, is no [stamp, code]')
+            sentences.append(f'entry {place} of "keys", {json.dumps(key)}, is no [stamp, code]')
         else:
-            told += bad_number(f'the stamp of entry {place} of "keys"', key[0], 0, program.LAST_CLOCK)
-            told += bad_number(f'the code of entry {place} of "keys"', key[1], 0, None)
-    return told
+            sentences += bad_number(f'the stamp of entry {place} of "keys"', key[0], 0, program.LAST_CLOCK)
+            sentences += bad_number(f'the code of entry {place} of "keys"', key[1], 0, None)
+    return sentences
 
 
 def bad_codes(keys: list[list[int]], number: int) -> list[str]:
@@ -200,7 +200,7 @@ def of_ram(file: str, run_file: str, is_hex: bool) -> list[str]:
     ram = fields_of(run_file)['ram']
     if ram % 16 or not 16 <= ram <= 640:
         return [f'"ram" is {ram}; the board takes 16, 32, 48 and so on to 640']
-    past = [it for it in image_bytes(file, is_hex) if ram * 1024 <= it < FIRST_LOST]
+    past = [address for address in image_bytes(file, is_hex) if ram * 1024 <= address < FIRST_LOST]
     if not past:
         return []
     need = (max(past) // 16384 + 1) * 16
@@ -223,10 +223,10 @@ def similar(path: str) -> list[str]:
     folder, name = os.path.split(path)
     stem = name.partition('.')[0].lower()
     try:
-        near = sorted(it for it in os.listdir(folder or '.') if it.lower().partition('.')[0] == stem)
+        near = sorted(file for file in os.listdir(folder or '.') if file.lower().partition('.')[0] == stem)
     except OSError:
         return [f'hint: the folder {folder} is not there'] if folder and not os.path.isdir(folder) else []
-    return [f'hint: there is {", ".join(os.path.join(folder, it) for it in near)}'] if near else []
+    return [f'hint: there is {", ".join(os.path.join(folder, file) for file in near)}'] if near else []
 
 
 def explained(fault: Fault, file: Optional[str], run_file: Optional[str], is_hex: bool) -> list[str]:
@@ -235,15 +235,15 @@ def explained(fault: Fault, file: Optional[str], run_file: Optional[str], is_hex
     path = run_file if kind.of == 'run file' else file
     where = path or f'the {kind.of}'
     where = where if kind.of not in ('board', 'debugger') else f'the {kind.of}'
-    told = [f'{where}{f", line {fault.line}" if fault.line else ""}: {kind.meaning} (fault {number}, {kind.name})']
+    sentences = [f'{where}{f", line {fault.line}" if fault.line else ""}: {kind.meaning} (fault {number}, {kind.name})']
     if kind.of in ('source', 'hex') and file:
-        told += of_a_line(file, fault)
-        told += of_json_as_source(file, run_file) if number in (3, 21) else []
+        sentences += of_a_line(file, fault)
+        sentences += of_json_as_source(file, run_file) if number in (3, 21) else []
     elif kind.of == 'run file' and run_file and kind.name != 'Memory':
-        told += of_a_run_file(run_file, number)
+        sentences += of_a_run_file(run_file, number)
     elif number == 36 and file and run_file:
-        told += of_ram(file, run_file, is_hex)
-    return told
+        sentences += of_ram(file, run_file, is_hex)
+    return sentences
 
 
 def of_json_as_source(file: str, run_file: Optional[str]) -> list[str]:
@@ -262,7 +262,7 @@ def of_a_report(report: Report, files: program.Files, tool: str = 'why') -> list
 
 def after_run(words: list[str], status: int, err: str) -> list[str]:
     """The explanation of a run that ended with this status."""
-    given = [it for it in words[1:] if it not in ('--hex', '--list', '--')]
+    given = [word for word in words[1:] if word not in ('--hex', '--list', '--')]
     fault = fault_in(err)
     if status < 0:
         return [program.refusal(status, err)]

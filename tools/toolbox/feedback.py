@@ -36,7 +36,7 @@ def folders_of(files: list[str], into: str) -> list[str]:
     for file in files:
         stem = os.path.splitext(plain_name(file))[0]
         above = plain_name(os.path.dirname(os.path.abspath(file)))
-        name = next(it for it in names_from(stem, above) if it.lower() not in taken)
+        name = next(candidate for candidate in names_from(stem, above) if candidate.lower() not in taken)
         taken.add(name.lower())
         found.append(os.path.join(into, name))
     return found
@@ -69,7 +69,7 @@ class Feedback:
 
     def tell(self, lines: list[str]) -> None:
         """Adds lines to the text."""
-        tell(self.folder, [scrubbed(it, self.guest.file) for it in lines])
+        tell(self.folder, [scrubbed(line, self.guest.file) for line in lines])
 
     def path(self, name: str) -> str:
         """A file of the folder."""
@@ -83,18 +83,23 @@ class Feedback:
             return
         shutil.copyfile(files.run_file, self.path(f'{number}.json'))
         with open(self.path(f'{number}.page'), 'w', encoding='utf-8', errors='surrogateescape') as file:
-            file.writelines(f'{it.said()}\n' for it in planned.expectations)
+            file.writelines(f'{expectation.said()}\n' for expectation in planned.expectations)
 
     def ends(self, number: int, planned: Planned, files: Files, subject: Subject | str, outcomes: list[Outcome]) -> None:
         """Behind a run: what was expected and what came; and of one that failed how it is repeated, and why it went wrong."""
-        is_met, fault = all(it.but is None for it in outcomes), fault_in(subject.removeprefix('refused: ')) if isinstance(subject, str) else None
+        is_met, fault = all(outcome.but is None for outcome in outcomes), fault_in(subject.removeprefix('refused: ')) if isinstance(subject, str) else None
         is_refused = fault is not None and fault.kind.of == 'source'
         if planned.is_hidden:
             self.tell([f'A hidden run: {"met" if is_met else "not met"}'])
         else:
             self.tell([f'{planned.title or "The run"}:'])
-            self.tell([f'  ok  {it.said()}' if came.but is None else f'  no  {it.said()}: {came.but}' for it, came in zip(planned.expectations, outcomes)])
-            words = [it for it in self.words if not it.startswith('--memory') or fault and fault.kind.name == 'Memory']
+            self.tell(
+                [
+                    f'  ok  {expectation.said()}' if came.but is None else f'  no  {expectation.said()}: {came.but}'
+                    for expectation, came in zip(planned.expectations, outcomes)
+                ]
+            )
+            words = [word for word in self.words if not word.startswith('--memory') or fault and fault.kind.name == 'Memory']
             self.tell([] if is_met or is_refused else commands(self.folder, self.name, words, number))
         if is_met or is_refused:
             drop(self.folder, number)
@@ -104,13 +109,13 @@ class Feedback:
 
     def explain(self, files: Files, subject: Subject | str, fault: Fault | None) -> None:
         """What tools/why tells, once."""
-        told = of_a_report(subject.report, files, 'judge') if isinstance(subject, Subject) else []
+        lines = of_a_report(subject.report, files, 'judge') if isinstance(subject, Subject) else []
         if fault:
-            told = explained(fault, self.guest.file, files.run_file, self.is_hex)
-            told += [f'{tool("why")} --all {os.path.basename(self.folder)}/{self.name} tells every refused line'] if fault.kind.of == 'source' else []
-        if told and tuple(told) not in self._known:
-            self._known.add(tuple(told))
-            self.tell([f'  {it}' for it in told])
+            lines = explained(fault, self.guest.file, files.run_file, self.is_hex)
+            lines += [f'{tool("why")} --all {os.path.basename(self.folder)}/{self.name} tells every refused line'] if fault.kind.of == 'source' else []
+        if lines and tuple(lines) not in self._known:
+            self._known.add(tuple(lines))
+            self.tell([f'  {line}' for line in lines])
 
 
 def commands(folder: str, name: str, words: list[str], number: int) -> list[str]:
@@ -118,8 +123,8 @@ def commands(folder: str, name: str, words: list[str], number: int) -> list[str]
     if not os.path.exists(os.path.join(folder, f'{number}.json')):
         return []
     under = os.path.basename(folder)
-    file, more = f'{under}/{name}', ''.join(f' {shlex.quote(it)}' for it in words)
-    plain = ''.join(f' {shlex.quote(it)}' for it in words if not it.startswith('--memory'))
+    file, more = f'{under}/{name}', ''.join(f' {shlex.quote(word)}' for word in words)
+    plain = ''.join(f' {shlex.quote(word)}' for word in words if not word.startswith('--memory'))
     return [f'  {tool("judge")} {under}/{number}.page {file} {under}/{number}.json{more}', f'  {tool("try")} {file} --run {under}/{number}.json{plain}']
 
 
@@ -135,7 +140,7 @@ def scrubbed(line: str, file: str) -> str:
     for path in (file, os.path.realpath(file)):
         line = line.replace(path, plain_name(file))
     them = {TOP, os.getcwd(), os.path.expanduser('~'), tempfile.gettempdir()}
-    for place in sorted((it for it in them if len(it) > 1), key=len, reverse=True):
+    for place in sorted((folder for folder in them if len(folder) > 1), key=len, reverse=True):
         line = line.replace(f'{place}/', '').replace(place, '')
     return visible(line)
 
@@ -144,13 +149,13 @@ def tell(folder: str, lines: list[str]) -> None:
     """Adds lines to a folder's text, which is there then."""
     os.makedirs(folder, exist_ok=True)
     with open(os.path.join(folder, TEXT), 'a', encoding='utf-8') as file:
-        file.writelines(f'{it}\n' for it in lines)
+        file.writelines(f'{line}\n' for line in lines)
 
 
 def close(folder: str, row: Row, words: list[str]) -> None:
     """The text's end: why the file's judge was ended, with the run at which that was, and the mark."""
     if row.why:
-        at = max((int(it[:-5]) for it in os.listdir(folder) if re.fullmatch('[0-9]+[.]json', it)), default=0) if os.path.isdir(folder) else 0
+        at = max((int(name[:-5]) for name in os.listdir(folder) if re.fullmatch('[0-9]+[.]json', name)), default=0) if os.path.isdir(folder) else 0
         again = commands(folder, plain_name(row.file), words, at) or not_begun(folder, row.file)
         tell(folder, [f'Not judged: {scrubbed(row.why, row.file)}', *again, ''])
     tell(folder, [f'Mark: {row.mark} of {row.of}'])

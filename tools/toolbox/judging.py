@@ -76,27 +76,27 @@ def subject_of(files: Files) -> Subject | str:
 def outcomes_of(planned: Planned, subject: Subject | str) -> Iterator[Outcome]:
     """What a run came to, expectation by expectation."""
     try:
-        for it in planned.expectations:
-            yield it.outcome(subject, planned.title)
+        for expectation in planned.expectations:
+            yield expectation.outcome(subject, planned.title)
     finally:
         if isinstance(subject, Subject) and subject.session:
             subject.session.close()
 
 
 def judge_file(
-    page: list[Planned], guest: Guest, run_file: str | None, is_hex: bool, symbols: str | None = None, told: Feedback | None = None
+    page: list[Planned], guest: Guest, run_file: str | None, is_hex: bool, symbols: str | None = None, feedback: Feedback | None = None
 ) -> list[Outcome]:
-    """All that a page expects of a file; a student is told of it, where `told` is given."""
+    """All that a page expects of a file; a student is told of it, if `feedback` is given."""
     read_bytes(guest.file)
     found: list[Outcome] = []
     for number, planned in enumerate(page, 1):
         with files_of(planned, guest, run_file, is_hex, symbols) as files:
-            if told:
-                told.begins(number, planned, files)
+            if feedback:
+                feedback.begins(number, planned, files)
             subject = subject_of(files)
             outcomes = list(outcomes_of(planned, subject))
-            if told:
-                told.ends(number, planned, files, subject, outcomes)
+            if feedback:
+                feedback.ends(number, planned, files, subject, outcomes)
             found += outcomes
     return found
 

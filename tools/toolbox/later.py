@@ -11,9 +11,9 @@ BY_80286 = {0x00: 'SLDT and its like', 0x01: 'LGDT and its like', 0x02: 'LAR', 0
 BY_80386 = {0x64: 'the prefix FS:', 0x65: 'the prefix GS:', 0x66: 'the prefix of 32-bit operands', 0x67: 'the prefix of 32-bit addresses'}
 TWO = {0xA0: 'PUSH FS', 0xA1: 'POP FS', 0xA3: 'BT', 0xA4: 'SHLD', 0xA5: 'SHLD', 0xA8: 'PUSH GS', 0xA9: 'POP GS', 0xAB: 'BTS', 0xAC: 'SHRD'}
 TWO |= {0xAD: 'SHRD', 0xAF: 'IMUL', 0xB2: 'LSS', 0xB3: 'BTR', 0xB4: 'LFS', 0xB5: 'LGS', 0xB6: 'MOVZX', 0xB7: 'MOVZX', 0xBA: 'BT and its like'}
-TWO |= {0xBB: 'BTC', 0xBC: 'BSF', 0xBD: 'BSR', 0xBE: 'MOVSX', 0xBF: 'MOVSX', **{it: 'MOV of a control register' for it in (0x20, 0x22)}}
-TWO |= {0x80 + it: f'J{name} to a far target' for it, name in enumerate(CONDITIONS)}
-TWO |= {0x90 + it: f'SET{name}' for it, name in enumerate(CONDITIONS)}
+TWO |= {0xBB: 'BTC', 0xBC: 'BSF', 0xBD: 'BSR', 0xBE: 'MOVSX', 0xBF: 'MOVSX', **{code: 'MOV of a control register' for code in (0x20, 0x22)}}
+TWO |= {0x80 + n: f'J{name} to a far target' for n, name in enumerate(CONDITIONS)}
+TWO |= {0x90 + n: f'SET{name}' for n, name in enumerate(CONDITIONS)}
 
 
 def later(octets: bytes) -> str | None:

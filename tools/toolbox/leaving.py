@@ -21,10 +21,10 @@ def is_left(files: Files, report: Report, turn: list[Event]) -> bool:
     """Whether the run leaves the loop of these instructions."""
     if report.clock + A_SECOND > LAST_CLOCK:
         return False
-    places = {(it.segment, it.offset) for it in turn}
+    places = {(event.segment, event.offset) for event in turn}
     with one_more_key(files, report.clock) as them, Session(them) as session:
         session.go_to(report.clock)
-        stops = {it for event in turn for it in targets(event)} - places
+        stops = {target for event in turn for target in targets(event)} - places
         stops |= handlers(session) if report.registers['FL'] & IF else set()
         for segment, offset in sorted(stops)[:16]:
             session.stop(f'break {segment:X}:{offset:X}')
@@ -44,7 +44,7 @@ def targets(event: Event) -> list[tuple[int, int]]:
 def handlers(session: Session) -> set[tuple[int, int]]:
     """Where the vectors of the controller's requests lead, if they are set."""
     octets = session.dump(physical(0, 4 * REQUESTS[0]), 4 * len(REQUESTS))
-    words = [int.from_bytes(octets[it : it + 2], 'little') for it in range(0, len(octets), 2)]
+    words = [int.from_bytes(octets[at : at + 2], 'little') for at in range(0, len(octets), 2)]
     return {(segment, offset) for offset, segment in zip(words[::2], words[1::2]) if segment or offset}
 
 

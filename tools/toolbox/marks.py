@@ -26,27 +26,27 @@ class Row:
     @property
     def met(self) -> int:
         """How many expectations are met."""
-        return sum(it.but is None for it in self.outcomes)
+        return sum(outcome.but is None for outcome in self.outcomes)
 
     @property
     def mark(self) -> int:
         """The weights of those that are met by a run in which something ran."""
-        return sum(it.weight for it in self.outcomes if it.but is None and it.has_run)
+        return sum(outcome.weight for outcome in self.outcomes if outcome.but is None and outcome.has_run)
 
     @property
     def of(self) -> int:
         """All weights."""
-        return sum(it.weight for it in self.outcomes)
+        return sum(outcome.weight for outcome in self.outcomes)
 
     @property
     def cells(self) -> list[str]:
         """A word for each outcome, with what came."""
-        return ['ok' if it.but is None else f'no: {it.but}' if it.but else 'no' for it in self.outcomes]
+        return ['ok' if outcome.but is None else f'no: {outcome.but}' if outcome.but else 'no' for outcome in self.outcomes]
 
 
 def visible(text: str) -> str:
     """A text of which all is seen: control signs, and bytes that aren't UTF-8, as escapes."""
-    return ''.join(it if it.isprintable() else escaped(it) for it in text)
+    return ''.join(sign if sign.isprintable() else escaped(sign) for sign in text)
 
 
 def escaped(sign: str) -> str:
@@ -62,7 +62,7 @@ def cell(text: str) -> str:
 
 def line_of(cells: list[str]) -> str:
     """Cells as a line of the table, with tabs between."""
-    return '\t'.join(cell(' '.join(it.split())) for it in cells)
+    return '\t'.join(cell(' '.join(part.split())) for part in cells)
 
 
 def tell_copies(rows: list[Row]) -> list[list[str]]:
@@ -73,8 +73,8 @@ def tell_copies(rows: list[Row]) -> list[list[str]]:
             groups.setdefault(row.image, []).append(row)
     for them in groups.values():
         for row in them:
-            row.same = [it.file for it in them if it is not row]
-    return [[it.file for it in them] for them in groups.values() if len(them) > 1]
+            row.same = [other.file for other in them if other is not row]
+    return [[copy.file for copy in them] for them in groups.values() if len(them) > 1]
 
 
 def as_csv(said: list[str], rows: list[Row]) -> str:
@@ -82,8 +82,8 @@ def as_csv(said: list[str], rows: list[Row]) -> str:
     out = io.StringIO()
     writer = csv.writer(out)
     writer.writerow(map(cell, ['file', 'mark', 'of', 'met', *said, 'why not', 'same bytes as']))
-    for it in rows:
-        writer.writerow([cell(it.file), it.mark, it.of, it.met, *map(cell, it.cells), cell(it.why), cell(', '.join(it.same))])
+    for row in rows:
+        writer.writerow([cell(row.file), row.mark, row.of, row.met, *map(cell, row.cells), cell(row.why), cell(', '.join(row.same))])
     return out.getvalue()
 
 
@@ -94,14 +94,14 @@ def as_junit(page: str, rows: list[Row]) -> str:
         is_told = not row.why
         failed = 0 if row.why else len(row.outcomes) - row.met
         counts = {'tests': len(row.outcomes), 'failures': failed, 'errors': 0 if is_told else len(row.outcomes)}
-        suite = ElementTree.SubElement(root, 'testsuite', name=visible(row.file), **{name: str(it) for name, it in counts.items()})
-        told = ElementTree.SubElement(suite, 'properties')
-        for name, value in (('mark', str(row.mark)), ('of', str(row.of)), *(('same bytes as', it) for it in row.same)):
-            ElementTree.SubElement(told, 'property', name=name, value=visible(value))
-        for it in row.outcomes:
-            case = ElementTree.SubElement(suite, 'testcase', classname=visible(os.path.basename(row.file)), name=visible(it.said))
+        suite = ElementTree.SubElement(root, 'testsuite', name=visible(row.file), **{name: str(count) for name, count in counts.items()})
+        properties = ElementTree.SubElement(suite, 'properties')
+        for name, value in (('mark', str(row.mark)), ('of', str(row.of)), *(('same bytes as', file) for file in row.same)):
+            ElementTree.SubElement(properties, 'property', name=name, value=visible(value))
+        for outcome in row.outcomes:
+            case = ElementTree.SubElement(suite, 'testcase', classname=visible(os.path.basename(row.file)), name=visible(outcome.said))
             if not is_told:
                 ElementTree.SubElement(case, 'error', message=visible(row.why))
-            elif it.but is not None:
-                ElementTree.SubElement(case, 'failure', message=visible(it.but))
+            elif outcome.but is not None:
+                ElementTree.SubElement(case, 'failure', message=visible(outcome.but))
     return ElementTree.tostring(root, encoding='unicode', xml_declaration=True) + '\n'

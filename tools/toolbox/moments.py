@@ -72,7 +72,7 @@ class Plan:
         if not 0 <= sample <= total:
             raise Sorry(f'--sample {sample}: there are {total} moments')
         self.moments: Sequence[int] = sorted(random.Random(seed).sample(range(total), sample)) if sample else range(total)
-        self._run = {id(it): fields_of(it, files.run_file or None, SHORT) for it in self.runs}
+        self._run = {id(planned): fields_of(planned, files.run_file or None, SHORT) for planned in self.runs}
 
     @property
     def is_asked(self) -> bool:
@@ -111,9 +111,9 @@ class Plan:
 
     def with_keys(self, fields: dict[str, Any], moment: int) -> dict[str, Any]:
         """A run file with the keys of a moment, each behind those that are stamped with its clock already."""
-        keys = [list(it) for it in fields['keys']]
+        keys = [list(entry) for entry in fields['keys']]
         for key, clock in zip(self.keys, self.stamps(moment)):
-            keys.insert(bisect_right([it[0] for it in keys], clock), [clock, key.code])
+            keys.insert(bisect_right([entry[0] for entry in keys], clock), [clock, key.code])
         return fields | {'keys': keys}
 
     def words(self, room: str) -> list[str]:
@@ -135,7 +135,7 @@ class Plan:
         known = [
             self.text,
             read_text(self.asked.page) if self.asked.page else self.asked.place,
-            [self.fields(it) for it in self.runs],
+            [self.fields(planned) for planned in self.runs],
             self.files.is_hex,
             self.symbols,
             self.sample,
@@ -197,7 +197,7 @@ class Kept:
             if kept['of'] != self._sum:
                 print(f'moments: {self.path} is of other files, clocks or another program; it begins anew', file=sys.stderr)
                 return found
-            found.failed = {int(it): Failure(*rest) for it, *rest in kept['failed']}
+            found.failed = {int(moment): Failure(*rest) for moment, *rest in kept['failed']}
             found.measured = dict(map(tuple, kept['measured']))
             for first, last in kept['tried']:
                 found.is_tried[first:last] = b'\1' * (last - first)
@@ -213,7 +213,7 @@ class Kept:
             end = found.is_tried.find(0, at)
             tried.append((at, end if end >= 0 else self._total))
             at = found.is_tried.find(1, end) if end >= 0 else -1
-        failed = [(it, why.run, why.said, why.but) for it, why in found.failed.items()]
+        failed = [(moment, why.run, why.said, why.but) for moment, why in found.failed.items()]
         kept = {'of': self._sum, 'tried': tried, 'failed': failed, 'measured': list(found.measured.items())}
         write_text(self.path, json.dumps(kept) + '\n')
 
@@ -238,7 +238,7 @@ def failure_of(plan: Plan, files: Files, moment: int | None) -> Failure | None:
         if isinstance(subject, str):
             raise Sorry(f'{files.file} is {subject} ({tool("why")} tells more)')
         subject.listing = plan.listing
-        unmet = next((it for it in outcomes_of(planned, subject) if it.but is not None), None)
+        unmet = next((outcome for outcome in outcomes_of(planned, subject) if outcome.but is not None), None)
         plan.listing = subject.listing
         if unmet:
             return Failure(number, unmet.said, unmet.but or '')
@@ -373,8 +373,8 @@ class Worker:
         for _ in moments:
             line = self._process.stdout.readline()
             if not line.endswith('\n'):
-                told = self._process.stderr.read().strip() or f'status {self._process.wait()}'
-                raise Sorry(f'a process that tries moments has ended: {told}')
+                reason = self._process.stderr.read().strip() or f'status {self._process.wait()}'
+                raise Sorry(f'a process that tries moments has ended: {reason}')
             answer = json.loads(line)
             if isinstance(answer, str):
                 raise Sorry(answer)

@@ -92,37 +92,37 @@ READERS = {'CMP', 'TEST', 'SCASB', 'SCASW', 'CMPSB', 'CMPSW', 'NOP', 'JMP', 'LOO
 def told_of_end(report: Report, files: Files, session: Talker, listing: Listing | None = None, reach: int = LAST_CLOCK) -> list[str]:
     """What isn't as most programs want it, of a run whose session stands at the report's clock, as lines. A run of more than `reach`
     clocks isn't repeated for it. The session may have moved then."""
-    it = Run(report, files, session, listing_of(files) if listing is None else listing, reach=reach)
-    it.trail = [event_of(line) for line in session.many('trail')]
+    run = Run(report, files, session, listing_of(files) if listing is None else listing, reach=reach)
+    run.trail = [event_of(line) for line in session.many('trail')]
     ram = read_run_file(files.run_file).get('ram')
-    it.ram_end = 1024 * ram if isinstance(ram, int) else 0
-    at_zero = of_address_zero(it)
-    astray = at_zero or of_zeros(it) + of_astray(it)
-    told = of_a_jam(it, bool(astray)) if report.state == 'jammed' else of_a_blank(report, session)
-    halt = of_a_halt(it)
-    told += of_code_in_the_stack(it) + astray + of_the_services(it) + halt + of_colour_memory(it) + of_writes(it)
-    told += [] if astray or halt else of_returns(it)
-    told += [] if astray else of_the_data_segment(it) + of_labels_as_bytes(it) + of_words_from_bytes(it) + of_scan_codes(it)
-    return told + ([] if at_zero else of_a_loop(it)) + of_the_chips(it)
+    run.ram_end = 1024 * ram if isinstance(ram, int) else 0
+    at_zero = of_address_zero(run)
+    astray = at_zero or of_zeros(run) + of_astray(run)
+    lines = of_a_jam(run, bool(astray)) if report.state == 'jammed' else of_a_blank(report, session)
+    halt = of_a_halt(run)
+    lines += of_code_in_the_stack(run) + astray + of_the_services(run) + halt + of_colour_memory(run) + of_writes(run)
+    lines += [] if astray or halt else of_returns(run)
+    lines += [] if astray else of_the_data_segment(run) + of_labels_as_bytes(run) + of_words_from_bytes(run) + of_scan_codes(run)
+    return lines + ([] if at_zero else of_a_loop(run)) + of_the_chips(run)
 
 
-def of_a_jam(it: Run, is_led: bool) -> list[str]:
+def of_a_jam(run: Run, is_led: bool) -> list[str]:
     """Where the processor jammed, at which bytes, and what ran before; what led there may be told already."""
-    segment, offset = it.report.registers['CS'], it.report.registers['IP']
-    octets, address = it.session.dump(physical(segment, offset), 6), physical(segment, offset)
-    told = [f'the processor has jammed: {segment:04X}:{offset:04X} has {octets.hex(" ").upper()}, which is no instruction of the 8086']
-    if not it.trail:
-        return told + [
+    segment, offset = run.report.registers['CS'], run.report.registers['IP']
+    octets, address = run.session.dump(physical(segment, offset), 6), physical(segment, offset)
+    lines = [f'the processor has jammed: {segment:04X}:{offset:04X} has {octets.hex(" ").upper()}, which is no instruction of the 8086']
+    if not run.trail:
+        return lines + [
             'hint: the processor begins at FFFF:0000, and no far jump stands there'
-            + ("; is a ROM's file loaded at its own address?" if it.files.is_hex else ': SEGMENT RESET AT 0FFFFh, JMP FAR start, ENDS')
+            + ("; is a ROM's file loaded at its own address?" if run.files.is_hex else ': SEGMENT RESET AT 0FFFFh, JMP FAR start, ENDS')
         ]
-    line = it.listing.at.get(address)
-    is_meant = line is not None and "'" not in code_of(line.text) or not it.listing.lines
-    told += of_changed_code(it, address, octets) or [f'hint: {it}' for it in [later(octets)] if it and is_meant]
-    told.append(f'the last instruction before: {text_of(it.trail[-1])}')
-    if not is_led and octets[:2] == b'\xFF\xFF' and it.region(address) and not it.has(address):
-        told.append('hint: FFh is read where no image and no RAM is: the program ran past its end, or jumped astray; HLT ends it')
-    return told
+    line = run.listing.at.get(address)
+    is_meant = line is not None and "'" not in code_of(line.text) or not run.listing.lines
+    lines += of_changed_code(run, address, octets) or [f'hint: {hint}' for hint in [later(octets)] if hint and is_meant]
+    lines.append(f'the last instruction before: {text_of(run.trail[-1])}')
+    if not is_led and octets[:2] == b'\xFF\xFF' and run.region(address) and not run.has(address):
+        lines.append('hint: FFh is read where no image and no RAM is: the program ran past its end, or jumped astray; HLT ends it')
+    return lines
 
 
 def text_of(event: Event) -> str:
@@ -130,20 +130,20 @@ def text_of(event: Event) -> str:
     return f'{event.clock} {event.segment:04X}:{event.offset:04X} {event.octets.hex().upper()} {event.text}'.replace('  ', ' ')
 
 
-def of_changed_code(it: Run, address: int, octets: bytes) -> list[str]:
+def of_changed_code(run: Run, address: int, octets: bytes) -> list[str]:
     """What the source placed where other bytes are now, and which instruction changed the first of these."""
-    line = it.listing.at.get(address)
+    line = run.listing.at.get(address)
     place = next((n for n, (was, now) in enumerate(zip(line.shown, octets)) if was != now), None) if line else None
     if line is None or place is None:
         return []
-    told = f'line {line.number} ({code_of(line.text).strip()}): the source placed {line.shown.hex(" ").upper()} there, and the program has changed it'
-    if not it.is_repeated:
-        return [told]
-    with Session(it.files) as session:
+    text = f'line {line.number} ({code_of(line.text).strip()}): the source placed {line.shown.hex(" ").upper()} there, and the program has changed it'
+    if not run.is_repeated:
+        return [text]
+    with Session(run.files) as session:
         session.stop(f'byte {address + place:X} {octets[place]:X}')
-        _ = session.go(it.report.clock)
+        _ = session.go(run.report.clock)
         trail, clock = session.many('trail'), session.clock
-    return [f'{told}: the byte at {address + place:05X}h became {octets[place]:02X}h at clock {clock}, by {it.place(event_of(trail[-1]))}']
+    return [f'{text}: the byte at {address + place:05X}h became {octets[place]:02X}h at clock {clock}, by {run.place(event_of(trail[-1]))}']
 
 
 def of_a_blank(report: Report, session: Talker) -> list[str]:
@@ -165,28 +165,28 @@ def of_a_blank(report: Report, session: Talker) -> list[str]:
     )
 
 
-def of_the_services(it: Run) -> list[str]:
+def of_the_services(run: Run) -> list[str]:
     """What the services have noted, if they are in ROM."""
-    found = left_at(it.session, it.ram_end)
-    return found.told() if found else []
+    found = left_at(run.session, run.ram_end)
+    return found.remarks() if found else []
 
 
-def of_the_chips(it: Run) -> list[str]:
+def of_the_chips(run: Run) -> list[str]:
     """What keeps an interrupt or a key away."""
-    return facts(chip_lines(it.files, it.report.clock)) if it.is_repeated else []
+    return facts(chip_lines(run.files, run.report.clock)) if run.is_repeated else []
 
 
-def of_address_zero(it: Run) -> list[str]:
+def of_address_zero(run: Run) -> list[str]:
     """Whether the run came to 0000:0000, where 00 00 stands, and by what."""
-    if not it.is_repeated:
+    if not run.is_repeated:
         return []
-    with Session(it.files) as session:
+    with Session(run.files) as session:
         session.stop('break 0:0')
-        if not session.go(it.end).startswith('stop') or session.dump(0, 2) != b'\0\0':
+        if not session.go(run.end).startswith('stop') or session.dump(0, 2) != b'\0\0':
             return []
         trail = session.many('trail')
         last, clock = event_of(trail[-1]), session.clock
-    kind, place = vector_of(last), it.place(last)
+    kind, place = vector_of(last), run.place(last)
     if kind is None:
         return [
             f'clock {clock}: {place} led to 0000:0000, where memory is 00 00',
@@ -198,7 +198,7 @@ def of_address_zero(it: Run) -> list[str]:
         'DIV': f'{place} has no quotient (the divisor is 0, or the quotient too large), which enters interrupt 0',
         'INTO': f'{place} enters interrupt 4',
     }.get(name.removeprefix('I') if name == 'IDIV' else name, f'{place} enters interrupt {kind:02X}')
-    line = line_at(it.listing, last) if last.entry is None else None
+    line = line_at(run.listing, last) if last.entry is None else None
     number = decimal_call(line.text) if line else None
     an_own = f'the address of a handler goes there: SEGMENT VECTORS AT 0, ORG {4 * kind:X}h, DW own,SEG own, ENDS'
     hint = of_a_call(number[1]) if number else SERVICES.get(kind, an_own)
@@ -217,43 +217,43 @@ def vector_of(event: Event) -> int | None:
     return {'INT3': 3, 'INTO': 4, 'DIV': 0, 'IDIV': 0}.get(name)
 
 
-def of_zeros(it: Run) -> list[str]:
+def of_zeros(run: Run) -> list[str]:
     """Whether the last instructions were 00 00, and no ADD of the source."""
-    astray = [is_zeros(it, event) for event in it.trail]
+    astray = [is_zeros(run, event) for event in run.trail]
     count = next((n for n, is_zero in enumerate(reversed(astray)) if not is_zero), len(astray))
     return [f'the last {count} instructions were 00 00, which is ADD [BX+SI],AL, and what RAM holds at power-on'] if count >= ZEROS else []
 
 
 def period_of(trail: list[Event]) -> int:
     """How many instructions come in turn in a whole trail, or 0."""
-    places = [(it.segment, it.offset, it.octets) for it in trail]
-    if len(trail) < TRAIL or any(it.entry is not None for it in trail):
+    places = [(event.segment, event.offset, event.octets) for event in trail]
+    if len(trail) < TRAIL or any(event.entry is not None for event in trail):
         return 0
     return next((n for n in range(1, LONGEST_LOOP + 1) if places[n:] == places[:-n]), 0)
 
 
-def of_a_loop(it: Run) -> list[str]:
+def of_a_loop(run: Run) -> list[str]:
     """Whether the same few instructions come in turn, and what leads out of them, where that can be read off."""
-    period = period_of(it.trail) if it.report.state == 'running' else 0
+    period = period_of(run.trail) if run.report.state == 'running' else 0
     if not period:
         return []
-    turn, is_one = sorted(it.trail[-period:], key=lambda event: (event.segment, event.offset)), period == 1
-    if is_one and mnemonic(turn[0])[0] == 'JMP' or is_left(it.files, it.report, turn):
+    turn, is_one = sorted(run.trail[-period:], key=lambda event: (event.segment, event.offset)), period == 1
+    if is_one and mnemonic(turn[0])[0] == 'JMP' or is_left(run.files, run.report, turn):
         return []
-    told = ['the last 32 instructions were the same one:' if is_one else f'the last 32 instructions were the same {period} in turn:']
-    told += [f'  {it.place(event)}' for event in turn]
-    return told + (of_a_port(it, turn) or of_an_endless_loop(it, turn))
+    lines = ['the last 32 instructions were the same one:' if is_one else f'the last 32 instructions were the same {period} in turn:']
+    lines += [f'  {run.place(event)}' for event in turn]
+    return lines + (of_a_port(run, turn) or of_an_endless_loop(run, turn))
 
 
-def of_a_port(it: Run, turn: list[Event]) -> list[str]:
+def of_a_port(run: Run, turn: list[Event]) -> list[str]:
     """The one port that a loop reads, where nothing else in it changes from round to round."""
     ins = [event for event in turn if mnemonic(event)[0] == 'IN']
-    ports = {it.report.registers['DX'] if event.octets[-1] in (0xEC, 0xED) else event.octets[-1] for event in ins}
+    ports = {run.report.registers['DX'] if event.octets[-1] in (0xEC, 0xED) else event.octets[-1] for event in ins}
     if len(ports) != 1 or any(event.text.startswith('IN AX') for event in ins) or not all(is_steady(event) or event in ins for event in turn):
         return []
-    port, off = ports.pop(), not it.report.registers['FL'] & IF
-    told = [f'nothing leads out but what port {port:02X}h reads{"" if off else ", or an interrupt"}']
-    return told + ([] if port in PORTS else [f'nothing answers at port {port:02X}h: it always reads FFh'])
+    port, off = ports.pop(), not run.report.registers['FL'] & IF
+    lines = [f'nothing leads out but what port {port:02X}h reads{"" if off else ", or an interrupt"}']
+    return lines + ([] if port in PORTS else [f'nothing answers at port {port:02X}h: it always reads FFh'])
 
 
 def is_steady(event: Event) -> bool:
@@ -275,18 +275,18 @@ def is_inner(event: Event) -> bool:
     return name in INNER and not first.endswith(']') and not (name == 'XCHG' and second.endswith(']'))
 
 
-def of_an_endless_loop(it: Run, turn: list[Event]) -> list[str]:
+def of_an_endless_loop(run: Run, turn: list[Event]) -> list[str]:
     """Whether nothing changes from round to round, and nothing can come between: then the run never ends."""
-    if it.report.registers['FL'] & (IF | TF) or not all(map(is_inner, turn)):
+    if run.report.registers['FL'] & (IF | TF) or not all(map(is_inner, turn)):
         return []
-    if it.session.clock + 1000000 > LAST_CLOCK:
+    if run.session.clock + 1000000 > LAST_CLOCK:
         return []
-    it.session.one('step')
-    begun, first = it.session.clock, it.session.many('regs')
+    run.session.one('step')
+    begun, first = run.session.clock, run.session.many('regs')
     for _ in range(TRAIL - 1):
-        it.session.one('step')
-        if it.session.many('regs') == first:
-            since = [event for event in map(event_of, it.session.many('trail')) if event.clock >= begun]
+        run.session.one('step')
+        if run.session.many('regs') == first:
+            since = [event for event in map(event_of, run.session.many('trail')) if event.clock >= begun]
             return (
                 ['they write nothing, the registers are the same each time round, and interrupts are off: nothing leads out']
                 if len(since) < TRAIL and all(map(is_inner, since))
@@ -295,29 +295,29 @@ def of_an_endless_loop(it: Run, turn: list[Event]) -> list[str]:
     return []
 
 
-def of_a_halt(it: Run) -> list[str]:
+def of_a_halt(run: Run) -> list[str]:
     """A halt with interrupts off where one seems awaited: a jump back stands behind it, and a handler's vector is set."""
-    registers = it.report.registers
-    if it.report.state != 'halted' or registers['FL'] & (IF | TF) or not it.trail:
+    registers = run.report.registers
+    if run.report.state != 'halted' or registers['FL'] & (IF | TF) or not run.trail:
         return []
-    code, vectors = it.session.dump(physical(registers['CS'], registers['IP']), 2), it.session.dump(0x20, 0x20)
+    code, vectors = run.session.dump(physical(registers['CS'], registers['IP']), 2), run.session.dump(0x20, 0x20)
     back = code[1] - 256 if len(code) == 2 and code[0] == 0xEB else 0
-    if mnemonic(it.trail[-1])[0] != 'HLT' or not -NEAR <= back <= -3 or not any(vectors):
+    if mnemonic(run.trail[-1])[0] != 'HLT' or not -NEAR <= back <= -3 or not any(vectors):
         return []
-    told = f'{it.place(it.trail[-1])} has halted the processor with interrupts off: nothing wakes it, and the jump back behind it' " isn't reached"
-    return [told, *of_a_handler(it)]
+    text = f'{run.place(run.trail[-1])} has halted the processor with interrupts off: nothing wakes it, and the jump back behind it' " isn't reached"
+    return [text, *of_a_handler(run)]
 
 
-def of_a_handler(it: Run) -> list[str]:
+def of_a_handler(run: Run) -> list[str]:
     """Why IF is 0: an interrupt set it so, and no IRET has ended its handler; or nothing has set it to 1."""
-    since = list(takewhile(lambda event: mnemonic(event)[0] not in SETTERS, reversed(it.walk[-1])))
+    since = list(takewhile(lambda event: mnemonic(event)[0] not in SETTERS, reversed(run.walk[-1])))
     entry = next((n for n, event in enumerate(since) if event.entry is not None), None)
     if entry is not None:
         begun = since[entry]
         ended = return_of(since[:entry][::-1])
-        told = f'{it.place(ended)} ended its handler and left CS and the flags on the stack' if ended else 'no IRET has set it again'
-        return [f'clock {begun.clock}: interrupt {begun.entry:02X} set IF to 0, and {told}', 'hint: IRET ends a handler']
-    if any(mnemonic(event)[0] in SETTERS for part in it.walk for event in part):
+        cause = f'{run.place(ended)} ended its handler and left CS and the flags on the stack' if ended else 'no IRET has set it again'
+        return [f'clock {begun.clock}: interrupt {begun.entry:02X} set IF to 0, and {cause}', 'hint: IRET ends a handler']
+    if any(mnemonic(event)[0] in SETTERS for part in run.walk for event in part):
         return []
     return ['hint: STI lets interrupts in, before the HLT']
 
@@ -333,9 +333,9 @@ def return_of(handler: list[Event]) -> Event | None:
     return None
 
 
-def of_colour_memory(it: Run) -> list[str]:
+def of_colour_memory(run: Run) -> list[str]:
     """B800h in a segment register."""
-    names = [name for name in ('DS', 'ES') if it.report.registers[name] == 0xB800]
+    names = [name for name in ('DS', 'ES') if run.report.registers[name] == 0xB800]
     return (
         [
             f'{" and ".join(names)} {"is" if len(names) == 1 else "are"} B800h, and no colour adapter is here: from B1000h to EFFFFh nothing answers,'
@@ -347,15 +347,15 @@ def of_colour_memory(it: Run) -> list[str]:
     )
 
 
-def of_code_in_the_stack(it: Run) -> list[str]:
+def of_code_in_the_stack(run: Run) -> list[str]:
     """Instructions of the source just below or at SS:SP whose bytes have changed."""
-    top = physical(it.report.registers['SS'], it.report.registers['SP'])
-    for address, line in sorted(it.listing.at.items()):
-        if not (top - NEAR <= address <= top + 1 and line.shown and address < it.ram_end) or statement_of(line) in ('DB', 'DW', 'DD', ''):
+    top = physical(run.report.registers['SS'], run.report.registers['SP'])
+    for address, line in sorted(run.listing.at.items()):
+        if not (top - NEAR <= address <= top + 1 and line.shown and address < run.ram_end) or statement_of(line) in ('DB', 'DW', 'DD', ''):
             continue
-        memory = it.session.dump(address, len(line.shown))
+        memory = run.session.dump(address, len(line.shown))
         if memory != line.shown:
-            registers, was, now = it.report.registers, line.shown.hex(' ').upper(), memory.hex(' ').upper()
+            registers, was, now = run.report.registers, line.shown.hex(' ').upper(), memory.hex(' ').upper()
             return [
                 f'line {line.number} ({code_of(line.text).strip()}): the source placed {was} at {address:05X}h, and memory holds {now};'
                 f' SS:SP is {registers["SS"]:04X}:{registers["SP"]:04X}',

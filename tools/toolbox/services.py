@@ -56,7 +56,7 @@ def labels_of(name: str) -> list[str]:
     """Its labels, in lines SEGMENT:OFFSET NAME."""
     found, waiting = list[str](), list[str]()
     for line in (line_of(0, row) for row in rows_of(name)):
-        waiting += [it for it in [label_in(line.text)] if it]
+        waiting += [label for label in [label_in(line.text)] if label]
         found += labels_at(line, waiting)
         waiting = [] if line.address else waiting
     return found
@@ -64,7 +64,7 @@ def labels_of(name: str) -> list[str]:
 
 def labels_at(line: Line, waiting: list[str]) -> list[str]:
     """The labels that stand at a line's bytes."""
-    return [f'{line.address[0]:04X}:{line.address[1]:04X} {it}' for it in waiting] if line.address else []
+    return [f'{line.address[0]:04X}:{line.address[1]:04X} {label}' for label in waiting] if line.address else []
 
 
 @dataclass(frozen=True)
@@ -99,7 +99,7 @@ class Served:
             raise Sorry(f'the program wrote {self.written:,} bytes, and the services keep the first {KEPT:,}')
         return self.output
 
-    def told(self) -> list[str]:
+    def remarks(self) -> list[str]:
         """What a person has to know besides, as sentences."""
         found = list[str]()
         if self.notes:

@@ -97,7 +97,7 @@ def accesses_of(event: Event, registers: dict[str, int]) -> list[Access]:
     inside = re.search(r'\[([^\]]*)\]', operands)
     if inside and name not in UNREACHED:
         segment = own or ('SS' if 'BP' in inside[1] else 'DS')
-        terms = [registers[it] if it in registers else int(it.rstrip('h'), 16) for it in inside[1].split('+')]
+        terms = [registers[term] if term in registers else int(term.rstrip('h'), 16) for term in inside[1].split('+')]
         is_written = name in WRITERS and ('[' in operands.partition(',')[0] or name == 'XCHG')
         size = 1 if re.search(r'\bBYTE\b|\b[ABCD][HL]\b', operands) and 'WORD' not in operands else 2
         found.append(Access('write' if is_written else 'read', segment, registers[segment], sum(terms) % 0x10000, size))
@@ -170,25 +170,25 @@ class Run:
     def moments(self) -> list[Event]:
         """Of each instruction and each interrupt the first time, and of a run that is over the last."""
         them = [event for part in self.walk for event in part]
-        first = {(it.address, it.entry, it.octets): it for it in reversed(them)}
-        last = {(it.address, it.entry, it.octets): it for it in them if self.is_over}
-        return sorted({it.clock: it for it in (*first.values(), *last.values())}.values())
+        first = {(event.address, event.entry, event.octets): event for event in reversed(them)}
+        last = {(event.address, event.entry, event.octets): event for event in them if self.is_over}
+        return sorted({event.clock: event for event in (*first.values(), *last.values())}.values())
 
     def registers_at(self, them: list[Event]) -> list[tuple[Event, dict[str, int]]]:
         """Events with the registers that each found, as far as the run can be repeated."""
-        wanted = sorted({it.clock for it in them} - self._registers.keys()) if self.is_repeated else []
+        wanted = sorted({event.clock for event in them} - self._registers.keys()) if self.is_repeated else []
         if wanted:
             with Session(self.files) as session:
                 for at in range(0, len(wanted), AT_ONCE):
                     clocks = wanted[at : at + AT_ONCE]
                     answers = session.trails([b - a for a, b in zip([session.clock, *clocks], clocks)], 'regs')
-                    self._registers |= {clock: registers_of([it.decode('ascii') for it in lines[:2]]) for clock, lines in zip(clocks, answers)}
-        return [(it, self._registers[it.clock]) for it in them if it.clock in self._registers]
+                    self._registers |= {clock: registers_of([line.decode('ascii') for line in lines[:2]]) for clock, lines in zip(clocks, answers)}
+        return [(event, self._registers[event.clock]) for event in them if event.clock in self._registers]
 
     @cached_property
     def reached(self) -> list[tuple[Event, dict[str, int], Access]]:
         """The memory that the instructions reached at these moments."""
-        return [(event, registers, it) for event, registers in self.registers_at(self.moments) for it in accesses_of(event, registers)]
+        return [(event, registers, access) for event, registers in self.registers_at(self.moments) for access in accesses_of(event, registers)]
 
     @cached_property
     def image(self) -> set[int]:
