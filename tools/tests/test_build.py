@@ -261,6 +261,6 @@ class Build(Repository):
         told = io.StringIO()
         with contextlib.redirect_stderr(told):
             progress.stay_in_touch(['isa', 'board'])
-            progress.told -= building.QUIET_SECONDS
+            progress.last_told -= building.QUIET_SECONDS
             progress.stay_in_touch(['isa', 'board'])
         self.assertRegex(told.getvalue(), r'\Apcboard: proving board, isa; 0 of 37 crates, \d+ s so far\n\Z')

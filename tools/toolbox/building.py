@@ -79,7 +79,7 @@ SECONDS = {
 def copy_new(source, target):
     """Makes a folder's copy the same as the folder, but for what was built there."""
     os.makedirs(target, exist_ok=True)
-    names = [it for it in os.listdir(source) if it != 'out']
+    names = [each for each in os.listdir(source) if each != 'out']
     for name in set(os.listdir(target)) - {*names, 'out', 'BUILD.bazel'}:
         path = f'{target}/{name}'
         shutil.rmtree(path) if os.path.isdir(path) else os.remove(path)
@@ -126,12 +126,12 @@ class Progress:
     def __init__(self, program, count):
         self.program, self.count, self.done, self.began = program, count, 0, time.time()
         self.renews = sys.stderr.isatty()
-        self.told = self.began
+        self.last_told = self.began
 
     def tell(self, text, stays=True):
         begin, end = ('\r\033[K', '\n' if stays else '') if self.renews else ('', '\n')
         print(f'{begin}{self.program}: {text}', end=end, file=sys.stderr, flush=True)
-        self.told = time.time()
+        self.last_told = time.time()
 
     def proved(self, name):
         self.done += 1
@@ -139,7 +139,7 @@ class Progress:
 
     def stay_in_touch(self, names):
         """Tells what is at work, where nothing was told for some seconds."""
-        if time.time() - self.told >= QUIET_SECONDS:
+        if time.time() - self.last_told >= QUIET_SECONDS:
             what = f'proving {", ".join(sorted(names))}'
             self.tell(f'{what}; {self.done} of {self.count} crates, {self.seconds()} s so far', stays=False)
 
@@ -245,7 +245,7 @@ def build_all(crates, names, work, progress):
                 ready = sorted((name for name in to_do if below[name] <= done), key=way.get, reverse=True)
                 for name in ready[: count - len(running)]:
                     to_do.discard(name)
-                    meanwhile = [it for it in [*to_do, *running.values()] if name not in crates.below(it)]
+                    meanwhile = [other for other in [*to_do, *running.values()] if name not in crates.below(other)]
                     jobs = jobs_of(name, meanwhile, count)
                     running[pool.submit(prove, crates, name, jobs, stamp(crates, name, known), work)] = name
                 for future in futures.wait(running, 1, futures.FIRST_COMPLETED)[0]:

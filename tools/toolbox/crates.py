@@ -43,10 +43,10 @@ class Crates:
         found: set[str] = set()
         todo = [name]
         while todo:
-            it = todo.pop()
-            if it in self.named and it not in found:
-                found.add(it)
-                todo += self.named[it]
+            crate = todo.pop()
+            if crate in self.named and crate not in found:
+                found.add(crate)
+                todo += self.named[crate]
         return found
 
     def rlib(self, name: str) -> str:

@@ -36,7 +36,7 @@ def judge() -> types.ModuleType:
 def edits_of(name: str, folders: tuple[str, ...] = FOLDERS, top: str = TOP) -> list[str]:
     """The paths of a crate's edits."""
     found = []
-    for folder in (f'{top}/crates/{name}/{it}' for it in folders):
+    for folder in (f'{top}/crates/{name}/{kind}' for kind in folders):
         if os.path.isdir(folder):
             found += [f'{folder}/{file}' for file in sorted(os.listdir(folder)) if file.endswith('.edit')]
     return found
@@ -69,17 +69,17 @@ class Edit:
     function: str
     lines: dict[int, str]
 
-    def is_refused(self, crate: str, told: list[str]) -> bool:
+    def is_refused(self, crate: str, lines: list[str]) -> bool:
         """Whether a check tells that the function isn't proved, and that the reason is a goal of its own: no other function that it
         calls, and no name in its proof that the edit took away."""
         module = self.file.removeprefix('src/').removesuffix('.rt')
         inside = '' if module in ('lib', 'main') else f'{module}/'
         head = re.compile(rf'fn {crate}::{inside.replace("/", "::")}(?:\w+::)?{self.function}: (.*)')
-        reason = next((found[1] for found in map(head.match, told) if found), '')
+        reason = next((found[1] for found in map(head.match, lines) if found), '')
         if reason != 'not proved':
             return bool(re.fullmatch(r'no proof: expected answers in [^;]*; `search` did not prove [^;]*', reason))
         error = re.compile(rf'(?:\./)?proofs/{inside}(?:\w+/)?{self.function}/\w+\.antt:\d+:\d+: error: ')
-        return any(error.match(line) and not TAKEN_AWAY.search(f'{line} {more}') for line, more in zip(told, [*told[1:], '']))
+        return any(error.match(line) and not TAKEN_AWAY.search(f'{line} {more}') for line, more in zip(lines, [*lines[1:], '']))
 
 
 TAKEN_AWAY = re.compile('has no field|is not in scope|has no `|was not admitted')
@@ -93,7 +93,7 @@ def function_at(lines: list[str], number: int) -> str | None:
         head = HEAD.match(lines[at])
         if head:
             opens = re.compile(rf'{head[1]}(?:{{|(?:\)|\S.*\)).* {{)')
-            begins = next((it for it in range(at, number) if opens.fullmatch(lines[it])), None)
+            begins = next((n for n in range(at, number) if opens.fullmatch(lines[n])), None)
             is_inside = begins is not None and f'{head[1]}}}' not in lines[at:number]
             return head[2] if is_inside else None
     return None
@@ -118,7 +118,7 @@ def of_one_function(rt: types.ModuleType, edit: str, folder: str) -> Edit | None
 def together(edits: list[Edit], folder: str) -> dict[str, str]:
     """The texts of the files that these edits change, all of them made."""
     texts = {}
-    for file in {it.file for it in edits}:
+    for file in {each.file for each in edits}:
         with open(f'{folder}/{file}', encoding='utf-8') as stood:
             lines = stood.read().split('\n')
         for edit in edits:
@@ -135,7 +135,7 @@ def batches(edits: list[Edit]) -> Iterator[list[Edit]]:
         for edit in edits:
             first.setdefault((edit.file, edit.function), edit)
         yield [*first.values()]
-        edits = [it for it in edits if it not in first.values()]
+        edits = [each for each in edits if each not in first.values()]
 
 
 def refused_together(rt: types.ModuleType, crate: Tried, edits: list[Edit], kept: str) -> set[str]:
@@ -143,9 +143,9 @@ def refused_together(rt: types.ModuleType, crate: Tried, edits: list[Edit], kept
     the check from the prover, halves are tried."""
     if len(edits) < 2:
         return set()
-    told = rt.checked(crate, together(edits, crate.folder), [], kept).stdout.split('\n')
-    if any(line.startswith('logic=not-proved') for line in told):
-        return {it.path for it in edits if it.is_refused(crate.name, told)}
+    lines = rt.checked(crate, together(edits, crate.folder), [], kept).stdout.split('\n')
+    if any(line.startswith('logic=not-proved') for line in lines):
+        return {edit.path for edit in edits if edit.is_refused(crate.name, lines)}
     middle = len(edits) // 2
     return refused_together(rt, crate, edits[:middle], kept) | refused_together(rt, crate, edits[middle:], kept)
 
@@ -158,7 +158,7 @@ def tried(rt: types.ModuleType, crates: Crates, name: str, edits: list[str], is_
         if is_stopped():
             return
         is_proved = not rt.checked(crate, {}, [], kept).returncode
-        alone = [it for it in (of_one_function(rt, edit, crate.folder) for edit in edits) if it]
+        alone = [one for one in (of_one_function(rt, edit, crate.folder) for edit in edits) if one]
         refused: set[str] = set()
         for batch in batches(alone):
             if is_stopped():

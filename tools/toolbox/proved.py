@@ -72,10 +72,10 @@ def out(name: str) -> str:
 def version() -> tuple[str, str]:
     """The kit that is here, and its logic."""
     want_rattle()
-    told = subprocess.run(['rt', 'version'], stdin=subprocess.DEVNULL, stdout=subprocess.PIPE, text=True, check=False).stdout.split()
-    if len(told) != 3:
+    words = subprocess.run(['rt', 'version'], stdin=subprocess.DEVNULL, stdout=subprocess.PIPE, text=True, check=False).stdout.split()
+    if len(words) != 3:
         raise Sorry("'rt version' tells no kit and logic")
-    return told[0], told[2]
+    return words[0], words[2]
 
 
 def verdict_in(printed: str) -> str | None:
@@ -119,7 +119,7 @@ def seen(log: str, top: str) -> list[str]:
     crates = Crates(top)
     with open(log, encoding='utf-8', errors='replace') as lines:
         verdicts = {name: verdict for name, verdict in verdicts_in(lines).items() if name in crates.named}
-    newer = newer_than(log, {it for name in verdicts for it in crates.below(name)}, top)
+    newer = newer_than(log, {crate for name in verdicts for crate in crates.below(name)}, top)
     if newer:
         raise Sorry(f'{newer} is newer than {log}, so what it tells may be of another text')
     for name, made_of in stamps(crates, verdicts).items():
@@ -130,7 +130,7 @@ def seen(log: str, top: str) -> list[str]:
 def newer_than(path: str, names: Iterable[str], top: str = TOP) -> str | None:
     """A source that is newer than a file."""
     limit = os.stat(path).st_mtime
-    return next((it for it in [f'{top}/crates.txt', *files(names, top)] if os.stat(it).st_mtime > limit), None)
+    return next((source for source in [f'{top}/crates.txt', *files(names, top)] if os.stat(source).st_mtime > limit), None)
 
 
 def told_of(path: str, crates: Crates, names: set[str]) -> Proved:

@@ -23,7 +23,7 @@ from toolbox.proved import PROGRAMS, STORED, Made, Proved
 from toolbox.sources import sum_of, sum_of_sources
 
 PLATFORM = 'x86_64-linux'
-STORED_FILES = tuple(f'stored/{it}' for it in PROGRAMS)
+STORED_FILES = tuple(f'stored/{program}' for program in PROGRAMS)
 FILES = ('CHANGELOG.md', 'CONTRIBUTING.md', 'LICENSE-APACHE', 'LICENSE-MIT', 'README.md', 'VERSION', *PROGRAMS, *STORED_FILES, 'stored/PROVED')
 FOLDERS = ('c', 'docs', 'editors', 'examples', 'python', 'services', 'tools')
 LEFT_OUT = ('tools/test', 'tools/tests', 'editors/grammar')  # which want the sources
@@ -80,29 +80,29 @@ def archive_of(crates: Crates, crate: str) -> str:
 def lacking() -> list[str]:
     """A sentence for each thing that a release wants and that isn't here, or isn't of the present sources, with what makes it so."""
     crates = Crates()
-    found = [f"{it} isn't there" for it in (*FILES, *FOLDERS) if not os.path.exists(f'{TOP}/{it}')]
-    found += filter(None, (*(of_program(crates, it) for it in PROGRAMS), *(of_library(crates, it) for it in LIBRARIES)))
-    found += [f'{it}, which makes libraries and packages, is not on the path' for it in ('cc', 'ar', 'strip') if not shutil.which(it)]
-    return found + [f"{it} isn't as it was committed; a release has what a commit has" for it in uncommitted()]
+    found = [f"{path} isn't there" for path in (*FILES, *FOLDERS) if not os.path.exists(f'{TOP}/{path}')]
+    found += filter(None, (*(of_program(crates, program) for program in PROGRAMS), *(of_library(crates, library) for library in LIBRARIES)))
+    found += [f'{command}, which makes libraries and packages, is not on the path' for command in ('cc', 'ar', 'strip') if not shutil.which(command)]
+    return found + [f"{path} isn't as it was committed; a release has what a commit has" for path in uncommitted()]
 
 
-def differs(told: Proved, made: Made, crates: Crates, crate: str) -> str | None:
+def differs(record: Proved, made: Made, crates: Crates, crate: str) -> str | None:
     """What is amiss with the text PROVED of something that is made of a crate."""
     names = crates.below(crate)
     if made.sources != sum_of_sources(names):
         return 'it was made of other sources than are here'
-    unknown = sorted(names - told.verdicts.keys())
+    unknown = sorted(names - record.verdicts.keys())
     return f'its PROVED has no verdict of {", ".join(unknown)}' if unknown else None
 
 
 def of_program(crates: Crates, program: str) -> str | None:
     """What is amiss with a stored program."""
-    told = proved.read(STORED)
-    made = told and told.of(f'{STORED}/{program}')
+    record = proved.read(STORED)
+    made = record and record.of(f'{STORED}/{program}')
     renew = 'tools/test proves and builds one, and then dev/build --store renews it'
-    if told is None or made is None:
+    if record is None or made is None:
         return f"stored/{program} isn't one of which stored/PROVED tells; {renew}"
-    why = differs(told, made, crates, program)
+    why = differs(record, made, crates, program)
     return why and f"stored/{program} isn't taken: {why}; {renew}"
 
 
@@ -112,13 +112,13 @@ def of_library(crates: Crates, crate: str) -> str | None:
     short, build = os.path.relpath(path, TOP), f'dev/build {crate} proves and builds it, and so does tools/test'
     if not os.path.isfile(path):
         return f"{short} isn't there; {build}"
-    told, stored = proved.read(os.path.dirname(path)), proved.read(STORED)
-    made = told and told.of(path)
-    if told is None or made is None:
+    record, stored = proved.read(os.path.dirname(path)), proved.read(STORED)
+    made = record and record.of(path)
+    if record is None or made is None:
         return f'nothing tells what {short} was made of; {build}'
-    why = differs(told, made, crates, crate)
-    if not why and stored and (told.kit, told.logic) != (stored.kit, stored.logic):
-        why = f'{told.kit} made it, and {stored.kit} the stored programs'
+    why = differs(record, made, crates, crate)
+    if not why and stored and (record.kit, record.logic) != (stored.kit, stored.logic):
+        why = f'{record.kit} made it, and {stored.kit} the stored programs'
     return why and f"{short} isn't taken: {why}; {build}"
 
 
@@ -128,24 +128,26 @@ def uncommitted() -> list[str]:
         return []
     words = ['git', 'status', '--porcelain', '-z', '--untracked-files=all', '--no-renames', '--', *FILES, *FOLDERS]
     try:
-        told = subprocess.run(words, cwd=TOP, capture_output=True, text=True, check=False)
+        status = subprocess.run(words, cwd=TOP, capture_output=True, text=True, check=False)
     except OSError as error:
         raise Sorry(f"git can't be started: {error.strerror}") from None
-    if told.returncode:
-        raise Sorry(f'git status: {told.stderr.strip()}')
-    return [it for it in (entry[3:] for entry in told.stdout.split('\0')) if it and not is_left_out(it)]
+    if status.returncode:
+        raise Sorry(f'git status: {status.stderr.strip()}')
+    return [path for path in (entry[3:] for entry in status.stdout.split('\0')) if path and not is_left_out(path)]
 
 
 def is_left_out(path: str) -> bool:
     """Whether a path is of no release."""
     parts = path.split('/')
-    return any(it.startswith('.') or it in ('__pycache__', 'out') for it in parts) or any(path == it or path.startswith(f'{it}/') for it in LEFT_OUT)
+    return any(part.startswith('.') or part in ('__pycache__', 'out') for part in parts) or any(
+        path == left_out or path.startswith(f'{left_out}/') for left_out in LEFT_OUT
+    )
 
 
 def paths() -> list[str]:
     """The files that a release has of the repository."""
-    inside = (os.path.relpath(f'{folder}/{file}', TOP) for it in FOLDERS for folder, _, files in os.walk(f'{TOP}/{it}') for file in files)
-    return [*FILES, *(it for it in inside if not is_left_out(it))]
+    inside = (os.path.relpath(f'{folder}/{file}', TOP) for top in FOLDERS for folder, _, files in os.walk(f'{TOP}/{top}') for file in files)
+    return [*FILES, *(path for path in inside if not is_left_out(path))]
 
 
 def shared(crate: str, archive: str) -> bytes:
@@ -204,8 +206,8 @@ def contents() -> dict[str, tuple[bytes, bool]]:
     """All files of a release by their paths: what each holds, and whether it may be started."""
     crates = Crates()
     found: dict[str, tuple[bytes, bool]] = {}
-    taken = {it: f'{TOP}/{it}' for it in paths()}
-    taken |= {f'lib/lib{it}.a': archive_of(crates, it) for it in LIBRARIES}
+    taken = {each: f'{TOP}/{each}' for each in paths()}
+    taken |= {f'lib/lib{library}.a': archive_of(crates, library) for library in LIBRARIES}
     for path, source in taken.items():
         with open(source, 'rb') as file:
             found[path] = file.read(), not path.startswith('lib/') and os.access(source, os.X_OK)
@@ -248,7 +250,7 @@ def folders_of(path: str) -> Iterator[str]:
 
 def members(found: dict[str, tuple[bytes, bool]]) -> Iterator[tuple[tarfile.TarInfo, bytes]]:
     """The archive's entries, folders too, by their names, without owner or time of their own."""
-    for path in sorted({*found, *(folder for it in found for folder in folders_of(it))}):
+    for path in sorted({*found, *(folder for file in found for folder in folders_of(file))}):
         entry = tarfile.TarInfo(f'{name()}/{path}'.rstrip('/'))
         entry.mtime = TIME
         octets, is_program = found.get(path, (b'', True))

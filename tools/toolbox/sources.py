@@ -35,8 +35,8 @@ def sum_of(path: str) -> str:
 def sum_of_sources(names: Iterable[str], top: str = TOP) -> str:
     """The sum of all that a program of these crates is made of, as `./pcboard --version` tells it: of a list that `sha256sum`
     would write, a line for each file, in the order of their paths from the repository on."""
-    paths = sorted(os.path.relpath(it, top) for it in [f'{top}/crates.txt', *files(names, top)])
-    return hashlib.sha256(''.join(f'{sum_of(f"{top}/{it}")}  {it}\n' for it in paths).encode()).hexdigest()
+    paths = sorted(os.path.relpath(path, top) for path in [f'{top}/crates.txt', *files(names, top)])
+    return hashlib.sha256(''.join(f'{sum_of(f"{top}/{path}")}  {path}\n' for path in paths).encode()).hexdigest()
 
 
 def stamp(crates: Crates, name: str, known: dict[str, str]) -> str:
