@@ -27,7 +27,7 @@ def plain_line(line: bytes) -> bytes:
     at = comment_at(line)
     if at is None or max(line[at:]) <= LAST_PLAIN:
         return line
-    return line[:at] + ''.join(it if ord(it) <= LAST_PLAIN else '?' for it in text_of(line[at:])).encode('ascii')
+    return line[:at] + ''.join(sign if ord(sign) <= LAST_PLAIN else '?' for sign in text_of(line[at:])).encode('ascii')
 
 
 def comment_at(line: bytes) -> int | None:
@@ -52,7 +52,7 @@ def own_lines(path: str) -> list[str]:
     """A source's lines as its writer has them."""
     with open(path, 'rb') as file:
         octets = file.read().removeprefix(MARK)
-    return [text_of(it.rstrip(b'\r')) for it in octets.split(b'\n')]
+    return [text_of(line.rstrip(b'\r')) for line in octets.split(b'\n')]
 
 
 def handed(path: str) -> str:

@@ -55,7 +55,7 @@ def add_words(reader: argparse.ArgumentParser) -> None:
 
 def guest_of(given: argparse.Namespace, file: str | None = None) -> Guest:
     """What those words say."""
-    compiler = next((it for it in COMPILERS if getattr(given, it, False)), None)
+    compiler = next((name for name in COMPILERS if getattr(given, name, False)), None)
     found = Guest(file or given.file, given.args, given.services, given.com, compiler)
     if given.args is not None and not found.is_one:
         raise Sorry('--args goes with a .COM or .EXE program, or with --services')
@@ -117,13 +117,13 @@ def compiled(guest: Guest, room: str) -> str:
         ran = subprocess.run([command, *words], stdin=subprocess.DEVNULL, capture_output=True, text=True, errors='replace', check=False)
     except OSError:
         raise Sorry(f"{command} isn't there; install it (Debian: apt-get install {package})") from None
-    told = (ran.stdout + ran.stderr).strip()
+    messages = (ran.stdout + ran.stderr).strip()
     if ran.returncode or not os.path.isfile(made):
-        if FIRST_OF_BCC in told:
+        if FIRST_OF_BCC in messages:
             raise Sorry(f'{command} has no library to link programs with; install it (Debian: apt-get install {package})')
-        raise Sorry(f'{command} refuses {guest.file}:\n{told or f"status {ran.returncode}"}')
-    if told:
-        print(told, file=sys.stderr)
+        raise Sorry(f'{command} refuses {guest.file}:\n{messages or f"status {ran.returncode}"}')
+    if messages:
+        print(messages, file=sys.stderr)
     return made
 
 
@@ -136,9 +136,9 @@ def fields_for(guest: Guest, run_file: str | None, more: dict[str, Any] | None =
 
 def written(guest: Guest, fields: dict[str, Any], room: str) -> Files:
     """The program as Intel HEX, its run file and its symbols, in a folder."""
-    it = loaded(guest, fields['ram'], room)
+    found = loaded(guest, fields['ram'], room)
     stem = os.path.join(room, os.path.splitext(os.path.basename(guest.file))[0] or 'it')
-    for path, text in ((f'{stem}.hex', it.hex), (f'{stem}.json', text_of(fields)), (f'{stem}.symbols', '\n'.join(it.rows) + '\n')):
+    for path, text in ((f'{stem}.hex', found.hex), (f'{stem}.json', text_of(fields)), (f'{stem}.symbols', '\n'.join(found.rows) + '\n')):
         with open(path, 'w', encoding='utf-8', errors='surrogateescape') as file:
             file.write(text)
     return Files(f'{stem}.hex', f'{stem}.json', True, f'{stem}.symbols')
@@ -149,7 +149,7 @@ def kept(guest: Guest, run_file: str | None, symbols: str | None, name: str | No
     if not name:
         raise Sorry(f'{guest.file} becomes an image and a run file, to which the page may write: --keep NAME says where they stay')
     paths = f'{name}.hex', f'{name}.json', f'{name}.symbols'
-    there = next((it for it in paths if os.path.lexists(it)), None)
+    there = next((each for each in paths if os.path.lexists(each)), None)
     if there:
         raise Sorry(f'{there} is there already; FILE {paths[0]} and RUN {paths[1]} go on with it')
     with prepared(guest, Files(guest.file, run_file or '')) as made:

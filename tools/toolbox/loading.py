@@ -35,7 +35,7 @@ class Loaded:
     @property
     def hex(self) -> str:
         """All of it as Intel HEX."""
-        them = [services.hex_of(it).replace(END, '') for it in self.services]
+        them = [services.hex_of(name).replace(END, '') for name in self.services]
         return ''.join(them) + hex_of(self.image)
 
 
@@ -77,10 +77,10 @@ def begins(psp: int, code: tuple[int, int], stack: tuple[int, int], environment:
 def served(image: dict[int, int], start: tuple[int, int], is_dos: bool = True) -> Loaded:
     """A program with the services, whose label `start` is where it begins; bytes of both at one address are refused."""
     names = ('bios', 'dos') if is_dos else ('bios',)
-    clash = min((it for name in names for it in image.keys() & services.bytes_of(name).keys()), default=None)
+    clash = min((address for name in names for address in image.keys() & services.bytes_of(name).keys()), default=None)
     if clash is not None:
         raise Sorry(f'the program has a byte at {clash:05X}h, where the services stand: from {SERVICES:05X}h on all is theirs')
-    return Loaded(image, names, [f'{start[0]:04X}:{start[1]:04X} start', *(it for name in names for it in services.labels_of(name))])
+    return Loaded(image, names, [f'{start[0]:04X}:{start[1]:04X} start', *(label for name in names for label in services.labels_of(name))])
 
 
 def check_com(name: str, octets: bytes) -> None:
@@ -114,7 +114,7 @@ def bare_rom(name: str, octets: bytes) -> tuple[dict[int, int], list[str]]:
     size = len(octets)
     if size not in ROMS:
         last = f'; tail -c 65536 {name} > last.bin gives the last 64 KB' if size > ROMS[-1] else ''
-        raise Sorry(f'{name} has {size:,} bytes, and a ROM has {", ".join(f"{it:,}" for it in ROMS[:-1])} or {ROMS[-1]:,}{last}')
+        raise Sorry(f'{name} has {size:,} bytes, and a ROM has {", ".join(f"{length:,}" for length in ROMS[:-1])} or {ROMS[-1]:,}{last}')
     first = octets[-16:-11]
     if set(octets[-16:]) in ({0}, {0xFF}):
         raise Sorry(f'{name} has nothing 16 bytes before its end, where the processor begins: it is no ROM, or not all of it')
@@ -189,13 +189,13 @@ def source(name: str, args: str, ram: int) -> Loaded:
     PSP stands behind the source's last byte in RAM."""
     image = image_of(answer_of(['asm', '--', handed(name)]))
     rows = answer_of(['asm', '--list', '--', handed(name)]).split('\n')[:-1]
-    reset = {it: image.pop(it) for it in range(RESET, RESET + 16) if it in image}
+    reset = {address: image.pop(address) for address in range(RESET, RESET + 16) if address in image}
     if reset and (list(reset) != list(range(RESET, RESET + 5)) or reset[RESET] != 0xEA):
         raise Sorry(f'{name}: at FFFF:0000 stands nothing but JMP FAR start, or nothing')
     if reset:
         start = reset[RESET + 3] + 256 * reset[RESET + 4], reset[RESET + 1] + 256 * reset[RESET + 2]
     else:
-        start = next((it.address for it in map(line_of, range(len(rows)), rows) if it.address), None) or (0, 0)
+        start = next((line.address for line in map(line_of, range(len(rows)), rows) if line.address), None) or (0, 0)
     if not image:
         raise Sorry(f'{name} has no bytes but at FFFF:0000')
     psp = place_of(name, image, start, ram)
@@ -214,9 +214,9 @@ def is_reset(row: str) -> bool:
 def place_of(name: str, image: dict[int, int], start: tuple[int, int], ram: int) -> int:
     """The paragraph of a source's PSP."""
     first, segment = 16 * (start[0] - ROOM_BEFORE), start[0]
-    if start[1] == 0x100 and first >= 0x600 and not any(first <= it < 16 * segment + 0x100 for it in image):
+    if start[1] == 0x100 and first >= 0x600 and not any(first <= address < 16 * segment + 0x100 for address in image):
         return segment
-    last = max((it for it in image if it < ROM), default=0x5FF)
+    last = max((address for address in image if address < ROM), default=0x5FF)
     psp = max(last // 16 + 1, 0x60) + ROOM_BEFORE
     if psp + 0x1000 > 64 * ram - SERVICES_OWN:
         raise Sorry(f'{name} has a byte at {last:05X}h: behind it is no room for 64 KB and for the services with {ram} KB of RAM')
@@ -233,7 +233,7 @@ def check_ram(ram: object, where: str) -> int:
 def hex_of(image: dict[int, int]) -> str:
     """An image as Intel HEX, sixteen bytes a record."""
     rows, bank = list[str](), -1
-    for first in sorted({it & ~15 for it in image}):
+    for first in sorted({address & ~15 for address in image}):
         for at, octets in runs_of(image, first):
             if at >> 16 != bank:
                 bank = at >> 16

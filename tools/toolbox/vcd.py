@@ -23,7 +23,7 @@ class Wave:
         lines = ['$timescale 1 ns $end', '$scope module board $end']
         lines += [f'$var wire {width} {sign} {name} $end' for sign, (name, width) in zip(signs, signals)]
         lines += ['$upscope $end', '$enddefinitions $end', '#0', '$dumpvars']
-        file.write('\n'.join(lines) + '\n' + ''.join(it % 0 if place in self._bits else f'b0{it}' for place, it in enumerate(self._forms)) + '$end\n')
+        file.write('\n'.join(lines) + '\n' + ''.join(form % 0 if place in self._bits else f'b0{form}' for place, form in enumerate(self._forms)) + '$end\n')
 
     def write(self, clock: int, changes: Changes) -> None:
         """Writes a clock's changes, signals with their values; what stays as it was is none."""
