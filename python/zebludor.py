@@ -192,7 +192,7 @@ def _fields(given: dict[str, Any]) -> dict[str, Any]:
     unknown = given.keys() - {*DEFAULTS, *CHOICES}
     if unknown:
         raise TypeError(f'{sorted(unknown)[0]} is no field of a run file: {", ".join((*DEFAULTS, *CHOICES))}')
-    fields = DEFAULTS | {name: [list(key) for key in it] if name == 'keys' else it for name, it in given.items()}
+    fields = DEFAULTS | {name: [list(key) for key in value] if name == 'keys' else value for name, value in given.items()}
     return fields | {'version': 2} | FIRST_CHOICES | given if given.keys() & CHOICES.keys() else fields
 
 
@@ -223,12 +223,12 @@ def taken(name: str) -> str:
     """The program that the launcher of this name takes, as its `--version` tells, which says once to each user where that is the
     stored one."""
     try:
-        told = subprocess.run([f'{TOP}/{name}', '--version'], stdin=subprocess.DEVNULL, stdout=subprocess.PIPE, text=True, check=False).stdout
+        printed = subprocess.run([f'{TOP}/{name}', '--version'], stdin=subprocess.DEVNULL, stdout=subprocess.PIPE, text=True, check=False).stdout
     except OSError:
         raise Unfit(f"no launcher is in {TOP}, to which this copy of zebludor.py belongs: name the program in {name.upper()}") from None
-    path = re.search(r'^program (\w+/[\w/]+)', told, re.M)
+    path = re.search(r'^program (\w+/[\w/]+)', printed, re.M)
     if not path:
-        why = re.search(rf"^stored/{name} isn't taken: .*$", told, re.M)
+        why = re.search(rf"^stored/{name} isn't taken: .*$", printed, re.M)
         more = f' ({why[0]})' if why else ''
         build = f'a first run of ./{name} builds one, or ' if os.path.exists(f'{TOP}/crates.txt') else ''
         raise Unfit(f'no {name} is built here; {build}name one in {name.upper()}{more}')
@@ -464,9 +464,9 @@ class Dialogue:
     def rest(self) -> str:
         """The answer to what was begun."""
         line = self._line()
-        told = re.search(r'\bclock (\d+)$', line)
-        if told:
-            self.clock = int(told[1])
+        found = re.search(r'\bclock (\d+)$', line)
+        if found:
+            self.clock = int(found[1])
         self.is_idle = True
         return line
 
@@ -931,7 +931,7 @@ class Chips(Library):
     def calls_of(self, chip: str) -> dict[str, Any]:
         """The library's calls of a chip, by the names behind its own."""
         begin = f'zebludor_{chip}_'
-        return {name.removeprefix(begin): it for name, it in self.calls.items() if name.startswith(begin)}
+        return {name.removeprefix(begin): call for name, call in self.calls.items() if name.startswith(begin)}
 
 
 @functools.cache

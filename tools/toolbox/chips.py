@@ -86,9 +86,16 @@ class Chips:
     @property
     def controller(self) -> Controller:
         """The interrupt controller."""
-        it = self.lines['controller']
+        values = self.lines['controller']
         return Controller(
-            int(it['IRR'], 16), int(it['ISR'], 16), int(it['IMR'], 16), int(it['lowest']), it['INT'] == '1', it['awaits'], it['uPM'] == '1', it['SMM'] == '1'
+            int(values['IRR'], 16),
+            int(values['ISR'], 16),
+            int(values['IMR'], 16),
+            int(values['lowest']),
+            values['INT'] == '1',
+            values['awaits'],
+            values['uPM'] == '1',
+            values['SMM'] == '1',
         )
 
     @property
@@ -123,46 +130,46 @@ def levels(byte: int) -> list[int]:
     return [it for it in range(8) if byte >> it & 1]
 
 
-def of_requests(it: Controller) -> list[str]:
+def of_requests(controller: Controller) -> list[str]:
     """Why the controller passes no request on, where levels ask."""
-    asking = levels(it.requests)
-    if it.is_asking or not asking:
+    asking = levels(controller.requests)
+    if controller.is_asking or not asking:
         return []
-    if not it.is_ready:
-        sequence = f'its initialisation waits for {it.awaited}' if it.awaited != 'none' else "it isn't in 8086 mode (bit 0 of ICW4)"
+    if not controller.is_ready:
+        sequence = f'its initialisation waits for {controller.awaited}' if controller.awaited != 'none' else "it isn't in 8086 mode (bit 0 of ICW4)"
         return [f'IR{asking[0]} asks, and the interrupt controller takes nothing: {sequence}']
-    told = [f'IR{level} asks, and is masked' for level in asking if it.masked >> level & 1]
-    kept = [level for level in asking if not it.masked >> level & 1]
-    if kept and it.blocking:
-        served = f'IR{it.blocking[0]}'
-        asks = f'{served} asks again, and' if kept[0] == it.blocking[0] else f'IR{kept[0]} asks, and {served}'
-        told.append(f'{asks} is still in service: {END_OF_INTERRUPT} has come since it was taken')
-    return told
+    sentences = [f'IR{level} asks, and is masked' for level in asking if controller.masked >> level & 1]
+    kept = [level for level in asking if not controller.masked >> level & 1]
+    if kept and controller.blocking:
+        served = f'IR{controller.blocking[0]}'
+        asks = f'{served} asks again, and' if kept[0] == controller.blocking[0] else f'IR{kept[0]} asks, and {served}'
+        sentences.append(f'{asks} is still in service: {END_OF_INTERRUPT} has come since it was taken')
+    return sentences
 
 
-def of_the_timer(it: Chips) -> list[str]:
+def of_the_timer(chips: Chips) -> list[str]:
     """Whether a halted processor waits for a tick that no count brings."""
-    controller = it.controller
-    waits = it.is_halted and controller.is_ready and not controller.requests and not controller.masked & 1
-    if not waits or it.value('counter 0', 'newest') != 'none':
+    controller = chips.controller
+    waits = chips.is_halted and controller.is_ready and not controller.requests and not controller.masked & 1
+    if not waits or chips.value('counter 0', 'newest') != 'none':
         return []
     return ['the processor waits for an interrupt, and IR0 comes from counter 0, which no count has been written to']
 
 
-def of_keys(it: Chips) -> list[str]:
+def of_keys(chips: Chips) -> list[str]:
     """Why key codes wait."""
-    if not it.waiting:
+    if not chips.waiting:
         return []
-    what = f'{len(it.waiting)} key code{"s wait" if len(it.waiting) > 1 else " waits"}'
-    if it.port_b & 0x80:
+    what = f'{len(chips.waiting)} key code{"s wait" if len(chips.waiting) > 1 else " waits"}'
+    if chips.port_b & 0x80:
         return [f'{what}: line 7 of port B is 1 and empties the latch']
-    if it.latched is not None:
-        return [f"{what} behind {it.latched:02X}h in the latch, which line 7 of port B hasn't emptied"]
-    return [f'{what}: line 6 of port B is 0 and lets the keyboard send nothing'] if not it.port_b & 0x40 else []
+    if chips.latched is not None:
+        return [f"{what} behind {chips.latched:02X}h in the latch, which line 7 of port B hasn't emptied"]
+    return [f'{what}: line 6 of port B is 0 and lets the keyboard send nothing'] if not chips.port_b & 0x40 else []
 
 
 def facts(lines: list[str]) -> list[str]:
     """What keeps an interrupt or a key away, as sentences: of interrupts where the processor takes them."""
     chips = Chips.of(lines)
-    told = of_requests(chips.controller) + of_the_timer(chips) if chips.is_open else []
-    return told + of_keys(chips)
+    sentences = of_requests(chips.controller) + of_the_timer(chips) if chips.is_open else []
+    return sentences + of_keys(chips)
