@@ -75,7 +75,7 @@ SPECIAL |= {'{up}': 0x4800, '{left}': 0x4B00, '{right}': 0x4D00, '{down}': 0x500
 
 def names() -> list[str]:
     """The programs, by their files' names."""
-    return sorted(it for it in os.listdir(BOOKS) if os.path.splitext(it)[1] in ('.asm', *COMPILERS))
+    return sorted(name for name in os.listdir(BOOKS) if os.path.splitext(name)[1] in ('.asm', *COMPILERS))
 
 
 @functools.cache
@@ -99,13 +99,13 @@ def com_of(name: str, room: str) -> bytes:
         with open(compiled(Guest(f'{BOOKS}/{stem}{ending}', compiler=COMPILERS[ending]), room), 'rb') as file:
             return file.read()
     image = image_of(answer_of(['asm', '--', f'{BOOKS}/{name}']))
-    return bytes(image.get(it, 0) for it in range(0x1100, max(image) + 1))
+    return bytes(image.get(address, 0) for address in range(0x1100, max(image) + 1))
 
 
 def words_of(keys: str) -> bytes:
     """Typed keys as the words of the BIOS's buffer."""
     them = re.findall(r'\{[^}]*\}|.', keys)
-    return b''.join(struct.pack('<H', SPECIAL.get(it) or 256 * SIGNS[it][0] + ord(it)) for it in them)
+    return b''.join(struct.pack('<H', SPECIAL.get(key) or 256 * SIGNS[key][0] + ord(key)) for key in them)
 
 
 def screens(programs: dict[str, bytes]) -> dict[str, list[str]]:
@@ -116,9 +116,9 @@ def screens(programs: dict[str, bytes]) -> dict[str, list[str]]:
             stem = os.path.splitext(name)[0]
             typed = words_of(KEYS.get(stem, ''))
             before = bytes.fromhex(BEFORE.format(count=len(typed) // 2))
-            for kind, it in (('B', before + typed), ('P', octets), ('A', bytes.fromhex(AFTER) + f'D{number}.SCR\0'.encode())):
+            for kind, code in (('B', before + typed), ('P', octets), ('A', bytes.fromhex(AFTER) + f'D{number}.SCR\0'.encode())):
                 with open(f'{room}/{kind}{number}.COM', 'wb') as file:
-                    file.write(it)
+                    file.write(code)
             batch += f'b{number}\np{number} {ARGS.get(stem, "")}\na{number}\n'
         with open(f'{room}/dosbox.conf', 'w', encoding='utf-8') as file:
             file.write(batch + 'exit\n')
@@ -128,7 +128,7 @@ def screens(programs: dict[str, bytes]) -> dict[str, list[str]]:
         for number, name in enumerate(programs):
             with open(f'{room}/D{number}.SCR', 'rb') as file:
                 text = file.read()[::2].decode('cp437')
-            found[name] = [text[it : it + 80].replace('\0', ' ').rstrip() for it in range(0, 2000, 80)]
+            found[name] = [text[start : start + 80].replace('\0', ' ').rstrip() for start in range(0, 2000, 80)]
         return found
 
 
@@ -143,9 +143,9 @@ def main() -> int:
         print(__doc__)
         return 2
     with tempfile.TemporaryDirectory() as room:
-        programs = {it: com_of(it, room) for it in names()}
+        programs = {name: com_of(name, room) for name in names()}
     seen = screens(programs)
-    them = {it: {'screen': seen[it]} | ({'bytes': programs[it].hex()} if it.endswith('.nasm') else {}) for it in programs}
+    them = {name: {'screen': seen[name]} | ({'bytes': programs[name].hex()} if name.endswith('.nasm') else {}) for name in programs}
     with open(KEPT, 'w', encoding='utf-8') as file:
         json.dump(them, file, indent=0)
         file.write('\n')

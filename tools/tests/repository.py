@@ -35,7 +35,7 @@ class Repository(ToolCase):
         super().setUp()
         for folder in ('dev', 'tools/toolbox'):
             os.makedirs(f'{self.room}/top/{folder}')
-        shared = (f'tools/toolbox/{it}.py' for it in ('__init__', 'building', 'command', 'crates', 'proved', 'sources', 'writing'))
+        shared = (f'tools/toolbox/{stem}.py' for stem in ('__init__', 'building', 'command', 'crates', 'proved', 'sources', 'writing'))
         for name in ('pcboard', 'VERSION', 'README.md', 'dev/build', *shared):
             shutil.copy(f'{TOP}/{name}', f'{self.room}/top/{name}')
         os.symlink('pcboard', f'{self.room}/top/pcprobe')

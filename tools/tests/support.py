@@ -110,8 +110,8 @@ def is_running(process: int) -> bool:
 
 def running(at: int) -> list[tuple[int, int]]:
     """The processes that haven't ended, each with the number at a place of what is told of it."""
-    told = ((int(name), state_of(name)) for name in os.listdir('/proc') if name.isdecimal())
-    return [(process, int(it[at])) for process, it in told if it and it[0] != 'Z']
+    states = ((int(name), state_of(name)) for name in os.listdir('/proc') if name.isdecimal())
+    return [(process, int(state[at])) for process, state in states if state and state[0] != 'Z']
 
 
 def children(of: int) -> list[int]:
@@ -145,7 +145,7 @@ def is_at_work(process: int, seconds: float = 0.1) -> bool:
     """Waits until pcboard or pcprobe, which a process has started, has worked for so many seconds of a processor from now on."""
 
     def spent() -> float:
-        return sum(processor_seconds(it) for it in children(process) if name_of(it) in ('pcboard', 'pcprobe'))
+        return sum(processor_seconds(child) for child in children(process) if name_of(child) in ('pcboard', 'pcprobe'))
 
     begun = spent()
     return until(lambda: spent() - begun > seconds, 0.05)  # each look is at all processes
@@ -160,9 +160,9 @@ def name_of(process: int) -> str:
         return ''
 
 
-def but_progress(told: str) -> str:
+def but_progress(text: str) -> str:
     """What a tool has told, without how far it was, which it tells on a busy machine."""
-    return re.sub(r'^\w+(?:: .*)?, \d+ s\n', '', told, flags=re.M)
+    return re.sub(r'^\w+(?:: .*)?, \d+ s\n', '', text, flags=re.M)
 
 
 class ToolCase(unittest.TestCase):

@@ -25,8 +25,8 @@ def is_python(path: str) -> bool:
 
 def files() -> list[str]:
     """All Python of the repository."""
-    found = (f'{folder}/{it}' for top in FOLDERS for folder, _, names in os.walk(f'{TOP}/{top}') for it in names if '/out' not in folder)
-    return sorted(it for it in found if os.path.isfile(it) and not it.endswith('.pyc') and is_python(it))
+    found = (f'{folder}/{name}' for top in FOLDERS for folder, _, names in os.walk(f'{TOP}/{top}') for name in names if '/out' not in folder)
+    return sorted(path for path in found if os.path.isfile(path) and not path.endswith('.pyc') and is_python(path))
 
 
 def lay_out(*words: str) -> subprocess.CompletedProcess[str]:
@@ -54,7 +54,7 @@ class Style(unittest.TestCase):
         self.assertEqual((ran.returncode, ran.stderr), (0, ''))
 
     def test_all_files_are_found(self) -> None:
-        found = {os.path.relpath(it, TOP) for it in files()}
+        found = {os.path.relpath(path, TOP) for path in files()}
         self.assertLess({'tools/why', 'tools/toolbox/command.py', 'dev/build', 'bench/count', 'python/zebludor.py', 'editors/grammar'}, found)
 
 
