@@ -34,24 +34,24 @@ class Back(ToolCase):
 
     def held_at(self, words: list[str], stop: str) -> list[int]:
         """The clocks from 1 to the last at which a stop holds, found clock by clock. At 0 none of these holds."""
-        told = self.session(words, f'{stop}\n' + 'go 1\n' * LAST)
-        return [int(line.rpartition(' ')[2]) for line in told[1:] if line.startswith('stop')]
+        lines = self.session(words, f'{stop}\n' + 'go 1\n' * LAST)
+        return [int(line.rpartition(' ')[2]) for line in lines[1:] if line.startswith('stop')]
 
     def free_at(self, words: list[str]) -> list[int]:
         """The clocks up to the last at which the processor is free, found step by step."""
-        told = self.session(words, 'step\n' * LAST)
-        return [0, *(it for it in (int(line.removeprefix('clock ')) for line in told) if it <= LAST)]
+        lines = self.session(words, 'step\n' * LAST)
+        return [0, *(clock for clock in (int(line.removeprefix('clock ')) for line in lines) if clock <= LAST)]
 
     def test_to_a_stop_and_to_a_boundary(self) -> None:
         for words, stop in self.each_case():
             held, free = self.held_at(words, stop), self.free_at(words)
             self.assertTrue(held)
             for now in range(1, LAST, 208):
-                told = self.session(words, f'{stop}\n' + 'go 1\n' * now + 'back stop\n')[-1]
-                at = max((it for it in held if it < now), default=None)
-                self.assertEqual(told, f'stop 1 clock {at}' if at else 'fault 54 BeforeStart')
-                told = self.session(words, f'go {now}\nback step\n')[-1]
-                self.assertEqual(told, f'clock {max(it for it in free if it < now)}')
+                answer = self.session(words, f'{stop}\n' + 'go 1\n' * now + 'back stop\n')[-1]
+                at = max((clock for clock in held if clock < now), default=None)
+                self.assertEqual(answer, f'stop 1 clock {at}' if at else 'fault 54 BeforeStart')
+                answer = self.session(words, f'go {now}\nback step\n')[-1]
+                self.assertEqual(answer, f'clock {max(clock for clock in free if clock < now)}')
 
     def test_by_clocks(self) -> None:
         for words, _ in self.each_case():
@@ -65,6 +65,6 @@ class Back(ToolCase):
     def test_forth_and_back(self) -> None:
         for words, stop in self.each_case():
             commands = f'{stop}\ngo 400\ngo 400\nback 11\nstep\nback stop\nback step\ngo 5\nback 3\ngo 40\nback stop\nstep\n'
-            told = self.session(words, commands + SHOWN)
-            clock = int(re.fullmatch(r'clock (\d+)', told[11])[1])
-            self.assertEqual(told[12:], self.session(words, f'go {clock}\n{SHOWN}')[1:])
+            lines = self.session(words, commands + SHOWN)
+            clock = int(re.fullmatch(r'clock (\d+)', lines[11])[1])
+            self.assertEqual(lines[12:], self.session(words, f'go {clock}\n{SHOWN}')[1:])

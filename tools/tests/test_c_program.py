@@ -36,7 +36,7 @@ class Symbols(unittest.TestCase):
     def test_parts(self) -> None:
         with open(HEX, encoding='ascii') as file:
             found = parts_of(image_of(file.read()))
-        self.assertEqual({it: len(octets) for it, octets in found.items()}, {0xFFFF0: 5, 0xF0000: 248})
+        self.assertEqual({address: len(octets) for address, octets in found.items()}, {0xFFFF0: 5, 0xF0000: 248})
         self.assertEqual(found[0xF0000][0xF0:0xF4], b'SUM ')
 
 
@@ -53,7 +53,7 @@ class Compiled(ToolCase):
         subprocess.run([f'{room}/make', 'sums', room], check=True)
         for name in ('sums.hex', 'sums.map'):
             with open(f'{room}/{name}', encoding='ascii') as made, open(f'{PROGRAM}/{name}', encoding='ascii') as stored:
-                self.assertEqual(*(re.sub('Total memory.*', '', it.read()) for it in (made, stored)))
+                self.assertEqual(*(re.sub('Total memory.*', '', file.read()) for file in (made, stored)))
 
 
 class Debugged(ToolCase):
@@ -67,15 +67,15 @@ class Debugged(ToolCase):
         """The answers of the debugger, each with what it comes to in the last line."""
         with Session(Files(HEX, self.run_file, True)) as session:
             session.many('regs')
-            return [session.one(it) for it in commands]
+            return [session.one(command) for command in commands]
 
     def clocks(self, *commands: str) -> list[str]:
         """Where the debugger stands behind each of these commands, but for those that set a stop."""
-        return [it.split()[-1] for it in self.session(*commands) if 'clock' in it]
+        return [answer.split()[-1] for answer in self.session(*commands) if 'clock' in answer]
 
     def test_it_runs(self) -> None:
-        told = self.pcboard('run', '--hex', HEX, self.run_file).stdout
-        self.assertIn('\nscreen\nSUM 55 ', told)
+        report = self.pcboard('run', '--hex', HEX, self.run_file).stdout
+        self.assertIn('\nscreen\nSUM 55 ', report)
 
     def test_gdb(self) -> None:
         if not GDB:
@@ -109,12 +109,12 @@ class Debugged(ToolCase):
             'x/dh &_total',
             'info symbol 0xf0050',
         )
-        out, err = self.tool('gdb', HEX, self.run_file, '--hex', '--symbols', MAP, '-nx', '-batch', *(it for line in typed for it in ('-ex', line)))
-        told = out + err
+        out, err = self.tool('gdb', HEX, self.run_file, '--hex', '--symbols', MAP, '-nx', '-batch', *(word for line in typed for word in ('-ex', line)))
+        printed = out + err
         clocks = self.clocks(f'break {SUM}', 'go 20000', 'back step', 'step', 'go 20000', f'break {MAIN}', 'back stop', 'back stop')
         wanted = ([clocks[0]] * 2, [clocks[1]], [clocks[3]] * 2)
-        found = re.findall(r'^clock (\d+)$', told, re.M)
-        self.assertEqual(found[:5], [it for them in wanted for it in them])
+        found = re.findall(r'^clock (\d+)$', printed, re.M)
+        self.assertEqual(found[:5], [clock for them in wanted for clock in them])
         self.assertIn(clocks[5], found)
         for line in (
             '=> 0xf0044 <_sum>:\tpush   bp',
@@ -126,7 +126,7 @@ class Debugged(ToolCase):
             '<_total>:\t',
             '_sum + 12 in section .text',
         ):
-            self.assertIn(line, told)
+            self.assertIn(line, printed)
 
     def test_dap(self) -> None:
         os.makedirs(f'{self.room}/tmp', exist_ok=True)
@@ -134,8 +134,8 @@ class Debugged(ToolCase):
         self.addCleanup(client.watch.cancel)
         client.launch(HEX, run=self.run_file, symbols=MAP, stopOnEntry=True)
         client.event('stopped')
-        told = client.ask('setFunctionBreakpoints', breakpoints=[{'name': '_sum'}])['breakpoints']
-        self.assertEqual([it['instructionReference'] for it in told], ['0xF0044'])
+        points = client.ask('setFunctionBreakpoints', breakpoints=[{'name': '_sum'}])['breakpoints']
+        self.assertEqual([point['instructionReference'] for point in points], ['0xF0044'])
         clocks = []
         for command in ('continue', 'stepBack', 'stepIn', 'stepIn', 'reverseContinue', 'continue', 'continue'):
             client.move(command)
@@ -153,7 +153,7 @@ class Debugged(ToolCase):
         self.assertEqual(client.ask('evaluate', expression="BYTE [_text+1]", context='hover')['result'], "055h (85) 'U'")
         self.assertEqual(base64.b64decode(client.ask('readMemory', memoryReference='_text', count=4)['data']), b'SUM ')
         rows = client.ask('disassemble', memoryReference='0xF0044', instructionCount=3)['instructions']
-        self.assertEqual([it['instruction'] for it in rows], ['PUSH BP', 'MOV BP,SP', 'PUSH DI'])
+        self.assertEqual([row['instruction'] for row in rows], ['PUSH BP', 'MOV BP,SP', 'PUSH DI'])
         client.move('continue')
         self.assertIn('SUM 55\n', self.screens(client))
         self.assertEqual(client.leave(), 0)
@@ -162,23 +162,23 @@ class Debugged(ToolCase):
     @staticmethod
     def names(client: Client) -> list[str]:
         """The frames' names."""
-        return [it['name'] for it in client.ask('stackTrace', threadId=1)['stackFrames']]
+        return [frame['name'] for frame in client.ask('stackTrace', threadId=1)['stackFrames']]
 
     @staticmethod
     def screens(client: Client) -> str:
         """What was told of the screen so far."""
-        told: list[dict[str, Any]] = [it['body'] for it in client.events if it['event'] == 'output']
-        return ''.join(it['output'] for it in told)
+        outputs: list[dict[str, Any]] = [event['body'] for event in client.events if event['event'] == 'output']
+        return ''.join(output['output'] for output in outputs)
 
     def test_dap_mode(self) -> None:
         if not has_dap_mode():
             not_run('Emacs with dap-mode')
             return
-        told = batch(self.room, '-l', MODE_CLIENT, EMACS, HEX, self.run_file, '_sum', MAP)
+        lines = batch(self.room, '-l', MODE_CLIENT, EMACS, HEX, self.run_file, '_sum', MAP)
         clocks = self.clocks(f'break {SUM}', 'go 20000', 'step', 'step', 'back step', 'back step', 'go 20000', 'back stop')
-        self.assertEqual([it.split()[-2] for it in told[:8]], ['0', *clocks])
-        self.assertEqual([it.split()[-1] for it in told[1:3] + told[7:8]], ['_sum', '_sum+1', '_sum'])
-        self.assertEqual(told[8:], ['00044h (68)', 'AAAAAA==', 'gone'])
+        self.assertEqual([line.split()[-2] for line in lines[:8]], ['0', *clocks])
+        self.assertEqual([line.split()[-1] for line in lines[1:3] + lines[7:8]], ['_sum', '_sum+1', '_sum'])
+        self.assertEqual(lines[8:], ['00044h (68)', 'AAAAAA==', 'gone'])
 
 
 if __name__ == '__main__':

@@ -50,31 +50,32 @@ class Held(Stepped):
                 number = dice.choice(here)[1]['BX']
                 condition, holds = dice.choice(
                     (
-                        (f'BX >= {number}', lambda it, n=number: it['BX'] >= n),
-                        ('BX & 1 = 1 OR NOT ZF', lambda it: it['BX'] & 1 or not it['FL'] & 0x40),
-                        (f'BX != {number} && SP > 0', lambda it, n=number: it['BX'] != n and it['SP'] > 0),
-                        ('', lambda it: True),
+                        (f'BX >= {number}', lambda values, n=number: values['BX'] >= n),
+                        ('BX & 1 = 1 OR NOT ZF', lambda values: values['BX'] & 1 or not values['FL'] & 0x40),
+                        (f'BX != {number} && SP > 0', lambda values, n=number: values['BX'] != n and values['SP'] > 0),
+                        ('', lambda values: True),
                     )
                 )
-                hits = [clock for clock, it in here if holds(it)]
+                hits = [clock for clock, values in here if holds(values)]
                 text, is_so = dice.choice((('% 3', lambda n: n % 3 == 0), ('>= 2', lambda n: n >= 2), ('4', lambda n: n == 4), ('', lambda n: True)))
                 wanted = [clock for at, clock in enumerate(hits, 1) if is_so(at)]
                 stop = break_at(place)
                 asked = Asked(
-                    (lambda at, it=condition: Expression(at, Listing([], {}, {}), it).holds()) if condition else None, count_of(text) if text else None
+                    (lambda at, expression=condition: Expression(at, Listing([], {}, {}), expression).holds()) if condition else None,
+                    count_of(text) if text else None,
                 )
                 board.asked = {stop: [asked]}
                 clocks = list[int]()
                 if dice.randrange(2):  # without having seen what came before
                     board.go_to(dice.choice(clocks_of_steps))
-                    clocks = [it for it in wanted if it <= board.clock]
+                    clocks = [clock for clock in wanted if clock <= board.clock]
                 while board.run([stop], board.budget):
                     clocks.append(board.clock)
                 self.assertEqual(clocks, wanted, (seed, place, condition, text))
                 back = list[int]()
                 while board.back_to([stop]):
                     back.append(board.clock)
-                self.assertEqual(back[::-1], [it for it in wanted if it < board.budget], (seed, place, condition, text))
+                self.assertEqual(back[::-1], [clock for clock in wanted if clock < board.budget], (seed, place, condition, text))
                 met += len(wanted)
             finally:
                 board.close()
@@ -127,7 +128,7 @@ class Bytecode(unittest.TestCase):
 
     def value(self, text: str) -> bool:
         """Whether bytecode holds, over registers that have their number, and memory that has its address."""
-        return Condition(bytes.fromhex(text)).holds(lambda it: it, lambda at, count: bytes((at + it) % 256 for it in range(count)))
+        return Condition(bytes.fromhex(text)).holds(lambda number: number, lambda at, count: bytes((at + i) % 256 for i in range(count)))
 
     def test_each(self) -> None:
         for text in (
@@ -165,7 +166,7 @@ class Bytecode(unittest.TestCase):
             self.assertTrue(self.value(text), text)
         for text in ('22 00 27', '26 0003 22 04 13 27', '22 01 22 01 03 27'):
             self.assertFalse(self.value(text), text)
-        self.assertEqual([signed(it) for it in (1, 2**64 - 1, 2**63)], [1, -1, -(2**63)])
+        self.assertEqual([signed(number) for number in (1, 2**64 - 1, 2**63)], [1, -1, -(2**63)])
 
     def test_broken(self) -> None:
         for text in ('', '27 22', '22', 'FF 27', '0D 27', '26 00', '22 01'):
@@ -192,10 +193,12 @@ class Editors(ToolCase):
         source, run = self.program(COUNTING, 3000)
         client = self.client(source, run)
         capabilities = client.ask('initialize', adapterID='zebludor')
-        self.assertTrue(all(capabilities[it] for it in ('supportsConditionalBreakpoints', 'supportsHitConditionalBreakpoints', 'supportsLogPoints')))
-        told = self.set(client, source, {'line': 4, 'condition': 'BX = 7'})
-        self.assertTrue(told[0]['verified'])
-        self.assertEqual(client.move('continue')['hitBreakpointIds'], [told[0]['id']])
+        self.assertTrue(
+            all(capabilities[capability] for capability in ('supportsConditionalBreakpoints', 'supportsHitConditionalBreakpoints', 'supportsLogPoints'))
+        )
+        points = self.set(client, source, {'line': 4, 'condition': 'BX = 7'})
+        self.assertTrue(points[0]['verified'])
+        self.assertEqual(client.move('continue')['hitBreakpointIds'], [points[0]['id']])
         self.assertEqual(client.variables(1)['BX'], '0007h')
         self.set(client, source, {'line': 4, 'hitCondition': '% 5'})
         client.move('continue')
@@ -205,12 +208,12 @@ class Editors(ToolCase):
         self.set(client, source, {'line': 5, 'logMessage': 'BX is {BX}, {BX*2} twice', 'condition': 'BX > 7 AND BX < 10'}, {'line': 4, 'condition': 'BX = 20'})
         client.events.clear()
         client.move('continue')
-        shown = [it['body']['output'] for it in client.events if it['event'] == 'output' and it['body']['category'] == 'stdout']
+        shown = [event['body']['output'] for event in client.events if event['event'] == 'output' and event['body']['category'] == 'stdout']
         self.assertEqual(shown, ['BX is 00008h (8), 00010h (16) twice\n', 'BX is 00009h (9), 00012h (18) twice\n'])
         self.assertEqual(client.variables(1)['BX'], '0014h')
-        told = client.ask('setFunctionBreakpoints', breakpoints=[{'name': 'again', 'condition': 'BX = 30'}])['breakpoints']
+        points = client.ask('setFunctionBreakpoints', breakpoints=[{'name': 'again', 'condition': 'BX = 30'}])['breakpoints']
         client.move('continue')
-        self.assertEqual((told[0]['verified'], client.variables(1)['BX']), (True, '001Eh'))
+        self.assertEqual((points[0]['verified'], client.variables(1)['BX']), (True, '001Eh'))
         for asked, why in (
             ({'condition': 'FROB = 1'}, 'FROB is no register'),
             ({'condition': 'BX ='}, 'no register'),
@@ -219,9 +222,9 @@ class Editors(ToolCase):
             ({'condition': 5}, 'condition'),
         ):
             client.is_held = 'condition' not in asked or isinstance(asked['condition'], str)
-            (told,) = self.set(client, source, {'line': 4, **asked})
-            self.assertFalse(told['verified'], asked)
-            self.assertIn(why, told['message'])
+            (point,) = self.set(client, source, {'line': 4, **asked})
+            self.assertFalse(point['verified'], asked)
+            self.assertIn(why, point['message'])
         self.assertEqual(client.leave(), 0)
 
 

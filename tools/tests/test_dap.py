@@ -97,7 +97,7 @@ class Client:
     def event(self, name: str) -> Fields:
         """The next event of this name."""
         while True:
-            found = next((it for it in self.events if it['event'] == name), None)
+            found = next((event for event in self.events if event['event'] == name), None)
             if found:
                 self.events.remove(found)
                 return found['body']
@@ -110,14 +110,14 @@ class Client:
         self.ask('initialize', adapterID='zebludor', linesStartAt1=True)
         self.ask('launch', program=source, **more)
         self.event('initialized')
-        told = self.lines(source, *lines)
+        points = self.lines(source, *lines)
         self.ask('setExceptionBreakpoints', filters=[])
         self.ask('configurationDone')
-        return told
+        return points
 
     def lines(self, source: str, *lines: int) -> list[Fields]:
         """Sets breakpoints by line."""
-        return self.ask('setBreakpoints', source={'path': source}, breakpoints=[{'line': it} for it in lines])['breakpoints']
+        return self.ask('setBreakpoints', source={'path': source}, breakpoints=[{'line': line} for line in lines])['breakpoints']
 
     def move(self, command: str) -> Fields:
         """Moves, and returns the stop."""
@@ -126,7 +126,7 @@ class Client:
 
     def variables(self, which: int) -> dict[str, str]:
         """A scope's variables."""
-        return {it['name']: it['value'] for it in self.ask('variables', variablesReference=which)['variables']}
+        return {variable['name']: variable['value'] for variable in self.ask('variables', variablesReference=which)['variables']}
 
     def clock(self) -> int:
         """Where the board stands."""
@@ -150,7 +150,7 @@ class Client:
             pass
         status = self.adapter.wait()
         self.watch.cancel()
-        self.told = self.adapter.stderr.read().decode()
+        self.complaints = self.adapter.stderr.read().decode()
         self.adapter.stdout.close()
         self.adapter.stderr.close()
         return status
@@ -160,9 +160,9 @@ class Words(unittest.TestCase):
     """What needs no board."""
 
     def test_operations(self) -> None:
-        self.assertEqual([operation_of(it) for it in ('REP MOVSW', 'ES: INC BYTE [00000h]', 'HLT', 'LOCK XCHG AX,BX')], ['MOVSW', 'INC', 'HLT', 'XCHG'])
-        self.assertEqual([is_repeated(it) for it in ('REP ES: MOVSW', 'MOVSW', 'REPNE SCASB')], [True, False, True])
-        self.assertEqual([number_in(it) for it in ('0B8h', '0x10', '101b', '17')], [0xB8, 0x10, 5, 17])
+        self.assertEqual([operation_of(text) for text in ('REP MOVSW', 'ES: INC BYTE [00000h]', 'HLT', 'LOCK XCHG AX,BX')], ['MOVSW', 'INC', 'HLT', 'XCHG'])
+        self.assertEqual([is_repeated(text) for text in ('REP ES: MOVSW', 'MOVSW', 'REPNE SCASB')], [True, False, True])
+        self.assertEqual([number_in(text) for text in ('0B8h', '0x10', '101b', '17')], [0xB8, 0x10, 5, 17])
 
     def test_the_protocols_types(self) -> None:
         """What is held against them is found: a field too few, too many, of another type; a word that isn't one of them."""
@@ -221,7 +221,7 @@ class Words(unittest.TestCase):
             file.seek(0)
             reader = Reader(file.fileno())
             found = [reader.next() for _ in range(8)]
-        kinds = ['broken' if isinstance(it, Broken) else it for it in found]
+        kinds = ['broken' if isinstance(message, Broken) else message for message in found]
         self.assertEqual(kinds, [{}, 'broken', 'broken', 'broken', 'broken', {}, {}, None])
 
 
@@ -235,19 +235,19 @@ class Sessions(ToolCase):
 
     def agrees(self, client: Client, name: str) -> None:
         """Registers and memory are those of a session that goes there directly."""
-        told = {it: int(value.split('h')[0], 16) for it, value in client.variables(1).items()}
+        registers = {register: int(value.split('h')[0], 16) for register, value in client.variables(1).items()}
         body = client.ask('readMemory', memoryReference='0xB0000', count=64)
         with Session(Files(*example(name))) as session:
             session.many('regs')
             session.go_to(client.clock())
-            self.assertEqual(told, registers_of(session.many('regs')))
+            self.assertEqual(registers, registers_of(session.many('regs')))
             self.assertEqual(base64.b64decode(body['data']), session.dump(0xB0000, 64))
 
     def test_forth_and_back(self) -> None:
         client, (source, run) = self.client(), example('ticks')
-        told = client.launch(source, 41, 40, run=run, stopOnEntry=True)
-        self.assertEqual([(it['verified'], it['line']) for it in told], [(True, 41), (True, 41)])
-        self.assertIn('line 40 places nothing', told[1]['message'])
+        points = client.launch(source, 41, 40, run=run, stopOnEntry=True)
+        self.assertEqual([(point['verified'], point['line']) for point in points], [(True, 41), (True, 41)])
+        self.assertIn('line 40 places nothing', points[1]['message'])
         self.assertEqual(client.event('stopped')['reason'], 'entry')
         self.assertEqual((client.clock(), client.line()), (0, 51))
         clocks = []
@@ -302,7 +302,7 @@ class Sessions(ToolCase):
         client.lines(source, 11)
         client.move('reverseContinue')
         frames = client.ask('stackTrace', threadId=1)['stackFrames']
-        self.assertEqual([(it['name'], it['line']) for it in frames], [('again+1', 11), ('start+C', 7)])
+        self.assertEqual([(frame['name'], frame['line']) for frame in frames], [('again+1', 11), ('start+C', 7)])
         self.assertEqual(client.leave(), 0)
 
     def test_callers_by_the_chain(self) -> None:
@@ -315,14 +315,14 @@ class Sessions(ToolCase):
         client = self.client()
         client.launch(source, 15, run=run)
         client.event('stopped')
-        self.assertEqual([it['line'] for it in client.ask('stackTrace', threadId=1)['stackFrames']], [15, 9, 5])
+        self.assertEqual([frame['line'] for frame in client.ask('stackTrace', threadId=1)['stackFrames']], [15, 9, 5])
         client.move('stepOut')
         self.assertEqual(client.line(), 9)
         self.assertEqual(client.leave(), 0)
         client = self.client()
         client.launch(example('nested')[0], 30, run=example('nested')[1])
         client.event('stopped')
-        self.assertEqual([it['line'] for it in client.ask('stackTrace', threadId=1)['stackFrames']], [30])
+        self.assertEqual([frame['line'] for frame in client.ask('stackTrace', threadId=1)['stackFrames']], [30])
         self.assertEqual(client.leave(), 0)
 
     def test_looking(self) -> None:
@@ -346,13 +346,13 @@ class Sessions(ToolCase):
         self.assertEqual(client.variables(2)['IF'], '0')
         rows = client.ask('disassemble', memoryReference='0xF6058', instructionOffset=-2, instructionCount=5)['instructions']
         self.assertEqual(
-            [(it['address'], it['instruction']) for it in rows],
+            [(row['address'], row['instruction']) for row in rows],
             [('0xF6055', 'HLT'), ('0xF6056', 'JMP SHORT idle'), ('0xF6058', 'INC BYTE ES:[0]'), ('0xF605D', 'MOV AL,20h'), ('0xF605F', 'OUT 20h,AL')],
         )
         last = client.ask('readMemory', memoryReference='0xFFFFF', count=4)
         self.assertEqual((len(base64.b64decode(last['data'])), last['unreadableBytes']), (1, 3))
-        told = client.ask('setInstructionBreakpoints', breakpoints=[{'instructionReference': '0xF605F'}, {'instructionReference': '0x50000'}])
-        self.assertEqual([it['verified'] for it in told['breakpoints']], [True, False])
+        answer = client.ask('setInstructionBreakpoints', breakpoints=[{'instructionReference': '0xF605F'}, {'instructionReference': '0x50000'}])
+        self.assertEqual([point['verified'] for point in answer['breakpoints']], [True, False])
         self.assertEqual(client.move('continue')['reason'], 'instruction breakpoint')
         client.ask('setFunctionBreakpoints', breakpoints=[{'name': 'tick'}, {'name': 'F600:61'}, {'name': 'nope'}])
         client.move('continue')
@@ -405,19 +405,19 @@ class Sessions(ToolCase):
         client.launch(source, run=run, stopOnEntry=True)
         client.event('stopped')
 
-        def told() -> int:
+        def warned() -> int:
             client.move('stepIn')
             client.lines(source, 3)
-            return sum('was edited since the launch' in it['body'].get('output', '') for it in client.events)
+            return sum('was edited since the launch' in event['body'].get('output', '') for event in client.events)
 
-        self.assertEqual(told(), 0)
+        self.assertEqual(warned(), 0)
         os.utime(source, ns=(1, 1))
-        self.assertEqual(told(), 0)
+        self.assertEqual(warned(), 0)
         with open(source, 'a', encoding='utf-8') as file:
             file.write('; more\n')
-        self.assertEqual((told(), told()), (1, 1))
+        self.assertEqual((warned(), warned()), (1, 1))
         os.remove(source)
-        self.assertEqual(told(), 1)
+        self.assertEqual(warned(), 1)
         self.assertEqual(client.leave(), 0)
 
     def test_a_refused_source(self) -> None:
@@ -425,9 +425,9 @@ class Sessions(ToolCase):
         client = self.client()
         client.ask('initialize', adapterID='zebludor')
         self.assertIn('it.asm, line 3: BadLine: hexadecimal', client.refused('launch', program=source, run=run))
-        told = [client.event('output') for _ in range(3)]
-        self.assertEqual([it['line'] for it in told], [3, 4, 5])
-        self.assertEqual([it['output'].rstrip() for it in told], self.tool('why', '--lines', source, status=1)[0].splitlines())
+        outputs = [client.event('output') for _ in range(3)]
+        self.assertEqual([output['line'] for output in outputs], [3, 4, 5])
+        self.assertEqual([output['output'].rstrip() for output in outputs], self.tool('why', '--lines', source, status=1)[0].splitlines())
         self.assertIn('no board', client.refused('continue', threadId=1))
         self.assertIn("can't be read", client.refused('launch', program='nothing.asm', run=run))
         bad = self.file('bad.json', '{}')
@@ -457,8 +457,8 @@ class Sessions(ToolCase):
             client = self.client()
         client.launch(program, budget=5000, stopOnEntry=True)
         client.event('stopped')
-        told = client.ask('setInstructionBreakpoints', breakpoints=[{'instructionReference': '0x00500'}])['breakpoints']
-        self.assertTrue(told[0]['verified'])
+        points = client.ask('setInstructionBreakpoints', breakpoints=[{'instructionReference': '0x00500'}])['breakpoints']
+        self.assertTrue(points[0]['verified'])
         client.move('continue')
         client.ask('reverseContinue', threadId=1)
         self.assertIn('pause first', client.refused('stackTrace', threadId=1))
@@ -500,8 +500,8 @@ class Sessions(ToolCase):
                 client.ask('toClock', clock=clock)
             else:
                 client.ask('evaluate', expression=f'to {clock:,}', context='repl')
-            told = client.event('stopped')
-            self.assertEqual((told['reason'], told['text']), ('goto', f'clock {clock}'))
+            stop = client.event('stopped')
+            self.assertEqual((stop['reason'], stop['text']), ('goto', f'clock {clock}'))
             self.agrees(client, 'ticks')
         for bad in (-1, (1 << 40) + 1, 'x'):
             self.assertTrue(client.refused('toClock', clock=bad))
@@ -519,7 +519,7 @@ class Sessions(ToolCase):
 
     def test_exceptions(self) -> None:
         """A jam, a halt for good and a lost key end a run where they begin, if they are wanted; and the adapter's end is told."""
-        keys = ','.join(f'[{100 + it},30]' for it in range(18))
+        keys = ','.join(f'[{100 + i},30]' for i in range(18))
         for lines, run, kind, clock in (
             ('        NOP\n        DB 0Fh', '[]', 'jammed', 18),  # JMP FAR takes 15 clocks, NOP 3
             ('        INC AX\n        CLI\n        HLT', '[]', 'halted for good', None),
@@ -531,12 +531,12 @@ class Sessions(ToolCase):
             clock = clock or int(trail[-1].split()[0])  # that of HLT
             client.launch(source, run=run_file, stopOnEntry=True)
             client.event('stopped')
-            (told,) = client.ask('setExceptionBreakpoints', filters=[kind])['breakpoints']
-            self.assertTrue(told['verified'])
-            told = client.move('continue')
-            self.assertEqual((told['reason'], told['text'].partition(':')[0]), ('exception', f'clock {clock}'), told)
-            (told,) = client.ask('setExceptionBreakpoints', filters=['frob'])['breakpoints']
-            self.assertIn('none of jammed', told['message'])
+            (point,) = client.ask('setExceptionBreakpoints', filters=[kind])['breakpoints']
+            self.assertTrue(point['verified'])
+            stop = client.move('continue')
+            self.assertEqual((stop['reason'], stop['text'].partition(':')[0]), ('exception', f'clock {clock}'), stop)
+            (point,) = client.ask('setExceptionBreakpoints', filters=['frob'])['breakpoints']
+            self.assertIn('none of jammed', point['message'])
             client.move('reverseContinue')
             self.assertEqual(client.move('continue')['text'].partition(',')[0], 'the run ends at clock 1000')
             client.ask('terminate')
@@ -552,8 +552,8 @@ class Sessions(ToolCase):
             client = self.client()
             client.ask('initialize', adapterID='zebludor', pathFormat='uri')
             client.ask('launch', program=uri, run=example('ticks')[1])
-            (told,) = client.lines(uri, 41)
-            self.assertEqual((told['verified'], told['source']['path']), (True, uri))
+            (point,) = client.lines(uri, 41)
+            self.assertEqual((point['verified'], point['source']['path']), (True, uri))
             client.ask('configurationDone')
             self.assertEqual(client.event('stopped')['reason'], 'breakpoint')
             self.assertEqual(client.ask('stackTrace', threadId=1)['stackFrames'][0]['source']['path'], uri)
@@ -561,8 +561,8 @@ class Sessions(ToolCase):
 
     def test_seventeen_breakpoints_and_halts(self) -> None:
         client, (source, run) = self.client(), example('ticks')
-        told = client.launch(source, *range(8, 31), run=run, stopOnEntry=True)
-        self.assertEqual(len({it['line'] for it in told if it['verified']}), 15)
+        points = client.launch(source, *range(8, 31), run=run, stopOnEntry=True)
+        self.assertEqual(len({point['line'] for point in points if point['verified']}), 15)
         client.event('stopped')
         client.lines(source, 39)
         client.move('continue')
@@ -633,7 +633,7 @@ class Sessions(ToolCase):
             if number:
                 client.adapter.send_signal(number)
             self.assertIn(client.end(), (0, 130))
-            self.assertEqual(client.told, '')
+            self.assertEqual(client.complaints, '')
             self.assertEqual(os.listdir(f'{self.room}/tmp'), [])
 
     def test_a_board_that_dies(self) -> None:

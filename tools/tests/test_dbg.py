@@ -34,11 +34,11 @@ class Places(unittest.TestCase):
         for text in ('nope', ':3', '12345:0', 'idle+x'):
             with self.assertRaises(Sorry):
                 far_of(self.listing, text)
-        self.assertEqual([number_of(it) for it in ('0B8h', '0x10', 'ff')], [0xB8, 0x10, 0xFF])
+        self.assertEqual([number_of(digits) for digits in ('0B8h', '0x10', 'ff')], [0xB8, 0x10, 0xFF])
 
     def test_labels_and_comments(self) -> None:
         self.assertEqual(code_of(" DB ';' ; it"), " DB ';'")
-        self.assertEqual([label_in(it) for it in ('a: NOP', ' ES: MOVSB', '; b: x', ' x EQU 1')], ['a', None, None, None])
+        self.assertEqual([label_in(line) for line in ('a: NOP', ' ES: MOVSB', '; b: x', ' x EQU 1')], ['a', None, None, None])
         self.assertEqual(self.listing.label_before(0xF000, 0x2D), 'idle+2')
         self.assertEqual(self.listing.label_before(0xF000, 0x2A), '')
 
@@ -58,9 +58,9 @@ class Sessions(ToolCase):
         return self.called('dbg', *example(name), given='\n'.join(commands) + '\n')[0].splitlines()
 
     def test_stops_are_cleared(self) -> None:
-        told = self.dbg('ticks', 'break tick', 'byte b0000 31', 'go', 'clear 2', 'go', 'stops', 'go')
+        answers = self.dbg('ticks', 'break tick', 'byte b0000 31', 'go', 'clear 2', 'go', 'stops', 'go')
         self.assertEqual(
-            told[:3],
+            answers[:3],
             [
                 'stop 1: break F600:0058 tick',
                 'stop 2: byte B0000 31',
@@ -68,33 +68,33 @@ class Sessions(ToolCase):
             ],
         )
         self.assertEqual(
-            [it.split(': ')[0] for it in told[3:]],
+            [line.split(': ')[0] for line in answers[3:]],
             ['stop 1', 'stop 1 (break F600:0058 tick), clock 1397', 'stop 1', 'stop 1 (break F600:0058 tick), clock 1797'],
         )
 
     def test_goes_back(self) -> None:
-        told = self.dbg('ticks', 'to 1797', 'back', 'to 56', 'step', 'back 2')
-        self.assertEqual([it.split(': ')[0] for it in told], ['clock 1797', 'clock 1736', 'clock 56', 'clock 60', 'clock 41'])
+        answers = self.dbg('ticks', 'to 1797', 'back', 'to 56', 'step', 'back 2')
+        self.assertEqual([line.split(': ')[0] for line in answers], ['clock 1797', 'clock 1736', 'clock 56', 'clock 60', 'clock 41'])
 
     def test_goes_back_beyond_the_trail(self) -> None:
-        told = self.dbg('fibonacci', 'step 100', 'back 90', 'back 11', 'where', 'sound', 'back 11', 'where', 'back 10', 'back')
+        answers = self.dbg('fibonacci', 'step 100', 'back 90', 'back 11', 'where', 'sound', 'back 11', 'where', 'back 10', 'back')
         (tenth,) = self.dbg('fibonacci', 'step 10')
         none = 'only {} instructions and interrupts began before this clock'
-        self.assertEqual(told[1:7], [tenth, none.format(10), tenth, 'stop 1: sound', none.format(10), tenth])
-        self.assertEqual([it.split(': ')[0] for it in told[7:]], ['clock 0', 'no instruction began before this clock'])
+        self.assertEqual(answers[1:7], [tenth, none.format(10), tenth, 'stop 1: sound', none.format(10), tenth])
+        self.assertEqual([line.split(': ')[0] for line in answers[7:]], ['clock 0', 'no instruction began before this clock'])
 
     def test_goes_back_to_the_last_stop(self) -> None:
-        told = self.dbg('ticks', 'last', 'break tick', 'last', 'go', 'go', 'go', 'last', 'last', 'last', 'to 1400', 'last', 'go')
+        answers = self.dbg('ticks', 'last', 'break tick', 'last', 'go', 'go', 'go', 'last', 'last', 'last', 'to 1400', 'last', 'go')
         stop, none = 'stop 1 (break F600:0058 tick), clock {}', 'no stop held at any earlier clock'
         wanted = ['there is no stop; break, watch, when, byte, sound and halted add one', 'stop 1', none]
-        wanted += [*(stop.format(it) for it in (1009, 1397, 1797, 1397, 1009)), none, 'clock 1400', stop.format(1397), stop.format(1797)]
-        self.assertEqual([it.split(': ')[0] for it in told], wanted)
+        wanted += [*(stop.format(clock) for clock in (1009, 1397, 1797, 1397, 1009)), none, 'clock 1400', stop.format(1397), stop.format(1797)]
+        self.assertEqual([line.split(': ')[0] for line in answers], wanted)
 
     def test_the_last_stop_has_its_number_here(self) -> None:
         """At 1397 two hold, of which the least is told."""
-        told = self.dbg('ticks', 'halted', 'byte b0000 31', 'break tick', 'clear 1', 'to 1398', 'last', 'clear 2', 'to 1398', 'last')
+        answers = self.dbg('ticks', 'halted', 'byte b0000 31', 'break tick', 'clear 1', 'to 1398', 'last', 'clear 2', 'to 1398', 'last')
         self.assertEqual(
-            [it.split(': ')[0] for it in told[5:]],
+            [line.split(': ')[0] for line in answers[5:]],
             ['clock 1398', 'stop 2 (byte B0000 31), clock 1397', 'stop 3', 'clock 1398', 'stop 3 (break F600:0058 tick), clock 1397'],
         )
 
@@ -160,17 +160,17 @@ class Sessions(ToolCase):
             self.assertEqual(self.dbg('keys', 'key 1E', 'keys')[0], 'there is no memory for one more key, and none was typed')
 
     def test_goes_to_the_end(self) -> None:
-        told = self.dbg('hello', 'go', 'screen', 'state', 'go')
-        self.assertIn('clock 100: F000:0017', told[0])
-        self.assertEqual(told[3], 'HI')
-        self.assertEqual(told[5:8], ['clock 100: halted since clock 72', '0 keys lost', 'speaker low, 0 changes'])
-        self.assertIn('the run file ends at clock 100', told[-1])
+        answers = self.dbg('hello', 'go', 'screen', 'state', 'go')
+        self.assertIn('clock 100: F000:0017', answers[0])
+        self.assertEqual(answers[3], 'HI')
+        self.assertEqual(answers[5:8], ['clock 100: halted since clock 72', '0 keys lost', 'speaker low, 0 changes'])
+        self.assertIn('the run file ends at clock 100', answers[-1])
 
     def test_keeps_the_clock_table(self) -> None:
         out, _ = self.called('dbg', *self.hello_by_c2(), given='go\nstate\nback\nto 70\nback\n')
-        told = out.splitlines()
-        self.assertIn('clock 100: halted since clock 80', told)
-        self.assertEqual([it.split(': ')[0] for it in told[-3:]], ['clock 79', 'clock 70', 'clock 67'])
+        answers = out.splitlines()
+        self.assertIn('clock 100: halted since clock 80', answers)
+        self.assertEqual([line.split(': ')[0] for line in answers[-3:]], ['clock 79', 'clock 70', 'clock 67'])
 
     def test_tells_a_jam(self) -> None:
         files = self.program('        NOP\n        DB 0Fh', 100)
@@ -180,30 +180,30 @@ class Sessions(ToolCase):
 
     def test_tells_lost_keys(self) -> None:
         files = self.program('        HLT', 1000)
-        keys = ','.join(f'[{100 + it},30]' for it in range(18))
+        keys = ','.join(f'[{100 + i},30]' for i in range(18))
         run = self.file('k.json', f'{{"version":1,"ram":64,"sw1":0,"sw2":0,"budget":1000,"keys":[{keys}]}}')
         out, _ = self.called('dbg', files[0], run, given='to 500\nstate\n')
         self.assertIn('2 keys lost, the first by clock 116, the last by clock 117', out)
 
     def test_source_and_memory(self) -> None:
-        told = self.dbg('ticks', 'list :41 1', 'dump tick 2', 'labels', 'trail', 'step', 'trail 1', 'regs')
-        self.assertEqual(told[0], '    41 F600:0058 tick:   INC BYTE ES:[0]')
-        self.assertEqual(told[1].split(), ['F6058:', '26', 'FE', '&.'])
-        self.assertEqual(told[5:8], ['F600:0058 tick', 'F600:0062 mc6845', 'nothing yet'])
-        self.assertIn('| 51: JMP FAR start', told[9])
-        self.assertEqual(told[-1], 'set: no flag')
+        answers = self.dbg('ticks', 'list :41 1', 'dump tick 2', 'labels', 'trail', 'step', 'trail 1', 'regs')
+        self.assertEqual(answers[0], '    41 F600:0058 tick:   INC BYTE ES:[0]')
+        self.assertEqual(answers[1].split(), ['F6058:', '26', 'FE', '&.'])
+        self.assertEqual(answers[5:8], ['F600:0058 tick', 'F600:0062 mc6845', 'nothing yet'])
+        self.assertIn('| 51: JMP FAR start', answers[9])
+        self.assertEqual(answers[-1], 'set: no flag')
 
     def test_a_place_without_a_line(self) -> None:
         """Its instructions are shown, and the session goes on."""
-        told = self.dbg('first', 'list 0050:0003 2', 'list B000:0 1', 'list start 1', 'list CS:IP 1', 'q', 'regs')
+        answers = self.dbg('first', 'list 0050:0003 2', 'list B000:0 1', 'list start 1', 'list CS:IP 1', 'q', 'regs')
         no_line = 'no line of the source begins there; these instructions stand in memory:'
-        self.assertEqual([told[0], told[3]], [no_line] * 2)
+        self.assertEqual([answers[0], answers[3]], [no_line] * 2)
         self.assertEqual(
-            [told[it].split() for it in (1, 2)],
+            [answers[at].split() for at in (1, 2)],
             [['0050:0003', 'start+3', 'D88ED0BC', 'ESC', '001h,WORD', '[BP+0BCD0h]'], ['0050:0007', 'start+7', 'E500', 'IN', 'AX,000h']],
         )
-        self.assertEqual(told[4].split(), ['B000:0000', '0000', 'ADD', '[BX+SI],AL'])
-        self.assertEqual([it.split()[:2] for it in told[5:]], [['3', '0050:0000'], ['>', '47']])
+        self.assertEqual(answers[4].split(), ['B000:0000', '0000', 'ADD', '[BX+SI],AL'])
+        self.assertEqual([line.split()[:2] for line in answers[5:]], [['3', '0050:0000'], ['>', '47']])
 
     def test_without_a_run_file(self) -> None:
         """It is that of tools/runfile, for dbg, trace, gdb and why."""
@@ -215,7 +215,7 @@ class Sessions(ToolCase):
 
     def test_conditions(self) -> None:
         """Forth and back; a stop that holds beside one whose condition doesn't is told, whichever was set first."""
-        told = self.dbg(
+        answers = self.dbg(
             'ticks',
             'break tick if BYTE ES:[0] = 32h',
             'byte b0000 31',
@@ -232,11 +232,11 @@ class Sessions(ToolCase):
             'last',
         )
         first = 'stop 1 (break F600:0058 tick if BYTE ES:[0] = 32h), clock 1797'
-        self.assertEqual(told[:2], ['stop 1: break F600:0058 tick if BYTE ES:[0] = 32h', 'stop 2: byte B0000 31'])
-        self.assertEqual([it.split(': F600')[0] for it in told[2:5:2]], ['stop 2 (byte B0000 31), clock 1010', first])
-        self.assertEqual(told[5:8], ['no stop held at any earlier clock', 'FROB is no register, flag, label or number', 'use: break PLACE [if CONDITION]'])
+        self.assertEqual(answers[:2], ['stop 1: break F600:0058 tick if BYTE ES:[0] = 32h', 'stop 2: byte B0000 31'])
+        self.assertEqual([line.split(': F600')[0] for line in answers[2:5:2]], ['stop 2 (byte B0000 31), clock 1010', first])
+        self.assertEqual(answers[5:8], ['no stop held at any earlier clock', 'FROB is no register, flag, label or number', 'use: break PLACE [if CONDITION]'])
         other = 'stop 3 (break F600:0058 tick), clock '
-        self.assertEqual([it.split(': F600')[0] for it in told[-3:]], [f'{other}2197', first, f'{other}1397'])  # of two the least is told
+        self.assertEqual([line.split(': F600')[0] for line in answers[-3:]], [f'{other}2197', first, f'{other}1397'])  # of two the least is told
 
     def test_hex_has_no_lines(self) -> None:
         source, run = example('monitor')
@@ -245,8 +245,8 @@ class Sessions(ToolCase):
         self.assertIn('stop 1: break F600:0000', out)
 
     def test_refusals(self) -> None:
-        told = self.dbg('hello', 'frob', 'break nope', 'go x', 'clear 3', 'byte b0000 100', 'to 2000000000000', 'help go')
-        for line, wanted in zip(told, ('no command', 'no label', 'no number of clocks', 'no stop 3', 'up to FF', 'no clock', 'go [N]')):
+        answers = self.dbg('hello', 'frob', 'break nope', 'go x', 'clear 3', 'byte b0000 100', 'to 2000000000000', 'help go')
+        for line, wanted in zip(answers, ('no command', 'no label', 'no number of clocks', 'no stop 3', 'up to FF', 'no clock', 'go [N]')):
             self.assertIn(wanted, line)
         self.assertIn("can't be read", self.tool('dbg', 'no.asm', 'no.json', status=2)[1])
         self.assertIn('fault 3', self.tool('dbg', example('hello')[1], example('hello')[1], status=2)[1])
@@ -257,37 +257,39 @@ class Sessions(ToolCase):
         with subprocess.Popen([sys.executable, '-S', f'{TOOLS}/dbg', *files], stdin=subprocess.PIPE, stdout=subprocess.PIPE, text=True) as dbg:
             assert dbg.stdin and dbg.stdout
             print('halted\nto 21', file=dbg.stdin, flush=True)
-            told = [dbg.stdout.readline(), dbg.stdout.readline()]
+            answers = [dbg.stdout.readline(), dbg.stdout.readline()]
             self.file('it.asm', 'not a program')
             print('to 19\nclear all\nstep', file=dbg.stdin, flush=True)
-            told += dbg.communicate()[0].splitlines()
-        self.assertEqual([it.split(': ')[0].strip() for it in told[1:]], ['clock 21', 'clock 19', 'no stops', 'clock 20'])
+            answers += dbg.communicate()[0].splitlines()
+        self.assertEqual([line.split(': ')[0].strip() for line in answers[1:]], ['clock 21', 'clock 19', 'no stops', 'clock 20'])
 
     def test_seventeen_stops(self) -> None:
-        told = self.dbg('hello', *['halted'] * 17, 'clear all', 'halted')
-        self.assertIn('there are 16 stops', told[16])
-        self.assertEqual(told[17:], ['no stops', 'stop 17: halted'])
+        answers = self.dbg('hello', *['halted'] * 17, 'clear all', 'halted')
+        self.assertIn('there are 16 stops', answers[16])
+        self.assertEqual(answers[17:], ['no stops', 'stop 17: halted'])
         self.assertEqual(self.dbg('hello', *['halted'] * 17, 'stops')[-1], 'stop 16: halted')
 
     def test_moments(self) -> None:
         """Each line says what runs with the key do."""
-        stops, told = ['halted', 'when keys'], 0
+        stops, up_to = ['halted', 'when keys'], 0
         lines = self.dbg('ticks', *stops, 'moments 1E 1 2000 1500')[2:]
         for line in lines:
             first, last, end = re.fullmatch(r' *(\d+) to +(\d+): (.*)', line).groups()  # type: ignore[union-attr]
-            self.assertEqual(int(first), told + 1)
-            told = int(last)
-            for stamp in {int(first), (int(first) + told) // 2, told}:
-                run = [it for it in self.dbg('ticks', *stops, f'key 1E {stamp}', 'go 1500') if ', clock ' in it][-1]
+            self.assertEqual(int(first), up_to + 1)
+            up_to = int(last)
+            for stamp in {int(first), (int(first) + up_to) // 2, up_to}:
+                run = [answer for answer in self.dbg('ticks', *stops, f'key 1E {stamp}', 'go 1500') if ', clock ' in answer][-1]
                 stop, least, greatest = re.fullmatch(r'(.*), clock (\d+)(?: to (\d+))?', end).groups()  # type: ignore[union-attr]
                 self.assertTrue(run.startswith(f'{stop}, clock '), (line, stamp, run))
                 self.assertIn(int(run.split('clock ')[1].split(':')[0]), range(int(least), int(greatest or least) + 1))
-        self.assertEqual(told, 2000)
+        self.assertEqual(up_to, 2000)
 
     def test_moments_that_cant_be_asked(self) -> None:
-        told = self.dbg('ticks', 'moments ctrl+c 1 2 3', 'moments 1E 0 5 5', 'moments FF 1 2 3', 'moments 1E 5 4 3', 'break tick if AX=5', 'moments 1E 1 2 3')
+        answers = self.dbg(
+            'ticks', 'moments ctrl+c 1 2 3', 'moments 1E 0 5 5', 'moments FF 1 2 3', 'moments 1E 5 4 3', 'break tick if AX=5', 'moments 1E 1 2 3'
+        )
         for line, said in zip(
-            told[:4] + told[5:], ('ctrl+c is not one key', 'a key comes at a later clock', 'no key sends FF', '5 is after 4', 'clear 1 first')
+            answers[:4] + answers[5:], ('ctrl+c is not one key', 'a key comes at a later clock', 'no key sends FF', '5 is after 4', 'clear 1 first')
         ):
             self.assertIn(said, line)
 
@@ -372,7 +374,7 @@ class Terminal(ToolCase):
         os.write(self.terminal, b'q\n')
         self.leave()
         path = f'{self.room}/state/zebludor/dbg/history'
-        self.assertEqual([stat.S_IMODE(os.stat(it).st_mode) for it in (path, os.path.dirname(path))], [0o600, 0o700])
+        self.assertEqual([stat.S_IMODE(os.stat(name).st_mode) for name in (path, os.path.dirname(path))], [0o600, 0o700])
         self.begin()
         os.write(self.terminal, 2 * b'\x1b[A' + b'\n')
         self.wait_for('12345: ')

@@ -69,8 +69,8 @@ class Words(unittest.TestCase):
 
     def test_numbers(self) -> None:
         """The examples of the DWARF 3 standard, 7.6."""
-        self.assertEqual([uleb(it).hex() for it in (2, 127, 128, 129, 12857)], ['02', '7f', '8001', '8101', 'b964'])
-        self.assertEqual([sleb(it).hex() for it in (2, -2, 127, -127, 128, -128, -129)], ['02', '7e', 'ff00', '817f', '8001', '807f', 'ff7e'])
+        self.assertEqual([uleb(number).hex() for number in (2, 127, 128, 129, 12857)], ['02', '7f', '8001', '8101', 'b964'])
+        self.assertEqual([sleb(number).hex() for number in (2, -2, 127, -127, 128, -128, -129)], ['02', '7e', 'ff00', '817f', '8001', '807f', 'ff7e'])
 
     def test_places(self) -> None:
         line = Line(1, 'a: NOP', (0xF000, 0x10), b'\x90')
@@ -132,7 +132,7 @@ class Flow(ToolCase):
             ('', None),
         ):
             self.assertEqual(target_of(bytes.fromhex(octets), (0x10, 0xFFFF)), wanted, octets)
-        self.assertEqual([goes_on(bytes.fromhex(it)) for it in ('C3', 'CF', 'FF2F', 'FFE0', 'FFD0', 'E80000', 'F4', '7400')], [False] * 4 + [True] * 4)
+        self.assertEqual([goes_on(bytes.fromhex(code)) for code in ('C3', 'CF', 'FF2F', 'FFE0', 'FFD0', 'E80000', 'F4', '7400')], [False] * 4 + [True] * 4)
 
 
 class Client:
@@ -192,7 +192,7 @@ def told_as(lines: list[str]) -> list[int]:
     found = registers_of(lines)
     for name, segment in (('SP', 'SS'), ('BP', 'SS'), ('IP', 'CS')):
         found[name] = (16 * found[segment] + found[name]) % (1 << 20)
-    return [found[it] for it in NAMES]
+    return [found[register] for register in NAMES]
 
 
 class Served(ToolCase):
@@ -324,7 +324,7 @@ class Served(ToolCase):
             client.ask('c')
             client.ask('bc')
             client.ask(f'z0,{0x100 + place:x},1')
-        self.assertEqual([client.ask(f'Z0,{0x100 + it:x},1')[:2] for it in range(16)], ['OK'] * 15 + ['E.'])
+        self.assertEqual([client.ask(f'Z0,{0x100 + i:x},1')[:2] for i in range(16)], ['OK'] * 15 + ['E.'])
 
     def test_conditions(self) -> None:
         """They come with a breakpoint as bytecode, one of which is to hold; of hits that don't count nothing is told."""
@@ -495,8 +495,8 @@ class Served(ToolCase):
     def test_here_alone(self) -> None:
         self.client(*example('hello'))
         with open('/proc/net/tcp', encoding='ascii') as file:
-            rows = [it.split() for it in file if f':{self.port:04X} ' in it]
-        self.assertEqual({it[1] for it in rows if it[3] == '0A'} - {f'0100007F:{self.port:04X}'}, set())
+            rows = [line.split() for line in file if f':{self.port:04X} ' in line]
+        self.assertEqual({row[1] for row in rows if row[3] == '0A'} - {f'0100007F:{self.port:04X}'}, set())
 
     def test_random_walks(self) -> None:
         """The end of each has the registers and memory of a session that goes there directly."""
@@ -548,12 +548,12 @@ class Gdb(ToolCase):
         if not GDB:
             not_run("gdb isn't installed")
             return ''
-        given = [it for command in commands for it in ('-ex', command)]
+        given = [word for command in commands for word in ('-ex', command)]
         out, err = self.tool('gdb', *files, *words, '-nx', '-batch', *given)
         return out + err
 
     def test_a_session(self) -> None:
-        told = self.gdb(
+        printed = self.gdb(
             example('ticks'),
             'break tick',
             'continue',
@@ -586,12 +586,12 @@ class Gdb(ToolCase):
             if GDB
             else ()
         ):
-            self.assertIn(wanted, told)
+            self.assertIn(wanted, printed)
 
     def started(self, *commands: str) -> subprocess.Popen[str]:
         """gdb on a run that lasts, in a group of its own, as at a terminal."""
         os.makedirs(f'{self.room}/tmp')
-        given = [it for command in (*commands, 'echo ready\\n', 'continue', 'monitor go 0') for it in ('-ex', command)]
+        given = [word for command in (*commands, 'echo ready\\n', 'continue', 'monitor go 0') for word in ('-ex', command)]
         files = self.program(BUSY)[0], self.file('long.json', LONG)
         tool = subprocess.Popen(
             [sys.executable, '-S', f'{TOOLS}/gdb', *files, '-nx', '-batch', *given],
@@ -613,9 +613,9 @@ class Gdb(ToolCase):
             return
         tool = self.started()
         os.killpg(tool.pid, signal.SIGINT)
-        told, _ = tool.communicate(timeout=SECONDS)
+        printed, _ = tool.communicate(timeout=SECONDS)
         for wanted in ('interrupted; the processor is running', 'Program received signal SIGINT', 'clock '):
-            self.assertIn(wanted, told)
+            self.assertIn(wanted, printed)
         self.assertEqual((tool.returncode, os.listdir(f'{self.room}/tmp')), (0, []))
 
     def test_nothing_is_left(self) -> None:
@@ -623,12 +623,12 @@ class Gdb(ToolCase):
         for name in ('gdb', 'pcprobe') if GDB else ():
             with self.subTest(name):
                 tool = self.started()
-                theirs = {name_of(it): it for it in children(tool.pid)}
-                os.kill(next(it for whose, it in theirs.items() if whose.startswith(name)), signal.SIGKILL)
+                theirs = {name_of(process): process for process in children(tool.pid)}
+                os.kill(next(process for whose, process in theirs.items() if whose.startswith(name)), signal.SIGKILL)
                 tool.communicate(timeout=SECONDS)
                 self.assertEqual(os.listdir(f'{self.room}/tmp'), [])
                 os.rmdir(f'{self.room}/tmp')
-                self.assertTrue(until(lambda: not any(os.path.exists(f'/proc/{it}') for it in theirs.values())))
+                self.assertTrue(until(lambda: not any(os.path.exists(f'/proc/{process}') for process in theirs.values())))
 
     def test_each_answer(self) -> None:
         """What gdb comes to is what the debugger's own commands come to."""
@@ -644,29 +644,29 @@ class Gdb(ToolCase):
             ('monitor back 10', 'back 10'),
             ('monitor step', 'step'),
         )
-        typed = [it for move, _ in moves for it in (move, 'monitor go 0', 'monitor regs', 'x/16xb 0xb0000')]
-        told = self.gdb(files, *typed)
-        found, wanted = re.findall(r'^clock (\d+)\n(AX=.*)\n(CS=.*)$', told, re.M), list[tuple[str, ...]]()
-        octets = re.findall(r'^0xb0000.*:((?:\t0x..){8})\n0xb0008.*:((?:\t0x..){8})$', told, re.M)
+        typed = [line for move, _ in moves for line in (move, 'monitor go 0', 'monitor regs', 'x/16xb 0xb0000')]
+        printed = self.gdb(files, *typed)
+        found, wanted = re.findall(r'^clock (\d+)\n(AX=.*)\n(CS=.*)$', printed, re.M), list[tuple[str, ...]]()
+        octets = re.findall(r'^0xb0000.*:((?:\t0x..){8})\n0xb0008.*:((?:\t0x..){8})$', printed, re.M)
         memory = list[tuple[str, ...]]()
         with Session(Files(*files)) as session:
             session.many('regs')
             for _, command in moves:
                 session.one(command)
                 wanted.append((str(session.clock), *session.many('regs')))
-                rows = ''.join(f'\t0x{it:02x}' for it in session.dump(0xB0000, 16))
+                rows = ''.join(f'\t0x{octet:02x}' for octet in session.dump(0xB0000, 16))
                 memory.append((rows[:40], rows[40:]))
         self.assertEqual((found, octets), (wanted, memory) if GDB else ([], []))
 
     def shows(self, block: str, files: tuple[str, str], *words: str) -> None:
         """Each line that a block of the page shows is printed."""
-        lines = [it for it in block.splitlines() if not it.startswith('$ ')]
-        typed = [it.removeprefix('(gdb) ') for it in lines if it.startswith('(gdb) ')]
+        lines = [text for text in block.splitlines() if not text.startswith('$ ')]
+        typed = [text.removeprefix('(gdb) ') for text in lines if text.startswith('(gdb) ')]
         self.assertGreater(len(typed), 4)
-        told = self.gdb(files, *typed, words=words)
+        printed = self.gdb(files, *typed, words=words)
         for line in lines if GDB else []:
             if not line.startswith('(gdb) '):
-                self.assertIn(line, told)
+                self.assertIn(line, printed)
 
     def test_the_page(self) -> None:
         with open(f'{TOP}/docs/editors.md', encoding='utf-8') as file:
@@ -683,9 +683,9 @@ class Gdb(ToolCase):
         kinds = ('stepi', 'stepi', 'stepi', 'reverse-stepi', 'reverse-stepi', 'continue', 'reverse-continue')
         for name, label in (('ticks', 'tick'), ('fibonacci', 'digit'), ('nested', 'tick'), ('keys', 'key')) if GDB else ():
             walks = [[chance.choice(kinds) for _ in range(40)] for _ in range(5)]
-            told = self.gdb(example(name), f'break {label}', *(step for steps in walks for step in (*steps, *looks)))
-            ends = re.findall(r'^clock (\d+)\n(AX=.*)\n(CS=.*)$', told, re.M)
-            shown = re.findall(r'^here:\n(.*?)^gone:\n', told, re.M | re.S)
+            printed = self.gdb(example(name), f'break {label}', *(step for steps in walks for step in (*steps, *looks)))
+            ends = re.findall(r'^clock (\d+)\n(AX=.*)\n(CS=.*)$', printed, re.M)
+            shown = re.findall(r'^here:\n(.*?)^gone:\n', printed, re.M | re.S)
             with Session(Files(*example(name))) as direct:
                 for steps, (clock, *lines), looked in zip(walks, ends, shown, strict=True):
                     direct.go_to(int(clock))
@@ -700,16 +700,16 @@ class Gdb(ToolCase):
         if not GDB:
             return
         begin = ('break tick', 'continue', 'continue', 'run', 'monitor clock', 'kill', 'run', 'monitor clock', 'stepi', 'detach', 'attach 1')
-        told = self.gdb(example('ticks'), *begin, 'monitor clock', 'checkpoint')
-        self.assertEqual(re.findall(r'^clock (\d+)$', told, re.M), ['1009', '1397', '1009', '1009', '1009', '1009', '1032'])
-        self.assertIn('"monitor to CLOCK" goes there', told)
+        printed = self.gdb(example('ticks'), *begin, 'monitor clock', 'checkpoint')
+        self.assertEqual(re.findall(r'^clock (\d+)$', printed, re.M), ['1009', '1397', '1009', '1009', '1009', '1009', '1032'])
+        self.assertIn('"monitor to CLOCK" goes there', printed)
 
     def test_the_machine(self) -> None:
         """The 8086's own registers, flags by their bits, what it hasn't as unavailable; and no warning at the beginning."""
         if not GDB:
             return
         files = example('ticks')
-        told = self.gdb(files, 'break tick if $ip == 0x58', 'continue', 'p $ip', 'p/x $sp16', 'p/x $bp16', 'p $eflags', 'p $fs', 'p $st0', 'info registers')
+        printed = self.gdb(files, 'break tick if $ip == 0x58', 'continue', 'p $ip', 'p/x $sp16', 'p/x $bp16', 'p $eflags', 'p $fs', 'p $st0', 'info registers')
         with Session(Files(*files)) as session:
             session.go_to(1009)
             registers = registers_of(session.many('regs'))
@@ -717,40 +717,40 @@ class Gdb(ToolCase):
             name for name, bit in {'CF': 0, 'PF': 2, 'AF': 4, 'ZF': 6, 'SF': 7, 'TF': 8, 'IF': 9, 'DF': 10, 'OF': 11}.items() if registers['FL'] >> bit & 1
         )
         values = [str(registers['IP']), f'{registers["SP"]:#x}', f'{registers["BP"]:#x}', f'[ {flags} ]', '<unavailable>', '<unavailable>']
-        self.assertEqual(re.findall(r'^\$\d+ = (.*)$', told, re.M), values)
-        self.assertEqual(told.count('clock '), 1)
-        self.assertRegex(told, r'\nfs +<unavailable>\ngs +<unavailable>\nip +0x58 ')
-        self.assertNotIn('OS ABI', told)
+        self.assertEqual(re.findall(r'^\$\d+ = (.*)$', printed, re.M), values)
+        self.assertEqual(printed.count('clock '), 1)
+        self.assertRegex(printed, r'\nfs +<unavailable>\ngs +<unavailable>\nip +0x58 ')
+        self.assertNotIn('OS ABI', printed)
 
     def test_a_condition(self) -> None:
         """As gdb hands it over, forth and back."""
         if not GDB:
             return
-        told = self.gdb(
+        printed = self.gdb(
             self.program(BUSY, 100_000), 'break *0xf0001 if $eax == 77', 'continue', 'p $ax', 'condition 1 $eax > 3 && $eax < 9', 'reverse-continue', 'p $ax'
         )
-        self.assertEqual(re.findall(r'^\$\d+ = (\d+)$', told, re.M), ['77', '8'])
-        self.assertEqual(told.count('clock '), 2)
+        self.assertEqual(re.findall(r'^\$\d+ = (\d+)$', printed, re.M), ['77', '8'])
+        self.assertEqual(printed.count('clock '), 2)
 
     def test_hex(self) -> None:
         source, run = self.program('        NOP\n        HLT')
         text = self.file('it.hex', self.pcboard('asm', source).stdout)
-        told = self.gdb((text, run), 'break *0xf0000', 'continue', 'p/x $pc', words=('--hex',))
+        printed = self.gdb((text, run), 'break *0xf0000', 'continue', 'p/x $pc', words=('--hex',))
         for wanted in ('where CS:IP is F000:0000; by another CS it is passed', '= 0xf0000') if GDB else ():
-            self.assertIn(wanted, told)
+            self.assertIn(wanted, printed)
 
     def test_over_calls(self) -> None:
         """`next` goes over what a line calls, near, far or by INT, takes arguments from the stack or not; `step` goes in, `finish` out."""
         source, run = self.program(CALLS)
         typed = ['stepi', *['next'] * 9, 'reverse-continue', 'break away', 'continue', 'backtrace', 'finish', 'next', 'step', 'finish', 'monitor go 0']
-        told = self.gdb((source, run), *typed)
+        printed = self.gdb((source, run), *typed)
         with Session(Files(source, run)) as session:
             session.many('break F000:B')
             clock = session.one('go 1000').split()[-1]
-        stops = [int(it) for it in re.findall(r'^(\d+)\t', told, re.M)]
+        stops = [int(number) for number in re.findall(r'^(\d+)\t', printed, re.M)]
         self.assertEqual(stops, [34, 3, 4, 5, 6, 7, 8, 9, 10, 11, 12, 34, 24, 16, 6, 26, 7] if GDB else [])
         for wanted in ('#0  away () at it.asm:24\n#1  0x000f001e in far_on () at it.asm:15', f'\nclock {clock}\n') if GDB else ():
-            self.assertIn(wanted, told)
+            self.assertIn(wanted, printed)
 
     def test_callers(self) -> None:
         """All callers are known at each instruction of a routine, and `finish` leads there; code that nothing calls has none, and gdb

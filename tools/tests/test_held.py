@@ -119,13 +119,13 @@ class Held(ToolCase):
 
     def holding(self, files: Files, stop: str) -> list[int]:
         """Whether a stop holds, at each clock."""
-        told = self.pcboard(*files.words('debug'), given=f'{stop}\n' + 'go 1\n' * (CLOCKS - 1)).stdout.splitlines()[1:]
-        self.assertEqual(len(told), CLOCKS - 1)
-        return [0, *(int(it.startswith('stop')) for it in told)]
+        lines = self.pcboard(*files.words('debug'), given=f'{stop}\n' + 'go 1\n' * (CLOCKS - 1)).stdout.splitlines()[1:]
+        self.assertEqual(len(lines), CLOCKS - 1)
+        return [0, *(int(line.startswith('stop')) for line in lines)]
 
     def levels(self, text: str, name: str) -> list[int]:
         """A signal of a waveform, at each clock."""
-        sign = next(it.split()[3] for it in text.splitlines() if it.startswith('$var') and it.split()[4] == name)
+        sign = next(declaration.split()[3] for declaration in text.splitlines() if declaration.startswith('$var') and declaration.split()[4] == name)
         found, level = list[int](), 0
         for line in text.partition('$end\n#')[2].splitlines():
             if line.isdecimal() or line.startswith('#'):
@@ -196,7 +196,7 @@ class Held(ToolCase):
             files = self.files(seed)
             began, subject = self.began(files), subject_of(files)
             assert isinstance(subject, Subject)
-            lines = [it.address for it in listing_of(files).lines if it.address and it.address[0] > 0x50]
+            lines = [line.address for line in listing_of(files).lines if line.address and line.address[0] > 0x50]
             dice = random.Random(seed)
             for place in [(0xFFFF, 0), *dice.sample(lines, 12)]:
                 self.assertEqual(first_start(subject, *place), began.get(place), (seed, place))
