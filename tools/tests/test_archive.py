@@ -31,12 +31,12 @@ class Archive(ToolCase):
 
     def run_it(self, kind: str, octets: bytes) -> dict[str, str]:
         """What the report of these bytes tells."""
-        text, told = self.place(kind, octets)
-        self.assertEqual(told, '')
+        text, err = self.place(kind, octets)
+        self.assertEqual(err, '')
         run = self.file('it.json', '{"version":1,"ram":128,"sw1":0,"sw2":0,"budget":5000,"keys":[]}')
         report = self.pcboard('run', '--hex', self.file('it.hex', text), run).stdout
         lines = report.splitlines()
-        return {'line 1': lines[7].rstrip(), 'state': lines[3]} | dict(it.split('=') for it in ' '.join(lines[1:3]).split())
+        return {'line 1': lines[7].rstrip(), 'state': lines[3]} | dict(pair.split('=') for pair in ' '.join(lines[1:3]).split())
 
     def test_each_kind_runs(self) -> None:
         com = self.run_it('com', shows('C') + RET)
@@ -61,9 +61,9 @@ class Archive(ToolCase):
             ('sector', bytes(511), 'it.bin has 511 bytes, and a first sector has 512\n'),
             ('sector', bytes(1024), 'it.bin has 1,024 bytes, and a first sector has 512: head -c 512 it.bin > first.bin\n'),
         ):
-            printed, told = self.place(kind, octets, status=2)
+            printed, err = self.place(kind, octets, status=2)
             self.assertEqual(printed, '')
-            self.assertIn(why, told)
+            self.assertIn(why, err)
 
     def test_what_is_told(self) -> None:
         for kind, octets, why in (
@@ -71,9 +71,9 @@ class Archive(ToolCase):
             ('rom', rom_of(8192, b'', b'\xEA\x00\x00\x00\xF0'), 'place: the far jump at the end of it.bin leads to F000:0000, where it has no byte\n'),
             ('sector', bytes(512), 'place: it.bin ends in 00 00; a BIOS starts no sector'),
         ):
-            printed, told = self.place(kind, octets)
+            printed, err = self.place(kind, octets)
             self.assertTrue(printed.endswith(':00000001FF\n'))
-            self.assertTrue(told.startswith(why), told)
+            self.assertTrue(err.startswith(why), err)
 
     def test_a_word_that_is_none(self) -> None:
         self.assertIn("invalid choice: 'tape'", self.called('place', 'tape', 'x', status=2)[1])

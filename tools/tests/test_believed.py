@@ -59,11 +59,11 @@ class Believed(ToolCase):
         self.assertEqual(self.run_it('--check'), (1, '', 'debugger/specs/Planted.antt: proofs\n'))
 
     def test_a_file_that_a_contract_names_is_believed(self) -> None:
-        told = '-- A number.\n{}\nuse Rattle.{}.specs.Base.{{base}}\n\nabbrev pub told : ℕ\ntold = base\n'
+        contract = '-- A number.\n{}\nuse Rattle.{}.specs.Base.{{base}}\n\nabbrev pub told : ℕ\ntold = base\n'
         base = '-- A base.\n{}\n\nabbrev pub base : ℕ\nbase = 1\n'
         self.repository(
-            debugger=('Told', {'Told': told.format(HEADLINE, 'debugger'), 'Base': base.format(PROOFS)}),
-            other=('Told', {'Told': told.format(HEADLINE, 'other'), 'Base': base.format(CALLERS)}),
+            debugger=('Told', {'Told': contract.format(HEADLINE, 'debugger'), 'Base': base.format(PROOFS)}),
+            other=('Told', {'Told': contract.format(HEADLINE, 'other'), 'Base': base.format(CALLERS)}),
         )
         said = 'other/specs/Told.antt: callers\ndebugger/specs/Base.antt: headline\n'
         self.assertEqual(self.run_it('--check'), (1, '', said))

@@ -82,7 +82,7 @@ class Count(ToolCase):
         self.with_valgrind()
         out, _ = self.count('--only', 'a,f,sieve,go')
         self.assertEqual(
-            [it.split() for it in out.splitlines()[1:]],
+            [line.split() for line in out.splitlines()[1:]],
             [
                 ['a', '60,000,000', '130,434', '460.0', 'a', 'step'],
                 ['f', '59,982,000,000', '3,813', '15,730,920.5', 'a', 'wake'],
@@ -95,7 +95,7 @@ class Count(ToolCase):
         """120,000,000 by the steps of each, 154,572, 153,344, 152,931, 180,825, 113,666 and 169,967, are 4,768.93 in all."""
         self.with_valgrind()
         lines = self.count('--only', 'a,programs,crc')[0].splitlines()
-        self.assertEqual([it.split()[0] for it in lines[1:]], ['a', 'sieve', 'sort', 'digits', 'crc', 'matrix', 'life', 'programs'])
+        self.assertEqual([line.split()[0] for line in lines[1:]], ['a', 'sieve', 'sort', 'digits', 'crc', 'matrix', 'life', 'programs'])
         self.assertEqual(lines[-1].split(), ['programs', '794.8', 'a', 'step,', 'the', 'mean', 'of', 'the', 'six'])
         self.assertNotIn('programs', self.count('--only', 'sieve,sort,digits,crc,matrix')[0])
 
@@ -126,7 +126,7 @@ class Count(ToolCase):
         os.chmod(self.file('valgrind', VALGRIND.replace('"$@"', '"$@" | /bin/sed "s/ 1027 /.1027 /"')), 0o755)
         lines = self.count('--only', 'programs', status=1)[0].splitlines()
         self.assertRegex(lines[1], r"^sieve +wrong: budget 3000000: ' {4}\.1027 .*, and not ' {5}1027 ")
-        self.assertEqual([it.split()[0] for it in lines[2:]], ['sort', 'digits', 'crc', 'matrix', 'life'])
+        self.assertEqual([line.split()[0] for line in lines[2:]], ['sort', 'digits', 'crc', 'matrix', 'life'])
 
     def test_steps(self) -> None:
         out, _ = self.count('--steps', '--only', 'a,sieve')
@@ -157,19 +157,19 @@ class Count(ToolCase):
     def test_what_the_programs_show(self) -> None:
         """The odd primes below 8,192; no two numbers out of order; the sum of 256 bytes, twice; the trace of a product."""
         known = module('count').known()
-        primes = sum(all(it % by for by in range(3, 91, 2) if by < it) for it in range(3, 8192, 2))
-        sums = [binascii.crc_hqx(bytes((it * 7 + turn) % 256 for it in range(256)), 0xFFFF) for turn in range(4)]
-        trace = sum((it * 3 + at) * (at - it * 5) for it in range(16) for at in range(16))
+        primes = sum(all(number % by for by in range(3, 91, 2) if by < number) for number in range(3, 8192, 2))
+        sums = [binascii.crc_hqx(bytes((i * 7 + turn) % 256 for i in range(256)), 0xFFFF) for turn in range(4)]
+        trace = sum((row * 3 + at) * (at - row * 5) for row in range(16) for at in range(16))
         shown = {'sieve': [primes, 1], 'sort': [0, 2], 'crc': [sums[3], sums[3], 4], 'matrix': [trace % 65536, 1]}
         for name, numbers in shown.items():
-            self.assertEqual([int(it) for it in known[name].answers[1][7].split()], numbers, name)
+            self.assertEqual([int(word) for word in known[name].answers[1][7].split()], numbers, name)
 
     def test_the_programs_are_made_of_their_sources(self) -> None:
         wanted = {'make': 'make', 'bcc': 'bcc', 'as86': 'bin86', 'objcopy': 'binutils'}
         if not all(is_there(command, 'bench/programs', package) for command, package in wanted.items()):
             return
         room = shutil.copytree(f'{BENCH}/programs', f'{self.room}/programs')
-        names = [f'{it}.hex' for it in module('count').PROGRAMS]
+        names = [f'{program}.hex' for program in module('count').PROGRAMS]
         for name in names:
             os.remove(f'{room}/{name}')
         done = subprocess.run(['make', '-s'], cwd=room, capture_output=True, text=True, check=False)
@@ -183,11 +183,11 @@ class Count(ToolCase):
             done = self.pcboard('debug', f'{BENCH}/loops/w1.asm', f'{BENCH}/loops/w1.json', given=f'go {clock}\nregs\ntrail\n')
             lines = done.stdout.splitlines()
             self.assertIn(f' CX={0xFFFF - begun:04X} ', lines[1])
-            self.assertEqual(lines[3:], [f'{23 + 17 * it} F000:0006 E2FE LOOP 00006h' for it in range(begun - 32, begun)])
+            self.assertEqual(lines[3:], [f'{23 + 17 * turn} F000:0006 E2FE LOOP 00006h' for turn in range(begun - 32, begun)])
 
     def test_refusals(self) -> None:
         self.assertIn("valgrind, which counts, isn't there", self.count('--only', 'a', status=2)[1])
-        for words, told in (
+        for words, why in (
             (['--only', 'x'], 'x is neither a loop nor a C program'),
             (['--only', ''], 'nothing is neither'),
             (['--limit', 'a'], 'a is no limit'),
@@ -203,7 +203,7 @@ class Count(ToolCase):
             (['nowhere'], "can't be read"),
             (['--nonsense'], 'unrecognized'),
         ):
-            self.assertIn(told, self.count(*words, status=2)[1])
+            self.assertIn(why, self.count(*words, status=2)[1])
         self.assertIn('--limit', self.count('--help')[0])
 
 
@@ -222,7 +222,7 @@ class Race(ToolCase):
         ran = self.pcboard('run', '--hex', code, run)
         self.assertEqual(ran.returncode, 0, ran.stderr)
         lines = ran.stdout.splitlines()
-        return {**dict(it.split('=') for it in f'{lines[1]} {lines[2]}'.split()), 'state': lines[3]}
+        return {**dict(pair.split('=') for pair in f'{lines[1]} {lines[2]}'.split()), 'state': lines[3]}
 
     def code(self, loop: str) -> bytes:
         """A loop's bytes."""
@@ -298,32 +298,32 @@ class Race(ToolCase):
         race = module('race')
         turns: list[str] = []
         mine, its = Runner('Zebludor', turns, 2.0), Runner('Bochs', turns, 3.0)
-        with redirect_stdout(io.StringIO()) as told:
+        with redirect_stdout(io.StringIO()) as printed:
             each, are_all_done = race.raced([mine, its, Runner('DOSBox', turns, None)], 2)
-        self.assertEqual(told.getvalue(), 'DOSBox: it stands still\n')
+        self.assertEqual(printed.getvalue(), 'DOSBox: it stands still\n')
         self.assertEqual(turns, ['Zebludor', 'Bochs', 'DOSBox', 'Zebludor', 'Bochs'])
         self.assertFalse(are_all_done)
         self.assertEqual(
-            [it.split() for it in race.table(each)][:2],
+            [row.split() for row in race.table(each)][:2],
             [['a', 'Zebludor', '2.00', 'ns'], ['a', 'Bochs', '3.00', 'ns', 'Zebludor', 'is', '1.50', 'times', 'as', 'fast']],
         )
 
     def test_who_is_not_there(self) -> None:
         race = module('race')
         with patch.object(shutil, 'which', return_value=None):
-            self.assertFalse(any(it.is_there() for it in race.PEERS))
+            self.assertFalse(any(peer.is_there() for peer in race.PEERS))
         with patch.dict(os.environ), patch.object(shutil, 'which', return_value=None):
             os.environ.pop('MAME', None)
             self.assertFalse(race.Mame.is_there())
 
     def test_refusals(self) -> None:
-        for words, told in (
+        for words, why in (
             (['--rounds', '0'], '0 is no number of rounds'),
             (['--rounds', 'x'], 'x is no number'),
             ([f'{TOP}/pcboard'], 'is no built program'),
             (['--nonsense'], 'unrecognized'),
         ):
-            self.assertIn(told, self.tool('bench/race', *words, status=2)[1])
+            self.assertIn(why, self.tool('bench/race', *words, status=2)[1])
         self.assertIn('--rounds', self.tool('bench/race', '--help')[0])
 
 

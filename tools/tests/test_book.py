@@ -194,7 +194,7 @@ class Books(ToolCase):
         calls = ('program', 'run_source', 'run_image', 'Session::new', 'Session::command', 'Session::checkpoints')
         listed = self.tool('dev/believed', '--order')[0].splitlines()
         text = self.tool('dev/book', *calls, '--text')[0]
-        self.assertEqual([f'crates/{it}' for it in re.findall(r'^# (\w+/specs/\w+\.antt)$', text, re.M)], listed)
+        self.assertEqual([f'crates/{path}' for path in re.findall(r'^# (\w+/specs/\w+\.antt)$', text, re.M)], listed)
 
     def test_each_link_leads_to_a_place(self) -> None:
         for call in NAMES:

@@ -55,7 +55,7 @@ class Books(ToolCase):
             session.go(1000)
             report = report_at(files, session.clock)
             self.assertEqual(told_of_end(report, files, session), [], name)
-        return [text[it : it + 80].replace('\0', ' ').rstrip() for it in range(0, 2000, 80)]
+        return [text[start : start + 80].replace('\0', ' ').rstrip() for start in range(0, 2000, 80)]
 
     def test_each_screen_is_that_of_dosbox(self) -> None:
         for name, stored in dosbox.kept().items():
@@ -68,7 +68,7 @@ class Books(ToolCase):
         names = dosbox.names()
         self.assertEqual(sorted(dosbox.kept()), names)
         self.assertGreaterEqual(len(names), 40)
-        self.assertGreaterEqual(sum(os.path.splitext(it)[0] in dosbox.KEYS for it in names), 10)
+        self.assertGreaterEqual(sum(os.path.splitext(program)[0] in dosbox.KEYS for program in names), 10)
         by_bios, scroll = 0, 0
         for name in names:
             with open(f'{dosbox.BOOKS}/{name}', encoding='ascii') as file:
@@ -120,7 +120,7 @@ class Sectors(ToolCase):
         if command is None:
             is_there(maker, f'the first sector that {maker} writes', package)
             return None
-        subprocess.run([command, *(it.format(image=image) for it in MAKERS[maker])], capture_output=True, check=True)
+        subprocess.run([command, *(word.format(image=image) for word in MAKERS[maker])], capture_output=True, check=True)
         return image
 
     def test_they_print_what_they_print_elsewhere(self) -> None:
@@ -141,8 +141,8 @@ class Sectors(ToolCase):
             image = self.sector(maker)
             if image:
                 lines = self.bochs(image)
-                begun = max(at for at, it in enumerate(lines) if it.startswith('Booting from Floppy'))
-                self.assertEqual([it for it in lines[begun + 1 :] if it], wanted)
+                begun = max(at for at, line in enumerate(lines) if line.startswith('Booting from Floppy'))
+                self.assertEqual([line for line in lines[begun + 1 :] if line], wanted)
 
     def bochs(self, image: str) -> list[str]:
         """The screen that Bochs has after a while."""
@@ -151,9 +151,9 @@ class Sectors(ToolCase):
         ran = subprocess.run(
             ['bochs', '-q', '-f', rc, '-rc', commands], stdin=subprocess.DEVNULL, capture_output=True, text=True, errors='replace', timeout=SECONDS, check=False
         )
-        rows = [it for it in ran.stdout.splitlines() if it.startswith('0x00000000000b8')]
-        text = ''.join(chr(int(it, 16) & 0xFF) for row in rows for it in re.findall(r'\t0x([0-9a-f]{4})', row))
-        return [text[it : it + 80].rstrip() for it in range(0, len(text), 80)]
+        rows = [line for line in ran.stdout.splitlines() if line.startswith('0x00000000000b8')]
+        text = ''.join(chr(int(cell, 16) & 0xFF) for row in rows for cell in re.findall(r'\t0x([0-9a-f]{4})', row))
+        return [text[start : start + 80].rstrip() for start in range(0, len(text), 80)]
 
     def test_syslinux_s_wants_a_386(self) -> None:
         path = '/usr/lib/syslinux/mbr/mbr.bin'

@@ -114,7 +114,7 @@ class Build(Repository):
     def test_a_clone_that_can_only_be_read(self) -> None:
         self.launch()
         for folder, _, files in os.walk(f'{self.room}/top', topdown=False):
-            for path in (*(f'{folder}/{it}' for it in files), folder):
+            for path in (*(f'{folder}/{name}' for name in files), folder):
                 os.chmod(path, 0o555)
                 self.addCleanup(os.chmod, path, 0o755)
         for has_rt in (True, False):
@@ -124,8 +124,8 @@ class Build(Repository):
         """Over the repository's own sources, whose names and folders are many."""
         names = Crates(TOP).below('pcboard')
         self.assertGreater(len(sources.files(names)), 1000)
-        told = subprocess.run([f'{TOP}/pcboard', '--version'], capture_output=True, text=True, check=True).stdout
-        self.assertIn(f'\nsources {sources.sum_of_sources(names)}\n', told)
+        version = subprocess.run([f'{TOP}/pcboard', '--version'], capture_output=True, text=True, check=True).stdout
+        self.assertIn(f'\nsources {sources.sum_of_sources(names)}\n', version)
 
     def test_a_program_that_was_built_otherwise_is_judged_by_times(self) -> None:
         """As one that `rt ci` left, which takes the place of that to which the list belongs."""
@@ -162,21 +162,21 @@ class Build(Repository):
     def test_the_version(self) -> None:
         """It is told without a program, and its sum changes with what the program is made of alone."""
 
-        def told() -> list[str]:
+        def version() -> list[str]:
             ran = self.launch('--version', has_rt=False)
             self.assertEqual((ran.returncode, ran.stderr), (0, ''))
             self.assertRegex(ran.stdout, r'\Apcboard \d+\.\d+\.\d+\nkit \S+\nlogic [0-9a-f]{16}\nsources [0-9a-f]{64}\nprogram none\n\Z')
             return ran.stdout.splitlines()
 
-        first = told()
-        self.assertEqual(tuple(it.split()[-1] for it in first[1:3]), kit_of_readme())
+        first = version()
+        self.assertEqual(tuple(line.split()[-1] for line in first[1:3]), kit_of_readme())
         self.change_text('crates/other/src/lib.rt')
-        self.assertEqual(told(), first)
+        self.assertEqual(version(), first)
         for path in ('crates/low/src/lib.rt', 'crates/pcboard/src/main.rt', 'crates.txt', 'crates/low/specs/New.antt'):
-            was, put_back = told(), self.change_text(path)
-            self.assertNotEqual(told(), was, path)
+            was, put_back = version(), self.change_text(path)
+            self.assertNotEqual(version(), was, path)
             put_back()
-            self.assertEqual(told(), first, path)
+            self.assertEqual(version(), first, path)
 
     def test_help_is_an_answer(self) -> None:
         self.launch()
@@ -192,7 +192,7 @@ class Build(Repository):
         self.stand_in('echo out; echo err >&2; exit 3')
         here, pipe, missing = self.file('here it is', ''), f'{self.room}/pipe', f'{self.room}/no such'
         os.mkfifo(pipe)
-        for words, told in (
+        for words, messages in (
             (['run', here, missing], [f"{missing} can't be opened: it isn't there"]),
             (['run', '--hex', self.room, missing], [f"{self.room} can't be read: it is a folder", f"{missing} can't be opened: it isn't there"]),
             (['asm', '--list', here], ["the answer couldn't be written, or what it is made from couldn't be read"]),
@@ -200,7 +200,7 @@ class Build(Repository):
         ):
             ran = self.launch(*words)
             self.assertEqual((ran.returncode, ran.stdout), (3, 'out\n'))
-            self.assertEqual(ran.stderr, 'err\n' + ''.join(f'pcboard: {it}\n' for it in told))
+            self.assertEqual(ran.stderr, 'err\n' + ''.join(f'pcboard: {message}\n' for message in messages))
 
     def test_a_refusal_at_a_terminal(self) -> None:
         self.stand_in('echo "fault 3 BadLine line 1" >&2; exit 1')
@@ -258,9 +258,9 @@ class Build(Repository):
 
     def test_a_long_silence_is_broken(self) -> None:
         progress = building.Progress('pcboard', 37)
-        told = io.StringIO()
-        with contextlib.redirect_stderr(told):
+        printed = io.StringIO()
+        with contextlib.redirect_stderr(printed):
             progress.stay_in_touch(['isa', 'board'])
             progress.last_told -= building.QUIET_SECONDS
             progress.stay_in_touch(['isa', 'board'])
-        self.assertRegex(told.getvalue(), r'\Apcboard: proving board, isa; 0 of 37 crates, \d+ s so far\n\Z')
+        self.assertRegex(printed.getvalue(), r'\Apcboard: proving board, isa; 0 of 37 crates, \d+ s so far\n\Z')

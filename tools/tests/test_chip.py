@@ -47,7 +47,7 @@ class Printer(ToolCase):
                 path = os.path.relpath(f'{folder}/{name}', top)
                 self.assertEqual(read(f'{top}/{path}') != read(f'{TOP}/{path}'), path in module.places(), path)
                 if name != 'Rows.antt':  # worked values, as many of each as there are ports
-                    adapter, printer = (len(re.findall(rf'\b{it}(?: n\b| ?\()', read(f'{top}/{path}'))) for it in ('Adapter', 'Printer'))
+                    adapter, printer = (len(re.findall(rf'\b{kind}(?: n\b| ?\()', read(f'{top}/{path}'))) for kind in ('Adapter', 'Printer'))
                     self.assertEqual(adapter, printer, path)
         self.assertTrue(os.path.isfile(f'{top}/crates/printer/src/lib.rt'))
 
@@ -60,7 +60,7 @@ class Printer(ToolCase):
     def test_contributing_names_the_files(self) -> None:
         page = read(f'{TOP}/CONTRIBUTING.md')
         chapter = page[page.index('# Add a chip') : page.index('# Add a tool')]
-        for path in (it for it in chip().places() if os.path.exists(f'{TOP}/{it}')):
+        for path in (place for place in chip().places() if os.path.exists(f'{TOP}/{place}')):
             name, parts = os.path.basename(path), path.split('/')
             short = '/'.join(parts[2:]) if len(parts) > 2 else path
             is_named = f'`{short}`' in chapter or ('/proofs/' in path and name.removesuffix('.antt') in chapter)

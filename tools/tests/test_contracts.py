@@ -86,7 +86,7 @@ class Contracts(ToolCase):
         false, none, zero, true, nothing = re.split(r'Always `None` may be|Always 0 may be|Always true may be|nothing need be done', row)
         of = {'false': false, 'None': none, '0': zero, 'true': true, 'nothing': nothing, 'anything': rows}
         printed = [re.fullmatch(r'(\w+): crates/(\w+)/src/(\w+)\.rt: (.*)', line) for line in self.tool('dev/contracts', '--one-sided')[0].splitlines()]
-        found = [(it[1], it[2], it[3], name) for it in printed if it for name in it[4].split(', ')]
+        found = [(match[1], match[2], match[3], name) for match in printed if match for name in match[4].split(', ')]
         self.assertGreater(len(found), 100)
         for worst, _, file, name in found:
             self.assertTrue(f'`{name}`' in of[worst] or f'`{file}.rt`' in of[worst] or f'`{name}`' in rows.replace(row, ''), (worst, file, name))

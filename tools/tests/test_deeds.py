@@ -11,9 +11,9 @@ from tests.support import TOP, ToolCase, not_run
 from toolbox.crates import Crates
 
 PROVED = ('decode_cache', 'execute_slots', 'execute')  # those that hold the places, and what stands between them
-VARIANT, CHOICE = (f'crates/decode_cache/src/{it}.rt' for it in ('slot', 'slot_for'))
+VARIANT, CHOICE = (f'crates/decode_cache/src/{stem}.rt' for stem in ('slot', 'slot_for'))
 ROW = 'crates/decode_cache/specs/Slots.antt'
-ARM, STILL = (f'crates/execute/src/{it}.rt' for it in ('by_slot', 'still'))
+ARM, STILL = (f'crates/execute/src/{stem}.rt' for stem in ('by_slot', 'still'))
 # In each place a line, after one that stands there.
 STEPS = (
     (VARIANT, '    IncMW,\n', '    NotMW,\n'),

@@ -46,7 +46,7 @@ MAY_SUCCEED = {'tools/why fault', 'tools/trace --vcd', 'tools/try hello.asm --wr
 def tools() -> list[str]:
     """All files there that can be started."""
     paths = [f'{folder}/{name}' for folder in FOLDERS for name in sorted(os.listdir(f'{TOP}/{folder}'))]
-    return [it for it in paths if os.path.isfile(f'{TOP}/{it}') and os.access(f'{TOP}/{it}', os.X_OK)]
+    return [path for path in paths if os.path.isfile(f'{TOP}/{path}') and os.access(f'{TOP}/{path}', os.X_OK)]
 
 
 class EveryTool(ToolCase):
@@ -77,15 +77,15 @@ class EveryTool(ToolCase):
         """Its status and what it prints. It neither ends in a traceback nor begins to prove."""
         with self.begin(*line.split(), out=out) as process:
             try:
-                printed, told = process.communicate(timeout=SECONDS)
+                printed, err = process.communicate(timeout=SECONDS)
             except subprocess.TimeoutExpired:
                 os.killpg(process.pid, signal.SIGKILL)
                 self.fail(f'{line}: it goes on for {SECONDS} seconds')
         for sign in ('Traceback', 'Exception ignored'):
-            self.assertNotIn(sign, told, line)
-        self.assertNotRegex(told, r'(?<!:)//', line)  # a path below nothing
+            self.assertNotIn(sign, err, line)
+        self.assertNotRegex(err, r'(?<!:)//', line)  # a path below nothing
         self.assertFalse(os.path.exists(f'{self.room}/.cache'), line)
-        return process.returncode, printed, told
+        return process.returncode, printed, err
 
     def each(self, check: Callable[[str], None], lines: list[str]) -> None:
         """Checks all of them, some side by side."""
@@ -95,15 +95,15 @@ class EveryTool(ToolCase):
                     one.result()
 
     def test_there_are_tools_in_each_folder(self) -> None:
-        self.assertEqual({it.partition('/')[0] for it in tools()}, set(FOLDERS))
+        self.assertEqual({path.partition('/')[0] for path in tools()}, set(FOLDERS))
         for tool in tools():
             with open(f'{TOP}/{tool}', encoding='utf-8') as file:
                 self.assertTrue(file.read(2) == '#!', tool)
 
     def test_help_is_given_at_once(self) -> None:
         def check(tool: str) -> None:
-            status, printed, told = self.run_tool(f'{tool} --help')
-            self.assertEqual((status, told), (0, ''), tool)
+            status, printed, err = self.run_tool(f'{tool} --help')
+            self.assertEqual((status, err), (0, ''), tool)
             self.assertIn(os.path.basename(tool), printed, tool)
             self.assertGreater(len(printed), 200, tool)
 
@@ -111,9 +111,9 @@ class EveryTool(ToolCase):
 
     def test_unknown_words_are_refused(self) -> None:
         def check(tool: str) -> None:
-            status, printed, told = self.run_tool(f'{tool} --nonsense')
+            status, printed, err = self.run_tool(f'{tool} --nonsense')
             self.assertEqual((status, printed), (2, ''), tool)
-            self.assertIn(os.path.basename(tool), told, tool)
+            self.assertIn(os.path.basename(tool), err, tool)
 
         self.each(check, tools())
 
@@ -122,8 +122,8 @@ class EveryTool(ToolCase):
         from toolbox.crates import NO_RATTLE
 
         def check(line: str) -> None:
-            status, printed, told = self.run_tool(line)
-            self.assertEqual((status, printed, told), (2, '', f'{line.split()[0].rpartition("/")[2]}: {NO_RATTLE}\n'), line)
+            status, printed, err = self.run_tool(line)
+            self.assertEqual((status, printed, err), (2, '', f'{line.split()[0].rpartition("/")[2]}: {NO_RATTLE}\n'), line)
 
         self.each(check, ['dev/build pcboard', 'dev/build zebludor_chips', 'dev/build --verdicts', 'dev/refused isa'])
 
@@ -132,22 +132,22 @@ class EveryTool(ToolCase):
             reading, writing = os.pipe()
             os.close(reading)
             try:
-                status, _, told = self.run_tool(f'{tool} --help', out=writing)
+                status, _, err = self.run_tool(f'{tool} --help', out=writing)
             finally:
                 os.close(writing)
-            self.assertEqual((status, told), (0, ''), tool)
+            self.assertEqual((status, err), (0, ''), tool)
 
         self.each(check, tools())
 
     def test_a_missing_file_and_a_folder_for_a_file(self) -> None:
         def check(line: str) -> None:
-            status, _, told = self.run_tool(line)
-            if not any(line.startswith(it) for it in MAY_SUCCEED):
+            status, _, err = self.run_tool(line)
+            if not any(line.startswith(start) for start in MAY_SUCCEED):
                 self.assertGreater(status, 0, line)
-                self.assertNotEqual(told, '', line)
+                self.assertNotEqual(err, '', line)
 
         lines = [*WORDS, *(f'{tool} {{}} {{}}' for tool in tools())]
-        self.each(check, [it.replace('{}', path) for it in lines for path in (f'{self.room}/none/none', self.room)])
+        self.each(check, [line.replace('{}', path) for line in lines for path in (f'{self.room}/none/none', self.room)])
 
     def test_control_c(self) -> None:
         """As the terminal sends it, where a tool waits for a file."""
@@ -164,9 +164,9 @@ class EveryTool(ToolCase):
         ):
             with self.subTest(line=line), self.begin(*line.split()) as process:
                 writing = self.opened(process, f'{self.room}/waits')
-                told = self.interrupted(process)
+                err = self.interrupted(process)
                 os.close(writing)
-                self.assertNotIn('Traceback', told, line)
+                self.assertNotIn('Traceback', err, line)
                 self.assertNotEqual(process.returncode, 0, line)
 
     def interrupted(self, process: subprocess.Popen[str]) -> str:

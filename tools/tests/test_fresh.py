@@ -69,7 +69,7 @@ class Fresh(Repository):
         status, lines = self.outcome(MODULE)
         self.assertEqual((status, lines[-1]), (0, '7 passed, 0 failed'), lines)
         self.assertIn(f'with rt in {self.top}', lines)
-        self.assertEqual(len([it for it in lines if it.startswith('with rt in ')]), 1)
+        self.assertEqual(len([line for line in lines if line.startswith('with rt in ')]), 1)
         self.assertEqual('\n'.join(lines).count('not run: what wants rt\n'), 1)
         self.assertFalse(os.path.exists(f'{self.top}/it'))
 

@@ -54,8 +54,8 @@ class Recipe(ToolCase):
             shutil.copy(path, f'{folder}/class')
         words = ['git', 'clone', '-q', '--bare', '--depth', '1', f'file://{os.path.realpath(TOP)}', f'{folder}/zebludor.git']
         subprocess.run(words, check=True, capture_output=True)
-        told = subprocess.run(['git', '-C', f'{folder}/zebludor.git', 'rev-parse', 'HEAD'], check=True, capture_output=True, text=True)
-        return told.stdout.strip()
+        ran = subprocess.run(['git', '-C', f'{folder}/zebludor.git', 'rev-parse', 'HEAD'], check=True, capture_output=True, text=True)
+        return ran.stdout.strip()
 
     def typed(self, folder: str, commit: str, before: tuple[str, ...] = (), there: str | None = None, **how: Any) -> str:
         """Types the lines in the class's repository, and returns what the last one prints; `there` is the folder's own name for it."""

@@ -87,14 +87,14 @@ class Judging(unittest.TestCase):
                 self.assertEqual(REFUSALS.is_true(SESSION, WHOLE, Ran(1, out, fault)), is_true, out)
 
     def test_refusals_in_their_order(self) -> None:
-        def told(*numbers: int) -> list[Ran]:
-            return [Ran(1, '', f'fault {it} Memory\n') for it in numbers]
+        def faults(*numbers: int) -> list[Ran]:
+            return [Ran(1, '', f'fault {number} Memory\n') for number in numbers]
 
         for answers, wants in (
-            (told(41, 41, 13, 37, 13, 13, 37, 41), (41, 13, 37, 13, 37, 41)),
-            (told(41, 13, 37), (41, 13, 37)),
-            ([*told(53), WHOLE, Ran(0, 'fault 53 Memory\n', ''), *told(41)], (53, 41)),
-            (told(41, 37, 13), (41, 37, 13)),
+            (faults(41, 41, 13, 37, 13, 13, 37, 41), (41, 13, 37, 13, 37, 41)),
+            (faults(41, 13, 37), (41, 13, 37)),
+            ([*faults(53), WHOLE, Ran(0, 'fault 53 Memory\n', ''), *faults(41)], (53, 41)),
+            (faults(41, 37, 13), (41, 37, 13)),
             ([], ()),
         ):
             self.assertEqual(REFUSALS.in_turn(answers), wants, answers)
@@ -107,8 +107,8 @@ class Refusing(ToolCase):
         out, _ = self.tool('dev/refusals')
         counts = re.findall(r'(.*): (\d+) allocations refused, (\d+) told as (.*), 0 other answers', out)
         self.assertEqual(len(counts), 17)
-        for _, count, told, _ in counts:
+        for _, count, reported, _ in counts:
             self.assertGreater(int(count), 10)
-            self.assertGreater(int(told), 10)
+            self.assertGreater(int(reported), 10)
         self.assertEqual({name.partition(', ')[2]: wants for name, _, _, wants in counts if 'bytes' not in name}, ORDERS)
         self.assertTrue(out.endswith('\n0 other answers\n'), out)

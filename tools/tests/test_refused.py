@@ -52,7 +52,7 @@ class Edits(ToolCase):
 
     def test_nothing_else_stands_beside_them(self) -> None:
         for name in sorted(os.listdir(f'{TOP}/crates')):
-            folders = [f'{TOP}/crates/{name}/{it}' for it in FOLDERS]
+            folders = [f'{TOP}/crates/{name}/{kind}' for kind in FOLDERS]
             files = [file for folder in folders if os.path.isdir(folder) for file in os.listdir(folder)]
             self.assertEqual(len(files), len(set(files)), name)
             for file in files:
@@ -81,7 +81,7 @@ class Refused(ToolCase):
         super().setUp()
         for folder in ('bin', 'top/dev', 'top/tools/toolbox'):
             os.makedirs(f'{self.room}/{folder}')
-        shared = (f'tools/toolbox/{it}.py' for it in ('__init__', 'building', 'command', 'crates', 'edits', 'proved', 'sources', 'writing'))
+        shared = (f'tools/toolbox/{stem}.py' for stem in ('__init__', 'building', 'command', 'crates', 'edits', 'proved', 'sources', 'writing'))
         for file in ('dev/refused', *shared):
             shutil.copy(f'{TOP}/{file}', f'{self.room}/top/{file}')
         for name in ('low', 'high', 'broken'):
