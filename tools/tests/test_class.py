@@ -89,31 +89,31 @@ class Texts(ToolCase):
 
     def rows(self) -> list[Row]:
         """A row with each odd text in every place."""
-        return [Row(it, [Outcome(it, None, 2), Outcome(it, it or 'x')], '', it, []) for it in ODD]
+        return [Row(text, [Outcome(text, None, 2), Outcome(text, text or 'x')], '', text, []) for text in ODD]
 
     def test_csv_is_read_back(self) -> None:
         rows = self.rows()
         tell_copies(rows + [Row('other', [], '', 'a,b')])
         head, *found = csv.reader(io.StringIO(as_csv(ODD[:2], rows), newline=''))
         self.assertEqual(head, ['file', 'mark', 'of', 'met', *SEEN[:2], 'why not', 'same bytes as'])
-        self.assertEqual([it[0] for it in found], SEEN)
-        self.assertEqual([it[1:5] for it in found], [['2', '3', '1', 'ok']] * len(ODD))
-        self.assertEqual([it[5] for it in found], [f'no: {it.lstrip(chr(39)) if it[:1] == chr(39) else it}' for it in SEEN[:-1]] + ['no: x'])
-        self.assertEqual([it[7] for it in found], ['other' if it == 'a,b' else '' for it in ODD])
+        self.assertEqual([row[0] for row in found], SEEN)
+        self.assertEqual([row[1:5] for row in found], [['2', '3', '1', 'ok']] * len(ODD))
+        self.assertEqual([row[5] for row in found], [f'no: {text.lstrip(chr(39)) if text[:1] == chr(39) else text}' for text in SEEN[:-1]] + ['no: x'])
+        self.assertEqual([row[7] for row in found], ['other' if text == 'a,b' else '' for text in ODD])
 
     def test_junit_is_read_back(self) -> None:
         rows = [*self.rows(), Row('late', [Outcome('x', '', 1, False)], 'over 60 s, and was ended')]
         root = ElementTree.fromstring(as_junit('p\x01', rows).encode())
         self.assertEqual(root.get('name'), r'p\x01')
-        names = [visible(it) for it in ODD]
-        self.assertEqual([it.get('name') for it in root][:-1], names)
+        names = [visible(text) for text in ODD]
+        self.assertEqual([element.get('name') for element in root][:-1], names)
         for suite, name in zip(root, names):
-            self.assertEqual([suite.get(it) for it in ('tests', 'failures', 'errors')], ['2', '1', '0'])
-            self.assertEqual([it.get('name') for it in suite.iter('testcase')], [name, name])
-            self.assertEqual([it.get('message') for it in suite.iter('failure')], [name or 'x'])
-            self.assertEqual({it.get('name'): it.get('value') for it in suite.iter('property')}, {'mark': '2', 'of': '3'})
-        self.assertEqual([root[-1].get(it) for it in ('tests', 'failures', 'errors')], ['1', '0', '1'])
-        self.assertEqual([it.get('message') for it in root[-1].iter('error')], ['over 60 s, and was ended'])
+            self.assertEqual([suite.get(key) for key in ('tests', 'failures', 'errors')], ['2', '1', '0'])
+            self.assertEqual([case.get('name') for case in suite.iter('testcase')], [name, name])
+            self.assertEqual([failure.get('message') for failure in suite.iter('failure')], [name or 'x'])
+            self.assertEqual({element.get('name'): element.get('value') for element in suite.iter('property')}, {'mark': '2', 'of': '3'})
+        self.assertEqual([root[-1].get(key) for key in ('tests', 'failures', 'errors')], ['1', '0', '1'])
+        self.assertEqual([error.get('message') for error in root[-1].iter('error')], ['over 60 s, and was ended'])
 
     def test_a_line_of_the_table_is_one(self) -> None:
         self.assertEqual(line_of(['a\nb\tc', '=x', 'b\udce9']), "a b c\t'=x\tb\\xe9")
@@ -124,9 +124,9 @@ class Texts(ToolCase):
 
     def test_pages(self) -> None:
         first, second = page_of(self.file('page', ECHO))
-        self.assertEqual([it.weight for it in (*first.expectations, *second.expectations)], [2, 1, 3])
+        self.assertEqual([expectation.weight for expectation in (*first.expectations, *second.expectations)], [2, 1, 3])
         self.assertEqual((first.is_hidden, second.is_hidden), (False, True))
-        for line, told in (
+        for line, why in (
             ('[0] lost = 0', r'page, line 2: \[0\] is no weight'),
             ('[x] lost = 0', 'is no weight'),
             ('[-1] lost = 0', 'is no weight'),
@@ -141,15 +141,15 @@ class Texts(ToolCase):
             ('lost = 0\nhidden = yes', 'hidden stands before what is expected'),
             ('hidden = yes\nrun = x\nlost = 0', 'has no expectations'),
         ):
-            with self.assertRaisesRegex(Sorry, told, msg=line):
+            with self.assertRaisesRegex(Sorry, why, msg=line):
                 page_of(self.file('page', f'# a page\n{line}\n'))
 
     def test_folders_of_one_name_stay_apart(self) -> None:
         names = ['a/sum.asm', 'b/sum.asm', 'b/SUM.com', 'b/sum.hex', 'sum-2.asm', 'x/b-sum.asm', '..', "c/o'k $(x).asm", 'd/.asm', '-x.asm']
-        found = [os.path.basename(it) for it in folders_of([f'/{it}' for it in names], f'{self.room}/new')]
-        self.assertEqual(len({it.lower() for it in found}), len(names))
+        found = [os.path.basename(folder) for folder in folders_of([f'/{name}' for name in names], f'{self.room}/new')]
+        self.assertEqual(len({folder.lower() for folder in found}), len(names))
         self.assertEqual(found[:2], ['sum', 'b-sum'])
-        self.assertTrue(all(re.fullmatch(r'[\w.][\w.-]*', it) and not it.startswith('.') for it in found), found)
+        self.assertTrue(all(re.fullmatch(r'[\w.][\w.-]*', folder) and not folder.startswith('.') for folder in found), found)
         self.assertEqual(plain_name('x/it b.asm'), 'it_b.asm')
         self.file('new/theirs', '')
         with self.assertRaisesRegex(Sorry, 'has files already'):
@@ -165,10 +165,10 @@ class Texts(ToolCase):
             self.file(f'it/{name}', '')
         close(folder, Row(f'{self.room}/odd name.asm', [Outcome('x', '', 4, False)], f'over 60 s, {self.room}/odd name.asm'), ['--args=a b'])
         with open(f'{folder}/feedback.txt', encoding='utf-8') as file:
-            told = file.read().splitlines()
-        self.assertEqual(told[0], 'Not judged: over 60 s, odd_name.asm')
-        self.assertEqual(shlex.split(told[1]), ['tools/judge', 'it/12.page', 'it/odd_name.asm', 'it/12.json', '--args=a b'])
-        self.assertEqual(told[-1], 'Mark: 0 of 4')
+            lines = file.read().splitlines()
+        self.assertEqual(lines[0], 'Not judged: over 60 s, odd_name.asm')
+        self.assertEqual(shlex.split(lines[1]), ['tools/judge', 'it/12.page', 'it/odd_name.asm', 'it/12.json', '--args=a b'])
+        self.assertEqual(lines[-1], 'Mark: 0 of 4')
 
 
 class Strangers(ToolCase):
@@ -189,7 +189,7 @@ class Strangers(ToolCase):
         os.symlink('/etc/passwd', f'{self.room}/link.asm')
         return {'right': 'a/it.asm', 'same': 'b/it.asm', 'wrong': "=w,r\n'.asm", 'refused': 'refused.asm', 'empty': 'empty.asm', 'link': 'link.asm'}
 
-    def told(self, name: str) -> str:
+    def feedback(self, name: str) -> str:
         """A text for a student."""
         with open(f'{self.room}/told/{name}/feedback.txt', encoding='utf-8') as file:
             return file.read()
@@ -200,23 +200,23 @@ class Strangers(ToolCase):
         words = ['--csv', 'it.csv', '--junit', 'it.xml', '--feedback', 'told']
         out, err = self.called('judge', '--class', page, *files.values(), *words, status=1)
         self.assertEqual(err, 'judge: the same bytes: a/it.asm, b/it.asm\n')
-        rows = [it.split('\t') for it in out.splitlines()]
-        self.assertEqual([it[-2:] for it in rows], [['mark', 'of'], ['6', '6'], ['6', '6'], ['1', '6'], ['0', '6'], ['0', '6'], ['0', '6']])
+        rows = [line.split('\t') for line in out.splitlines()]
+        self.assertEqual([row[-2:] for row in rows], [['mark', 'of'], ['6', '6'], ['6', '6'], ['1', '6'], ['0', '6'], ['0', '6'], ['0', '6']])
         self.assertEqual((rows[3][0], rows[5][1]), ("'=w,r '.asm", '1'))  # nothing ran, so that no key was lost counts nothing
         with open(f'{self.room}/it.csv', encoding='utf-8', newline='') as file:
             table = list(csv.DictReader(file))
-        self.assertEqual([(it['mark'], it['of']) for it in table], [tuple(it[-2:]) for it in rows[1:]])
+        self.assertEqual([(record['mark'], record['of']) for record in table], [tuple(row[-2:]) for row in rows[1:]])
         self.assertEqual(len(ElementTree.parse(f'{self.room}/it.xml').getroot()), 6)
         self.assertEqual(sorted(os.listdir(f'{self.room}/told')), ['_w_r_n_', 'b-it', 'empty', 'it', 'link', 'refused'])
-        self.assertIn('Mark: 6 of 6', self.told('b-it'))
+        self.assertIn('Mark: 6 of 6', self.feedback('b-it'))
         self.assertEqual(sorted(os.listdir(f'{self.room}/told/it')), ['feedback.txt', 'it.asm'])
-        wrong, refused = self.told('_w_r_n_'), self.told('refused')
+        wrong, refused = self.feedback('_w_r_n_'), self.feedback('refused')
         self.assertRegex(wrong, "no  shows = HELLO: came 'HALLO'\n(?s:.*)A hidden run: not met\n(?s:.*)Mark: 1 of 6")
         self.assertIn('hexadecimal numbers end with h', refused)
-        self.assertIn('no far jump stands there', self.told('empty'))
-        self.assertNotIn('root', self.told('link'))
+        self.assertIn('no far jump stands there', self.feedback('empty'))
+        self.assertNotIn('root', self.feedback('link'))
         self.assertEqual(os.listdir(f'{self.room}/told/link'), ['feedback.txt'])
-        for text in map(self.told, os.listdir(f'{self.room}/told')):
+        for text in map(self.feedback, os.listdir(f'{self.room}/told')):
             self.assertNotRegex(text, f'(?i)zebra|{self.room}|{TOOLS}|/tmp')
         self.repeats(wrong, r"no  shows = HELLO: came 'HALLO'\n(?s:.*)1 met, 1 not")
         self.assertIn('(fault 3, BadLine)', self.called('why', '--all', 'told/refused/refused.asm', status=1)[0])
@@ -226,7 +226,7 @@ class Strangers(ToolCase):
         """Types the commands of a text in a folder where the student's has been copied."""
         there = f'{self.room}/home'
         shutil.copytree(f'{self.room}/told', there)
-        judge, show = (it.split() for it in re.findall(r'^  tools/(judge .*|try .*)$', text, re.M))
+        judge, show = (command.split() for command in re.findall(r'^  tools/(judge .*|try .*)$', text, re.M))
         room, self.room = self.room, there
         self.assertRegex(self.called(*judge, status=1)[0], wanted)
         self.assertEqual(self.called(*show)[0].splitlines()[0], 'HALLO')
@@ -244,13 +244,13 @@ class Strangers(ToolCase):
         self.assertEqual({name: marks[f'./{name}.asm'] == ['6', '6'] for name in KINDS}, {name: is_right for name, (_, is_right) in KINDS.items()})
         self.assertEqual({each[1] for each in marks.values()}, {'6'})
         for name, (_, is_right) in KINDS.items():
-            self.assertRegex(self.told(name), r'Mark: \d of 6')
+            self.assertRegex(self.feedback(name), r'Mark: \d of 6')
             if not is_right:
                 self.fails_again(name)
 
     def fails_again(self, name: str) -> None:
         """The commands of a text, typed where the folder is."""
-        text, room = self.told(name), self.room
+        text, room = self.feedback(name), self.room
         self.room = f'{room}/told'
         commands = re.findall(r'^ *tools/(judge .*|why --all \S+|try \S+$)', text, re.M)
         self.assertTrue(commands, name)
@@ -267,8 +267,8 @@ class Strangers(ToolCase):
         page = self.file('page', ECHO.replace('plain keys = hello\n', 'hidden = yes\nplain keys = hello\n'))
         self.called('judge', '--class', page, self.program(' HLT')[0], '--feedback', 'told', status=1)
         self.assertEqual(sorted(os.listdir(f'{self.room}/told/it')), ['feedback.txt', 'it.asm'])
-        self.assertEqual(self.told('it').count('A hidden run: not met'), 2)
-        self.assertNotRegex(self.told('it'), '(?i)hello|zebra|another word|why|tools')
+        self.assertEqual(self.feedback('it').count('A hidden run: not met'), 2)
+        self.assertNotRegex(self.feedback('it'), '(?i)hello|zebra|another word|why|tools')
 
     def test_keeps_a_page_s_keys(self) -> None:
         page, source = self.file('page', ECHO), example('keys')[0]
@@ -291,9 +291,9 @@ class Strangers(ToolCase):
         seconds, kilobytes = map(float, ran.stderr.split())
         self.assertLess(seconds, 10)
         self.assertLess(kilobytes, 256 * 1024)
-        self.assertRegex(self.told('flood'), r'judge flood/1\.page flood/flood\.asm flood/1\.json --memory=256\n')
-        for words, told in (('--memory=1', '--memory takes 16 to'), ('--seconds=0', '--seconds takes 1 to'), ('--keep=x', 'goes with one FILE')):
-            self.assertIn(told, self.called('judge', '--class', page, flood, words, status=2)[1])
+        self.assertRegex(self.feedback('flood'), r'judge flood/1\.page flood/flood\.asm flood/1\.json --memory=256\n')
+        for words, why in (('--memory=1', '--memory takes 16 to'), ('--seconds=0', '--seconds takes 1 to'), ('--keep=x', 'goes with one FILE')):
+            self.assertIn(why, self.called('judge', '--class', page, flood, words, status=2)[1])
 
     def test_an_answer_that_is_too_long_is_no_report(self) -> None:
         flood = self.file('flood.asm', FLOOD)
@@ -301,14 +301,14 @@ class Strangers(ToolCase):
             self.assertIn('more than 1,048,576 bytes', self.called('try', flood, '--budget', '1000000', status=2)[1])
 
     def test_runs_that_a_signal_ends(self) -> None:
-        page, it = self.file('page', 'lost = 0\n'), self.file('it.asm', FLOOD)
+        page, flood = self.file('page', 'lost = 0\n'), self.file('it.asm', FLOOD)
         killed = self.file('killed', '#!/bin/sh\nkill -9 $$\n')
         os.chmod(killed, 0o755)
         with mock.patch.dict(os.environ, {'PCBOARD': killed}):
-            out, _ = self.called('judge', '--class', page, it, '--csv', '-', status=1)
+            out, _ = self.called('judge', '--class', page, flood, '--csv', '-', status=1)
         (row,) = csv.DictReader(io.StringIO(out, newline=''))
         self.assertEqual((row['mark'], row['lost = 0'], row['why not']), ('0', 'no', 'the program was ended by signal 9 (Killed)'))
-        self.assertIn('are two files', self.called('judge', '--class', page, it, '--csv', '-', '--junit', '-', status=2)[1])
+        self.assertIn('are two files', self.called('judge', '--class', page, flood, '--csv', '-', '--junit', '-', status=2)[1])
 
     def test_control_c_keeps_the_rows_done(self) -> None:
         """Also those behind one that isn't done; and no process is left."""
@@ -316,7 +316,7 @@ class Strangers(ToolCase):
         os.chmod(slow, 0o755)
         self.file('slow.report', self.pcboard('run', *example('hello')).stdout)
         page = self.file('page', 'shows = HI\n')
-        files = [self.file(f'{it}.asm', 'x') for it in ('one', 'slow', 'three')]
+        files = [self.file(f'{stem}.asm', 'x') for stem in ('one', 'slow', 'three')]
         with subprocess.Popen(
             [sys.executable, '-S', f'{TOOLS}/judge', '--class', page, *files, '--csv', f'{self.room}/it.csv', '--feedback', f'{self.room}/told'],
             env=os.environ | {'PCBOARD': slow},
@@ -326,16 +326,16 @@ class Strangers(ToolCase):
             start_new_session=True,
         ) as process:
             for name in ('one', 'three'):
-                self.assertTrue(until(lambda of=name: os.path.exists(f'{self.room}/told/{of}/feedback.txt') and 'Mark' in self.told(of)))
+                self.assertTrue(until(lambda of=name: os.path.exists(f'{self.room}/told/{of}/feedback.txt') and 'Mark' in self.feedback(of)))
             self.assertTrue(until(lambda: os.path.exists(f'{self.room}/told/slow/1.json')))
             os.killpg(process.pid, signal.SIGINT)  # as a terminal does
             out, _ = process.communicate(timeout=SECONDS)
         self.assertEqual(process.returncode, 130)
-        self.assertEqual([os.path.basename(it.split('\t')[0]) for it in out.splitlines()], ['file', 'one.asm', 'three.asm'])
+        self.assertEqual([os.path.basename(line.split('\t')[0]) for line in out.splitlines()], ['file', 'one.asm', 'three.asm'])
         with open(f'{self.room}/it.csv', encoding='utf-8', newline='') as file:
-            self.assertEqual([it['met'] for it in csv.DictReader(file)], ['1', '1'])
+            self.assertEqual([record['met'] for record in csv.DictReader(file)], ['1', '1'])
         with open(f'{slow}.begun', encoding='ascii') as file:
-            self.assertTrue(until(lambda begun=file.read().split(): not any(is_running(int(it)) for it in begun)))
+            self.assertTrue(until(lambda begun=file.read().split(): not any(is_running(int(number)) for number in begun)))
 
     def test_no_other_assembler_is_called(self) -> None:
         for word in ('--nasm', '--bcc'):

@@ -60,8 +60,8 @@ class Guests(ToolCase):
             self.assertRegex(out, r'^Exe\n\(ended with exit code 7, at clock [\d,]+\)\n\Z')
             self.assertEqual(err, '')
         image = loading.exe('it', exe(), '', 640).image
-        self.assertEqual([image[0x1100 + it] for it in range(3)], [0xB8, 0x12, 0x01])
-        self.assertEqual(struct.unpack('<6H', bytes(image[0xFFFE0 + it] for it in range(12))), (0x100, 0, 0x110, 0x100, 0x113, 0xE0))
+        self.assertEqual([image[0x1100 + at] for at in range(3)], [0xB8, 0x12, 0x01])
+        self.assertEqual(struct.unpack('<6H', bytes(image[0xFFFE0 + at] for at in range(12))), (0x100, 0, 0x110, 0x100, 0x113, 0xE0))
         self.assertEqual(loading.exe('it', exe(last=0)[:32] + MODULE.ljust(480, b'\0'), '', 640).image[0x1102], 1)
 
     def test_sector(self) -> None:
@@ -98,8 +98,8 @@ class Guests(ToolCase):
         tails = (('', b''), (' x', b' x'), ('/s', b' /s'), ('x' * 125, b' ' + b'x' * 125), ('x' * 126, b'x' * 126), (' ' * 126, b' ' * 126))
         for args, wanted in tails:
             self.assertEqual(loading.tail_of(args), bytes([len(wanted)]) + wanted + b'\r')
-        for args, told in (('x' * 127, '126 characters at most, and here are 127'), (' ' * 127, 'here are 127'), ('ä', 'printable'), ('a\n', 'printable')):
-            with self.assertRaisesRegex(Sorry, told):
+        for args, why in (('x' * 127, '126 characters at most, and here are 127'), (' ' * 127, 'here are 127'), ('ä', 'printable'), ('a\n', 'printable')):
+            with self.assertRaisesRegex(Sorry, why):
                 loading.tail_of(args)
         self.assertIn('126 characters at most', self.called('try', echo, '--args', 'x' * 127, status=2)[1])
         self.assertIn('goes with', self.called('try', example('hello')[0], '--args', 'x', status=2)[1])
@@ -143,9 +143,9 @@ class Guests(ToolCase):
     def test_what_is_not_served_is_told(self) -> None:
         # MOV AH,3Dh; INT 21h; INT 20h
         out, err = self.called('try', self.binary('open.com', bytes.fromhex('B43DCD21CD20')), '--keep', 'kept')
-        told = "why: INT 21h function 3Dh, called at 0100:0102, isn't among the services (docs/services.md)\n"
-        self.assertEqual((out.split(' at clock')[0], err), ('(ended by INT 20h,', told))
-        self.assertEqual(self.called('why', 'run', '--hex', 'kept.hex', 'kept.json')[1], told)
+        wanted = "why: INT 21h function 3Dh, called at 0100:0102, isn't among the services (docs/services.md)\n"
+        self.assertEqual((out.split(' at clock')[0], err), ('(ended by INT 20h,', wanted))
+        self.assertEqual(self.called('why', 'run', '--hex', 'kept.hex', 'kept.json')[1], wanted)
         lost = self.called('try', self.binary('wait.com', bytes.fromhex('EBFE')), '--keys', 'x' * 20)[1]
         self.assertIn("5 keys were lost: the keyboard's buffer, which holds 15, was full", lost)
 
@@ -164,8 +164,8 @@ class Guests(ToolCase):
         self.assertIn('no services', self.called('judge', self.file('e.page', 'exit = 7\n'), source, status=1)[0])
         lines = self.binary('two.com', bytes.fromhex('BA0B01B409CD21CD209090') + b'one\r\n\ttwo\r\n$')
         self.assertIn('1 met', self.called('judge', self.file('l.page', 'output = one\\n\\ttwo\n'), lines)[0])
-        for line, told in (('exit = x', 'no exit code'), ('exit = 256', 'no exit code'), ('output =', 'no expectation')):
-            self.assertIn(told, self.called('judge', self.file('bad.page', line + '\n'), path, status=2)[1])
+        for line, why in (('exit = x', 'no exit code'), ('exit = 256', 'no exit code'), ('output =', 'no expectation')):
+            self.assertIn(why, self.called('judge', self.file('bad.page', line + '\n'), path, status=2)[1])
         running = self.binary('loop.com', b'\xEB\xFE')
         self.assertIn('came no end up to clock', self.called('judge', self.file('e.page', 'exit = 0\n'), running, status=1)[0])
         divided = self.binary('div.com', bytes.fromhex('B300F6F3'))
@@ -175,8 +175,8 @@ class Guests(ToolCase):
         page = self.file('it.page', 'exit = 7\n')
         files = [self.binary('a.exe', exe()), self.binary('b.com', HELLO), self.binary('c.exe', exe()[:20])]
         out, _ = self.tool('judge', '--class', page, *files, status=1)
-        rows = [it.split('\t')[1:] for it in out.splitlines()[1:]]
-        self.assertEqual([it[0] for it in rows], ['1', '0', '0'])
+        rows = [line.split('\t')[1:] for line in out.splitlines()[1:]]
+        self.assertEqual([row[0] for row in rows], ['1', '0', '0'])
         self.assertIn('ends within its header', rows[2][2])
 
     def test_dbg(self) -> None:
@@ -233,7 +233,7 @@ class Guests(ToolCase):
         self.assertIn('no Intel HEX', self.called('try', '--hex', self.binary('it.com', HELLO), status=2)[1])
 
     def test_headers_that_lie(self) -> None:
-        for more, told in (
+        for more, why in (
             ({'pages': 0}, "can't be"),
             ({'last': 512}, "can't be"),
             ({'header': 5}, "can't be"),
@@ -246,7 +246,7 @@ class Guests(ToolCase):
             ({'cs': 0x100}, 'it begins at 0100:0000'),
             ({'ss': 0x9000}, 'its stack ends'),
         ):
-            with self.assertRaisesRegex(Sorry, told, msg=str(more)):
+            with self.assertRaisesRegex(Sorry, why, msg=str(more)):
                 loading.exe('it.exe', exe(**more), '', 640)
         self.assertIn('ends early', self.refused(exe(last=81), 'it.exe'))
         outside = exe()[:28] + struct.pack('<HH', 0x2F, 0) + MODULE
@@ -265,12 +265,12 @@ class Loading(unittest.TestCase):
         except Sorry as sorry:
             self.assertTrue(str(sorry).startswith('it.exe'))
             return False
-        self.assertLess(max(it for it in found.image if it < 0xF0000), 0x90000)
+        self.assertLess(max(address for address in found.image if address < 0xF0000), 0x90000)
         return True
 
     def test_every_front_of_a_right_one(self) -> None:
         whole = exe()
-        self.assertEqual([it for it in range(len(whole) + 1) if self.loaded(whole[:it])], [len(whole)])
+        self.assertEqual([length for length in range(len(whole) + 1) if self.loaded(whole[:length])], [len(whole)])
 
     def test_random_headers(self) -> None:
         rng, taken = random.Random(8086), 0
@@ -286,7 +286,7 @@ class Loading(unittest.TestCase):
         image = {0: 1, 1: 2, 0xFFFF: 3, 0x10000: 4, 0x1000F: 5, 0xFFFFF: 6}
         text = loading.hex_of(image)
         self.assertEqual(image_of(text), image)
-        self.assertTrue(all(sum(bytes.fromhex(it[1:])) % 256 == 0 for it in text.split()))
+        self.assertTrue(all(sum(bytes.fromhex(record[1:])) % 256 == 0 for record in text.split()))
 
 
 class Compiled(ToolCase):

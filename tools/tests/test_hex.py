@@ -33,7 +33,7 @@ class ByName(ToolCase):
         for name in ('it.hex', 'IT.HEX'):
             path = shutil.copyfile(source.replace('.asm', '.hex'), f'{self.room}/{name}')
             for line, wanted in TOOLS:
-                tool, *words = [{'FILE': path, 'RUN': run, 'PAGE': page}.get(it, it) for it in line.split()]
+                tool, *words = [{'FILE': path, 'RUN': run, 'PAGE': page}.get(word, word) for word in line.split()]
                 self.assertIn(wanted, self.called(tool, *words, given='regs\ngo 50\nregs\n')[0], line)
             self.assertEqual(zebludor.run(pathlib.Path(path), budget=200_000).text, '>')
             with zebludor.Session(pathlib.Path(path)) as session:

@@ -38,9 +38,9 @@ class Reports(ToolCase):
         self.assertEqual(self.judge(page, 'hello', 0)[-1], '12 met, 0 not')
 
     def test_not_met(self) -> None:
-        told = self.judge('line 1 = HO\nshows = XY\nAX = 0709\nal = 9\nIF = 1\nstate = running\nline 1 = I\n', 'hello', 1)
+        lines = self.judge('line 1 = HO\nshows = XY\nAX = 0709\nal = 9\nIF = 1\nstate = running\nline 1 = I\n', 'hello', 1)
         self.assertEqual(
-            told,
+            lines,
             [
                 "no  line 1 = HO: came 'HI'",
                 "no  shows = XY: came 'HI'",
@@ -76,8 +76,8 @@ class Reports(ToolCase):
             ('speaker at 5 = 2\n', '0 and 1'),
             ('memory 0 = 1\n', 'has no memory'),
         ):
-            told = self.called('judge', self.file('page', page), f'{STORED}/hello.report', status=2)[1]
-            self.assertIn(wanted, told)
+            err = self.called('judge', self.file('page', page), f'{STORED}/hello.report', status=2)[1]
+            self.assertIn(wanted, err)
         self.assertIn('is no report', self.called('judge', self.file('page', 'lost = 0'), self.file('r', 'x'), status=2)[1])
 
     def test_same(self) -> None:
@@ -91,7 +91,7 @@ class Reports(ToolCase):
     def test_a_later_tune_is_the_same(self) -> None:
         with open(f'{STORED}/tone.report', encoding='utf-8') as file:
             text = file.read()
-        path = self.file('later', re.sub(r'^(\d+) ([01])$', lambda it: f'{int(it[1]) + 100} {it[2]}', text, flags=re.M))
+        path = self.file('later', re.sub(r'^(\d+) ([01])$', lambda match: f'{int(match[1]) + 100} {match[2]}', text, flags=re.M))
         out, _ = self.called('judge', '--same', 'tune,speaker', f'{STORED}/tone.report', path, status=1)
         self.assertEqual(out.splitlines()[0], 'ok  same tune')
 
@@ -128,10 +128,10 @@ class Runs(ToolCase):
 
     def test_what_ran_and_when(self) -> None:
         page = 'runs = start\nruns = digit+3\nnever runs = nowhere\nruns = nowhere\nhalted before = 20000\nclocks used = 1 to 99,999\nclocks used = 5\nhalted before = 5\nruns = :2\nnever runs = start\n'
-        told = self.lines(page, *example('fibonacci'), status=1)
-        self.assertEqual([it[:2] for it in told[:-1]], ['ok', 'ok', 'no', 'no', 'ok', 'ok', 'no', 'no', 'ok', 'no'], told)
-        self.assertIn('came no nowhere in', told[2])
-        self.assertRegex(told[6], r'clocks used = 5: came \d+$')
+        lines = self.lines(page, *example('fibonacci'), status=1)
+        self.assertEqual([line[:2] for line in lines[:-1]], ['ok', 'ok', 'no', 'no', 'ok', 'ok', 'no', 'no', 'ok', 'no'], lines)
+        self.assertIn('came no nowhere in', lines[2])
+        self.assertRegex(lines[6], r'clocks used = 5: came \d+$')
 
     def test_the_first_instruction_ran(self) -> None:
         """It began at clock 0, unless the run ends there."""
@@ -139,7 +139,7 @@ class Runs(ToolCase):
         for budget, came in (('100', 'clock 0'), ('0', 'never')):
             page = self.file('page', f'budget = {budget}\nruns = first\nruns = FFFF:0\nnever runs = first\n')
             out, _ = self.called('judge', page, source, status=1)
-            self.assertEqual([it[:3] for it in out.splitlines()[:3]], ['no ', 'no ', 'ok '] if came == 'never' else ['ok ', 'ok ', 'no '])
+            self.assertEqual([line[:3] for line in out.splitlines()[:3]], ['no ', 'no ', 'ok '] if came == 'never' else ['ok ', 'ok ', 'no '])
             self.assertIn(came, out)
 
     def test_behind_a_halt_nothing_runs_by_itself(self) -> None:
@@ -152,12 +152,12 @@ class Runs(ToolCase):
 
     def test_several_runs(self) -> None:
         source, _ = example('keys')
-        told = self.lines(TYPED.replace('never runs = nothing\n', ''), source)
-        self.assertEqual(told[0], 'ok  small letters: shows = HELLO')
-        self.assertEqual(told[-1], '4 met, 0 not')
+        lines = self.lines(TYPED.replace('never runs = nothing\n', ''), source)
+        self.assertEqual(lines[0], 'ok  small letters: shows = HELLO')
+        self.assertEqual(lines[-1], '4 met, 0 not')
         constant = self.program(" MOV AX,0B000h\n MOV DS,AX\n MOV WORD [0],0748h\n MOV WORD [2],0745h\n MOV DX,3B8h\n MOV AL,8\n OUT DX,AL\n HLT")[0]
-        told = self.lines('run = a\nkeys = h\nshows = HE\nrun = b\nkeys = z\nshows = ZE\n', constant, status=1)
-        self.assertEqual([it[:2] for it in told], ['ok', 'no', '1 '])
+        lines = self.lines('run = a\nkeys = h\nshows = HE\nrun = b\nkeys = z\nshows = ZE\n', constant, status=1)
+        self.assertEqual([line[:2] for line in lines], ['ok', 'no', '1 '])
 
     def test_fields(self) -> None:
         source, run = self.program(' PUSH AX\n HLT')
@@ -171,9 +171,9 @@ class Runs(ToolCase):
         bad = self.file('bad.asm', 'SEGMENT A AT 0\n FROB\tX\n')
         page = self.file('page', TYPED)
         out, _ = self.called('judge', '--class', page, bad, good, 'nothing.asm', '--seconds', str(SECONDS), status=1)
-        rows = [it.split('\t') for it in out.splitlines()]
-        self.assertEqual({len(it) for it in rows}, {8})
-        self.assertEqual([it[0] for it in rows], ['file', bad, good, 'nothing.asm'])
+        rows = [line.split('\t') for line in out.splitlines()]
+        self.assertEqual({len(fields) for fields in rows}, {8})
+        self.assertEqual([fields[0] for fields in rows], ['file', bad, good, 'nothing.asm'])
         self.assertEqual(rows[0][2:5], ['small letters: shows = HELLO', 'small letters: not shown = WORLD', 'small letters: lost = 0'])
         self.assertEqual(rows[1][1:3], ['0', 'no: refused: fault 4 UnknownName line 2'])
         self.assertEqual((rows[2][1], rows[2][2:7]), ('4', ['ok', 'ok', 'ok', 'ok', f'no: came no nothing in {good}']))
@@ -196,7 +196,7 @@ class Runs(ToolCase):
             out, _ = self.called('judge', '--class', page, *[endless] * 9, '--seconds', '3', status=1)
         self.assertEqual(out.splitlines()[1:], [f'{endless}\t0\tno\tover 3 s, and was ended'] * 9)
         with open(f'{slow}.begun', encoding='ascii') as file:
-            self.assertEqual([it for it in file.read().split() if is_running(int(it))], [])
+            self.assertEqual([process for process in file.read().split() if is_running(int(process))], [])
 
     def test_an_interrupt_leaves_no_traceback(self) -> None:
         endless = self.file('endless.asm', 'SEGMENT A AT 0FFFFh\nnothing: INC AX\n JMP nothing\n')

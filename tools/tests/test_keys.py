@@ -13,13 +13,13 @@ class Codes(unittest.TestCase):
     def test_the_table_is_that_of_the_example(self) -> None:
         """`examples/keys.asm` has the keyboard's letters by code, worked out apart."""
         with open(example('keys')[0], encoding='utf-8') as file:
-            rows = [it.split("'")[1] for it in file if " DB '" in it]
+            rows = [line.split("'")[1] for line in file if " DB '" in line]
         for code, sign in enumerate(''.join(rows)):
             if sign != '.' and code < 0x37:
                 self.assertEqual(SIGNS[sign.lower()][0], code, sign)
 
     def test_each_printable_sign_has_a_key(self) -> None:
-        self.assertEqual([chr(it) for it in range(32, 127) if chr(it) not in SIGNS], [])
+        self.assertEqual([chr(number) for number in range(32, 127) if chr(number) not in SIGNS], [])
         self.assertEqual(NAMED['f10'], 0x44)
         self.assertEqual(NAMED['del'], 0x53)
 
@@ -27,7 +27,7 @@ class Codes(unittest.TestCase):
         keys = stamped(strokes_of('A{wait 1000}b'), 10, 100, 50)
         self.assertEqual(keys, [(10, 42), (11, 30), (111, 158), (112, 170), (1162, 48), (1262, 176)])
         self.assertEqual(stamped(strokes_of('A', True), 0, 5, 5), [(0, 30), (5, 158)])
-        self.assertEqual([it.codes for it in strokes_of('{{{ctrl+c}}}')], [(42, 26), (29, 46), (42, 27)])
+        self.assertEqual([stroke.codes for stroke in strokes_of('{{{ctrl+c}}}')], [(42, 26), (29, 46), (42, 27)])
 
 
 class Tools(ToolCase):
@@ -59,11 +59,11 @@ class Tools(ToolCase):
             self.assertEqual(out, f'{{"version":2,{rest},{wanted}}}\n')
         two = self.file('two.json', self.tool('runfile', '--timer', '8254', '--clocks', 'C2')[0])
         fields = json.loads(self.tool('runfile', '--from', two, '--budget', '50')[0])
-        self.assertEqual([fields[it] for it in ('version', 'timer', 'clocks', 'budget')], [2, '8254', 'C2', 50])
+        self.assertEqual([fields[name] for name in ('version', 'timer', 'clocks', 'budget')], [2, '8254', 'C2', 50])
         fields = json.loads(self.tool('runfile', '--from', two, '--clocks', 'c1')[0])
-        self.assertEqual([fields[it] for it in ('version', 'timer', 'clocks')], [2, '8254', 'C1'])
+        self.assertEqual([fields[name] for name in ('version', 'timer', 'clocks')], [2, '8254', 'C1'])
         fields = json.loads(self.tool('keys', 'a', '--run', two)[0])
-        self.assertEqual([fields[it] for it in ('version', 'timer', 'clocks', 'keys')], [2, '8254', 'C2', [[2000, 30], [2500, 158]]])
+        self.assertEqual([fields[name] for name in ('version', 'timer', 'clocks', 'keys')], [2, '8254', 'C2', [[2000, 30], [2500, 158]]])
         self.assertIn('8253', self.tool('runfile', '--timer', '8255', status=2)[1])
 
     def test_reads_keys(self) -> None:

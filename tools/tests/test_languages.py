@@ -31,10 +31,10 @@ class Languages(ToolCase):
         if folder is None:
             return
         words = ('--hex', '--symbols', f'{folder}/rom.lst@F600', f'{folder}/rom.hex', f'{folder}/run.json')
-        told = self.tool('dbg', *words, given='break key\ngo\nu show.digit 2\nlist key 1\n')[0].splitlines()
-        self.assertRegex(told[1], r'^stop 1 \(break F600:[0-9A-F]{4} key\), clock 20\d+: F600:[0-9A-F]{4} key \| \d+: key:    push ax$')
-        self.assertRegex(told[2], r'show\.digit +31D2 +XOR DX,DX$')
-        self.assertIn('key:    push ax', told[-1])
+        lines = self.tool('dbg', *words, given='break key\ngo\nu show.digit 2\nlist key 1\n')[0].splitlines()
+        self.assertRegex(lines[1], r'^stop 1 \(break F600:[0-9A-F]{4} key\), clock 20\d+: F600:[0-9A-F]{4} key \| \d+: key:    push ax$')
+        self.assertRegex(lines[2], r'show\.digit +31D2 +XOR DX,DX$')
+        self.assertIn('key:    push ax', lines[-1])
         out, _ = self.tool('trace', '--coverage', *words)
         self.assertRegex(out.splitlines()[0], r'^\d+ of \d+ lines of code ran')
         page = self.file('page', 'runs = key\nruns = start.next\nshows = keys   2\n')

@@ -17,16 +17,16 @@ class Tables(ToolCase):
     def test_rows_are_in_the_order_of_numbers(self) -> None:
         with open(f'{STORED}/hello.report', encoding='utf-8') as file:
             text = file.read()
-        names = [self.file(f'run-{it}.txt', text) for it in (10, 9, 100)]
+        names = [self.file(f'run-{number}.txt', text) for number in (10, 9, 100)]
         out, _ = self.tool('table', '--of', 'name', *names)
         self.assertEqual(out.split(), ['name', 'run-9', 'run-10', 'run-100'])
 
     def test_timer_and_clocks_are_of_the_run_file_beside(self) -> None:
-        names = [self.file(f'{it}.txt', 'fault 36 RamSize\n') for it in ('a', 'b', 'c')]
+        names = [self.file(f'{stem}.txt', 'fault 36 RamSize\n') for stem in ('a', 'b', 'c')]
         self.file('a.json', '{"version":2,"timer":"8254","clocks":"C2"}')
         self.file('b.json', '{"version":1}')
         out, _ = self.tool('table', '--of', 'name,timer,clocks,state', *names, status=1)
-        self.assertEqual(out.splitlines()[1:], [f'{it}\tfault 36 RamSize' for it in ('a\t8254\tC2', 'b\t8253\tC1', 'c\t\t')])
+        self.assertEqual(out.splitlines()[1:], [f'{row}\tfault 36 RamSize' for row in ('a\t8254\tC2', 'b\t8253\tC1', 'c\t\t')])
         with open(f'{STORED}/hello.report', encoding='utf-8') as file:
             name = self.file('a.txt', file.read())
         self.assertEqual(self.tool('table', '--of', 'clock,clocks', name)[0].splitlines()[1], '100\tC2')
