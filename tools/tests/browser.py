@@ -29,7 +29,7 @@ KEYS: dict[str, tuple[str, str, int, str]] = {
     'Escape': ('Escape', 'Escape', 27, ''),
     '/': ('/', 'Slash', 191, '/'),
     **{f'F{n}': (f'F{n}', f'F{n}', 111 + n, '') for n in range(1, 13)},
-    **{it: (it, f'Key{it.upper()}', ord(it.upper()), it) for it in 'abcdefghijklmnopqrstuvwxyz'},
+    **{letter: (letter, f'Key{letter.upper()}', ord(letter.upper()), letter) for letter in 'abcdefghijklmnopqrstuvwxyz'},
 }
 CONTROL, SHIFT = 2, 8
 # Chromium reads its commands from file descriptor 3, and writes answers to 4.
@@ -38,7 +38,7 @@ START = 'import os, sys; os.dup2(int(sys.argv[1]), 3); os.dup2(int(sys.argv[2]),
 
 def path() -> str | None:
     """Chromium, or None where it isn't installed."""
-    return next((found for it in ('chromium', 'chromium-browser', 'google-chrome') if (found := shutil.which(it))), None)
+    return next((found for name in ('chromium', 'chromium-browser', 'google-chrome') if (found := shutil.which(name))), None)
 
 
 class Browser:
@@ -47,7 +47,7 @@ class Browser:
     def __init__(self, room: str) -> None:
         to_browser, self._write = os.pipe()
         self._read, from_browser = os.pipe()
-        ends = [fcntl.fcntl(it, fcntl.F_DUPFD, 20) for it in (to_browser, from_browser)]
+        ends = [fcntl.fcntl(end, fcntl.F_DUPFD, 20) for end in (to_browser, from_browser)]
         words = [
             path() or '',
             '--headless',
@@ -73,15 +73,15 @@ class Browser:
             start_new_session=True,
             env=os.environ | {'HOME': room},
         )
-        for it in (to_browser, from_browser, *ends):
-            os.close(it)
+        for descriptor in (to_browser, from_browser, *ends):
+            os.close(descriptor)
         self._kept, self._count = b'', 0
         self._session: str | None = None
-        self.told = list[dict[str, Any]]()
+        self.events = list[dict[str, Any]]()
         target = self.call('Target.createTarget', url='about:blank')['targetId']
         self._session = self.call('Target.attachToTarget', targetId=target, flatten=True)['sessionId']
-        for it in ('Page', 'Runtime', 'Network', 'Log'):
-            self.call(f'{it}.enable')
+        for domain in ('Page', 'Runtime', 'Network', 'Log'):
+            self.call(f'{domain}.enable')
         self.call('Performance.enable', timeDomain='threadTicks')
 
     def close(self) -> None:
@@ -116,7 +116,7 @@ class Browser:
             if answer.get('id') == self._count:
                 assert 'error' not in answer, (method, answer)
                 return answer['result']
-            self.told.append(answer)
+            self.events.append(answer)
 
     def run(self, script: str) -> Any:
         """The value of an expression in the page, which may use the names that its modules export, once they are `named`."""
@@ -150,7 +150,7 @@ class Browser:
 
     def thread_seconds(self, what: str = 'TaskDuration') -> float:
         """The processor time of the page's thread, of all that it does or of its script."""
-        return {it['name']: it['value'] for it in self.call('Performance.getMetrics')['metrics']}[what]
+        return {metric['name']: metric['value'] for metric in self.call('Performance.getMetrics')['metrics']}[what]
 
     def press(self, name: str, modifiers: int = 0) -> None:
         """A key, down and up."""

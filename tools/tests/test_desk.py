@@ -114,9 +114,9 @@ def contrast(one: str, other: str) -> float:
     """The contrast of two colours: the ratio of their luminances."""
 
     def luminance(colour: str) -> float:
-        digits = colour[1:] if len(colour) == 7 else ''.join(2 * it for it in colour[1:])
+        digits = colour[1:] if len(colour) == 7 else ''.join(2 * digit for digit in colour[1:])
         parts = [int(digits[at : at + 2], 16) / 255 for at in (0, 2, 4)]
-        red, green, blue = (it / 12.92 if it <= 0.04045 else ((it + 0.055) / 1.055) ** 2.4 for it in parts)
+        red, green, blue = (part / 12.92 if part <= 0.04045 else ((part + 0.055) / 1.055) ** 2.4 for part in parts)
         return 0.2126 * red + 0.7152 * green + 0.0722 * blue
 
     low, high = sorted((luminance(one), luminance(other)))
@@ -136,7 +136,7 @@ class Client:
         own: dict[str, str | None] = {'Host': self.host}
         if method == 'POST':
             own |= {'Origin': f'http://{self.host}', 'Content-Type': 'application/json'}
-        own |= {name.replace('_', '-'): it for name, it in headers.items()}
+        own |= {name.replace('_', '-'): content for name, content in headers.items()}
         connection = http.client.HTTPConnection('127.0.0.1', self.port, timeout=SECONDS)
         try:
             connection.putrequest(method, path, skip_host=True, skip_accept_encoding=True)
@@ -314,7 +314,7 @@ class Hostile(Served):
             (400, b'{"do":"run"}', {}),
         ):
             self.assertEqual(
-                self.client.request('POST', path, body, **{name.replace('_', '-'): it for name, it in headers.items()})[0], wanted, (body or b'')[:40]
+                self.client.request('POST', path, body, **{name.replace('_', '-'): content for name, content in headers.items()})[0], wanted, (body or b'')[:40]
             )
         for deep in range(900, 1000, 10):  # at the edge of what Python reads and writes
             body = b'{"do":"open","source":"HLT","run":{"keys":%s}}' % (b'[' * deep + b']' * deep)
@@ -418,20 +418,20 @@ class Hostile(Served):
 
     def test_a_stranger_that_has_made_room(self) -> None:
         """It isn't taken in, if its token comes before its end does; nor is one that was too slow."""
-        told, shut = list[int](), desk_http.shut
+        statuses, shut = list[int](), desk_http.shut
 
         def late(connection: socket.socket) -> None:
             with self.assertRaises(Refused) as refused:
                 self.server.shows_token(connection)
-            told.append(refused.exception.status)
+            statuses.append(refused.exception.status)
             shut(connection)
 
         with mock.patch.object(desk_http, 'shut', late):
             self.lines(MOST_STRANGERS + 1)
-            self.assertTrue(until(lambda: told == [503]))
+            self.assertTrue(until(lambda: statuses == [503]))
             self.server.seconds_of_a_stranger = 0
             self.server.cut_off()
-        self.assertEqual(told, [503] * (MOST_STRANGERS + 1))
+        self.assertEqual(statuses, [503] * (MOST_STRANGERS + 1))
 
     def test_how_long_a_stranger_may_stay(self) -> None:
         self.assertEqual((self.server.seconds_of_a_stranger, SECONDS_OF_A_STRANGER), (2, 2))
@@ -470,7 +470,7 @@ class Hostile(Served):
             {'do': 'type', 'text': '{wait 9999999999999}a'},
             {'do': 'last'},
         ):
-            rest = {name: it for name, it in fields.items() if name != 'do'}
+            rest = {name: value for name, value in fields.items() if name != 'do'}
             self.assertIn('sorry', self.client.ask(str(fields['do']), board=board, **rest), fields)
         self.assertIn('gone', self.client.ask('step', board='x'))
         self.assertEqual(self.client.ask('step', board=board)['clock'], 15)
@@ -481,21 +481,23 @@ class Boards(Served):
 
     def test_every_example(self) -> None:
         """Its screen at its end is the report's, and so are the registers; what is saved repeats it."""
-        for it in examples():
-            answer = self.client.open(it.name)
+        for program in examples():
+            answer = self.client.open(program.name)
             board = answer['board']
             shown = self.client.ask('run', board=board, to=answer['budget'], past=True, ms=200)
-            report = report_of(self.pcboard('run', *example(it.name)).stdout)
-            self.assertEqual((shown['clock'], text_of_screen(shown['screen']), shown['registers']), (report.clock, report.screen, report.registers), it.name)
+            report = report_of(self.pcboard('run', *example(program.name)).stdout)
+            self.assertEqual(
+                (shown['clock'], text_of_screen(shown['screen']), shown['registers']), (report.clock, report.screen, report.registers), program.name
+            )
             marks = self.client.ask('marks', board=board)
             self.assertEqual(
                 (shown['state'].removesuffix(' for good'), shown['lost'], [tuple(change) for change in marks['changes']]),
                 (report.state, report.lost, report.changes),
-                it.name,
+                program.name,
             )
-            self.assertTrue(shown['state'].startswith(report.state), it.name)
-            entries = [[one.clock, one.entry] for one in events(Files(*example(it.name)), 0, report.clock) if one.entry is not None]
-            self.assertEqual((marks['interrupts'], marks['interrupts up to']), (entries, report.clock), it.name)
+            self.assertTrue(shown['state'].startswith(report.state), program.name)
+            entries = [[one.clock, one.entry] for one in events(Files(*example(program.name)), 0, report.clock) if one.entry is not None]
+            self.assertEqual((marks['interrupts'], marks['interrupts up to']), (entries, report.clock), program.name)
             self.client.ask('close', board=board)
 
     def test_forth_and_back(self) -> None:
@@ -506,7 +508,7 @@ class Boards(Served):
                 session.one('step')
                 shown = self.client.ask('step', board=board)
                 self.assertEqual((shown['clock'], shown['registers']), (session.clock, registers_of(session.many('regs'))))
-            self.assertEqual([it[0] for it in shown['trail']], [int(it.split()[0]) for it in session.many('trail')])
+            self.assertEqual([row[0] for row in shown['trail']], [int(line.split()[0]) for line in session.many('trail')])
             top, count = shown['registers']['SP'] or 0x10000, len(shown['stack'])
             self.assertEqual(''.join(word[2:] + word[:2] for _, word, _ in shown['stack']), session.dump(top % 0x10000, 2 * count).hex().upper())
             session.one('back step')
@@ -533,9 +535,9 @@ class Boards(Served):
 
     def holding(self, files: Files, stop: str, until: int) -> list[int]:
         """The clocks at which a stop comes to hold, by a session that goes on clock by clock."""
-        told = self.pcboard(*files.words('debug'), given=f'{stop}\n' + 'go 1\n' * until).stdout.splitlines()[1:]
-        held = [False, *(it.startswith('stop') for it in told)]
-        self.assertEqual(len(told), until)
+        lines = self.pcboard(*files.words('debug'), given=f'{stop}\n' + 'go 1\n' * until).stdout.splitlines()[1:]
+        held = [False, *(line.startswith('stop') for line in lines)]
+        self.assertEqual(len(lines), until)
         return [at for at in range(1, until + 1) if held[at] and not held[at - 1]]
 
     def met(self, board: str, until: int) -> list[tuple[int, str]]:
@@ -550,13 +552,13 @@ class Boards(Served):
         """A byte, the speaker and a halt are met where they come to hold, and passed while they go on holding; so too over a call."""
         board, until = self.client.open('ticks')['board'], 2600
         stops = ['halted', 'byte B0000 31', 'byte tick 26', 'break tick', 'byte b0000 0x32', 'F600:5D']
-        told = self.client.ask('stops', board=board, stops=stops)['stops']
+        rows = self.client.ask('stops', board=board, stops=stops)['stops']
         wanted = ['F600:0058', 'F600:005D', 'byte B0000 31', 'byte F6058 26', 'byte B0000 32', 'halted']
         self.assertEqual(
-            [(it[0], it[1]) for it in told], [(it, {'F600:0058': 'tick', 'F600:005D': 'tick+5', 'byte F6058 26': 'tick'}.get(it, '')) for it in wanted]
+            [(row[0], row[1]) for row in rows], [(stop, {'F600:0058': 'tick', 'F600:005D': 'tick+5', 'byte F6058 26': 'tick'}.get(stop, '')) for stop in wanted]
         )
         files = Files(*example('ticks'))
-        clocks = {it for stop in ('break F600:58', 'break F600:5D', *wanted[2:]) for it in self.holding(files, stop, until)}
+        clocks = {clock for stop in ('break F600:58', 'break F600:5D', *wanted[2:]) for clock in self.holding(files, stop, until)}
         self.assertEqual([clock for clock, _ in self.met(board, until)], sorted(clocks - {1}))
         self.client.ask('stops', board=board, stops=['halted'])
         halts = self.met(board, until)
@@ -576,7 +578,7 @@ class Boards(Served):
         for _ in range(2):
             here = self.client.ask('step', board=board)
         files = Files(self.file('it.asm', source), self.file('it.json', text_of(RUN)))
-        wanted = [it for stop in ('byte 500 7', 'byte 500 8', 'break F000:6') for it in self.holding(files, stop, 6000)][:3]
+        wanted = [at for stop in ('byte 500 7', 'byte 500 8', 'break F000:6') for at in self.holding(files, stop, 6000)][:3]
         self.assertEqual(len(set(wanted)), 3)
         for move, clock, why in zip(('over', 'out', 'out'), wanted, ('stop', 'stop', 'there')):
             self.assertLess(here['clock'], clock)
@@ -587,12 +589,12 @@ class Boards(Served):
         """The page is told what happened, and the board goes on."""
         board = self.client.open('ticks')['board']
         path = f'/{self.client.token}/do'
-        for error, told in ((MemoryError(), 'desk has not enough memory'), (ZeroDivisionError('by 0'), 'a mistake of its own: ZeroDivisionError: by 0')):
+        for error, sentence in ((MemoryError(), 'desk has not enough memory'), (ZeroDivisionError('by 0'), 'a mistake of its own: ZeroDivisionError: by 0')):
             with unittest.mock.patch('toolbox.desk_board.Board.memory', side_effect=error):
                 body = json.dumps({'do': 'memory', 'board': board, 'place': '0'}).encode()
                 status, text, _ = self.client.request('POST', path, body)
                 self.assertEqual(status, 500)
-                self.assertIn(told, text)
+                self.assertIn(sentence, text)
         self.assertEqual(len(self.client.ask('memory', board=board, place='0', count=16)['bytes']), 32)
 
     def test_a_stop_at_the_speaker(self) -> None:
@@ -615,7 +617,7 @@ class Boards(Served):
     def test_refusals(self) -> None:
         source = 'SEGMENT MAIN AT 0F000h\n        MOV AX,0xB000\n        MVO AX,BX\nENDS\n'
         self.assertEqual(
-            [(it['line'], it['text'].partition(':')[0]) for it in self.client.ask('open', source=source, run=RUN)['refused']],
+            [(refusal['line'], refusal['text'].partition(':')[0]) for refusal in self.client.ask('open', source=source, run=RUN)['refused']],
             [(2, 'BadLine'), (3, 'UnknownName')],
         )
         self.assertIn('0B800h for 0xB800', self.client.ask('open', source=source, run=RUN)['refused'][0]['text'])
@@ -632,7 +634,7 @@ class Boards(Served):
             self.assertIn(name, answer['refused'][0]['text'], fields)
         begun = time.process_time() + sum(os.times()[2:4])
         long = self.client.ask('open', source=f"{'x' * 200_000}\n{'x' * 200_000}", run=RUN)['refused']
-        self.assertEqual([(it['line'], it['text'].partition(':')[0]) for it in long], [(1, 'BadLine'), (2, 'BadLine')])
+        self.assertEqual([(refusal['line'], refusal['text'].partition(':')[0]) for refusal in long], [(1, 'BadLine'), (2, 'BadLine')])
         self.assertLess(time.process_time() + sum(os.times()[2:4]) - begun, 10)
         self.assertEqual(os.listdir(self.room), [])
 
@@ -672,23 +674,23 @@ class Boards(Served):
         self.desk.files = Kept(self.desk.given)
         with open(source, encoding='utf-8') as of_source, open(run_file, encoding='utf-8') as fields:
             them = [
-                {'source': it, 'run': run, 'hex': is_hex}
+                {'source': content, 'run': run, 'hex': is_hex}
                 for run in [json.load(fields)]
-                for it, is_hex in ((of_source.read(), False), (self.desk.answer({'do': 'hello'})['given']['source'], True))
+                for content, is_hex in ((of_source.read(), False), (self.desk.answer({'do': 'hello'})['given']['source'], True))
             ]
         shown = list[Fields]()
         for one in them:
             board = self.client.ask('open', **one)['board']
             shown.append(
-                self.client.ask('go to', board=board, clock=5000) | {'trail without lines': [it[:4] for it in self.client.ask('look', board=board)['trail']]}
+                self.client.ask('go to', board=board, clock=5000) | {'trail without lines': [row[:4] for row in self.client.ask('look', board=board)['trail']]}
             )
             label = shown[0]['label'].partition('+')[0]
-            shown[-1]['stops'] = [it[:2] for it in self.client.ask('stops', board=board, stops=[label])['stops']]
+            shown[-1]['stops'] = [row[:2] for row in self.client.ask('stops', board=board, stops=[label])['stops']]
         for name in ('label', 'trail without lines', 'stack', 'stops'):
             self.assertEqual(shown[1][name], shown[0][name], name)
         self.assertTrue(label and shown[1]['line'] is None)
         other = self.client.ask('open', source=self.pcboard('asm', *example('hello')[:1]).stdout, run=RUN, hex=True)['board']
-        self.assertEqual({it[2] for it in self.client.ask('go to', board=other, clock=60)['trail']}, {''})
+        self.assertEqual({row[2] for row in self.client.ask('go to', board=other, clock=60)['trail']}, {''})
 
     def test_keys_typed_while_it_runs(self) -> None:
         """The run goes on as it would have gone with the keys from the start, and what is saved repeats it to the byte."""
@@ -704,7 +706,7 @@ class Boards(Served):
         self.client.ask('go to', board=board, clock=9000)
         self.assertEqual(self.client.ask('type', board=board, codes=[30]), {'later': 2})
         dropped = self.client.ask('type', board=board, codes=[30], drop=True)
-        self.assertEqual([it[3] for it in dropped['keys']], [35, 163, 30])
+        self.assertEqual([key[3] for key in dropped['keys']], [35, 163, 30])
         self.assertEqual(dropped['furthest'], 9000)
         shown = self.client.ask('run', board=board, to=30_000, past=True, ms=200)
         self.assertEqual(text_of_screen(shown['screen'])[0].rstrip(), 'HA')
@@ -771,7 +773,7 @@ class Boards(Served):
         self.assertIn('no interrupt ends this halt', self.client.ask('step', board=board)['sorry'])
         for codes in ([30], [158]):
             typed = self.client.ask('type', board=board, codes=codes)
-        self.assertEqual([it[:1] + it[3:] for it in typed['keys']], [[6000, 30], [7000, 158]])
+        self.assertEqual([key[:1] + key[3:] for key in typed['keys']], [[6000, 30], [7000, 158]])
         stepped = self.client.ask('step', board=board)
         self.assertEqual((stepped['clock'], stepped['trail'][-1][3]), (6061, 'interrupt 09'))
 
@@ -816,7 +818,7 @@ class Boards(Served):
         self.desk.least_idle = SECONDS
         boards = [self.client.open('hello')['board'] for _ in range(MOST_BOARDS)]
         self.client.ask('go to', board=boards[0], clock=100)
-        self.assertEqual([self.client.ask('look', board=it)['clock'] for it in boards], [100] + [0] * 7)
+        self.assertEqual([self.client.ask('look', board=board)['clock'] for board in boards], [100] + [0] * 7)
         given = self.client.ask('example', name='hello')
         fields = {'source': given['source'], 'run': given['run']}
         self.assertIn('8 boards run', self.client.ask('open', **fields)['sorry'])
@@ -836,9 +838,9 @@ class Boards(Served):
         self.client.ask('look', board=boards[3])
         ninth = self.client.ask('open', source=SHORT, run=RUN)['board']
         self.assertEqual(self.client.ask('look', board=ninth)['clock'], 0)
-        told = [self.client.ask('stops', board=it, stops=[]).get('gone') for it in boards]
-        self.assertEqual([bool(it) for it in told], [False, False, True] + [False] * 5)
-        self.assertIn('left alone while others were wanted', told[2])
+        gone = [self.client.ask('stops', board=board, stops=[]).get('gone') for board in boards]
+        self.assertEqual([bool(sentence) for sentence in gone], [False, False, True] + [False] * 5)
+        self.assertIn('left alone while others were wanted', gone[2])
         self.client.ask('pause', board=boards[0])
 
     def test_two_hundred_pages(self) -> None:
@@ -913,7 +915,7 @@ class Boards(Served):
         with session:
             session.go_to(1000)
             self.assertEqual(
-                [(it['name'], it['line'], it['kind'], it['place'], it['length']) for it in found['data']],
+                [(variable['name'], variable['line'], variable['kind'], variable['place'], variable['length']) for variable in found['data']],
                 [
                     ('text', 7, 'DB', 'F000:000F', 6),
                     ('count', 10, 'DB', '0050:0000', 1),
@@ -925,7 +927,7 @@ class Boards(Served):
                 ],
             )
             for one in found['data']:
-                segment, offset = (int(it, 16) for it in one['place'].split(':'))
+                segment, offset = (int(half, 16) for half in one['place'].split(':'))
                 self.assertEqual(one['bytes'], session.dump(16 * segment + offset, min(one['length'], 1024)).hex(), one['name'])
         self.assertNotEqual(found['data'][1]['bytes'], 'fe')
         self.assertEqual(found['clock'], 1000)
@@ -960,8 +962,8 @@ class Boards(Served):
         board = self.client.ask('open', source=DARK, run=RUN)['board']
         before = self.client.ask('run', board=board, to=1000, past=True, ms=200)
         found = self.client.ask('why', board=board)
-        told = self.tool('why', 'run', self.file('it.asm', DARK), self.file('it.json', text_of(RUN)))[1]
-        self.assertEqual([f'why: {it}' for it in found['told']], told.splitlines())
+        err = self.tool('why', 'run', self.file('it.asm', DARK), self.file('it.json', text_of(RUN)))[1]
+        self.assertEqual([f'why: {line}' for line in found['told']], err.splitlines())
         for sentence in ('text memory has characters and the screen is blank', 'the same 3 in turn', 'line 5 (stay:   INC BX)', 'nothing leads out'):
             self.assertIn(sentence, '\n'.join(found['told']))
         after = self.client.ask('look', board=board)
@@ -977,12 +979,12 @@ class Boards(Served):
         given = self.client.ask('example', name='first')
         board = self.client.open('first')['board']
         shown = self.client.ask('run', board=board, to=100_000, past=True, ms=200)
-        line = next(at for at, it in enumerate(given['source'].split('\n'), 1) if it.strip().startswith('HLT'))
+        line = next(at for at, text in enumerate(given['source'].split('\n'), 1) if text.strip().startswith('HLT'))
         self.assertEqual((shown['state'], shown['line']), ('halted for good', line))
         board = self.client.open('keys', keys=[])['board']
         given = self.client.ask('example', name='keys')
         shown = self.client.ask('run', board=board, to=5000, past=True, ms=200)
-        lines = [at for at, it in enumerate(given['source'].split('\n'), 1) if 'HLT' in it.partition(';')[0]]
+        lines = [at for at, text in enumerate(given['source'].split('\n'), 1) if 'HLT' in text.partition(';')[0]]
         self.assertEqual((shown['state'], [shown['line']]), ('halted', lines))
 
     def test_how_fast_it_tells_why(self) -> None:
@@ -990,11 +992,11 @@ class Boards(Served):
         for source, clocks in ((DARK, 10**6), (DARK, 20_000_000), (DARK, 10**8), (FOREVER, 10**8)):
             board = self.client.ask('open', source=source, run=RUN)['board']
             self.client.ask('go to', board=board, clock=clocks)
-            started = {it: processor_seconds(it) for it in children(os.getpid())}
+            started = {process: processor_seconds(process) for process in children(os.getpid())}
             before = time.process_time() + sum(os.times()[2:4])
             self.client.ask('why', board=board)
             spent = time.process_time() + sum(os.times()[2:4]) - before
-            spent += sum(processor_seconds(it) - started.get(it, 0) for it in children(os.getpid()))
+            spent += sum(processor_seconds(process) - started.get(process, 0) for process in children(os.getpid()))
             self.assertLess(spent, 1, clocks)
             self.client.ask('close', board=board)
 
@@ -1026,7 +1028,7 @@ class Heard(unittest.TestCase):
         self.assertEqual(speaker.stretches(12, 18, 6), [[12, 18]])
         self.assertEqual(speaker.stretches(30, 80, 1000), [])
         self.assertEqual(Speaker([], 100).stretches(0, 100, 10), [])
-        many = Speaker([(it, it % 2) for it in range(500_000)], 500_000)
+        many = Speaker([(clock, clock % 2) for clock in range(500_000)], 500_000)
         self.assertLessEqual(len(many.stretches(0, 500_000, 4096)), 4096)
         self.assertEqual(many.stretches(0, 500_000, 4096), [[1, 500_000]])
 
@@ -1034,12 +1036,12 @@ class Heard(unittest.TestCase):
         """A sample is 99.43 clocks of a real board: half high is half as loud; ten times slower it has as many more."""
         clocks = 14318180 / 3 / 48_000
         speaker = Speaker([(0, 1), (round(1.5 * clocks), 0)], 1000)
-        self.assertEqual([speaker.is_still(*it) for it in ((0, 100), (0, 200), (200, 900))], [True, False, True])
+        self.assertEqual([speaker.is_still(*stretch) for stretch in ((0, 100), (0, 200), (200, 900))], [True, False, True])
         found = speaker.samples(0, 1000)
         self.assertEqual((len(found), found[0], found[2:]), (int(1000 / clocks), 255, bytes(8)))
         self.assertLess(abs(found[1] - 127.5), 2)
         self.assertEqual(len(speaker.samples(0, 1000, 10)), int(10_000 / clocks))
-        self.assertEqual(set(Speaker([(it, it % 2) for it in range(5000)], 5000).samples(0, 5000)) - {126, 127, 128, 129}, set())
+        self.assertEqual(set(Speaker([(clock, clock % 2) for clock in range(5000)], 5000).samples(0, 5000)) - {126, 127, 128, 129}, set())
 
 
 class Beside(unittest.TestCase):
@@ -1051,8 +1053,8 @@ class Beside(unittest.TestCase):
         self.assertIsNone(helpers.answer(['/bin/sh', '-c', 'kill -9 $$']))
         with mock.patch.object(desk_work, 'REPORT_SECONDS', 1):
             self.assertIsNone(helpers.answer(['/bin/sh', '-c', 'while :; do :; done']))
-        for words, told in ((['/'], "/ can't be started"), (['/bin/sh', '-c', 'echo it >&2; exit 2'], 'it')):
-            with self.assertRaisesRegex(Sorry, told):
+        for words, sentence in ((['/'], "/ can't be started"), (['/bin/sh', '-c', 'echo it >&2; exit 2'], 'it')):
+            with self.assertRaisesRegex(Sorry, sentence):
                 helpers.answer(words)
 
 
@@ -1081,7 +1083,7 @@ class Begun(ToolCase):
         _, err = process.communicate(timeout=SECONDS)
         self.assertNotIn('Traceback', err)
         self.assertTrue(until(lambda: not any(map(is_running, started))))
-        self.assertEqual([it for it in os.listdir(self.room) if it.startswith('desk')], [])
+        self.assertEqual([name for name in os.listdir(self.room) if name.startswith('desk')], [])
 
 
 class Started(Begun):
@@ -1111,13 +1113,13 @@ class Started(Begun):
         process.communicate(timeout=SECONDS)
         asking.join(SECONDS)
         self.assertTrue(until(lambda: not any(map(is_running, started))))
-        left = [it for it in os.listdir(self.room) if it.startswith('desk')]
+        left = [name for name in os.listdir(self.room) if name.startswith('desk')]
         self.assertEqual(len(left), 1)
         process, client = self.begin()
         client.open('hello')
         self.assertNotIn(left[0], os.listdir(self.room))
         live, _ = self.begin()  # which leaves the live one's alone
-        self.assertEqual(len([it for it in os.listdir(self.room) if it.startswith('desk')]), 2)
+        self.assertEqual(len([name for name in os.listdir(self.room) if name.startswith('desk')]), 2)
         live.send_signal(signal.SIGINT)
         live.communicate(timeout=SECONDS)
         self.ended(process, signal.SIGINT)
@@ -1137,7 +1139,7 @@ class Started(Begun):
                 rows = [line.split() for line in file.readlines()[1:]]
             found += [row[1] for row in rows if f'socket:[{row[9]}]' in own and (row[3] == '0A' or table.startswith('udp'))]
         self.assertEqual(found, [f'0100007F:{client.port:04X}'])
-        others = {str(it[4][0]) for it in socket.getaddrinfo(socket.gethostname(), client.port, type=socket.SOCK_STREAM)} - {'127.0.0.1'}
+        others = {str(info[4][0]) for info in socket.getaddrinfo(socket.gethostname(), client.port, type=socket.SOCK_STREAM)} - {'127.0.0.1'}
         for address in {'::1', '127.0.0.2', *others}:
             with self.assertRaises(OSError):
                 socket.create_connection((address, client.port), timeout=2).close()
@@ -1156,7 +1158,7 @@ class Started(Begun):
             (report.clock, report.registers['AX']),
             (500, (0x10000 - report_of(self.pcboard('run', self.file('it.asm', FOREVER), f'{self.room}/mine.json').stdout).registers['AX']) % 0x10000),
         )
-        self.assertEqual({it for it in os.listdir(self.room) if not it.startswith('desk')}, {'mine.asm', 'mine.json', 'it.asm'})
+        self.assertEqual({name for name in os.listdir(self.room) if not name.startswith('desk')}, {'mine.asm', 'mine.json', 'it.asm'})
         self.ended(process, signal.SIGINT)
 
     def test_words(self) -> None:
@@ -1198,7 +1200,7 @@ class Pages(unittest.TestCase):
                 imported |= set(names.split(', '))
             for one in imported - {'$'}:
                 self.assertRegex(body, rf'(?<![\w.]){one}\b|\.\.\.{one}\b', (name, one))
-            called = {it for it in re.findall(r"(?<![\w.'])(\w+)\(", body)}
+            called = {call for call in re.findall(r"(?<![\w.'])(\w+)\(", body)}
             known = imported | set(re.findall(r'(?:function|const|let) (\w+)', body))
             foreign = set().union(*(them for of, them in exported.items() if of != name))
             self.assertEqual(called & foreign - known, set(), name)
@@ -1206,22 +1208,22 @@ class Pages(unittest.TestCase):
     def test_it_can_be_read_in_light_and_dark(self) -> None:
         """Each text has a contrast of 4.5 to what is behind it, each mark one of 3, as the accessibility guidelines want it."""
         with open(f'{TOOLS}/toolbox/desk.html', encoding='utf-8') as file:
-            light, dark = (dict(re.findall(r'--([\w-]+): (#\w+);', it)) for it in re.findall(r':root \{(.*?)\}', file.read(), re.S)[:2])
+            light, dark = (dict(re.findall(r'--([\w-]+): (#\w+);', rule)) for rule in re.findall(r':root \{(.*?)\}', file.read(), re.S)[:2])
         for colours in (light, light | dark):
             for fore, back, least in (
-                *((it, 'panel', 4.5) for it in ('text', 'dim', 'bad', 'accent')),
-                *((it, 'back', 4.5) for it in ('text', 'dim', 'bad', 'accent')),
-                *(('text', it, 4.5) for it in ('now', 'changed', 'halted')),
+                *((colour, 'panel', 4.5) for colour in ('text', 'dim', 'bad', 'accent')),
+                *((colour, 'back', 4.5) for colour in ('text', 'dim', 'bad', 'accent')),
+                *(('text', colour, 4.5) for colour in ('now', 'changed', 'halted')),
                 ('bad', 'bad-back', 4.5),
                 *(
-                    (it, back, 4.5)
-                    for it in ('comment', 'string', 'label', 'mnemonic', 'directive', 'register', 'figure')
+                    (colour, back, 4.5)
+                    for colour in ('comment', 'string', 'label', 'mnemonic', 'directive', 'register', 'figure')
                     for back in ('panel', 'now', 'halted', 'bad-back')
                 ),
                 ('panel', 'bad', 4.5),
                 ('accent-text', 'accent', 4.5),
-                *((it, 'back', 3) for it in ('stop', 'interrupt', 'sound')),
-                *(('field', it, 3) for it in ('panel', 'back')),
+                *((colour, 'back', 3) for colour in ('stop', 'interrupt', 'sound')),
+                *(('field', colour, 3) for colour in ('panel', 'back')),
             ):
                 self.assertGreaterEqual(contrast(colours[fore], colours[back]), least, (fore, back, colours))
 
@@ -1246,9 +1248,9 @@ class Pages(unittest.TestCase):
         self.assertNotIn('<x', as_html('# <x\n- <x\n|<x|\n|-|\n```\n<x\n```'))
 
     def test_each_example_has_its_page(self) -> None:
-        for it in examples():
-            html = page_of(it.page)
-            self.assertTrue(not it.anchor or f'data-name="{it.anchor}"' in html, it)
+        for program in examples():
+            html = page_of(program.page)
+            self.assertTrue(not program.anchor or f'data-name="{program.anchor}"' in html, program)
 
 
 if __name__ == '__main__':

@@ -21,11 +21,11 @@ class Questions(unittest.TestCase):
         self.assertEqual(language.answer('refused', SOURCE, 0, 0), {'refused': []})
         wrong = SOURCE.replace('MOV', 'MVO')
         self.assertEqual(language.answer('refused', wrong, 0, 0), {'refused': [{'line': 2, 'text': 'is MOV meant?'}]})
-        told = language.answer('hover', SOURCE, 2, 9)['html']
+        hover = language.answer('hover', SOURCE, 2, 9)['html']
         for text in ('<code>0050:0002 E643</code>', '<p>Clocks by C1: 10</p>', 'counter 0, both bytes, mode 2', '<td>OUT DX,AL</td>'):
-            self.assertIn(text, told)
+            self.assertIn(text, hover)
         self.assertEqual(language.answer('hover', SOURCE, 3, 9), {'html': ''})
-        self.assertIn('43h', [it['label'] for it in language.answer('completion', SOURCE, 2, 12)['items']])
+        self.assertIn('43h', [item['label'] for item in language.answer('completion', SOURCE, 2, 12)['items']])
         self.assertNotIn('<b>', language.answer('hover', SOURCE.replace('43h', "'<b>'"), 2, 15)['html'])
         with self.assertRaises(Sorry):
             language.answer('hover', SOURCE, 1 << 40, 0)
@@ -65,7 +65,7 @@ class InTheBrowser(ToolCase):
         browser.press('ArrowDown')
         browser.press('Enter')
         self.assertEqual(browser.run("[$('source').value,$('choices').hidden]"), ['SEGMENT MAIN AT 50h\nstd', True])
-        self.assertEqual([it for it in browser.told if it.get('method') in ('Runtime.exceptionThrown', 'Log.entryAdded')], [])
+        self.assertEqual([event for event in browser.events if event.get('method') in ('Runtime.exceptionThrown', 'Log.entryAdded')], [])
 
 
 if __name__ == '__main__':

@@ -106,7 +106,7 @@ class Page:
 
     def spent(self) -> float:
         """The processor time of the desk and its boards."""
-        return sum(processor_seconds(it) for it in (self.desk.pid, *children(self.desk.pid)))
+        return sum(processor_seconds(process) for process in (self.desk.pid, *children(self.desk.pid)))
 
     @property
     def clock(self) -> int:
@@ -132,7 +132,7 @@ class OnePage(ToolCase):
     def opened(self) -> Page | None:
         """The page, opened anew; without a browser none."""
         if self.page:
-            self.page.browser.told.clear()
+            self.page.browser.events.clear()
             self.page.open()
         return self.page
 
@@ -142,10 +142,10 @@ class OnePage(ToolCase):
 
     def fine(self, page: Page) -> None:
         """No mistake was told by the page's script or its policy, and it asked no other address."""
-        told = [it for it in page.browser.told if it.get('method') in ('Runtime.exceptionThrown', 'Log.entryAdded')]
-        self.assertEqual(told, [])
-        asked = {it['params']['request']['url'] for it in page.browser.told if it.get('method') == 'Network.requestWillBeSent'}
-        self.assertEqual({it for it in asked if not it.startswith((page.address, 'data:', 'blob:', 'about:'))}, set())
+        mistakes = [event for event in page.browser.events if event.get('method') in ('Runtime.exceptionThrown', 'Log.entryAdded')]
+        self.assertEqual(mistakes, [])
+        asked = {event['params']['request']['url'] for event in page.browser.events if event.get('method') == 'Network.requestWillBeSent'}
+        self.assertEqual({address for address in asked if not address.startswith((page.address, 'data:', 'blob:', 'about:'))}, set())
 
     def test_as_a_student(self) -> None:
         """Example, mistake, run, keys, step, back."""
@@ -250,7 +250,7 @@ class OnePage(ToolCase):
         page.example('ticks')
         page.click('#tab-stops')
         self.assertEqual(browser.run("[$('stop-at').checkVisibility(),$('stop-is').checkVisibility()]"), [True, False])
-        for kind, place, value, told in (
+        for kind, place, value, shown in (
             ('byte', 'b0000', '31', 'the byte at B0000 is 31'),
             ('byte', 'tick', '0', 'the byte at F6058 tick is 00'),
             ('sound', '', '', 'the speaker is high'),
@@ -258,7 +258,7 @@ class OnePage(ToolCase):
         ):
             browser.run(f"$('stop-kind').value='{kind}';$('stop-kind').onchange();$('stop-place').value='{place}';$('stop-value').value='{value}'")
             self.assertEqual(browser.run("[$('stop-at').checkVisibility(),$('stop-is').checkVisibility()]"), [bool(place), bool(value)])
-            page.click('#stop-add', f"$('stop-list').textContent.includes('{told} ')")
+            page.click('#stop-add', f"$('stop-list').textContent.includes('{shown} ')")
         self.assertEqual(set(browser.run('held().stops')), {'byte B0000 31', 'byte F6058 0', 'sound', 'halted'})
         page.click('#start', 'view.clock===0')
         for clock, state in ((947, 'halted'), (1010, 'running'), (1094, 'halted')):
@@ -401,7 +401,7 @@ class OnePage(ToolCase):
         looks = browser.run(
             "[...document.querySelectorAll('#screen>div:first-child span')].slice(0,4).map(it=>[it.textContent,it.className,getComputedStyle(it).fontWeight,getComputedStyle(it).textDecorationLine,getComputedStyle(it).backgroundColor])"
         )
-        self.assertEqual([it[1] for it in looks], ['b1', 'b2', 'b1 b2', 'b4'])
+        self.assertEqual([look[1] for look in looks], ['b1', 'b2', 'b1 b2', 'b4'])
         self.assertEqual([looks[0][2], looks[1][3], looks[3][4]], ['700', 'underline', 'rgb(93, 255, 127)'])
         self.assertEqual(browser.run("(()=>{const s=getSelection();s.selectAllChildren($('screen'));return s.toString().slice(0,5)})()"), 'ABCDE')
         page.example('melody')
@@ -494,9 +494,9 @@ class OnePage(ToolCase):
         browser.run("acts(()=>go_to(runFile.budget))")
         page.settled('marks&&marks.clock===view.clock&&marks.interrupts.length===10')
         interrupts = [clock for clock, _ in browser.run('marks.interrupts')]
-        self.assertEqual([is_marked(it, 5) for it in interrupts], [True] * 10)
+        self.assertEqual([is_marked(clock, 5) for clock in interrupts], [True] * 10)
         self.assertEqual([is_marked((one + other) // 2, 5) for one, other in zip(interrupts, interrupts[1:])], [False] * 9)
-        self.assertEqual([is_marked(it, 0) for it in (met, met // 2)], [True, False])
+        self.assertEqual([is_marked(clock, 0) for clock in (met, met // 2)], [True, False])
         # It is dragged back by the mouse, and forth, and what is seen is the screen of that clock.
         ends = browser.run("(()=>{const r=$('time').getBoundingClientRect();return [r.left,r.right,r.top+r.height/2]})()")
         places = {at: ends[0] + 8 + (ends[1] - ends[0] - 16) * at for at in (1.0, 0.75, 0.5, 0.3, 0.6)}
@@ -538,7 +538,7 @@ class OnePage(ToolCase):
             registers = registers_of(session.many('regs'))
             words = session.dump(16 * registers['SS'] + registers['SP'], 4)
         shown = browser.run("[...document.querySelectorAll('#trail button')].map(it=>it.textContent)")
-        self.assertEqual([it.split()[0] for it in shown], [it.split()[0] for it in trail])
+        self.assertEqual([row.split()[0] for row in shown], [row.split()[0] for row in trail])
         self.assertRegex(shown[-1], r'F600:005B print\+3 +CALL 00064h +\| 48: CALL char$')
         stack = browser.run("$('stack').textContent").split('\n')
         self.assertEqual(stack[0], f"{registers['SP']:04X}: {words[1]:02X}{words[0]:02X} print+6")
@@ -567,16 +567,16 @@ class OnePage(ToolCase):
         if page is None:
             return
         browser = page.browser
-        told = "[...document.querySelectorAll('#chip-lines>div')].map(it=>it.textContent)"
+        script = "[...document.querySelectorAll('#chip-lines>div')].map(it=>it.textContent)"
         page.example('ticks')
         page.click('#tab-chips')
         lines = chip_lines(Files(*example('ticks')), page.clock)
-        browser.until(f'({told}).length===9')
-        self.assertEqual(browser.run(told), lines)
+        browser.until(f'({script}).length===9')
+        self.assertEqual(browser.run(script), lines)
         # Another look: what has changed is marked.
         page.click('#start', 'view.clock===0')
         browser.until("$('chip-lines').lastChild.textContent.startsWith('processor running')")
-        self.assertEqual(browser.run(told), chip_lines(Files(*example('ticks')), 0))
+        self.assertEqual(browser.run(script), chip_lines(Files(*example('ticks')), 0))
         self.assertEqual(browser.run("[...$('chip-lines').lastChild.querySelectorAll('.changed')].map(it=>it.textContent)"), ['running', '0'])
         self.assertEqual(browser.run("$('chip-facts').textContent"), '')
         # What keeps an interrupt away stands above them.
@@ -641,7 +641,7 @@ class OnePage(ToolCase):
         lines = ["begin:  MOV AX,0B8h     ; a comment", "        DB 'text',10", '        REP MOVSB']
         page.write('\n'.join(lines))
         found = browser.run("[...$('ink').children].slice(0,3).map(row=>[row.textContent,...[...row.children].map(it=>[it.className,it.textContent.trim()])])")
-        self.assertEqual([it[0] for it in found], lines)
+        self.assertEqual([row[0] for row in found], lines)
         self.assertEqual(
             found[0][1:],
             [['entity-name', 'begin'], ['keyword-mnemonic', 'MOV'], ['variable-language', 'AX'], ['constant-numeric', '0B8h'], ['comment-line', '; a comment']],
@@ -668,9 +668,9 @@ class OnePage(ToolCase):
         browser.until("document.activeElement===$('find-text')")
         browser.call('Input.insertText', text='ax ; 15')
         browser.until("$('find-told').textContent==='11 found'")
-        for key, told in (('Enter', '1 of 11'), ('Enter', '2 of 11')):
+        for key, shown in (('Enter', '1 of 11'), ('Enter', '2 of 11')):
             browser.press(key)
-            browser.until(f"$('find-told').textContent==='{told}'")
+            browser.until(f"$('find-told').textContent==='{shown}'")
         self.assertEqual(browser.run("$('source').value.slice($('source').selectionStart,$('source').selectionEnd)"), 'AX ; 15')
         self.assertEqual(browser.run("$('source').value.slice(0,$('source').selectionStart).split('\\n').length"), 150)
         self.assertTrue(browser.run("[...$('gutter').children].some(it=>it.textContent==='150')"))
@@ -761,7 +761,7 @@ class OnePage(ToolCase):
         code = browser.run("$('source').value.split('\\n')[view.line-1].replace(/;.*/,'').trim()")
         self.assertEqual(browser.run("$('aloud').textContent"), f'clock 15, line {line}: {code}')
         self.assertEqual(browser.run("[$('aloud').getAttribute('aria-live'),getComputedStyle($('aloud')).display]"), ['polite', 'block'])
-        flags = dict(it.split() for it in browser.run("[...$('flags').children].map(it=>it.textContent)"))
+        flags = dict(flag.split() for flag in browser.run("[...$('flags').children].map(it=>it.textContent)"))
         value = browser.run('view.registers.FL')
         self.assertEqual(flags, {name: str(value >> bit & 1) for name, bit in FLAG_BITS.items()})
         browser.run('toggle_stop(41)')
@@ -885,7 +885,7 @@ class OnePage(ToolCase):
         for _ in range(4):
             page.click('#step')
         self.assertEqual(
-            [it.split() for it in browser.run("[...document.querySelectorAll('#callers button')].map(it=>it.textContent)")],
+            [row.split() for row in browser.run("[...document.querySelectorAll('#callers button')].map(it=>it.textContent)")],
             [['F000:000A', 'outer+3', '|', '6:', 'RET'], ['F000:0006', 'start+6', '|', '4:', 'HLT']],
         )
         browser.run("document.querySelectorAll('#callers button')[1].click()")

@@ -108,7 +108,7 @@ class Files(test_desk.Served):
         self.put(self.source, LATER.encode())
         answer = self.client.ask('changed', **asked)
         self.assertEqual((answer['changed'], answer['gone']), ([self.source], False))
-        self.assertIn('-' + next(it for it in LATER.splitlines() if 'DEC' in it), answer['difference'])
+        self.assertIn('-' + next(line for line in LATER.splitlines() if 'DEC' in line), answer['difference'])
         self.put(self.run_file, b'{}')
         self.assertEqual(self.client.ask('changed', **asked)['changed'], [self.source, self.run_file])
         os.remove(self.source)
@@ -118,8 +118,8 @@ class Files(test_desk.Served):
     def test_a_folder_in_its_place_and_a_file_without_rights(self) -> None:
         given = self.given()
         os.chmod(self.source, 0o444)
-        self.assertEqual((told := self.keep(LATER, given))['kept'], [], told)
-        self.assertIn('it is read-only', told['sorry'])
+        self.assertEqual((answer := self.keep(LATER, given))['kept'], [], answer)
+        self.assertIn('it is read-only', answer['sorry'])
         os.chmod(self.source, 0o644)
         os.remove(self.source)
         os.mkdir(self.source)
@@ -162,12 +162,12 @@ class Files(test_desk.Served):
 
     def test_what_is_no_text_is_refused(self) -> None:
         """The command says where, as pcboard refuses it too; a file that became so is neither shown nor overwritten."""
-        for octets, told in ((b'; a\n; \xe9\n', 'line 2: byte E9h'), (b'; a\n\n; \rx\n', 'line 3: a carriage return')):
+        for octets, why in ((b'; a\n; \xe9\n', 'line 2: byte E9h'), (b'; a\n\n; \rx\n', 'line 3: a carriage return')):
             self.put(self.source, octets)
-            self.assertIn(told, self.tool('desk', self.source, status=2)[1])
+            self.assertIn(why, self.tool('desk', self.source, status=2)[1])
             self.assertIn('fault', self.pcboard('run', self.source, self.run_file).stderr)
             given = self.given()
-            self.assertEqual((given['source'], told in given['note']), ('', True))
+            self.assertEqual((given['source'], why in given['note']), ('', True))
             self.assertEqual(self.keep(LATER, given)['changed'][0], self.source)
             self.assertEqual(octets_in(self.source), octets)
 
@@ -193,18 +193,18 @@ class Drafts(test_desk.Served):
         self.assertEqual(self.draft('page-one-1', source=LATER), {})
         self.assertEqual([stat.S_IMODE(os.stat(self.drafts).st_mode), len(os.listdir(self.drafts))], [0o700, 1])
         offered = self.client.ask('hello')['drafts']
-        self.assertEqual([(it['id'], it['name'], it['lines'], it['given']) for it in offered], [('page-one-1', 'x.asm', 9, False)])
+        self.assertEqual([(draft['id'], draft['name'], draft['lines'], draft['given']) for draft in offered], [('page-one-1', 'x.asm', 9, False)])
         self.assertLess(abs(offered[0]['time'] - time.time()), SECONDS)
         found = self.client.ask('draft', id='page-one-1', given=False, source=FOREVER)
         self.assertEqual((found['source'], found['run'], found['stops']), (LATER, RUN, [':3']))
-        self.assertEqual([it for it in found['difference'][2:] if it[0] in '+-'], ['-deep:   INC AX', '+deep:   DEC AX'])
+        self.assertEqual([line for line in found['difference'][2:] if line[0] in '+-'], ['-deep:   INC AX', '+deep:   DEC AX'])
         self.assertEqual(self.client.ask('drop draft', id='page-one-1', given=False), {})
         self.assertEqual((self.client.ask('hello')['drafts'], os.listdir(self.drafts)), ([], []))
         self.assertIn('no longer there', self.client.ask('draft', id='page-one-1', given=False, source='')['sorry'])
 
     def test_it_is_of_its_file(self) -> None:
         """By the file's full path, however it is named; a draft of another file isn't offered."""
-        files = [self.file(f'{it}.asm', FOREVER) for it in 'ab']
+        files = [self.file(f'{stem}.asm', FOREVER) for stem in 'ab']
         os.symlink('a.asm', f'{self.room}/link.asm')
         self.desk.given = Given(f'{self.room}/link.asm')
         self.desk.files = Kept(self.desk.given)
@@ -262,7 +262,7 @@ class Killed(test_desk.Begun):
         process.communicate(timeout=SECONDS)
         other, client = self.begin(source)
         answer = client.ask('hello')
-        self.assertEqual((answer['given']['source'], [it['id'] for it in answer['drafts']]), (FOREVER, ['page-one-1']))
+        self.assertEqual((answer['given']['source'], [draft['id'] for draft in answer['drafts']]), (FOREVER, ['page-one-1']))
         self.assertEqual(client.ask('draft', id='page-one-1', given=True, source='')['source'], FOREVER + '; x')
         other.send_signal(signal.SIGINT)
         other.communicate(timeout=SECONDS)
@@ -303,11 +303,11 @@ class OnThePage(ToolCase):
         page.browser.run("$('source').focus();$('source').setSelectionRange($('source').value.length,$('source').value.length)")
         page.browser.call('Input.insertText', text=text)
 
-    def saved(self, page: Page, told: str = 'saved: ') -> None:
+    def saved(self, page: Page, shown: str = 'saved: ') -> None:
         """Saves by its keys, and waits for what is told."""
         page.browser.run("$('kept').textContent=''")
         page.browser.press('s', CONTROL)
-        page.browser.until(f"$('kept').textContent.startsWith({json.dumps(told)})")
+        page.browser.until(f"$('kept').textContent.startsWith({json.dumps(shown)})")
 
     def asks(self, page: Page) -> bool:
         """Whether the browser asks before the page is left."""
