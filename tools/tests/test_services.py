@@ -20,7 +20,7 @@ CARRY, ZERO, INTERRUPTS = 1, 0x40, 0x200
 TEXT = 0xB0000
 # What a 5150's BIOS writes to the adapter: high resolution, the sixteen registers for 25 rows of 80, the video on.
 SIXTEEN = bytes.fromhex('6150520F19061919020D0B0C00000000')
-ADAPTER = [(0x3B8, 1), *(it for number, octet in enumerate(SIXTEEN) for it in ((0x3B4, number), (0x3B5, octet))), (0x3B8, 0x29)]
+ADAPTER = [(0x3B8, 1), *(write for number, octet in enumerate(SIXTEEN) for write in ((0x3B4, number), (0x3B5, octet))), (0x3B8, 0x29)]
 SERVED = {
     '10h': '00 01 02 03 05 06 07 08 09 0A 0E 0F 13',
     '16h': '00 01 02',
@@ -37,7 +37,7 @@ class Seen:
 
     def __init__(self, session: Session, base: int) -> None:
         self.clock, self.registers = session.clock, registers_of(session.many('regs'))
-        self.screen = [it.rstrip() for it in session.many('screen')]
+        self.screen = [line.rstrip() for line in session.many('screen')]
         self.text, self.data = session.dump(TEXT, 4096), session.dump(0x400, 0x100)
         self.own = session.dump(base, 4096)
 
@@ -117,7 +117,7 @@ class Start(ServiceCase):
     def test_registers_as_dos_leaves_them(self) -> None:
         seen = self.after('')
         wanted = {'CS': 0x100, 'DS': 0x100, 'ES': 0x100, 'SS': 0x100, 'SP': 0xFFFE, 'AX': 0, 'BX': 0, 'CX': 0xFF, 'DX': 0x100, 'SI': 0x100, 'DI': 0xFFFE}
-        self.assertEqual({it: seen.registers[it] for it in wanted}, wanted)
+        self.assertEqual({name: seen.registers[name] for name in wanted}, wanted)
         self.assertTrue(seen.flags & INTERRUPTS)
 
     def test_the_prefix(self) -> None:
@@ -141,7 +141,7 @@ class Start(ServiceCase):
     def test_the_data_area(self) -> None:
         data = self.after('').data
         words = {0x10: 0x3C, 0x13: 576, 0x1A: 0x1E, 0x1C: 0x1E, 0x4A: 80, 0x4E: 0, 0x60: 0x0B0C, 0x63: 0x3B4, 0x80: 0x1E, 0x82: 0x3E}
-        self.assertEqual({it: int.from_bytes(data[it : it + 2], 'little') for it in words}, words)
+        self.assertEqual({offset: int.from_bytes(data[offset : offset + 2], 'little') for offset in words}, words)
         self.assertEqual((data[0x49], data[0x62], data[0x65]), (7, 0, 0x29))
 
     def test_vectors_of_the_image_stay(self) -> None:
@@ -167,7 +167,7 @@ class Screen(ServiceCase):
         for mode in (0, 3, 7):
             seen = self.after(f' MOV AX,0E41h\n INT 10h\n {BEFORE} MOV AX,{mode}\n INT 10h')
             self.assertEqual((seen.text, seen.cursor, seen.data[0x49]), (b'\x20\x07' * 2048, (0, 0), 7))
-            self.assertEqual({it: seen.registers[it] for it in STAY}, STAY)
+            self.assertEqual({name: seen.registers[name] for name in STAY}, STAY)
             self.assertEqual(seen.registers['AX'], mode)
 
     def test_01_shape(self) -> None:
@@ -192,28 +192,28 @@ class Screen(ServiceCase):
 
     def test_06_scroll_up(self) -> None:
         seen = self.after(self.fill() + ' MOV AX,0603h\n MOV BH,70h\n MOV CX,0100h\n MOV DX,0A27h\n INT 10h')
-        column = ''.join(it[:1] or ' ' for it in seen.screen)
+        column = ''.join(line[:1] or ' ' for line in seen.screen)
         self.assertEqual(column, 'AEFGHIJK   LMNOPQRSTUVWXY')
-        self.assertEqual(''.join(chr(seen.cell(it, 79)[0]) for it in range(25)), 'ABCDEFGHIJKLMNOPQRSTUVWXY')
-        self.assertEqual([seen.cell(*it) for it in ((7, 0), (8, 0), (10, 39), (10, 40))], [b'K\x07', b' p', b' p', b' \x07'])
+        self.assertEqual(''.join(chr(seen.cell(row, 79)[0]) for row in range(25)), 'ABCDEFGHIJKLMNOPQRSTUVWXY')
+        self.assertEqual([seen.cell(*place) for place in ((7, 0), (8, 0), (10, 39), (10, 40))], [b'K\x07', b' p', b' p', b' \x07'])
 
     def test_06_blanks_a_window(self) -> None:
         for lines in (0, 11, 200):
             seen = self.after(self.fill() + f' MOV AX,{0x600 + lines}\n MOV BH,7\n MOV CX,0100h\n MOV DX,0A27h\n INT 10h')
-            self.assertEqual(''.join(it[:1] or ' ' for it in seen.screen), 'A' + ' ' * 10 + 'LMNOPQRSTUVWXY')
+            self.assertEqual(''.join(line[:1] or ' ' for line in seen.screen), 'A' + ' ' * 10 + 'LMNOPQRSTUVWXY')
         seen = self.after(self.fill() + ' MOV AX,0600h\n MOV BH,7\n MOV CX,0\n MOV DX,0FFFFh\n INT 10h')
         self.assertEqual(seen.text[:4000], b'\x20\x07' * 2000)
 
     def test_06_of_no_window(self) -> None:
         seen = self.after(self.fill() + ' MOV AX,0601h\n MOV BH,7\n MOV CX,0505h\n MOV DX,0404h\n INT 10h')
-        self.assertEqual(''.join(it[:1] for it in seen.screen), 'ABCDEFGHIJKLMNOPQRSTUVWXY')
+        self.assertEqual(''.join(line[:1] for line in seen.screen), 'ABCDEFGHIJKLMNOPQRSTUVWXY')
 
     def test_07_scroll_down(self) -> None:
         seen = self.after(self.fill() + ' MOV AX,0703h\n MOV BH,1\n MOV CX,0100h\n MOV DX,0A27h\n INT 10h')
-        self.assertEqual(''.join(it[:1] or ' ' for it in seen.screen), 'A   BCDEFGHLMNOPQRSTUVWXY')
+        self.assertEqual(''.join(line[:1] or ' ' for line in seen.screen), 'A   BCDEFGHLMNOPQRSTUVWXY')
         self.assertEqual(seen.cell(1, 39), b' \x01')
         down = self.after(self.fill() + ' MOV AX,0701h\n MOV BH,7\n MOV CX,0505h\n MOV DX,0404h\n INT 10h')
-        self.assertEqual(''.join(it[:1] for it in down.screen), 'ABCDEFGHIJKLMNOPQRSTUVWXY')
+        self.assertEqual(''.join(line[:1] for line in down.screen), 'ABCDEFGHIJKLMNOPQRSTUVWXY')
 
     def test_08_read(self) -> None:
         seen = self.after(' MOV AX,0941h\n MOV BX,70h\n MOV CX,3\n INT 10h\n MOV DX,2\n MOV AH,2\n INT 10h\n MOV AH,8\n INT 10h')
@@ -227,7 +227,7 @@ class Screen(ServiceCase):
         self.assertEqual((last.screen[24], last.screen[0]), (78 * ' ' + 'BB', ''))
 
     def test_0e_teletype(self) -> None:
-        seen = self.after("".join(f' MOV AX,{0xE00 + it}\n INT 10h\n' for it in (65, 66, 13, 10, 67, 68, 8, 69)))
+        seen = self.after("".join(f' MOV AX,{0xE00 + sign}\n INT 10h\n' for sign in (65, 66, 13, 10, 67, 68, 8, 69)))
         self.assertEqual((seen.screen[:2], seen.cursor), (['AB', 'CE'], (1, 2)))
         scrolled = self.after(
             ' MOV CX,24\nmore: MOV AX,0E0Ah\n INT 10h\n LOOP more\n MOV AX,0E41h\n INT 10h\n MOV AX,0E0Dh\n INT 10h\n MOV AX,0E0Ah\n INT 10h\n MOV AX,0E42h\n INT 10h'
@@ -267,7 +267,7 @@ class Screen(ServiceCase):
     def test_registers_stay(self) -> None:
         for function in (1, 2, 5, 6, 9, 0x0A, 0x0E, 0x12):
             seen = self.after(f'{BEFORE} MOV AX,{256 * function + 65}\n INT 10h')
-            self.assertEqual({it: seen.registers[it] for it in STAY}, STAY, function)
+            self.assertEqual({name: seen.registers[name] for name in STAY}, STAY, function)
             self.assertEqual((seen.registers['DS'], seen.registers['ES'], seen.registers['AX']), (0x100, 0x100, 256 * function + 65))
 
 
@@ -283,14 +283,14 @@ class Board(ServiceCase):
         for function in (0, 1, 2, 3, 8, 0x15):
             seen = self.after(f'{BEFORE} CLC\n MOV AX,{256 * function + 1}\n INT 13h')
             self.assertEqual((seen.half('AH'), seen.flags & CARRY, seen.data[0x41]), (0x80, CARRY, 0x80))
-            self.assertEqual({it: seen.registers[it] for it in STAY}, STAY)
+            self.assertEqual({name: seen.registers[name] for name in STAY}, STAY)
 
     def test_14_17_15(self) -> None:
         for interrupt, status in ((0x14, 0x80), (0x17, 0x01)):
             for function in (0, 1, 2, 3):
                 seen = self.after(f'{BEFORE} MOV AX,{256 * function + 65}\n INT 0{interrupt:02X}h')
                 self.assertEqual((seen.half('AH'), seen.half('AL')), (status, 65))
-                self.assertEqual({it: seen.registers[it] for it in STAY}, STAY)
+                self.assertEqual({name: seen.registers[name] for name in STAY}, STAY)
         seen = self.after(' CLC\n MOV AX,8800h\n INT 15h')
         self.assertEqual((seen.half('AH'), seen.flags & CARRY), (0x86, CARRY))
 
@@ -307,7 +307,7 @@ class Board(ServiceCase):
     def test_an_interrupt_that_is_not_there(self) -> None:
         for interrupt in (0x2F, 0x33, 0x40, 0x67, 0xFF):
             seen = self.after(f'{BEFORE} MOV AX,1234h\n INT 0{interrupt:02X}h')
-            self.assertEqual({it: seen.registers[it] for it in STAY}, STAY)
+            self.assertEqual({name: seen.registers[name] for name in STAY}, STAY)
             _, left = self.whole(f' MOV AX,1234h\n INT 0{interrupt:02X}h')
             self.assertEqual((left.notes, left.note), (1, (interrupt, 0x1234, 0x105, 0x100)))
 
@@ -335,7 +335,7 @@ class Keys(ServiceCase):
         for plain, upper, them in zip(rows, shifted, codes):
             for text in (plain, upper):
                 seen = self.after(lines, text.replace('{', '{{').replace('}', '}}') + '{enter}', budget=20_000_000)
-                found = [seen.word(0x200 + 2 * it) for it in range(len(text) + 1)]
+                found = [seen.word(0x200 + 2 * at) for at in range(len(text) + 1)]
                 self.assertEqual(found, [256 * code + ord(sign) for code, sign in zip([*them, 0x1C], text + '\r')])
 
     def test_special_keys(self) -> None:
@@ -376,7 +376,7 @@ class Keys(ServiceCase):
             '{shift+prtsc}x': 0x2D78,
             '{ctrl+up}x': 0x2D78,
         }
-        self.assertEqual({it: f'{self.key(it):04X}' for it in wanted}, {it: f'{code:04X}' for it, code in wanted.items()})
+        self.assertEqual({keys: f'{self.key(keys):04X}' for keys in wanted}, {keys: f'{code:04X}' for keys, code in wanted.items()})
 
     def test_locks(self) -> None:
         wanted = {
@@ -389,12 +389,12 @@ class Keys(ServiceCase):
             '{numlock}{numlock}{left}': 0x4B00,
             '{numlock}{ins}': 0x5230,
         }
-        self.assertEqual({it: f'{self.key(it):04X}' for it in wanted}, {it: f'{code:04X}' for it, code in wanted.items()})
+        self.assertEqual({keys: f'{self.key(keys):04X}' for keys in wanted}, {keys: f'{code:04X}' for keys, code in wanted.items()})
 
     def test_00_waits(self) -> None:
         seen = self.after(f'{BEFORE} MOV AH,0\n INT 16h', '{wait 1000000}a')
         self.assertGreater(seen.clock, 1_200_000)
-        self.assertEqual({it: seen.registers[it] for it in STAY}, STAY)
+        self.assertEqual({name: seen.registers[name] for name in STAY}, STAY)
 
     def test_01_looks(self) -> None:
         nothing = self.after(f'{BEFORE} MOV AX,0155h\n INT 16h')
@@ -417,7 +417,7 @@ class Keys(ServiceCase):
             '{scrolllock}a': 0x10,
             '{ins}': 0x80,
         }
-        self.assertEqual({it: self.after(lines, it).half('AL') for it in wanted}, wanted)
+        self.assertEqual({keys: self.after(lines, keys).half('AL') for keys in wanted}, wanted)
         self.assertEqual(self.after(' MOV AH,0\n INT 16h\n MOV AH,0\n INT 16h\n MOV AH,2\n INT 16h', 'Ab').half('AL'), 0)
 
     def test_the_buffer_holds_fifteen(self) -> None:
@@ -481,7 +481,7 @@ class Dos(ServiceCase):
         for function, shown in ((1, 'a'), (7, ''), (8, '')):
             seen = self.after(f'{BEFORE} MOV AX,{256 * function}\n INT 21h', 'a')
             self.assertEqual((seen.registers['AX'], seen.screen[0]), (256 * function + 97, shown))
-            self.assertEqual({it: seen.registers[it] for it in STAY}, STAY)
+            self.assertEqual({name: seen.registers[name] for name in STAY}, STAY)
             two = self.after(f' MOV AH,{function}\n INT 21h\n MOV BL,AL\n MOV AH,{function}\n INT 21h', '{f1}')
             self.assertEqual((two.half('BL'), two.half('AL')), (0, 0x3B))
 
@@ -549,7 +549,7 @@ class Dos(ServiceCase):
     def test_19_30(self) -> None:
         self.assertEqual(self.after(' MOV AX,19FFh\n INT 21h').half('AL'), 0)
         seen = self.after(f'{BEFORE} MOV AX,3000h\n INT 21h')
-        self.assertEqual([seen.registers[it] for it in ('AX', 'BX', 'CX', 'DX')], [0x1E03, 0, 0, 0x3456])
+        self.assertEqual([seen.registers[name] for name in ('AX', 'BX', 'CX', 'DX')], [0x1E03, 0, 0, 0x3456])
 
     def test_25_35_vectors(self) -> None:
         seen = self.after(' MOV AX,2560h\n MOV DX,1234h\n INT 21h\n MOV AX,3560h\n INT 21h')
@@ -625,7 +625,7 @@ class Dos(ServiceCase):
         for function in (3, 4, 5, 0x0D, 0x0E, 0x0F, 0x1A, 0x2B, 0x2D, 0x31, 0x33, 0x3C, 0x3D, 0x3E, 0x42, 0x4B, 0x4D, 0x62, 0xFF):
             seen = self.after(f'{BEFORE} MOV AX,{256 * function}\n CLC\n INT 21h')
             self.assertEqual((seen.registers['AX'], seen.flags & CARRY), (1, CARRY), function)
-            self.assertEqual({it: seen.registers[it] for it in STAY}, STAY)
+            self.assertEqual({name: seen.registers[name] for name in STAY}, STAY)
             self.assertEqual(seen.screen, [''] * 25)
         _, left = self.whole(' MOV AX,3D02h\n INT 21h')
         self.assertEqual(left.remarks(), ["INT 21h function 3Dh, called at 0100:0103, isn't among the services (docs/services.md)"])
@@ -659,9 +659,9 @@ class Pages(ServiceCase):
     def test_every_call_is_in_the_table(self) -> None:
         with open(f'{TOP}/docs/services.md', encoding='utf-8') as file:
             page = file.read()
-        told = {(row[1], it) for row in (line.split('|') for line in page.splitlines() if line.startswith('|')) for it in row[2].split(', ')}
+        listed = {(row[1], call) for row in (line.split('|') for line in page.splitlines() if line.startswith('|')) for call in row[2].split(', ')}
         for interrupt, functions in SERVED.items():
-            self.assertEqual([it for it in functions.split() if (interrupt, f'{it}h') not in told], [])
+            self.assertEqual([call for call in functions.split() if (interrupt, f'{call}h') not in listed], [])
 
 
 if __name__ == '__main__':

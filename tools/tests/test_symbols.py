@@ -50,8 +50,8 @@ Real              Virtual           Name
 def hex_of(octets: bytes, paragraph: int = 0xF000) -> str:
     """A HEX text of some bytes."""
     records = [b'\0\0\2' + paragraph.to_bytes(2, 'big'), *(at.to_bytes(2, 'big') + b'\0' + octets[at : at + 16] for at in range(0, len(octets), 16)), b'\0\0\1']
-    rows = [bytes([len(it) - 3]) + it for it in records]
-    return ''.join(f':{it.hex()}{-sum(it) & 0xFF:02X}\n' for it in rows)
+    rows = [bytes([len(record) - 3]) + record for record in records]
+    return ''.join(f':{row.hex()}{-sum(row) & 0xFF:02X}\n' for row in rows)
 
 
 # Sections without bytes, a structure, whose names are no places, and a label at a section's end.
@@ -96,24 +96,24 @@ class Files(ToolCase):
     def of(self, text: str, place: str = '') -> dict[str, str]:
         """The labels of a file of symbols."""
         found = symbols_of(self.file('symbols', text) + place, image_of(hex_of(bytes.fromhex(ROM))))
-        self.lines = {it.number: it for it in found.lines}
-        self.at = {where: it.number for where, it in found.at.items()}
+        self.lines = {line.number: line for line in found.lines}
+        self.at = {where: line.number for where, line in found.at.items()}
         return {name: f'{s:04X}:{o:04X}' for name, (s, o) in found.labels.items()}
 
     def test_nasm(self) -> None:
         labels = self.of(NASM)
         self.assertEqual(labels, {'start': 'F000:0000', 'start.loop': 'F000:0005', 'msg': 'F000:0007', 'end_it': 'F000:001A'})
         self.assertEqual(list(self.lines), list(range(1, 14)))
-        self.assertEqual([self.at[0xF0000 + it] for it in (0, 3, 5, 7, 0x18, 0x19, 0x1A)], [3, 4, 6, 7, 12, 12, 13])
+        self.assertEqual([self.at[0xF0000 + offset] for offset in (0, 3, 5, 7, 0x18, 0x19, 0x1A)], [3, 4, 6, 7, 12, 12, 13])
         self.assertEqual(self.of(NASM, '@F000:0'), labels)
-        self.assertEqual(self.of(NASM_MAP), {it: labels[it] for it in ('start', 'start.loop', 'end_it')})
+        self.assertEqual(self.of(NASM_MAP), {name: labels[name] for name in ('start', 'start.loop', 'end_it')})
 
     def test_labels_alone(self) -> None:
         self.assertEqual(self.of('F000:0000 start\n0050:4 count\n'), {'start': 'F000:0000', 'count': '0050:0004'})
         self.assertEqual(self.of('000f0007 T msg\n00000500 B count\n'), {'msg': 'F000:0007', 'count': '0000:0500'})
-        told = '                rom                  _main  0  {}  R\n                rom                 _count  3  00000002  R C\nTotal memory used: 29c\n'
-        self.assertEqual(self.of(told.format('000f0003')), {'_main': 'F000:0003', '_count': '0000:0002'})
-        self.assertEqual(self.of(told.format('00000003'), '@F000'), {'_main': 'F000:0003'})
+        symbols = '                rom                  _main  0  {}  R\n                rom                 _count  3  00000002  R C\nTotal memory used: 29c\n'
+        self.assertEqual(self.of(symbols.format('000f0003')), {'_main': 'F000:0003', '_count': '0000:0002'})
+        self.assertEqual(self.of(symbols.format('00000003'), '@F000'), {'_main': 'F000:0003'})
 
     def test_another_place_or_program(self) -> None:
         for text, place in ((NASM, '@F001'), (NASM, '@F000:1'), (NASM_MAP, '@1000'), (NASM.replace('8EC0', '8EC1'), '')):
@@ -140,7 +140,7 @@ class Files(ToolCase):
             for name in places:
                 with self.assertRaisesRegex(Sorry, f'{name.upper()} is not in the image: --symbols FILE,ram=PARAGRAPH'):
                     far_of(found, name.upper())
-        lines = {it.number: it.address for it in symbols_of(f'{self.file("symbols", RAM)},ram=50', image).lines}
+        lines = {line.number: line.address for line in symbols_of(f'{self.file("symbols", RAM)},ram=50', image).lines}
         self.assertEqual({number for number, address in lines.items() if address}, {11})
 
     def test_names_of_files(self) -> None:
@@ -148,7 +148,7 @@ class Files(ToolCase):
         image = image_of(hex_of(bytes.fromhex(ROM)))
         for name in ('a@F0', 'a,ram=7', 'b@1:2,ram=3'):
             path = self.file(name, RAM)
-            self.assertEqual([symbols_of(f'{path}{it}', image).labels['start'] for it in ('', '@F000', ',ram=50')], [(0xF000, 0)] * 3)
+            self.assertEqual([symbols_of(f'{path}{place}', image).labels['start'] for place in ('', '@F000', ',ram=50')], [(0xF000, 0)] * 3)
 
     def test_nasm_itself(self) -> None:
         """Its listing and its map, of the example whose ticks and keys are in RAM."""
@@ -160,7 +160,7 @@ class Files(ToolCase):
         with open(f'{self.room}/rom.bin', 'rb') as octets:
             image = image_of(hex_of(octets.read(), 0xF600))
         labels = symbols_of(f'{self.room}/rom.lst@F600,ram=50', image).labels
-        self.assertEqual([labels[it] for it in ('ticks', 'keys', 'start')], [(0x50, 0), (0x50, 2), (0xF600, 0)])
+        self.assertEqual([labels[name] for name in ('ticks', 'keys', 'start')], [(0x50, 0), (0x50, 2), (0xF600, 0)])
         self.assertEqual(symbols_of(f'{self.room}/rom.lst@F600', image).absent, {'ticks', 'keys'})
 
 
@@ -183,7 +183,7 @@ class Board(ToolCase):
         self.assertEqual(self.called('trace', *words, '--to', '2000', file, run)[0], self.called('trace', '--to', '2000', source, run)[0])
         for kind in ('--profile', '--coverage', '--listing'):
             self.assertEqual(self.called('trace', kind, *words, file, run)[0], self.called('trace', kind, source, run)[0], kind)
-        label = next(it.split()[1] for it in self.dbg(source, run, typed='labels'))
+        label = next(line.split()[1] for line in self.dbg(source, run, typed='labels'))
         self.assertEqual(self.dbg(*words, file, run, typed=f'break {label}; go; list'), self.dbg(source, run, typed=f'break {label}; go; list'))
         page = self.file('page', f'runs = {label}\n')
         self.assertEqual(self.called('judge', *words, page, file, run)[0].splitlines()[-1], '1 met, 0 not')
@@ -195,20 +195,20 @@ class Board(ToolCase):
             '        MOV SP,400h\n        CALL away\nback:   MOV CX,9\n        CLD\n        REP LODSB\nthen:   INT3\nlast:   HLT\n'
             'away:   PUSH AX\n        CALL more\nmid:    POP AX\n        RET\nmore:   RET\nthree:  IRET\nENDS\nSEGMENT VECTORS AT 0\n        ORG 12\n        DW three,SEG three'
         )
-        told = self.dbg(*files, typed='until away; finish; next; next; next; next; where; step; next')
-        places = [it.split()[2] if 'clock' in it else it for it in told]
-        self.assertEqual([it.split('F000:')[-1].split()[1] for it in told[:6]], ['away', 'back', 'back+3', 'back+4', 'then', 'last'], places)
-        told = self.dbg(*files, typed='until away; break mid; next; next; until more; finish; stops; until nowhere')
-        self.assertEqual(told[0].split()[3], 'away')
-        self.assertIn('stop 1 (break F000:0012 mid)', told[3])
-        self.assertIn('no label', told[-1])
+        lines = self.dbg(*files, typed='until away; finish; next; next; next; next; where; step; next')
+        places = [line.split()[2] if 'clock' in line else line for line in lines]
+        self.assertEqual([line.split('F000:')[-1].split()[1] for line in lines[:6]], ['away', 'back', 'back+3', 'back+4', 'then', 'last'], places)
+        lines = self.dbg(*files, typed='until away; break mid; next; next; until more; finish; stops; until nowhere')
+        self.assertEqual(lines[0].split()[3], 'away')
+        self.assertIn('stop 1 (break F000:0012 mid)', lines[3])
+        self.assertIn('no label', lines[-1])
 
     def test_stops_are_met_on_the_way(self) -> None:
         files = self.program('        MOV SP,400h\n        CALL away\nback:   HLT\naway:   NOP\nmid:    NOP\n        RET')
-        told = self.dbg(*files, typed='break mid; step; step; next; stops; next; until start')
-        self.assertIn('stop 1', told[3])
-        self.assertEqual(told[4], told[0])
-        self.assertIn('never there up to the end of the run', told[-1])
+        lines = self.dbg(*files, typed='break mid; step; step; next; stops; next; until start')
+        self.assertIn('stop 1', lines[3])
+        self.assertEqual(lines[4], lines[0])
+        self.assertIn('never there up to the end of the run', lines[-1])
 
     def test_disassembly_both_ways(self) -> None:
         """What pcprobe lists is what runs: bytes and text of random places, also at a segment's end."""
@@ -222,9 +222,9 @@ class Board(ToolCase):
 
     def test_disassembly(self) -> None:
         files = self.program('        JMP SHORT over\n        REP MOVSB\n        DB 0Fh\nover:   LOOP over\n        DB 0FFh,0FFh\n        HLT')
-        told = self.dbg(*files, typed='u start 6; to 20; u CS:IP 1; dump CS:IP 2; u nowhere')
+        lines = self.dbg(*files, typed='u start 6; to 20; u CS:IP 1; dump CS:IP 2; u nowhere')
         self.assertEqual(
-            [' '.join(it.split()) for it in told[:6]],
+            [' '.join(line.split()) for line in lines[:6]],
             [
                 'F000:0000 start EB03 JMP SHORT 00005h',
                 'F000:0002 start+2 F3A4 REP MOVSB',
@@ -234,8 +234,8 @@ class Board(ToolCase):
                 'F000:0008 over+3 FFF4 PUSH SP',
             ],
         )
-        self.assertIn('over', told[7])
-        self.assertIn('E2 FE', told[8])
+        self.assertIn('over', lines[7])
+        self.assertIn('E2 FE', lines[8])
 
 
 if __name__ == '__main__':
