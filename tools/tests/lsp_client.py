@@ -76,22 +76,24 @@ class Here(Talk):
     def send(self, *messages: Any) -> list[Fields]:
         """Sends messages at once, and gives what comes of them until nothing is left to do."""
         self.sent.clear()
-        for it in messages:
-            self.messages.put(it)
+        for message in messages:
+            self.messages.put(message)
         self.server.gather(0)
         while self.server.waiting or self.server.due:
             if self.server.waiting:
                 self.server.take(self.server.waiting.popleft())
             else:
                 self.server.judge_on(next(iter(self.server.due)))
-        for it in self.sent:
-            if it.get('method') == 'textDocument/publishDiagnostics':
-                self.found[it['params']['uri']] = it['params']['diagnostics']
+        for message in self.sent:
+            if message.get('method') == 'textDocument/publishDiagnostics':
+                self.found[message['params']['uri']] = message['params']['diagnostics']
         return list(self.sent)
 
     def answer(self, method: str, **asked: Any) -> Fields:
         self.count += 1
-        return next(it for it in self.send({'jsonrpc': '2.0', 'id': self.count, 'method': method, 'params': asked}) if it.get('id') == self.count)
+        return next(
+            message for message in self.send({'jsonrpc': '2.0', 'id': self.count, 'method': method, 'params': asked}) if message.get('id') == self.count
+        )
 
     def tell(self, method: str, **asked: Any) -> None:
         self.send({'jsonrpc': '2.0', 'method': method, 'params': asked})
@@ -127,8 +129,8 @@ class There(Talk):
 
     def send(self, *messages: Any) -> None:
         """Sends messages at once."""
-        bodies = [json.dumps(it).encode() for it in messages]
-        self.raw(b''.join(b'Content-Length: %d\r\n\r\n%b' % (len(it), it) for it in bodies))
+        bodies = [json.dumps(message).encode() for message in messages]
+        self.raw(b''.join(b'Content-Length: %d\r\n\r\n%b' % (len(body), body) for body in bodies))
 
     def read(self) -> Fields:
         """The next message."""

@@ -42,12 +42,12 @@ class Folder(ToolCase):
         with open(f'{FOLDER}/package.json', encoding='utf-8') as file:
             self.package = json.load(file)['contributes']
         with open(f'{FOLDER}/zebludor.tmLanguage.json', encoding='utf-8') as file:
-            self.rules = [(it['name'].removesuffix('.zebludor'), it['match']) for it in json.load(file)['patterns']]
+            self.rules = [(rule['name'].removesuffix('.zebludor'), rule['match']) for rule in json.load(file)['patterns']]
 
     def test_the_grammar_is_that_of_the_words(self) -> None:
         done = subprocess.run([f'{TOP}/editors/grammar', '--check'], capture_output=True, text=True, check=False)
         self.assertEqual((done.returncode, done.stdout), (0, ''))
-        self.assertEqual([self.name_of(it) for it in sorted(STATEMENTS - WORDS) if 'keyword' not in self.name_of(it)], [])
+        self.assertEqual([self.name_of(word) for word in sorted(STATEMENTS - WORDS) if 'keyword' not in self.name_of(word)], [])
 
     def name_of(self, word: str) -> str:
         """What the grammar takes a word for: the first rule that fits at its beginning."""
@@ -89,7 +89,7 @@ class Folder(ToolCase):
     def test_ten_lines(self) -> None:
         for name in ('emacs.el', 'nvim.lua'):
             with open(f'{TOP}/editors/{name}', encoding='utf-8') as file:
-                self.assertLessEqual(len([it for it in file if it.strip() and not it.startswith((';', '--'))]), 10)
+                self.assertLessEqual(len([line for line in file if line.strip() and not line.startswith((';', '--'))]), 10)
 
 
 class Editors(ToolCase):
@@ -100,20 +100,20 @@ class Editors(ToolCase):
             not_run('Emacs with dap-mode')
             return
         source, run = example('ticks')
-        told = batch(self.room, '-l', MODE_CLIENT, f'{TOP}/editors/emacs.el', source, run, '41')
-        reasons = [it.split()[0] for it in told[:8]]
+        lines = batch(self.room, '-l', MODE_CLIENT, f'{TOP}/editors/emacs.el', source, run, '41')
+        reasons = [line.split()[0] for line in lines[:8]]
         self.assertEqual(reasons, ['entry', 'breakpoint', 'step', 'step', 'step', 'step', 'breakpoint', 'breakpoint'])
         with Session(Files(source, run)) as session:
             clocks = ['0'] + self.clocks(session)
-        self.assertEqual([it.split()[2] for it in told[:8]], clocks)
-        self.assertEqual([it.split()[1] for it in told[:8]], ['51', '41', '42', '43', '42', '41', '41', '41'])
-        self.assertEqual(told[8:], ['00058h (88)', 'MAcAAA==', 'gone'])
+        self.assertEqual([line.split()[2] for line in lines[:8]], clocks)
+        self.assertEqual([line.split()[1] for line in lines[:8]], ['51', '41', '42', '43', '42', '41', '41', '41'])
+        self.assertEqual(lines[8:], ['00058h (88)', 'MAcAAA==', 'gone'])
 
     def clocks(self, session: Session) -> list[str]:
         """The same moves in the debugger."""
         session.many('break F600:58')
         commands = ('go 2000', 'step', 'step', 'back step', 'back step', 'go 2000', 'back stop')
-        return [session.one(it).split()[-1] for it in commands]
+        return [session.one(command).split()[-1] for command in commands]
 
     def test_quickfix_and_compile(self) -> None:
         source, _ = self.program(' FROB\n MOV AX,0x10')
@@ -171,7 +171,7 @@ class Examples(unittest.TestCase):
 
     def test_each_word_has_a_colour(self) -> None:
         with open(f'{FOLDER}/zebludor.tmLanguage.json', encoding='utf-8') as file:
-            rules = [re.sub(r'^\(\?i\)', '', it['match']) for it in json.load(file)['patterns']]
+            rules = [re.sub(r'^\(\?i\)', '', rule['match']) for rule in json.load(file)['patterns']]
         sources = glob.glob(f'{EXAMPLES}/*.asm')
         self.assertGreater(len(sources), 10)
         for path in sources:
@@ -179,7 +179,7 @@ class Examples(unittest.TestCase):
                 for line in file:
                     operation = re.match(r'\s+([A-Z]+)\b', line)
                     if operation:
-                        self.assertTrue(any(re.match(it, operation[1], re.I) for it in rules), line)
+                        self.assertTrue(any(re.match(rule, operation[1], re.I) for rule in rules), line)
 
 
 if __name__ == '__main__':

@@ -39,7 +39,7 @@ ENDS
 
 def places(found: list[Fields]) -> list[tuple[int, int, int]]:
     """Lines and columns of ranges."""
-    return [(it['range']['start']['line'], it['range']['start']['character'], it['range']['end']['character']) for it in found]
+    return [(item['range']['start']['line'], item['range']['start']['character'], item['range']['end']['character']) for item in found]
 
 
 class Life(ToolCase):
@@ -58,8 +58,8 @@ class Life(ToolCase):
     def test_begins_and_ends(self) -> None:
         there = self.begin(False)
         self.assertEqual(there.error('textDocument/hover')['code'], -32002)
-        told = there.ask('initialize', processId=None, rootUri=None, capabilities={})
-        self.assertEqual(told['capabilities']['positionEncoding'], 'utf-16')
+        answer = there.ask('initialize', processId=None, rootUri=None, capabilities={})
+        self.assertEqual(answer['capabilities']['positionEncoding'], 'utf-16')
         self.assertEqual(there.error('initialize')['code'], -32600)
         there.tell('initialized')
         self.assertIsNone(there.ask('shutdown'))
@@ -107,8 +107,8 @@ class Life(ToolCase):
         there = self.begin()
         for octets, code in ((b'{', -32700), (b'[]', -32700), (b'"\xff"', -32700), (b'{"id":5}', -32600), (b'{"id":[],"method":"x"}', -32600)):
             there.raw(b'Content-Length: %d\r\n\r\n%b' % (len(octets), octets))
-            told = there.read()
-            self.assertEqual((told['id'], told['error']['code']), (None, code), octets)
+            answer = there.read()
+            self.assertEqual((answer['id'], answer['error']['code']), (None, code), octets)
         self.assertEqual(there.error('textDocument/nonsense')['code'], -32601)
         there.send({'jsonrpc': '2.0', 'id': 'p', 'method': 'textDocument/hover', 'params': 5})
         self.assertEqual(there.answer_to('p')['error']['code'], -32602)
@@ -133,24 +133,24 @@ class Life(ToolCase):
         there.send(
             {'jsonrpc': '2.0', 'id': 'z', 'method': 'workspace/symbol', 'params': {'query': ''}}, hover, {'method': '$/cancelRequest', 'params': {'id': 'a'}}
         )
-        told = there.answer_to('a')
-        self.assertTrue('result' in told or told['error']['code'] == -32800, told)
+        answer = there.answer_to('a')
+        self.assertTrue('result' in answer or answer['error']['code'] == -32800, answer)
         there.end()
 
     def test_called_off_while_it_waits(self) -> None:
         here = Here()
         here.open(TICKS)
         hover = {'id': 7, 'method': 'textDocument/hover', 'params': {'textDocument': {'uri': IT}, 'position': {'line': 3, 'character': 9}}}
-        told = here.send(hover, {'method': '$/cancelRequest', 'params': {'id': 7}}, {'method': '$/cancelRequest', 'params': 5})
-        self.assertEqual([it['error']['code'] for it in told], [-32800])
+        messages = here.send(hover, {'method': '$/cancelRequest', 'params': {'id': 7}}, {'method': '$/cancelRequest', 'params': 5})
+        self.assertEqual([message['error']['code'] for message in messages], [-32800])
 
     def test_closed_while_it_is_asked_for(self) -> None:
         here = Here()
         here.open(TICKS)
         close = {'method': 'textDocument/didClose', 'params': {'textDocument': {'uri': IT}}}
         hover = {'id': 7, 'method': 'textDocument/hover', 'params': {'textDocument': {'uri': IT}, 'position': {'line': 3, 'character': 9}}}
-        told = here.send(close, hover)
-        self.assertEqual([it.get('error', {}).get('code') for it in told], [None, -32803])
+        messages = here.send(close, hover)
+        self.assertEqual([message.get('error', {}).get('code') for message in messages], [None, -32803])
         self.assertEqual(here.found[IT], [])
 
     def test_what_goes_wrong_within_is_told(self) -> None:
@@ -172,8 +172,8 @@ class Life(ToolCase):
         with unittest.mock.patch.dict(os.environ, PCBOARD=f'{self.room}/none'):
             there = self.begin()
         there.open(TICKS)
-        told = [there.read() for _ in range(2)]
-        self.assertIn("isn't there", ' '.join(it['params'].get('message', '') for it in told))
+        messages = [there.read() for _ in range(2)]
+        self.assertIn("isn't there", ' '.join(message['params'].get('message', '') for message in messages))
         self.assertEqual(there.at('definition', 6, 14)['range']['start']['line'], 11)
         there.end()
 
@@ -186,19 +186,21 @@ class Underlined(ToolCase):
         path = self.file('it.asm', text)
         here = Here()
         here.open(text)
-        told = [(it['range']['start']['line'] + 1, it['message'], it['severity']) for it in here.found[IT]]
+        underlined = [(diagnostic['range']['start']['line'] + 1, diagnostic['message'], diagnostic['severity']) for diagnostic in here.found[IT]]
         lines = self.tool('why', '--lines', path, status=1)[0].splitlines()
-        wanted = [it.removeprefix(f'{path}:').partition(': error: ') for it in lines]
-        self.assertEqual(told, [(int(line), text.partition(': ')[2], 1) for line, _, text in wanted])
-        self.assertEqual({it['range']['start']['line']: it['code'] for it in here.found[IT]}, {2: 5, 3: 4, 4: 7, 5: 3, 6: 6, 7: 7, 10: 11})
+        wanted = [line.removeprefix(f'{path}:').partition(': error: ') for line in lines]
+        self.assertEqual(underlined, [(int(line), text.partition(': ')[2], 1) for line, _, text in wanted])
+        self.assertEqual(
+            {diagnostic['range']['start']['line']: diagnostic['code'] for diagnostic in here.found[IT]}, {2: 5, 3: 4, 4: 7, 5: 3, 6: 6, 7: 7, 10: 11}
+        )
         self.assertEqual(places(here.found[IT])[0], (2, 1, 10))
 
     def test_the_first_is_told_at_once(self) -> None:
         here = Here()
-        told = here.send(
+        messages = here.send(
             {'method': 'textDocument/didOpen', 'params': {'textDocument': {'uri': IT, 'version': 3, 'text': 'SEGMENT A AT 0\n' + ' FROB\n' * 200}}}
         )
-        self.assertEqual([(it['params']['version'], len(it['params']['diagnostics'])) for it in told], [(3, 1), (3, 101)])
+        self.assertEqual([(message['params']['version'], len(message['params']['diagnostics'])) for message in messages], [(3, 1), (3, 101)])
 
     def test_an_edit_of_a_long_source(self) -> None:
         """150 milliseconds of processor time is what an editor's user doesn't notice; a busy machine may take four times as much."""
@@ -225,8 +227,8 @@ class Underlined(ToolCase):
         here.server.take(here.server.waiting.popleft())
         here.server.judge(IT)
         here.server.judge(IT)
-        told = here.send({'method': 'textDocument/didChange', 'params': {'textDocument': {'uri': IT, 'version': 2}, 'contentChanges': [{'text': ' NOP'}]}})
-        self.assertEqual([(it['params']['version'], len(it['params']['diagnostics'])) for it in told], [(2, 1)] * len(told))
+        messages = here.send({'method': 'textDocument/didChange', 'params': {'textDocument': {'uri': IT, 'version': 2}, 'contentChanges': [{'text': ' NOP'}]}})
+        self.assertEqual([(message['params']['version'], len(message['params']['diagnostics'])) for message in messages], [(2, 1)] * len(messages))
 
     def test_repairs(self) -> None:
         for line, wanted in (
@@ -251,46 +253,46 @@ class Underlined(ToolCase):
             here = Here()
             here.open(f'SEGMENT MAIN AT 50h\nticks: DB 5\nmany: DW 5\nit: NOP\n {line} ; why\nENDS\n')
             them = here.of('codeAction', range=span(4, 5), context={'diagnostics': []})
-            edits = [it['edit']['changes'][IT][0]['newText'].strip() for it in them]
+            edits = [action['edit']['changes'][IT][0]['newText'].strip() for action in them]
             self.assertIn(f'{wanted} ; why', edits, line)
             self.assertEqual(here.of('codeAction', range=span(4, 5), context={'diagnostics': [], 'only': ['refactor']}), [])
             here.change({'range': them[0]['edit']['changes'][IT][0]['range'], 'text': them[0]['edit']['changes'][IT][0]['newText']})
-            self.assertEqual([it for it in here.found[IT] if it['severity'] == 1], [], line)
+            self.assertEqual([diagnostic for diagnostic in here.found[IT] if diagnostic['severity'] == 1], [], line)
 
     def test_warnings(self) -> None:
         lines = 'SEGMENT MAIN AT 0F000h\nx: DB 1\nMOV AL,x\nMOV BL,x+1\nMOV [x],AL\nINC BYTE [x]\nMOV AX,0F000h\nMOV SS,AX\nINT 60h\n; Grüße\nENDS\n'
         here = Here()
         here.open(lines)
-        self.assertEqual({it['severity'] for it in here.found[IT]}, {2})
-        found = [(it['range']['start']['line'], it['code']) for it in here.found[IT]]
+        self.assertEqual({diagnostic['severity'] for diagnostic in here.found[IT]}, {2})
+        found = [(diagnostic['range']['start']['line'], diagnostic['code']) for diagnostic in here.found[IT]]
         wanted = [(2, 'offset-in-byte'), (3, 'offset-in-byte'), (4, 'variable-in-rom'), (5, 'variable-in-rom'), (7, 'variable-in-rom')]
         self.assertEqual(sorted(found), sorted([*wanted, (8, 'no-vector'), (9, 'comment-not-ascii'), (0, 'no-reset')]))
         for name in {name for _, name in found}:
             here.tell('workspace/didChangeConfiguration', settings={'zebludor': {'off': [name]}})
             here.tell('workspace/didChangeConfiguration', settings={})
-            self.assertEqual([it['code'] for it in here.found[IT]], [it for _, it in found if it != name])
+            self.assertEqual([diagnostic['code'] for diagnostic in here.found[IT]], [code for _, code in found if code != name])
         quiet = lines.replace('AL,x\n', 'AL,x-x\n').replace('BL,x+1', 'BL,[x+1]').replace(' [x]', ' ES:[x]').replace('0F000h\nMOV S', '50h\nMOV S')
         here = Here()
         here.open(f'SEGMENT V AT 0\nORG 180h\nDW 5,5\nENDS\nSEGMENT R AT 0FFFFh\nJMP FAR x\nENDS\n{quiet.replace("ü", "ue").replace("ß", "ss")}')
         self.assertEqual(here.found[IT], [])
         for sets in ('MOV WORD [180h],5', 'MOV [DI],AX', 'STOSW', 'INT 21h'):
             here.open(lines.replace('INT 60h', f'{sets}\nINT 60h'))
-            self.assertNotIn('no-vector', [it['code'] for it in here.found[IT]], sets)
+            self.assertNotIn('no-vector', [diagnostic['code'] for diagnostic in here.found[IT]], sets)
 
     def test_warnings_of_a_line_alone(self) -> None:
         """They stand where what they are about does, and say what why --lines says."""
         here, lines = Here(), 'SEGMENT MAIN AT 50h\nx: INT 21\nREP MOV AX,BX\n CMP AL,X+1\nENDS\n'
         here.open(lines)
-        self.assertEqual([it['code'] for it in here.found[IT]], ['decimal-interrupt', 'rep-without-string', 'offset-in-byte'])
+        self.assertEqual([diagnostic['code'] for diagnostic in here.found[IT]], ['decimal-interrupt', 'rep-without-string', 'offset-in-byte'])
         self.assertEqual(places(here.found[IT]), [(1, 7, 9), (2, 0, 3), (3, 8, 9)])
         source = self.file('it.asm', lines)
-        told = [f'{source}:{it["range"]["start"]["line"] + 1}: warning: {it["message"]}' for it in here.found[IT]]
-        self.assertEqual(self.tool('why', '--lines', source)[0].splitlines(), told)
+        warnings = [f'{source}:{diagnostic["range"]["start"]["line"] + 1}: warning: {diagnostic["message"]}' for diagnostic in here.found[IT]]
+        self.assertEqual(self.tool('why', '--lines', source)[0].splitlines(), warnings)
 
     def test_no_warning_of_what_is_right(self) -> None:
         here = Here()
         for folder in (EXAMPLES, f'{EXAMPLES}/books', f'{os.path.dirname(EXAMPLES)}/services'):
-            for name in sorted(it for it in os.listdir(folder) if it.endswith('.asm')):
+            for name in sorted(entry for entry in os.listdir(folder) if entry.endswith('.asm')):
                 with open(f'{folder}/{name}', encoding='utf-8') as file:
                     here.open(file.read(), f'file:///{name}')
                 self.assertEqual(here.found[f'file:///{name}'], [], name)
@@ -313,9 +315,9 @@ class Underlined(ToolCase):
             self.assertIsNone(here.at('hover', 0, 1, uri))
             self.assertEqual(here.error('textDocument/formatting', textDocument={'uri': uri}, options={})['code'], -32803)
             here.tell('workspace/didChangeConfiguration', settings={'zebludor': {'dialect': 'zebludor'}})
-            self.assertNotIn(3, [it['severity'] for it in here.found[uri]])
+            self.assertNotIn(3, [diagnostic['severity'] for diagnostic in here.found[uri]])
         here.open('section EQU 5\nSEGMENT A AT 0\nbits: DB 5\nproc: NOP\nENDS\n')
-        self.assertNotIn(3, [it['severity'] for it in here.found[IT]])
+        self.assertNotIn(3, [diagnostic['severity'] for diagnostic in here.found[IT]])
 
 
 class Places(ToolCase):
@@ -344,7 +346,7 @@ class Places(ToolCase):
         here.open('SEGMENT A AT 0\r\nx: NOP\r\n FROB\r\nENDS\r\n')
         self.assertEqual(places(here.found[IT]), [(2, 1, 5)])
         here.open('SEGMENT A AT 0\n; a\rb\n FROB\n')
-        self.assertEqual([it[0] for it in places(here.found[IT])], [1, 3])
+        self.assertEqual([place[0] for place in places(here.found[IT])], [1, 3])
 
     def test_odd_texts(self) -> None:
         here = Here()
@@ -402,7 +404,7 @@ class Asked(ToolCase):
         edits = self.here.at('rename', 8, 14, newName='begin')['changes']
         self.assertEqual(list(edits), [IT])
         self.assertEqual(places(edits[IT]), [(3, 0, 5), (8, 12, 17), (17, 16, 21)])
-        self.assertEqual({it['newText'] for it in edits[IT]}, {'begin'})
+        self.assertEqual({edit['newText'] for edit in edits[IT]}, {'begin'})
         self.assertEqual(places(self.here.at('rename', 2, 9, newName='MAIN2')['changes'][IT]), [(2, 8, 12)])
         self.assertEqual(len(self.here.at('rename', 8, 14, newName='Start')['changes'][IT]), 3)
         for new, why in (
@@ -413,14 +415,14 @@ class Asked(ToolCase):
             ('', 'no name'),
             ('a.b', 'no name'),
         ):
-            told = self.here.error('textDocument/rename', textDocument={'uri': IT}, position={'line': 8, 'character': 14}, newName=new)
-            self.assertIn(why, told['message'])
+            error = self.here.error('textDocument/rename', textDocument={'uri': IT}, position={'line': 8, 'character': 14}, newName=new)
+            self.assertIn(why, error['message'])
         self.assertEqual(self.here.error('textDocument/prepareRename', textDocument={'uri': IT}, position={'line': 0, 'character': 3})['code'], -32803)
 
     def labels(self, line: int, text: str) -> list[str]:
         """What completes a line."""
         self.here.change({'range': span(line, line + 1), 'text': f'{text}\n'})
-        return [it['label'] for it in self.here.at('completion', line, len(text))['items']]
+        return [item['label'] for item in self.here.at('completion', line, len(text))['items']]
 
     def test_completion(self) -> None:
         for text, has, hasnt in (
@@ -440,20 +442,20 @@ class Asked(ToolCase):
             self.assertFalse(set(hasnt) & set(found), text)
         self.assertEqual(self.labels(3, '        NOP ; M'), [])
         self.assertEqual(self.labels(3, "        DB 'M"), [])
-        detail = {it['label']: it['detail'] for it in self.here.at('completion', 12, 8)['items']}
+        detail = {item['label']: item['detail'] for item in self.here.at('completion', 12, 8)['items']}
         self.assertEqual(detail['MOV'], 'copies the second operand to the first')
 
     def test_symbols(self) -> None:
         tree = self.here.of('documentSymbol')
         self.assertEqual(
-            [(it['name'], it['kind'], [child['name'] for child in it['children']]) for it in tree][:2],
+            [(symbol['name'], symbol['kind'], [child['name'] for child in symbol['children']]) for symbol in tree][:2],
             [('MAIN', 3, ['start', 'show', 'ticks', 'words']), ('RESET', 3, [])],
         )
-        self.assertEqual([(it['name'], it['kind']) for it in tree[2:]], [('SIZE', 14)])
-        self.assertEqual([it['kind'] for it in tree[0]['children']], [12, 12, 13, 13])
+        self.assertEqual([(symbol['name'], symbol['kind']) for symbol in tree[2:]], [('SIZE', 14)])
+        self.assertEqual([symbol['kind'] for symbol in tree[0]['children']], [12, 12, 13, 13])
         self.assertEqual(tree[0]['range'], {'start': {'line': 2, 'character': 0}, 'end': {'line': 15, 'character': 4}})
-        for it in (*tree, *tree[0]['children']):
-            lines = (it['range']['start']['line'], it['selectionRange']['start']['line'], it['range']['end']['line'])
+        for node in (*tree, *tree[0]['children']):
+            lines = (node['range']['start']['line'], node['selectionRange']['start']['line'], node['range']['end']['line'])
             self.assertEqual(lines, tuple(sorted(lines)))
 
     def test_workspace_symbols(self) -> None:
@@ -467,12 +469,12 @@ class Asked(ToolCase):
         here.server.folders = [self.room]
         here.open(TICKS)
         found = here.ask('workspace/symbol', query='STRT')
-        self.assertEqual([(it['name'], it['containerName']) for it in found], [('start', 'MAIN'), ('starts', 'A')])
+        self.assertEqual([(symbol['name'], symbol['containerName']) for symbol in found], [('start', 'MAIN'), ('starts', 'A')])
         self.assertTrue(found[1]['location']['uri'].endswith('/in%20ner/second.asm'))
-        self.assertEqual([it['name'] for it in here.ask('workspace/symbol', query='star')], ['start', 'star', 'starts'])
+        self.assertEqual([symbol['name'] for symbol in here.ask('workspace/symbol', query='star')], ['start', 'star', 'starts'])
 
     def test_folding(self) -> None:
-        found = [(it['startLine'], it['endLine'], it['kind']) for it in self.here.of('foldingRange')]
+        found = [(folding['startLine'], folding['endLine'], folding['kind']) for folding in self.here.of('foldingRange')]
         self.assertEqual(found, [(2, 15, 'region'), (16, 18, 'region'), (9, 10, 'comment')])
 
     def test_semantic_tokens(self) -> None:
@@ -497,17 +499,17 @@ class Asked(ToolCase):
 
     def test_signature_help(self) -> None:
         self.here.change({'range': span(3, 4), 'text': '        MOV AX,\n'})
-        told = self.here.at('signatureHelp', 3, 15)
-        self.assertEqual((told['signatures'][0]['label'], told['activeParameter']), ('MOV AL,[n]', 1))
+        answer = self.here.at('signatureHelp', 3, 15)
+        self.assertEqual((answer['signatures'][0]['label'], answer['activeParameter']), ('MOV AL,[n]', 1))
         self.assertEqual(self.here.at('signatureHelp', 3, 12)['activeParameter'], 0)
         self.assertIsNone(self.here.at('signatureHelp', 3, 9))
         self.assertIsNone(self.here.at('signatureHelp', 0, 5))
 
     def test_hover(self) -> None:
-        told = self.hover(4, 9)
+        hover_text = self.hover(4, 9)
         for text in ('`0050:0002 E643`', 'Clocks by C1: 10', 'Flags that change: none', 'OUT DX,AL|EEh|8', "port 43h: the timer's control word"):
-            self.assertIn(text, told)
-        self.assertIn('34h there: counter 0, both bytes, mode 2 (rate generator), binary', told)
+            self.assertIn(text, hover_text)
+        self.assertIn('34h there: counter 0, both bytes, mode 2 (rate generator), binary', hover_text)
         self.assertIn('is 43h, 67, 1000011b', self.hover(4, 13))
         label = self.hover(6, 14)
         for text in ('**show** label, `0050:0011`', 'Shows it. On the screen.', 'used in line 7'):
@@ -554,7 +556,7 @@ class Asked(ToolCase):
     def test_inlay_hints(self) -> None:
         self.assertEqual(self.here.of('inlayHint', range=span(0, 20)), [])
         self.here.tell('workspace/didChangeConfiguration', settings={'zebludor': {'hints': True}})
-        found = {it['position']['line']: it['label'] for it in self.here.of('inlayHint', range=span(0, 20))}
+        found = {hint['position']['line']: hint['label'] for hint in self.here.of('inlayHint', range=span(0, 20))}
         self.assertEqual((found[3], found[8], found[13], found[14]), ('0050:0000 B034 4', '0050:000E E9EFFF 15', '0050:0015 05', '0050:0016 7374617274'))
         self.assertEqual(sorted(found), [3, 4, 5, 6, 7, 8, 11, 12, 13, 14, 17])
 
@@ -566,13 +568,13 @@ class Asked(ToolCase):
             (caller['from']['name'], caller['fromRanges']), ('start', [{'start': {'line': 6, 'character': 13}, 'end': {'line': 6, 'character': 17}}])
         )
         out = self.here.ask('callHierarchy/outgoingCalls', item=caller['from'])
-        self.assertEqual([it['to']['name'] for it in out], ['show', 'start'])
+        self.assertEqual([call['to']['name'] for call in out], ['show', 'start'])
         self.assertIsNone(self.here.at('prepareCallHierarchy', 1, 1))
 
     def test_formatting(self) -> None:
         self.here.open("x: y\n  segment  A at 0\nlong_label_here:   mov  ax , 5 ;a  b \n ; stays \n\tES: \tMOVSB\n N equ  5;c\nx:DB 'a  b;',1\n ends\n")
         text = self.here.server.documents[IT].text
-        edits = {it['range']['start']['line']: it['newText'] for it in self.here.of('formatting', options={'tabSize': 4, 'insertSpaces': True})}
+        edits = {edit['range']['start']['line']: edit['newText'] for edit in self.here.of('formatting', options={'tabSize': 4, 'insertSpaces': True})}
         self.assertEqual(
             [edits.get(at, text.lines[at]) for at in range(len(text.lines))],
             [
@@ -588,7 +590,7 @@ class Asked(ToolCase):
             ],
         )
         part = self.here.of('rangeFormatting', range=span(1, 2), options={})
-        self.assertEqual([it['range']['start']['line'] for it in part], [1])
+        self.assertEqual([edit['range']['start']['line'] for edit in part], [1])
 
 
 class Words(unittest.TestCase):
@@ -597,9 +599,9 @@ class Words(unittest.TestCase):
     def test_each_warning_is_named(self) -> None:
         from toolbox.lsp.doubts import NAMES
 
-        told = subprocess.run([sys.executable, '-S', f'{TOOLS}/lsp', '--help'], capture_output=True, text=True, check=True).stdout
+        printed = subprocess.run([sys.executable, '-S', f'{TOOLS}/lsp', '--help'], capture_output=True, text=True, check=True).stdout
         for name in NAMES:
-            self.assertIn(name, told)
+            self.assertIn(name, printed)
 
     def test_the_server_says_what_it_can_do(self) -> None:
         from toolbox.lsp.server import CAPABILITIES

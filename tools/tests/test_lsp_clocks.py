@@ -59,7 +59,7 @@ def operand_cases(row: Row, name: str) -> list[Case]:
     for shape, where in SHAPES.items():
         words[place] = f'{size}{shape}'
         value = ('to', 'SEG to') if goes else ('1',) if name in ('DIV', 'IDIV') else ()
-        before = tuple(f'MOV WORD DS:[0{where + 2 * at:X}h],{it}' for at, it in enumerate(value))
+        before = tuple(f'MOV WORD DS:[0{where + 2 * at:X}h],{written}' for at, written in enumerate(value))
         found.append(Case(f'{name} {",".join(words)}', before, count))
     return found
 
@@ -67,13 +67,13 @@ def operand_cases(row: Row, name: str) -> list[Case]:
 def cases_of(row: Row) -> list[Case]:
     """The cases of a row."""
     name = row.names[0]
-    flags = [(f'MOV AX,{it}', 'PUSH AX', 'POPF') for it in (0, ALL_SIX)]
+    flags = [(f'MOV AX,{bits}', 'PUSH AX', 'POPF') for bits in (0, ALL_SIX)]
     if row.kinds and row.kinds[0] in TARGETS:
         word = 'SHORT to' if row.kinds[0] == 'SHORT rel8' else 'to'
         return [Case(f'{name} {word}', (*before, f'MOV CX,{cx}')) for before in flags for cx in (0, 1, 3)]
     if name in ('RET', 'RETF', 'IRET'):
         pushed = {'RET': (), 'RETF': ('PUSH CS',), 'IRET': ('PUSHF', 'PUSH CS')}[name]
-        return [Case(f'{name} {"".join(OPERANDS[it] for it in row.kinds[:1] if it)}'.strip().replace('1234h', '2'), (*pushed, 'MOV AX,to', 'PUSH AX'))]
+        return [Case(f'{name} {"".join(OPERANDS[kind] for kind in row.kinds[:1] if kind)}'.strip().replace('1234h', '2'), (*pushed, 'MOV AX,to', 'PUSH AX'))]
     if name == 'INTO':
         return [Case(name, before) for before in flags]
     if name[:4] in STRINGS:
@@ -85,7 +85,7 @@ def cases_of(row: Row) -> list[Case]:
         return []
     found = operand_cases(row, 'JMP' if name == 'JMP FAR' else 'CALL' if name == 'CALL FAR' else name)
     return found + [
-        Case(f'{word} {it.text}', it.before, it.count) for word in ('LOCK', 'CS: LOCK REP') for it in found[:1] if name in ('ADD', 'NOP', 'PUSH', 'SHL')
+        Case(f'{word} {case.text}', case.before, case.count) for word in ('LOCK', 'CS: LOCK REP') for case in found[:1] if name in ('ADD', 'NOP', 'PUSH', 'SHL')
     ]
 
 
@@ -94,11 +94,11 @@ class Clocks(ToolCase):
 
     def setUp(self) -> None:
         super().setUp()
-        self.cases = [it for row in rows() for it in cases_of(row)]
+        self.cases = [made for row in rows() for made in cases_of(row)]
         self.cases += [Case('SHL BX,CL', ('MOV CL,0',), 0), Case('ROR BYTE [BX],CL', ('MOV CL,200',), 200)]
         lines = [
             'SEGMENT VECTORS AT 0',
-            *(f'ORG {4 * it}\nDW back,SEG back' for it in (0, 3, 4, 0x70)),
+            *(f'ORG {4 * vector}\nDW back,SEG back' for vector in (0, 3, 4, 0x70)),
             'ENDS',
             'SEGMENT MAIN AT 2000h',
             'start: MOV AX,0',
@@ -107,7 +107,7 @@ class Clocks(ToolCase):
         lines = '\n'.join(lines).split('\n')
         for at, case in enumerate(self.cases):
             is_ready = at and PLAIN.match(case.text) and PLAIN.match(self.cases[at - 1].text)
-            lines += [re.sub(r'\bto\b', f'to{at}', it) for it in (*(() if is_ready else ('MOV SP,8000h', 'CALL ready')), *case.before)]
+            lines += [re.sub(r'\bto\b', f'to{at}', line) for line in (*(() if is_ready else ('MOV SP,8000h', 'CALL ready')), *case.before)]
             lines += [re.sub(r'\bto\b', f'to{at}', case.text), 'NOP', f'to{at}: NOP']
             case.number = len(lines) - 2
         lines += ['HLT', 'back: IRET', 'ready:', *BEFORE, 'ENDS', 'SEGMENT RESET AT 0FFFFh', 'JMP FAR start', 'ENDS']
@@ -121,8 +121,8 @@ class Clocks(ToolCase):
         with Session(Files(source, self.file('it.json', json.dumps(fields)))) as session:
             while 'HLT' not in them[-1][2]:
                 session.go(CLOCKS_OF_A_TRAIL)
-                rows = [it.split(None, 2) for it in session.many('trail')]
-                new = next((at for at, it in enumerate(rows) if int(it[0]) > int(them[-1][0])), len(rows))
+                rows = [line.split(None, 2) for line in session.many('trail')]
+                new = next((at for at, row in enumerate(rows) if int(row[0]) > int(them[-1][0])), len(rows))
                 them += rows[new:]
         starts = [(int(clock), far) for at, (clock, far, _) in enumerate(them) if far != them[at - 1][1]]
         return {far: (then - clock, following) for (clock, far), (then, following) in zip(starts, starts[1:])}
@@ -134,18 +134,18 @@ class Clocks(ToolCase):
         runs = {table: self.run_by(table) for table in ('C1', 'C2')}
         for case in self.cases:
             line = self.text.split('\n')[case.number - 1]
-            told = server.at('hover', case.number - 1, len(line) - len(line.lstrip()) + self.mnemonic(line))['contents']['value']
+            shown = server.at('hover', case.number - 1, len(line) - len(line.lstrip()) + self.mnemonic(line))['contents']['value']
             found = instruction_of(server.server.documents[IT].answers.octets(case.number - 1))
             assert found
             covered.add(f'{found.row}')
             for table, run in runs.items():
-                row, after = (server.server.documents[IT].answers.rows[case.number + it] for it in (-1, 0))
+                row, after = (server.server.documents[IT].answers.rows[case.number + shift] for shift in (-1, 0))
                 clocks, following = run[f'{row}'.split()[0]]
                 falls = following == f'{after}'.split()[0]
-                text = re.search(rf'Clocks by {table}: (.*)', told)
-                assert text, told
+                text = re.search(rf'Clocks by {table}: (.*)', shown)
+                assert text, shown
                 self.assertEqual(self.expected(text[1].strip(), case.count, falls), clocks, (line, table, text[1]))
-        self.assertEqual([it for it in rows() if f'{it}' not in covered and it.names != ('HLT',)], [])
+        self.assertEqual([known for known in rows() if f'{known}' not in covered and known.names != ('HLT',)], [])
 
     def mnemonic(self, line: str) -> int:
         """Where the mnemonic stands, after the prefixes."""
@@ -175,10 +175,10 @@ class Clocks(ToolCase):
             fields = {'version': 2, 'ram': 64, 'sw1': 0, 'sw2': 0, 'budget': 1000, 'keys': [], 'timer': '8253', 'clocks': table}
             with Session(Files(source, self.file('it.json', json.dumps(fields)))) as session:
                 clocks = [int(session.one('step').split()[-1]) for _ in range(4)]
-            told = [re.search(rf'{table}: (\d+)(?:; (\d+) more if it fails)?', server.at('hover', *at)['contents']['value']) for at in ((3, 1), (5, 6))]
-            assert told[0] and told[1]
-            self.assertEqual(int(told[0][1]) + int(told[0][2]), clocks[2] - clocks[1])
-            self.assertEqual(int(told[1][1]), clocks[3] - clocks[2])
+            matches = [re.search(rf'{table}: (\d+)(?:; (\d+) more if it fails)?', server.at('hover', *at)['contents']['value']) for at in ((3, 1), (5, 6))]
+            assert matches[0] and matches[1]
+            self.assertEqual(int(matches[0][1]) + int(matches[0][2]), clocks[2] - clocks[1])
+            self.assertEqual(int(matches[1][1]), clocks[3] - clocks[2])
 
 
 if __name__ == '__main__':

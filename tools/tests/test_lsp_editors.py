@@ -84,13 +84,13 @@ class Real(ToolCase):
         for name in ('a.asm', 'b.asm'):
             self.file(name, SOURCE)
 
-    def check(self, told: str) -> None:
+    def check(self, printed: str) -> None:
         """What an editor wrote of all three."""
-        before, _, after = told.partition('\nhere\n')
-        self.assertRegex(before, r'\A4 (pcboard \[5\]: )?memory stands in brackets, with its size: INC BYTE \[ticks\]\n', told)
+        before, _, after = printed.partition('\nhere\n')
+        self.assertRegex(before, r'\A4 (pcboard \[5\]: )?memory stands in brackets, with its size: INC BYTE \[ticks\]\n', printed)
         self.assertRegex(before, r'Clocks by C1: +10')
         self.assertIn('counter 0, both bytes, mode 2', before)
-        self.assertEqual(after, f'{RENAMED}there\n{SOURCE}', told)
+        self.assertEqual(after, f'{RENAMED}there\n{SOURCE}', printed)
 
     def run_editor(self, words: list[str]) -> str:
         """What an editor prints."""
@@ -136,24 +136,24 @@ class Extension(ToolCase):
             timeout=SECONDS,
         )
         self.assertEqual((done.returncode, done.stderr), (0, ''))
-        told = json.loads(done.stdout)
+        answers = json.loads(done.stdout)
         mistake = [3, 0, 5, 'memory stands in brackets, with its size: INC BYTE [ticks]']
-        self.assertEqual((told['first'], told['languages'], told['others']), ([mistake], ['zebludor'], False))
-        self.assertIn('counter 0, both bytes, mode 2', told['hover'])
-        self.assertTrue(told['nothing'])
-        self.assertIn(['43h', 11], told['completion'])  # CompletionItemKind.Value
-        self.assertEqual(told['definition']['range'][0], {'line': 1, 'character': 0})
-        self.assertEqual(told['references'], [1, 4])
-        self.assertEqual(told['prepared'], [{'line': 4, 'character': 12}, {'line': 4, 'character': 17}])
-        self.assertEqual([(it['range'][0]['line'], it['newText']) for it in told['rename']['file:///a.asm']], [(1, 'begin'), (4, 'begin')])
-        self.assertEqual(told['refused'], 'mov is a word of the dialect, and no name')
-        self.assertEqual(told['symbols'], [['MAIN', 2, ['start', 'ticks']]])  # SymbolKind.Namespace
-        self.assertEqual([it[0] for it in told['actions']], ['Write INC BYTE [ticks]', 'Write INC WORD [ticks]'])
-        self.assertEqual(told['hints'], ['0050:0000 B034 4', '0050:0002 E643 10', '0050:0004 E9F9FF 15', '0050:0007 05'])
-        self.assertEqual((told['formatting'], told['mended']), ([], [[], 1]))
-        self.assertEqual(told['shown'], ['zebludor: the language server has ended'])
-        self.assertEqual([it[0] for it in told['anew']], [3])
-        self.assertEqual(told['asked'], [['toClock', {'clock': 1200}]])
+        self.assertEqual((answers['first'], answers['languages'], answers['others']), ([mistake], ['zebludor'], False))
+        self.assertIn('counter 0, both bytes, mode 2', answers['hover'])
+        self.assertTrue(answers['nothing'])
+        self.assertIn(['43h', 11], answers['completion'])  # CompletionItemKind.Value
+        self.assertEqual(answers['definition']['range'][0], {'line': 1, 'character': 0})
+        self.assertEqual(answers['references'], [1, 4])
+        self.assertEqual(answers['prepared'], [{'line': 4, 'character': 12}, {'line': 4, 'character': 17}])
+        self.assertEqual([(edit['range'][0]['line'], edit['newText']) for edit in answers['rename']['file:///a.asm']], [(1, 'begin'), (4, 'begin')])
+        self.assertEqual(answers['refused'], 'mov is a word of the dialect, and no name')
+        self.assertEqual(answers['symbols'], [['MAIN', 2, ['start', 'ticks']]])  # SymbolKind.Namespace
+        self.assertEqual([action[0] for action in answers['actions']], ['Write INC BYTE [ticks]', 'Write INC WORD [ticks]'])
+        self.assertEqual(answers['hints'], ['0050:0000 B034 4', '0050:0002 E643 10', '0050:0004 E9F9FF 15', '0050:0007 05'])
+        self.assertEqual((answers['formatting'], answers['mended']), ([], [[], 1]))
+        self.assertEqual(answers['shown'], ['zebludor: the language server has ended'])
+        self.assertEqual([diagnostic[0] for diagnostic in answers['anew']], [3])
+        self.assertEqual(answers['asked'], [['toClock', {'clock': 1200}]])
 
     def test_its_commands_and_its_files(self) -> None:
         """What it names is registered; sources for other assemblers are none of its own, unless a setting says so."""
@@ -161,9 +161,9 @@ class Extension(ToolCase):
             found = json.load(file)['contributes']
         with open(f'{TOP}/editors/vscode/extension.js', encoding='utf-8') as file:
             text = file.read()
-        for it in found['commands']:
-            self.assertIn(f"registerCommand('{it['command']}'", text)
-        self.assertEqual([it['extensions'] for it in found['languages']], [['.zasm']])
+        for command in found['commands']:
+            self.assertIn(f"registerCommand('{command['command']}'", text)
+        self.assertEqual([language['extensions'] for language in found['languages']], [['.zasm']])
         with open(f'{TOP}/docs/editors.md', encoding='utf-8') as file:
             self.assertIn('"files.associations": {"*.asm": "zebludor"}', file.read())
 
@@ -173,7 +173,7 @@ class Extension(ToolCase):
         self.assertTrue(os.path.exists(f'{TOP}/editors/vscode/{found["main"]}'))
         names = found['contributes']['configuration']['properties']
         self.assertEqual(names['zebludor.off']['items']['enum'], list(NAMES))
-        self.assertEqual(set(names), {f'zebludor.{it.name}' for it in dataclasses.fields(Settings)})
+        self.assertEqual(set(names), {f'zebludor.{setting.name}' for setting in dataclasses.fields(Settings)})
 
 
 if __name__ == '__main__':

@@ -45,7 +45,7 @@ def source(dice: random.Random) -> str:
 
     lines = [f'{spaces()}size{spaces()} equ {dice.randint(0, 255)}{spaces()}', f'{spaces()}SEGMENT{spaces()} main AT 50h; here']
     for name in names:
-        label = ''.join(dice.choice((it.lower, it.upper))() for it in name)
+        label = ''.join(dice.choice((letter.lower, letter.upper))() for letter in name)
         lines.append(f'{spaces()}{label}{spaces()}:{spaces()}' + dice.choice(STATEMENTS).replace('{}', dice.choice(names)))
         for _ in range(dice.randint(0, 3)):
             text = dice.choice(STATEMENTS).replace('{}', dice.choice((*names, 'SIZE')) if dice.random() < 0.5 else dice.choice(names))
@@ -56,9 +56,9 @@ def source(dice: random.Random) -> str:
 
 def applied(text: str, edits: list[Fields]) -> str:
     """A text after edits that don't touch each other."""
-    it = Text.of(text)
-    for edit in sorted(edits, key=lambda edit: it.offset(edit['range']['start']), reverse=True):
-        first, last = it.offset(edit['range']['start']), it.offset(edit['range']['end'])
+    document = Text.of(text)
+    for edit in sorted(edits, key=lambda edit: document.offset(edit['range']['start']), reverse=True):
+        first, last = document.offset(edit['range']['start']), document.offset(edit['range']['end'])
         text = text[:first] + edit['newText'] + text[last:]
     return text
 
@@ -66,9 +66,9 @@ def applied(text: str, edits: list[Fields]) -> str:
 @functools.cache
 def bytes_of(text: str) -> str:
     """Where a text's bytes are, by its listing, and by Intel HEX if that has some that the listing hasn't."""
-    rows = [it[:ADDRESS_COLUMNS] for it in given_text(['asm', '--list'], plain(text)).out.split('\n')]
-    whole = given_text(['asm'], plain(text)).out if any('+' in it for it in rows) else ''
-    return '\n'.join(it for it in rows if it.strip()) + whole
+    rows = [line[:ADDRESS_COLUMNS] for line in given_text(['asm', '--list'], plain(text)).out.split('\n')]
+    whole = given_text(['asm'], plain(text)).out if any('+' in row for row in rows) else ''
+    return '\n'.join(row for row in rows if row.strip()) + whole
 
 
 class Kept(ToolCase):
@@ -89,12 +89,14 @@ class Kept(ToolCase):
         here = Here()
         for text in self.texts():
             here.open(text)
-            self.assertEqual([it for it in here.found[IT] if it['severity'] == 1], [], (SEED, text))
+            self.assertEqual([diagnostic for diagnostic in here.found[IT] if diagnostic['severity'] == 1], [], (SEED, text))
             after = applied(text, here.of('formatting', options={}))
             self.assertEqual(bytes_of(after), bytes_of(text), (SEED, text))
             here.open(after)
             self.assertEqual(here.of('formatting', options={}), [], (SEED, text))
-            kept = [[it.text for line in Text.of(whole).lines for it in parsed(line).tokens if it.kind in ('comment', 'text')] for whole in (text, after)]
+            kept = [
+                [token.text for line in Text.of(whole).lines for token in parsed(line).tokens if token.kind in ('comment', 'text')] for whole in (text, after)
+            ]
             self.assertEqual(kept[0], kept[1], (SEED, text))
 
     def test_renaming(self) -> None:
@@ -102,8 +104,8 @@ class Kept(ToolCase):
         for text in self.texts():
             here.open(text)
             edits = list[Fields]()
-            for at, it in enumerate(here.server.documents[IT].source.definitions.values()):
-                position = here.server.documents[IT].text.position(it.line, it.name.start)
+            for at, definition in enumerate(here.server.documents[IT].source.definitions.values()):
+                position = here.server.documents[IT].text.position(definition.line, definition.name.start)
                 edits += here.at('rename', position['line'], position['character'], newName=f'other_{at}')['changes'][IT]
             self.assertEqual(bytes_of(applied(text, edits)), bytes_of(text), (SEED, text))
             self.assertNotEqual(bytes_of(text), '')
@@ -131,11 +133,13 @@ class AtRandom(ToolCase):
     def answers(self, here: Here, dice: random.Random) -> list[Any]:
         """What a server tells of its text."""
         whole = span(0, 9999)
-        found: list[Any] = [here.of(it, options={}) for it in ('documentSymbol', 'foldingRange', 'semanticTokens/full', 'formatting')]
+        found: list[Any] = [here.of(method, options={}) for method in ('documentSymbol', 'foldingRange', 'semanticTokens/full', 'formatting')]
         found.append(here.of('inlayHint', range=whole))
         for _ in range(6):
             line, column = dice.randrange(80), dice.randrange(40)
-            found += [here.at(it, line, column) for it in ('hover', 'definition', 'completion', 'signatureHelp', 'prepareCallHierarchy', 'documentHighlight')]
+            found += [
+                here.at(method, line, column) for method in ('hover', 'definition', 'completion', 'signatureHelp', 'prepareCallHierarchy', 'documentHighlight')
+            ]
             found.append(here.at('references', line, column, context={'includeDeclaration': True}))
             found.append(
                 here.answer('textDocument/rename', textDocument={'uri': IT}, position={'line': line, 'character': column}, newName='other').get('result')
