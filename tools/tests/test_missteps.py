@@ -125,7 +125,7 @@ OF_CODES = (
 class Missteps(ToolCase):
     """Over the built program."""
 
-    def told(self, files: Files) -> str:
+    def why(self, files: Files) -> str:
         """What is told of a run."""
         report = report_of(answer_of(files.words('run')))
         with Session(files) as session:
@@ -135,39 +135,39 @@ class Missteps(ToolCase):
     def test_each_misstep_is_told(self) -> None:
         for name, lines, wanted, others in CASES:
             with self.subTest(name):
-                self.assertIn(wanted, self.told(Files(*self.program(lines, 3_000_000))))
+                self.assertIn(wanted, self.why(Files(*self.program(lines, 3_000_000))))
                 for other in others:
-                    self.assertNotIn(wanted, self.told(Files(*self.program(other, 3_000_000))))
+                    self.assertNotIn(wanted, self.why(Files(*self.program(other, 3_000_000))))
 
     def test_right_programs(self) -> None:
         for lines in RIGHT:
-            self.assertNotIn('clock', self.told(Files(*self.program(lines, 200_000))), lines)
+            self.assertNotIn('clock', self.why(Files(*self.program(lines, 200_000))), lines)
 
     def test_the_handler_of_a_ret_is_named(self) -> None:
-        told = self.told(Files(*self.program(TICK.format('RET'), 200_000)))
-        self.assertIn('interrupt 08 set IF to 0, and line 18 (own: RET)', told)
-        self.assertNotIn('STI lets', told)
+        text = self.why(Files(*self.program(TICK.format('RET'), 200_000)))
+        self.assertIn('interrupt 08 set IF to 0, and line 18 (own: RET)', text)
+        self.assertNotIn('STI lets', text)
 
     def test_scan_codes(self) -> None:
         for lines, is_told in OF_CODES:
             source, _ = self.program(POLLING + lines)
             run = self.file('keys.json', '{"version":1,"ram":64,"sw1":0,"sw2":0,"budget":20000,"keys":[[2000,5],[2500,133]]}')
-            told = self.told(Files(source, run))
-            self.assertEqual('takes 05h for a sign, and it is the scan code of the key 4, which line 7 (poll: IN AL,60h)' in told, is_told, lines)
+            text = self.why(Files(source, run))
+            self.assertEqual('takes 05h for a sign, and it is the scan code of the key 4, which line 7 (poll: IN AL,60h)' in text, is_told, lines)
 
     def test_where_a_long_run_went_astray(self) -> None:
         """The step that led out of the source is found by halving, if it is neither among the first clocks nor among the last."""
         source, run = self.program(IN_RAM + ' MOV CX,60000\nover: LOOP over\n PUSH SS\n RET\n' + STACK, 1_300_000)
-        self.assertIn('line 13 (RET), 0050:000F led to', self.told(Files(source, run)))
+        self.assertIn('line 13 (RET), 0050:000F led to', self.why(Files(source, run)))
 
     def test_lines_that_are_hardly_meant(self) -> None:
         lines = ['here: MOV AL,here', ' INT 21', ' INT 13', ' INT 33', ' REP MOV AX,BX', ' REP ES: MOVSB', ' REPE CMPSB', ' MOV AX,here', ' INT 21h ; INT 21']
         lines += [" CMP Al , 'a'-1+HERE - 2 ; it", ' MOV AL,here-here', ' MOV AL,[here+1]', ' MOV AL,BL', ' ADD AL,other']
-        told = ['offset-in-byte', 'decimal-interrupt', 'decimal-interrupt', 'rep-without-string', 'offset-in-byte']
-        self.assertEqual([(it.line, it.name) for it in doubts(lines)], list(zip((0, 1, 2, 4, 9), told)))
+        names = ['offset-in-byte', 'decimal-interrupt', 'decimal-interrupt', 'rep-without-string', 'offset-in-byte']
+        self.assertEqual([(doubt.line, doubt.name) for doubt in doubts(lines)], list(zip((0, 1, 2, 4, 9), names)))
         source = self.file('it.asm', 'SEGMENT MAIN AT 50h\nhere: INT 21\n MOV AL,#5\n MOV AL,here\nENDS\n')
         out = self.called('why', '--lines', source, status=1)[0].splitlines()
-        self.assertEqual([it.split(' ')[0:2] for it in out], [[f'{source}:3:', 'error:'], [f'{source}:2:', 'warning:'], [f'{source}:4:', 'warning:']])
+        self.assertEqual([line.split(' ')[0:2] for line in out], [[f'{source}:3:', 'error:'], [f'{source}:2:', 'warning:'], [f'{source}:4:', 'warning:']])
         self.assertIn('INT 21h', out[1])
         self.assertIn('[here]', out[2])
         right = self.file('right.asm', 'SEGMENT MAIN AT 50h\nhere: INT 21\nENDS\n')
@@ -183,7 +183,7 @@ class Missteps(ToolCase):
         """What goes on writing after its screen is full isn't blamed."""
         source, _ = example('nested')
         run = self.file('long.json', '{"version":1,"ram":64,"sw1":0,"sw2":0,"budget":3000000,"keys":[]}')
-        self.assertEqual(self.told(Files(source, run)), '')
+        self.assertEqual(self.why(Files(source, run)), '')
 
 
 if __name__ == '__main__':

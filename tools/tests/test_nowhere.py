@@ -76,7 +76,7 @@ WAITING = ('instructions were the same', 'nothing leads out but what port')
 class Nowhere(ToolCase):
     """Over the built program."""
 
-    def told(self, files: Files) -> list[str]:
+    def why(self, files: Files) -> list[str]:
         """What is told of a run."""
         report = report_of(answer_of(files.words('run')))
         with Session(files) as session:
@@ -86,39 +86,39 @@ class Nowhere(ToolCase):
     def test_each_mistake_is_told(self) -> None:
         for name, lines, wanted, near in CASES:
             with self.subTest(name):
-                told = '\n'.join(self.told(Files(*self.program(lines, 20000))))
-                self.assertIn(wanted, told)
-                told = '\n'.join(self.told(Files(*self.program(near, 20000))))
-                self.assertNotIn(wanted, told)
+                text = '\n'.join(self.why(Files(*self.program(lines, 20000))))
+                self.assertIn(wanted, text)
+                text = '\n'.join(self.why(Files(*self.program(near, 20000))))
+                self.assertNotIn(wanted, text)
 
     def test_examples_wait_at_most(self) -> None:
         for path in sorted(glob.glob(f'{EXAMPLES}/*.asm')):
             name = os.path.basename(path)[:-4]
-            for line in self.told(Files(*example(name))):
-                self.assertTrue(any(it in line for it in WAITING) or line.startswith('  '), f'{name}: {line}')
+            for line in self.why(Files(*example(name))):
+                self.assertTrue(any(words in line for words in WAITING) or line.startswith('  '), f'{name}: {line}')
 
     def test_a_small_ram(self) -> None:
         source, run = self.program(' PUSH AX\n HLT')
         small = self.file('small.json', '{"version":1,"ram":16,"sw1":0,"sw2":0,"budget":100,"keys":[]}')
-        self.assertIn('RAM ends at 03FFFh', '\n'.join(self.told(Files(source, small))))
-        self.assertEqual(self.told(Files(source, run)), [])
+        self.assertIn('RAM ends at 03FFFh', '\n'.join(self.why(Files(source, small))))
+        self.assertEqual(self.why(Files(source, run)), [])
 
     def test_hex(self) -> None:
         source, run = self.program(' INT 21h')
         text = self.file('it.hex', self.pcboard('asm', source).stdout)
-        self.assertIn('at 00084h, is 0000:0000', '\n'.join(self.told(Files(text, run, True))))
+        self.assertIn('at 00084h, is 0000:0000', '\n'.join(self.why(Files(text, run, True))))
         self.assertIn('F000:0000 (INT 021h) enters interrupt 21; its vector', self.called('why', 'run', text, run, '--hex')[1])
 
     def test_where_it_went_astray(self) -> None:
-        told = self.told(Files(*self.program(CODE_IN_RAM + 'MOV CX,100\nover: LOOP over\n MOV BX,CX', 9000)))
-        self.assertIn('MOV BX,CX', ' '.join(told))
-        told = self.told(Files(*self.program(CODE_IN_RAM + 'MOV CX,100\nover: LOOP over\n MOV BX,CX', 1850)))
-        self.assertIn('behind line 8 (MOV BX,CX), 0050:0005 came 0050:0007, where the program has no byte', ' '.join(told))
+        lines = self.why(Files(*self.program(CODE_IN_RAM + 'MOV CX,100\nover: LOOP over\n MOV BX,CX', 9000)))
+        self.assertIn('MOV BX,CX', ' '.join(lines))
+        lines = self.why(Files(*self.program(CODE_IN_RAM + 'MOV CX,100\nover: LOOP over\n MOV BX,CX', 1850)))
+        self.assertIn('behind line 8 (MOV BX,CX), 0050:0005 came 0050:0007, where the program has no byte', ' '.join(lines))
 
     def test_a_return_that_led_astray(self) -> None:
-        told = self.told(Files(*self.program(CODE_IN_RAM + 'MOV AX,200h\n PUSH AX\n RET 2', 900)))
-        self.assertIn('hint: a return takes', ' '.join(told))
-        self.assertIn('(RET 2)', ' '.join(told))
+        lines = self.why(Files(*self.program(CODE_IN_RAM + 'MOV AX,200h\n PUSH AX\n RET 2', 900)))
+        self.assertIn('hint: a return takes', ' '.join(lines))
+        self.assertIn('(RET 2)', ' '.join(lines))
 
     def test_ends_that_are_none(self) -> None:
         """A loop that writes as it goes isn't said never to end."""
@@ -128,9 +128,9 @@ class Nowhere(ToolCase):
             'over: PUSH AX\n POP AX\n JMP over',
             'over: CALL sub1\n JMP over\nsub1: RET',
         ):
-            told = ' '.join(self.told(Files(*self.program(lines, 3000))))
-            self.assertIn('the last 32 instructions were the same', told)
-            self.assertNotIn('off: nothing leads out', told)
+            text = ' '.join(self.why(Files(*self.program(lines, 3000))))
+            self.assertIn('the last 32 instructions were the same', text)
+            self.assertNotIn('off: nothing leads out', text)
 
     def test_a_delay_is_not_blamed(self) -> None:
         """A loop that will be left, by its count, a key, the timer or a handler, is none that goes nowhere."""
@@ -141,15 +141,15 @@ class Nowhere(ToolCase):
             ' MOV BX,50\nouter: MOV CX,5000\nover: LOOP over\n DEC BX\n JNZ outer\n HLT',
             ' MOV AL,99h\n OUT 63h,AL\n MOV AL,40h\n OUT 61h,AL\nover: IN AL,60h\n TEST AL,AL\n JZ over\n HLT',
         ):
-            self.assertEqual(self.told(Files(*self.program(lines, 2000))), [], lines)
+            self.assertEqual(self.why(Files(*self.program(lines, 2000))), [], lines)
         # Without port B an output, no key comes.
-        told = ' '.join(self.told(Files(*self.program('over: IN AL,60h\n TEST AL,AL\n JZ over\n HLT', 3000))))
-        self.assertIn('nothing leads out but what port 60h reads', told)
+        text = ' '.join(self.why(Files(*self.program('over: IN AL,60h\n TEST AL,AL\n JZ over\n HLT', 3000))))
+        self.assertIn('nothing leads out but what port 60h reads', text)
 
     def test_the_clocks_of_a_run_count(self) -> None:
         """A run that ends before it goes astray isn't told to."""
         source, run = self.program(' MOV CX,1000\nover: LOOP over\n INT 21h', 5000)
-        self.assertNotIn('vector', '\n'.join(self.told(Files(source, run))))
+        self.assertNotIn('vector', '\n'.join(self.why(Files(source, run))))
 
 
 if __name__ == '__main__':

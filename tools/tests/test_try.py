@@ -145,8 +145,8 @@ class Tries(ToolCase):
     def test_help_wants_no_program(self) -> None:
         names = ('try', 'why', 'judge', 'picture', 'trace')
         ran = subprocess.run([sys.executable, '-S', '-c', HELPS, TOOLS, *names], env={'PCBOARD': '/nowhere'}, stdout=subprocess.PIPE, text=True, check=True)
-        for name, told in zip(names, ran.stdout.split('\0'), strict=True):
-            self.assertIn(f'usage: tools/{name}' if name != 'why' else 'tools/why run FILE [RUN]', told)
+        for name, printed in zip(names, ran.stdout.split('\0'), strict=True):
+            self.assertIn(f'usage: tools/{name}' if name != 'why' else 'tools/why run FILE [RUN]', printed)
 
     def test_an_interrupt_leaves_no_traceback(self) -> None:
         source, _ = self.program('over: JMP over')

@@ -169,9 +169,9 @@ class Runs(ToolCase):
             self.assertIn(wanted, self.called('why', 'run', source, bad, status=1)[1])
         del good['version']
         bad = self.file('bad.json', json.dumps(good | {'timer': '8254', 'clocks': 'C2'}))
-        told = self.called('why', 'run', source, bad, status=1)[1]
-        self.assertIn('"version" is missing; "version":2 would do', told)
-        self.assertNotIn('is unknown', told)
+        err = self.called('why', 'run', source, bad, status=1)[1]
+        self.assertIn('"version" is missing; "version":2 would do', err)
+        self.assertNotIn('is unknown', err)
 
     def test_tells_the_file(self) -> None:
         source, run = example('hello')
@@ -181,22 +181,22 @@ class Runs(ToolCase):
 
     def test_tells_the_ram(self) -> None:
         source = self.file('low.asm', 'SEGMENT A AT 0F00h\nDB 1\nSEGMENT B AT 2000h\nDB 1\n'.replace('\nSEGMENT', '\nENDS\nSEGMENT'))
-        told = self.called('why', 'run', source, example('hello')[1], status=1)[1]
-        self.assertIn('a byte at 20000h: "ram":144 holds it', told)
+        err = self.called('why', 'run', source, example('hello')[1], status=1)[1]
+        self.assertIn('a byte at 20000h: "ram":144 holds it', err)
 
     def test_tells_the_record(self) -> None:
         text = self.file('bad.hex', ':0100000001FF\n:00000001FF\n')
-        told = self.called('why', 'run', text, example('hello')[1], '--hex', status=1)[1]
-        self.assertIn('the last byte should be FE and is FF', told)
+        err = self.called('why', 'run', text, example('hello')[1], '--hex', status=1)[1]
+        self.assertIn('the last byte should be FE and is FF', err)
         self.assertIn('say --hex', self.called('why', 'run', self.file('bad', ':0100000001FF\n'), example('hello')[1], status=1)[1])
         self.assertIn('the source comes first', self.called('why', 'run', *reversed(example('hello')), status=1)[1])
 
     def test_tells_a_jam_and_a_blank_screen(self) -> None:
         run = example('hello')[1]
         source = self.file('no_reset.asm', 'SEGMENT A AT 0\nNOP\n')
-        told = self.called('why', 'run', source, run)[1]
-        self.assertIn('FFFF:0000 has FF FF', told)
-        self.assertIn("no far jump stands there", told)
+        err = self.called('why', 'run', source, run)[1]
+        self.assertIn('FFFF:0000 has FF FF', err)
+        self.assertIn("no far jump stands there", err)
         files = self.program(' NOP\n DB 0Fh', 100)
         self.assertIn('F000:0001 has 0F', self.called('why', 'run', *files)[1])
         files = self.program(' MOV AX,0B000h\n MOV ES,AX\n MOV WORD ES:[0],0741h\n HLT', 200)
@@ -206,15 +206,15 @@ class Runs(ToolCase):
         files = self.program(" MOV AX,0B000h\n MOV ES,AX\n MOV BYTE ES:[4],' '\n HLT", 200)
         self.assertEqual(self.called('why', 'run', *files)[1], '')
         binary = self.file('binary.asm', '\x1b[2J\x00' + 'x' * 400 + '\n')
-        told = self.tool('why', 'asm', binary, status=1)[1]
-        self.assertIn('    1 | \\x1b[2J\\x00xxx', told)
-        self.assertIn('x ..\n', told)
+        err = self.tool('why', 'asm', binary, status=1)[1]
+        self.assertIn('    1 | \\x1b[2J\\x00xxx', err)
+        self.assertIn('x ..\n', err)
 
     def every(self, lines: str, status: int = 1) -> list[int]:
         """The line numbers that --all tells."""
         text = f'SEGMENT MAIN AT 0F000h\nstart: NOP\n{lines}\nENDS\n'
         out, _ = self.called('why', '--all', self.file('it.asm', text), status=status)
-        return [int(it) for it in re.findall(r'it\.asm, line (\d+):', out)]
+        return [int(number) for number in re.findall(r'it\.asm, line (\d+):', out)]
 
     def test_tells_every_refused_line(self) -> None:
         self.assertEqual(self.every(' NOP', 0), [])
@@ -230,8 +230,8 @@ class Runs(ToolCase):
         self.assertEqual(self.every('ENDS\n NOP\nx: NOP\nENDS\nSEGMENT C AT 10h\n FROB\n JMP x'), [4, 8])
 
     def test_all_ends_soon_and_refuses_else(self) -> None:
-        told = self.every('\n'.join(f'n{it}: FROB {it}' for it in range(60)))
-        self.assertEqual(told, list(range(3, 63)))
+        numbers = self.every('\n'.join(f'n{i}: FROB {i}' for i in range(60)))
+        self.assertEqual(numbers, list(range(3, 63)))
         self.assertIn("nothing.asm can't be opened", self.called('why', '--all', 'nothing.asm', status=3)[1])
         self.assertIn('--all FILE', self.called('why', '--all', status=2)[1])
         self.assertIn('1,048,576', self.called('why', '--all', self.file('long.asm', ';' * 1048577), status=1)[0])
@@ -240,9 +240,9 @@ class Runs(ToolCase):
         text = 'SEGMENT MAIN AT 0F000h\nstart: NOP\n MOV AX,0x10\n FROB\nstart: HLT\n DB 256\nENDS\n'
         path = self.file('my source.asm', text)
         out, err = self.called('why', '--lines', path, status=1)
-        told = [re.fullmatch(r'(.+):(\d+): error: (\w+): (.+)', it) for it in out.splitlines()]
+        matches = [re.fullmatch(r'(.+):(\d+): error: (\w+): (.+)', line) for line in out.splitlines()]
         self.assertEqual(
-            [it and (it[1], it[2], it[3]) for it in told],
+            [match and (match[1], match[2], match[3]) for match in matches],
             [(path, '3', 'BadLine'), (path, '4', 'UnknownName'), (path, '5', 'TwiceDefined'), (path, '6', 'OutOfRange')],
         )
         self.assertIn('hexadecimal numbers end with h', out)
