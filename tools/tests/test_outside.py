@@ -52,7 +52,7 @@ class Models(unittest.TestCase):
         for kind in KINDS:
             self.assertGreater(len(stored[kind.name]), 40)
             for text, answer in stored[kind.name]:
-                operations, flaws = tuple(text.split('; ')), frozenset(it.name for it in kind.flaws)
+                operations, flaws = tuple(text.split('; ')), frozenset(flaw.name for flaw in kind.flaws)
                 self.assertEqual(kind.answers(operations, flaws).rstrip(b'\0').hex(), answer, text)
 
     def test_each_flaw_shows_by_its_witness(self) -> None:
@@ -79,16 +79,16 @@ class Timer(unittest.TestCase):
     """A counter, by the rules and as MAME has it."""
 
     def test_the_rules_give_what_the_cases_say(self) -> None:
-        made = [it for it in timer.cases(0, 10000) if timer.length_of(it) <= 3000]
+        made = [case for case in timer.cases(0, 10000) if timer.length_of(case) <= 3000]
         self.assertGreater(len(made), 2000)
         self.assertEqual(timer.rule_differences(made), [])
 
     def test_mame_answered_by_its_causes(self) -> None:
         with open(f'{STORED}/mame.json', encoding='ascii') as file:
             stored = {text: states for text, states in json.load(file)['timer']}
-        made = [it for it in timer.cases(0, 10000) if it.text in stored]
+        made = [case for case in timer.cases(0, 10000) if case.text in stored]
         self.assertEqual((len(made), len(stored) > 60), (len(stored), True))
-        came = [[(tuple(reads), bool(out), tuple(octets)) for _, reads, out, octets in stored[it.text]] for it in made]
+        came = [[(tuple(reads), bool(out), tuple(octets)) for _, reads, out, octets in stored[case.text]] for case in made]
         self.assertEqual(timer.mame_differences(made, came), [])
         for cause in CAUSES:
             self.assertTrue(timer.shows(cause), cause.name)
@@ -125,7 +125,7 @@ class Instructions(unittest.TestCase):
         made = [witness('MUL', 'F6 E1', AX=200, CX=25), FLAWS[6].witness, *instructions.cases(3, 200)]
         answer = both.run_here(instructions.image_of(made))
         self.assertEqual(answer.place, ((instructions.FIRST + instructions.BLOCK * len(made)) >> 4, 1))
-        blocks = [answer.ram[instructions.FIRST + 512 * it : instructions.FIRST + 512 * (it + 1)] for it in range(2)]
+        blocks = [answer.ram[instructions.FIRST + 512 * i : instructions.FIRST + 512 * (i + 1)] for i in range(2)]
         self.assertEqual(instructions.registers_in(blocks[0])['AX'], 5000)
         self.assertEqual((blocks[0][instructions.MARK], blocks[1][instructions.MARK]), (0, 1))
 
@@ -196,7 +196,7 @@ class Unicorn(unittest.TestCase):
     def test_it_answered_by_the_list(self) -> None:
         with open(f'{STORED}/unicorn.json', encoding='ascii') as file:
             stored = json.load(file)
-        made = [*(it.witness for it in unicorn_flaws.FLAWS), *ALIKE]
+        made = [*(flaw.witness for flaw in unicorn_flaws.FLAWS), *ALIKE]
         self.assertEqual([row[0] for row in stored], [bytes(it.prefixes + list(it.code)).hex() for it in made])
         ram = both.run_here(instructions.image_of(made)).ram
         for at, (case, (_, kept, window)) in enumerate(zip(made, stored)):
@@ -223,10 +223,10 @@ class Unicorn(unittest.TestCase):
         place, behind = instructions.place_of(0, made[0])
         image = {0: 0x34, 1: 0x12, 2: 0x00, 3: 0xF7}
         for offset, wanted in ((place - 0x1000, behind), (7, 7)):
-            it = StandIn((0, 0x100, offset))
-            unicorn.run(it, image, made)
-            self.assertEqual((it.get('CS'), it.get('IP'), it.get('SP'), it.get('FL')), (0xF700, 0x1234, 0xFFFC, 0x0046))
-            self.assertEqual((it.read(0x50000, 2), it.read(0x5FFFC, 4)), (b'\x46\xf3', bytes([wanted, 0, 0x00, 0x01])))
+            machine = StandIn((0, 0x100, offset))
+            unicorn.run(machine, image, made)
+            self.assertEqual((machine.get('CS'), machine.get('IP'), machine.get('SP'), machine.get('FL')), (0xF700, 0x1234, 0xFFFC, 0x0046))
+            self.assertEqual((machine.read(0x50000, 2), machine.read(0x5FFFC, 4)), (b'\x46\xf3', bytes([wanted, 0, 0x00, 0x01])))
 
     def test_versions(self) -> None:
         self.assertEqual((unicorn.version_of(0x020001FF), unicorn.version_of(0x020100FF)), ('2.0.1', '2.1.0'))
@@ -241,7 +241,7 @@ class Nasm(unittest.TestCase):
     def test_it_answered_by_the_list(self) -> None:
         with open(f'{STORED}/ndisasm.json', encoding='ascii') as file:
             stored = json.load(file)
-        self.assertEqual([row[0] for row in stored[: len(nasm.FLAWS)]], [it.witness.hex() for it in nasm.FLAWS])
+        self.assertEqual([row[0] for row in stored[: len(nasm.FLAWS)]], [flaw.witness.hex() for flaw in nasm.FLAWS])
         self.assertGreater(len(stored), 60)
         for at, (octets, text, length) in enumerate(stored):
             made = bytes.fromhex(octets)

@@ -29,7 +29,7 @@ class Cells(unittest.TestCase):
             self.assertEqual(cell_of('x', attribute), Cell('x', *map(bool, look)), hex(attribute))
 
     def test_words(self) -> None:
-        self.assertEqual([shown(it, 0) for it in (b'A\7', b'A\0', b'A\x88', b'\0\7', b'\1\7')], ['A', ' ', ' ', ' ', '.'])
+        self.assertEqual([shown(cell, 0) for cell in (b'A\7', b'A\0', b'A\x88', b'\0\7', b'\1\7')], ['A', ' ', ' ', ' ', '.'])
 
     def test_starts(self) -> None:
         memory = bytearray(b' \7' * 2048)
@@ -73,8 +73,14 @@ class Pictures(ToolCase):
         text = self.svg('--of', ATTRIBUTES, run)
         self.assertEqual(
             [
-                text.count(it)
-                for it in ('>A</text>', 'fill="#d6ffdf" xml:space="preserve" textLength="9">B<', 'height="1.5"', 'height="18" fill="#5dff7f"', 'fill="#2c7a3e"')
+                text.count(markup)
+                for markup in (
+                    '>A</text>',
+                    'fill="#d6ffdf" xml:space="preserve" textLength="9">B<',
+                    'height="1.5"',
+                    'height="18" fill="#5dff7f"',
+                    'fill="#2c7a3e"',
+                )
             ],
             [1, 1, 2, 2, 1],
         )
@@ -123,7 +129,7 @@ class Sounds(ToolCase):
             self.assertEqual((file.getframerate(), file.getnchannels(), file.getsampwidth()), (48000, 1, 2))
             self.assertEqual(file.getnframes(), int(500 * 1000 * 48000 / (14318180 / 3)) + 1)
             frames = file.readframes(file.getnframes())
-        levels = [int.from_bytes(frames[it : it + 2], 'little', signed=True) for it in range(0, len(frames), 2)]
+        levels = [int.from_bytes(frames[at : at + 2], 'little', signed=True) for at in range(0, len(frames), 2)]
         rises = [n for n in range(1, len(levels)) if levels[n] - levels[n - 1] > 12000]
         # A rise each 40 clocks: at a thousandth of the speed each 402 samples.
         self.assertEqual({b - a for a, b in zip(rises[1:], rises[2:])} - {402, 403}, set())
