@@ -24,7 +24,7 @@ from zebludor import Fault
 class StandIn:
     """A session that stands in: its events are given."""
 
-    told: list[bytes] = []
+    trail: list[bytes] = []
     asked, went_back = 0, 0
 
     def __init__(self, _: Files) -> None:
@@ -42,10 +42,10 @@ class StandIn:
 
     def trails(self, clocks: list[int]) -> list[list[bytes]]:
         found = []
-        for it in clocks:
-            self.clock += it
-            last = bisect_left(self.told, self.clock, key=lambda line: int(line.split()[0]))
-            found.append(self.told[max(0, last - events.TRAIL) : last])
+        for count in clocks:
+            self.clock += count
+            last = bisect_left(self.trail, self.clock, key=lambda line: int(line.split()[0]))
+            found.append(self.trail[max(0, last - events.TRAIL) : last])
         StandIn.asked += len(clocks)
         return found
 
@@ -55,9 +55,9 @@ class Stored(unittest.TestCase):
 
     def of(self, clocks: Iterable[int], first: int = 0, end: int = 200) -> list[int]:
         """The clocks of the events of a run in which events begin at these."""
-        StandIn.told, StandIn.asked, StandIn.went_back = [f'{it} F000:0000 90 NOP\n'.encode() for it in clocks], 0, 0
+        StandIn.trail, StandIn.asked, StandIn.went_back = [f'{clock} F000:0000 90 NOP\n'.encode() for clock in clocks], 0, 0
         with mock.patch.object(events, 'Session', StandIn):
-            return [it.clock for it in events.events(Files('', ''), first, end)]
+            return [event.clock for event in events.events(Files('', ''), first, end)]
 
     def test_trails_overlap(self) -> None:
         self.assertEqual(self.of([0, 15, 70]), [0, 15, 70])
@@ -128,14 +128,14 @@ class Runs(ToolCase):
             files = example(name)
             budget = str(budget_of(Files(*files)))
             last = self.pcboard('debug', *files, given=f'go {budget}\ntrail\n').stdout.splitlines()[1:]
-            told = self.tool('trace', *files)[0].splitlines()
-            self.assertEqual([it.split()[:2] for it in told[-len(last) - 1 : -1]], [it.split()[:2] for it in last])
-            self.assertEqual(told[-1].split()[0], budget)
+            lines = self.tool('trace', *files)[0].splitlines()
+            self.assertEqual([line.split()[:2] for line in lines[-len(last) - 1 : -1]], [line.split()[:2] for line in last])
+            self.assertEqual(lines[-1].split()[0], budget)
 
     def test_clocks_add_up(self) -> None:
         out, _ = self.tool('trace', '--profile', *example('ticks'))
-        rows = [it.split() for it in out.splitlines()[1:]]
-        self.assertEqual(sum(int(it[0]) for it in rows), 100000)
+        rows = [line.split() for line in out.splitlines()[1:]]
+        self.assertEqual(sum(int(row[0]) for row in rows), 100000)
         self.assertEqual(rows[1][:1] + rows[1][2:], ['15128', '248', '|', 'interrupt', '08'])
 
     def test_coverage(self) -> None:
@@ -166,7 +166,7 @@ class Runs(ToolCase):
 
     def test_part_of_a_run(self) -> None:
         out, _ = self.tool('trace', '--from', '948', '--to', '1045', *example('ticks'))
-        self.assertEqual([it.split()[0] for it in out.splitlines()], ['948', '1009', '1032', '1036', '1045'])
+        self.assertEqual([line.split()[0] for line in out.splitlines()], ['948', '1009', '1032', '1036', '1045'])
 
     def test_vcd(self) -> None:
         path = f'{self.room}/it.vcd'
@@ -205,7 +205,7 @@ class Runs(ToolCase):
 
     def test_keeps_the_clock_table(self) -> None:
         out, _ = self.tool('trace', *self.hello_by_c2())
-        self.assertEqual([it.split()[0] for it in out.splitlines()], ['0', '15', '19', '21', '25', '29', '44', '48', '63', '67', '71', '79', '100'])
+        self.assertEqual([line.split()[0] for line in out.splitlines()], ['0', '15', '19', '21', '25', '29', '44', '48', '63', '67', '71', '79', '100'])
         self.assertIn('halted', out.splitlines()[-1])
 
     def test_changed_code_has_no_line(self) -> None:

@@ -50,7 +50,7 @@ def as_nobody(work: Callable[[], None]) -> str:
     read, written = os.pipe()
     child = os.fork()
     if child == 0:
-        told = ''
+        sentence = ''
         try:
             if os.geteuid() == 0:
                 os.setgroups([])
@@ -58,9 +58,9 @@ def as_nobody(work: Callable[[], None]) -> str:
                 os.setuid(65534)
             work()
         except Sorry as sorry:
-            told = str(sorry)
+            sentence = str(sorry)
         finally:
-            os.write(written, told.encode())
+            os.write(written, sentence.encode())
             os._exit(0)
     os.close(written)
     with open(read, 'rb') as answer:
@@ -138,7 +138,7 @@ class Whole(ToolCase):
         os.chmod(folder, 0o555)
         os.chmod(self.room, 0o755)
         self.assertIn("its folder can't be written", as_nobody(lambda: write_text(f'{folder}/it.asm', 'new')))
-        self.assertEqual([self.content(it) for it in (path, f'{folder}/it.asm')], [b'old', b'old'])
+        self.assertEqual([self.content(name) for name in (path, f'{folder}/it.asm')], [b'old', b'old'])
         self.assertEqual(os.listdir(folder), ['it.asm'])
         os.chmod(folder, 0o755)
 
