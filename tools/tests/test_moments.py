@@ -47,7 +47,7 @@ class StandIn(ToolCase):
     def listed(self) -> list[list[list[int]]]:
         """The keys of all runs, in their order."""
         with open(f'{self.room}/list', encoding='ascii') as lines:
-            return sorted(json.loads(it.rstrip('}\n')) for it in lines)
+            return sorted(json.loads(line.rstrip('}\n')) for line in lines)
 
     def test_ranges_and_the_first_run_file(self) -> None:
         out, _ = self.tool('moments', *self.begin('[[105,2],[115,3]]'), '--key', '1e', '--at', '105..125', status=1)
@@ -70,15 +70,15 @@ class StandIn(ToolCase):
         files, pairs = self.begin(), ('--jobs', '1', '--key', '1E', '--at', '103..106', '--key', '9E', '--at', '207..211')
         out, _ = self.tool('moments', *files, *pairs, status=1)
         self.assertEqual(
-            [it for it in out.splitlines() if it.startswith(('12 of', 'failing'))],
+            [line for line in out.splitlines() if line.startswith(('12 of', 'failing'))],
             ['12 of 12 moments tried, 3 failed', 'failing 103 210', 'failing 104 210', 'failing 105 210'],
         )
         runs = self.listed()
         self.assertEqual(len(runs), 13)  # one of them without the keys
         self.assertEqual(runs[1], [[103, 0x1E], [207, 0x9E]])
-        told = [self.tool('moments', *files, *pairs, '--sample', '5', '--seed', it, status=None)[0] for it in ('7', '7', '8')]
-        self.assertIn('5 of 5 moments tried, picked by seed 7, ', told[0])
-        self.assertEqual(told[0], told[1])
+        samples = [self.tool('moments', *files, *pairs, '--sample', '5', '--seed', seed, status=None)[0] for seed in ('7', '7', '8')]
+        self.assertIn('5 of 5 moments tried, picked by seed 7, ', samples[0])
+        self.assertEqual(samples[0], samples[1])
         self.assertNotEqual(self.listed()[-6:], self.listed()[:6])
 
     def test_a_page_with_its_own_runs(self) -> None:
@@ -127,7 +127,7 @@ class StandIn(ToolCase):
         self.assertEqual(out.splitlines()[0], '60 of 60 moments tried, 18 failed')
         runs = self.listed()
         self.assertEqual(len(runs), before + 60 - tried + 1)
-        self.assertEqual({it[0][0] for it in runs if it}, set(range(103, 163)))
+        self.assertEqual({keys[0][0] for keys in runs if keys}, set(range(103, 163)))
         self.assertFalse(os.path.exists(f'{self.room}/it.moments'))
 
     def test_what_was_kept_of_others_isnt_taken(self) -> None:
@@ -139,14 +139,14 @@ class StandIn(ToolCase):
     def test_a_sample_joins_neighbours_alone(self) -> None:
         """Failing stamps between which others weren't tried are no range."""
         out, _ = self.tool('moments', *self.begin(), '--jobs', '1', '--key', '1E', '--at', '101..201', '--sample', '20', '--seed', '3', '--all', status=1)
-        tried = {it[0][0] for it in self.listed() if it}
+        tried = {keys[0][0] for keys in self.listed() if keys}
         self.assertEqual(len(tried), 20)
-        told = set[int]()
+        failing = set[int]()
         for line in out.splitlines():
             if line.startswith('failing '):
                 first, _, last = line.removeprefix('failing ').partition(' to ')
-                told |= set(range(int(first), int(last or first) + 1))
-        self.assertEqual(told, {it for it in tried if it % 10 < 3})
+                failing |= set(range(int(first), int(last or first) + 1))
+        self.assertEqual(failing, {clock for clock in tried if clock % 10 < 3})
 
     def test_a_key_at_the_end(self) -> None:
         """At the budget's own clock a key comes, and behind it none does."""
@@ -191,8 +191,8 @@ class Board(ToolCase):
     def test_the_worked_example(self) -> None:
         words = (f'{TURNS}.json', '--key', '1E', '--at')
         out, _ = self.tool('moments', f'{TURNS}.page', f'{TURNS}.asm', *words, '1980..2020', status=1)
-        told = out.splitlines()
-        self.assertEqual((told[0], told[3]), ('40 of 40 moments tried, 12 failed', 'failing 1996 to 2007: from line 36 (MOV AX,[turns]) to line 37 (INC AX)'))
+        lines = out.splitlines()
+        self.assertEqual((lines[0], lines[3]), ('40 of 40 moments tried, 12 failed', 'failing 1996 to 2007: from line 36 (MOV AX,[turns]) to line 37 (INC AX)'))
         trail = self.pcboard('debug', f'{TURNS}.asm', f'{TURNS}.json', given='go 1996\ntrail\ngo 11\ntrail\n').stdout.splitlines()
         self.assertTrue(' MOV AX,[' in trail[32] and trail[-1].endswith(' INC AX'), (trail[32], trail[-1]))
         self.tool('judge', f'{TURNS}.page', f'{TURNS}.asm', f'{TURNS}.json')
@@ -207,9 +207,9 @@ class Board(ToolCase):
         out, _ = self.tool('moments', *words, '--sample', '4', '--seed', '2', status=1)
         failing = [each.partition(':')[0] for each in out.splitlines() if each.startswith('failing')]
         self.assertEqual(failing, ['failing 157', 'failing 186', 'failing 193', 'failing 469'])
-        for clock, told in ((157, '1E'), (193, '1E'), (211, '1E'), (212, '00'), (300, '00'), (426, '00'), (427, '1E'), (469, '1E')):
+        for clock, octet in ((157, '1E'), (193, '1E'), (211, '1E'), (212, '00'), (300, '00'), (426, '00'), (427, '1E'), (469, '1E')):
             run = self.file('it.json', f'{{"version":1,"ram":64,"sw1":0,"sw2":0,"budget":1000,"keys":[[{clock},30]]}}')
-            self.assertEqual(self.pcboard('debug', source, run, given='go 1000\ndump 402 1\n').stdout.splitlines()[-1], f'00402: {told}', clock)
+            self.assertEqual(self.pcboard('debug', source, run, given='go 1000\ndump 402 1\n').stdout.splitlines()[-1], f'00402: {octet}', clock)
 
     def test_a_key_at_the_budget_comes(self) -> None:
         """The seventeenth, at the clock at which the run ends, is lost."""

@@ -89,7 +89,7 @@ def routine(number: int, dice: random.Random) -> str:
     """A routine that pushes, loops, and calls others and itself as long as DX lasts."""
     lines = [f'r{number}:']
     pushed = [dice.choice(('AX', 'BX', 'SI', 'BP', 'CX')) for _ in range(dice.randrange(4))]
-    lines += [f'        PUSH {it}' for it in pushed]
+    lines += [f'        PUSH {register}' for register in pushed]
     for part in range(dice.randrange(2, 5)):
         kind = dice.randrange(6)
         if kind == 0:
@@ -108,7 +108,7 @@ def routine(number: int, dice: random.Random) -> str:
                 f'        CALL r{dice.randrange(ROUTINES)}',
                 f'e{number}a{part}: INC DI',
             ]
-    lines += [f'        POP {it}' for it in reversed(pushed)]
+    lines += [f'        POP {register}' for register in reversed(pushed)]
     return '\n'.join([*lines, '        RET', ''])
 
 
@@ -122,7 +122,7 @@ def program(seed: int) -> str:
         'bp': dice.randrange(0x10000),
         'away': dice.choice((2, 500)),
     }
-    return HEAD.format(**numbers) + ''.join(routine(it, dice) for it in range(ROUTINES)) + TAIL.format(**numbers)
+    return HEAD.format(**numbers) + ''.join(routine(number, dice) for number in range(ROUTINES)) + TAIL.format(**numbers)
 
 
 def by_steps(session: Session, end: int) -> tuple[int, str]:
@@ -157,8 +157,8 @@ class Out(ToolCase):
             with Session(machine.files) as session:
                 for _ in range(8):
                     clock = dice.randrange(400, BUDGET - 20_000)
-                    for it in (session, machine):
-                        it.go_to(clock)
+                    for board in (session, machine):
+                        board.go_to(clock)
                     wanted = by_steps(session, BUDGET)
                     machine.out(set())
                     self.assertEqual((min(machine.clock, BUDGET), machine.why), wanted, (seed, clock))  # a step may end behind the budget
@@ -216,7 +216,7 @@ class Out(ToolCase):
 
     def test_what_ends_it_before(self) -> None:
         """A jam, a halt for good and the budget: there, and it is said, by tools/dbg too."""
-        for deed, why, told in (
+        for deed, why, sentence in (
             ('DB 0FFh,0FFh', 'jammed', 'the processor has jammed'),
             ('CLI\n        HLT', 'halted for good', 'halted with interrupts off'),
             ('JMP SHORT w1', 'far', 'up to the end of the run'),
@@ -232,7 +232,7 @@ class Out(ToolCase):
                 else:
                     self.assertEqual((label[:4], machine.clock < 200_000), ('w1+2' if why == 'jammed' else 'w1+4', True), deed)
                 out, _ = self.called('dbg', machine.files.file, machine.files.run_file, given='to 60\nfinish\n')
-                self.assertIn(f"it didn't return{':' if why != 'far' else ''} {told}", out)
+                self.assertIn(f"it didn't return{':' if why != 'far' else ''} {sentence}", out)
                 self.assertIn(f'clock {machine.clock}', out)
 
 
@@ -264,7 +264,7 @@ class Places(unittest.TestCase):
         for at, word in enumerate(words):
             memory[0x1700 + 2 * at : 0x1702 + 2 * at] = word.to_bytes(2, 'little')
         found = places_on_stack({'CS': 0xF000, 'SS': 0x100, 'SP': 0x700}, lambda at, count: bytes(memory[at : at + count]))
-        self.assertEqual(found[:3], [(0xF000, it) for it in words[:3]])
+        self.assertEqual(found[:3], [(0xF000, offset) for offset in words[:3]])
         self.assertEqual(found[3:], [(0xF000, 0x100), (0xF800, 0x200), (0xF000, 0x300)])
 
 
