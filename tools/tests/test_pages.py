@@ -48,7 +48,7 @@ def blocks(page: str) -> list[str]:
     """The blocks of a page that show commands. What is typed in gdb is test_gdb's."""
     with open(f'{TOP}/{page}', encoding='utf-8') as file:
         found = re.findall(r'^```\n(.*?)^```', file.read(), re.M | re.S)
-    return [it for it in found if it.startswith('$ ') and '(gdb) ' not in it]
+    return [block for block in found if block.startswith('$ ') and '(gdb) ' not in block]
 
 
 def commands(block: str) -> list[tuple[str, str, str]]:
@@ -59,7 +59,7 @@ def commands(block: str) -> list[tuple[str, str, str]]:
         mark = SESSION if 'pcboard debug' in command else r'dbg> (.*)'
         typed = re.findall(f'^{mark}\n', printed, re.M)
         printed = re.sub(f'^({mark}|Type help .*)\n', '', printed, flags=re.M)
-        found.append((command, ''.join(f'{it}\n' for it in typed), printed))
+        found.append((command, ''.join(f'{line}\n' for line in typed), printed))
     return found
 
 
@@ -67,8 +67,8 @@ def anchors(path: str) -> set[str]:
     """What a link to a place within a page may name: its headings, as they are turned into anchors."""
     with open(path, encoding='utf-8') as file:
         text = re.sub(r'^```.*?^```', '', file.read(), flags=re.M | re.S)
-    titles = (re.sub(r'\[(.*?)\]\(.*?\)', r'\1', it) for it in re.findall(r'^#+ (.*)$', text, re.M))
-    return {re.sub(r'[^\w -]', '', it.lower()).replace(' ', '-') for it in titles}
+    titles = (re.sub(r'\[(.*?)\]\(.*?\)', r'\1', title) for title in re.findall(r'^#+ (.*)$', text, re.M))
+    return {re.sub(r'[^\w -]', '', title.lower()).replace(' ', '-') for title in titles}
 
 
 class Links(unittest.TestCase):
@@ -80,7 +80,7 @@ class Links(unittest.TestCase):
             'CHANGELOG.md',
             'CONTRIBUTING.md',
             'editors/README.md',
-            *(f'docs/{it}' for it in sorted(os.listdir(f'{TOP}/docs')) if it.endswith('.md')),
+            *(f'docs/{name}' for name in sorted(os.listdir(f'{TOP}/docs')) if name.endswith('.md')),
         ]
         for page in pages:
             with open(f'{TOP}/{page}', encoding='utf-8') as file:
@@ -135,7 +135,7 @@ class Pages(ToolCase):
     def check(self, page: str) -> int:
         """Runs a page's commands, and returns how many there were."""
         count = 0
-        for command, typed, printed in (it for block in blocks(page) for it in commands(block)):
+        for command, typed, printed in (shown for block in blocks(page) for shown in commands(block)):
             if not command.startswith(('tools/', './pcboard run', './pcboard debug', 'sed ')) or command.startswith(
                 'tools/moments'
             ):  # which takes too long: test_moments has some of them
@@ -174,7 +174,7 @@ class Pages(ToolCase):
 
     def test_the_sweeps(self) -> None:
         with open(f'{TOP}/docs/sweeps.md', encoding='utf-8') as file:
-            plain = [it for it in re.findall(r'^```\n(.*?)^```', file.read(), re.M | re.S)]
+            plain = re.findall(r'^```\n(.*?)^```', file.read(), re.M | re.S)
         for block in plain:
             if block.startswith('examples/sweep/'):
                 self.assertEqual(self.shell(block), '', block)

@@ -50,14 +50,14 @@ def source_of(snippet: str, period: int) -> str:
     """A program of a snippet that is run again and again, under a timer where it has a period."""
     vectors = (
         'SEGMENT VECTORS AT 0\n'
-        + ''.join(f' ORG {4 * it}\n DW stepped,SEG stepped\n' for it in (0, 1, 3, 4))
+        + ''.join(f' ORG {4 * vector}\n DW stepped,SEG stepped\n' for vector in (0, 1, 3, 4))
         + ' ORG 32\n DW handler,SEG handler\n ORG 128\n DW stepped,SEG stepped\nENDS\n'
     )
     timer = TIMER.format(period) if period else ''
     return f'{vectors}SEGMENT MAIN AT 0F000h\nstart: MOV SP,8000h\n {timer}round: {snippet} JMP round\n{HANDLER}{RESET}'
 
 
-def told(events: list[tuple[int, str]], start: int, end: int) -> list[str]:
+def counted(events: list[tuple[int, str]], start: int, end: int) -> list[str]:
     """What `counts` is to print of these beginnings, each a clock and a name."""
     times, clocks = Counter[str](), Counter[str]()
     for (clock, name), (later, _) in zip(events, [*events[1:], (end, '')]):
@@ -85,7 +85,7 @@ class Counts(ProbeCase):
         """What begins in so many clocks, of trails of few."""
         found = dict[int, str]()
         passed = range(0, clocks, FEW)
-        lines = [f'go {skipped}', *(it for at in passed for it in (f'go {min(FEW, clocks - at)}', 'trail'))]
+        lines = [f'go {skipped}', *(command for at in passed for command in (f'go {min(FEW, clocks - at)}', 'trail'))]
         for line in self.answers(files, lines):
             clock, place, *rest = line.split()
             if clock.isdecimal() and int(clock) >= skipped:
@@ -96,13 +96,13 @@ class Counts(ProbeCase):
         """Compares the counts of so many clocks, in one and in two parts."""
         events = self.events(files, skipped, clocks)
         whole = self.answers(files, [f'go {skipped}', f'counts {clocks}', 'regs'])
-        self.assertEqual(whole[1:-2], told(events, skipped, skipped + clocks), files)
+        self.assertEqual(whole[1:-2], counted(events, skipped, skipped + clocks), files)
         self.assertEqual(whole[-2:], self.answers(files, [f'go {skipped + clocks}', 'regs'])[1:], files)
         first, middle = clocks // 3, skipped + clocks // 3
         parts = self.answers(files, [f'go {skipped}', f'counts {first}', f'counts {clocks - first}'])
-        earlier = [it for it in events if it[0] < middle]
-        later = [it for it in events if it[0] >= middle]
-        self.assertEqual(parts[1:], told(earlier, skipped, middle) + told(later, middle, skipped + clocks), files)
+        earlier = [event for event in events if event[0] < middle]
+        later = [event for event in events if event[0] >= middle]
+        self.assertEqual(parts[1:], counted(earlier, skipped, middle) + counted(later, middle, skipped + clocks), files)
 
     def test_examples(self) -> None:
         for source in sorted(glob.glob(f'{EXAMPLES}/*.asm') + glob.glob(f'{TOP}/bench/loops/*.asm')):
@@ -173,27 +173,27 @@ class Signals(ProbeCase):
 
     def levels(self, chips: list[str]) -> dict[str, int]:
         """The wires' levels, of the lines of `chips`."""
-        words = {it.split(' ')[0] if not it.startswith('counter') else it[:9]: it.split() for it in chips}
+        words = {line.split(' ')[0] if not line.startswith('counter') else line[:9]: line.split() for line in chips}
         controller = words['controller']
         lines = int(controller[2], 16)
-        found = {f'OUT{it}': int(words[f'counter {it}'][words[f'counter {it}'].index('OUT') + 1]) for it in (0, 2)}
+        found = {f'OUT{number}': int(words[f'counter {number}'][words[f'counter {number}'].index('OUT') + 1]) for number in (0, 2)}
         return found | {'IR0': lines & 1, 'IR1': lines >> 1 & 1, 'INT': int(controller[controller.index('INT') + 1]), 'speaker': int(words['speaker'][1])}
 
     def test_examples(self) -> None:
         for name, clocks in (('ticks', 700), ('tone', 1500), ('keys', 2500), ('melody', 900), ('nested', 900), ('poll', 900)):
             files = [f'{EXAMPLES}/{name}.asm', f'{EXAMPLES}/{name}.json']
-            lines = self.answers(files, ['chips', *(it for _ in range(clocks) for it in ('go 1', 'chips'))])
+            lines = self.answers(files, ['chips', *(command for _ in range(clocks) for command in ('go 1', 'chips'))])
             size = lines.index('clock 1')
             before, wanted = self.levels(lines[:size]), list[str]()
             for clock in range(1, clocks + 1):
                 at = clock * (size + 1)
                 after = self.levels(lines[at : at + size])
-                wanted += [f'{clock} {it} {level}' for it, level in after.items() if level != before[it]]
+                wanted += [f'{clock} {wire} {level}' for wire, level in after.items() if level != before[wire]]
                 before = after
             first = clocks // 2
             self.assertEqual(self.answers(files, [f'signals {clocks}']), [*wanted, f'clock {clocks}'], name)
             parts = self.answers(files, [f'signals {first}', f'signals {clocks - first}'])
-            self.assertEqual([it for it in parts if not it.startswith('clock')], wanted, name)
+            self.assertEqual([line for line in parts if not line.startswith('clock')], wanted, name)
 
 
 if __name__ == '__main__':

@@ -150,7 +150,7 @@ class Stored(Repository):
         for path in ('crates/low/src/lib.rt', 'crates.txt', 'stored/pcboard', 'stored/pcprobe', 'stored/PROVED'):
             os.utime(f'{places[0]}/{path}')
         for folder, _, files in os.walk(places[0], topdown=False):
-            for path in (*(f'{folder}/{it}' for it in files), folder):
+            for path in (*(f'{folder}/{name}' for name in files), folder):
                 os.chmod(path, 0o555)
                 self.addCleanup(os.chmod, path, 0o755)
         self.assertEqual(self.at_once(places[0]), '')
@@ -201,7 +201,7 @@ class Stored(Repository):
                 file.write(damage)
             self.assertGreater(self.compared(), 0)
             self.assertEqual(self.compared(), 0)
-        self.assertFalse([it for it in os.listdir(os.path.dirname(note)) if it.startswith('note-')])
+        self.assertFalse([name for name in os.listdir(os.path.dirname(note)) if name.startswith('note-')])
 
     def test_each_looks_at_its_own_sources(self) -> None:
         """Those of pcprobe's crates are none of pcboard's, whatever becomes of them."""
@@ -249,8 +249,8 @@ class Stored(Repository):
         )
         for number, (step, is_taken) in enumerate(steps):
             step()
-            told = self.launch('--version').stdout
-            self.assertEqual('program stored/pcboard' in told, is_taken, number)
+            version = self.launch('--version').stdout
+            self.assertEqual('program stored/pcboard' in version, is_taken, number)
             self.note()
         self.put(Stored.made['pcboard'].replace('it runs', 'it walks'))
         self.assertEqual(self.launch().stdout, AT_ONCE[1].replace('it runs', 'it walks'))
@@ -336,7 +336,7 @@ class Stored(Repository):
     def versions(self, name: str) -> None:
         """What the version of a program tells, from its being stored on."""
 
-        def told() -> list[str]:
+        def version() -> list[str]:
             ran = self.launch('--version', has_rt=False, name=name)
             self.assertEqual((ran.returncode, ran.stderr), (0, ''))
             first, *rest = ran.stdout.splitlines()
@@ -346,21 +346,21 @@ class Stored(Repository):
         self.store()
         self.launch()
         facts = [f'kit {KIT}', f'logic {LOGIC}', f'sources {sum_of_sources(BELOW[name], self.top)}']
-        self.assertEqual(told(), [*facts, f'program stored/{name}, proved elsewhere'])
+        self.assertEqual(version(), [*facts, f'program stored/{name}, proved elsewhere'])
         os.truncate(f'{self.stored}/{name}', 9)
-        self.assertEqual(told()[3:], ['program none', f"stored/{name} isn't taken: it isn't the one of which stored/PROVED tells: its SHA-256 is another"])
+        self.assertEqual(version()[3:], ['program none', f"stored/{name} isn't taken: it isn't the one of which stored/PROVED tells: its SHA-256 is another"])
         self.build(name)
         path = f'crates/{name}/out/{name}'
-        self.assertEqual(told(), [*facts, f'program {path}, built here'])
+        self.assertEqual(version(), [*facts, f'program {path}, built here'])
         put_back = self.change_text('crates/low/src/lib.rt')
-        self.assertEqual(told()[3], f'program {path}, made of other sources')
+        self.assertEqual(version()[3], f'program {path}, made of other sources')
         put_back()
         self.file(f'top/{path}', '#!/bin/sh\necho another\n')
-        self.assertNotIn(f'kit {KIT}', told())
-        self.assertEqual(told()[3], f'program {path}, built here (no source is newer)')
+        self.assertNotIn(f'kit {KIT}', version())
+        self.assertEqual(version()[3], f'program {path}, built here (no source is newer)')
         later = os.stat(f'{self.top}/{path}').st_mtime + 3600
         os.utime(f'{self.top}/crates/low/src/lib.rt', (later, later))
-        self.assertEqual(told()[3], f'program {path}, perhaps made of other sources')
+        self.assertEqual(version()[3], f'program {path}, perhaps made of other sources')
         os.utime(f'{self.top}/crates/low/src/lib.rt', (1, 1))
 
     def test_the_tools_take_the_same(self) -> None:
@@ -397,12 +397,12 @@ class Stored(Repository):
         for text, why in (
             ('#!/no/such/loader\n', 'No such file or directory$|required file not found$'),
             ('#!/bin/sh\nexit 7\n', 'it ends with status 7$'),
-            ('#!/bin/sh\n' + ''.join(f'echo "{missing % it}" >&2\n' for it in ('2.9', '2.34', '2.4')).replace('`', '\\`') + 'exit 1\n', ''),
+            ('#!/bin/sh\n' + ''.join(f'echo "{missing % version}" >&2\n' for version in ('2.9', '2.34', '2.4')).replace('`', '\\`') + 'exit 1\n', ''),
         ):
             self.put(text)
-            told = self.launch(has_rt=False).stderr.splitlines()[0]
+            line = self.launch(has_rt=False).stderr.splitlines()[0]
             glibc = 'it needs glibc 2.34 or later, and here is glibc [0-9.]+; /lib/libc.so.6: version `GLIBC_2.9. not found'
-            self.assertRegex(told, why or glibc)
+            self.assertRegex(line, why or glibc)
 
     def test_the_real_loaders_reason(self) -> None:
         """Of the program that is tested, made to want a later C library: its name of a version, and the sum of this name."""
@@ -412,8 +412,8 @@ class Stored(Repository):
 
         def of_name(name: bytes) -> bytes:
             found = 0
-            for it in name:
-                found = (found << 4) + it
+            for octet in name:
+                found = (found << 4) + octet
                 high = found & 0xF0000000
                 found = (found ^ high >> 24) & ~high
             return found.to_bytes(4, 'little')
@@ -471,13 +471,13 @@ class Stored(Repository):
         self.launch()
         shutil.copy(f'{self.stored}/pcboard', f'{self.room}/copy')
         facts = [f'kit {KIT}', f'logic {LOGIC}']
-        told = self.named('copy', '--version').stdout.splitlines()
-        self.assertEqual((told[1:3], told[4:]), (facts, ['program ./copy, which PCBOARD names, and which was proved']))
+        lines = self.named('copy', '--version').stdout.splitlines()
+        self.assertEqual((lines[1:3], lines[4:]), (facts, ['program ./copy, which PCBOARD names, and which was proved']))
         with open(f'{self.room}/copy', 'ab') as file:
             file.write(b'\n')
         for path in ('copy', f'{self.stored}/pcprobe'):
-            told = self.named(path, '--version').stdout.splitlines()
-            self.assertEqual(told[1:], [f'program {path if "/" in path else "./copy"}, which PCBOARD names; nothing here tells that it was proved'])
+            lines = self.named(path, '--version').stdout.splitlines()
+            self.assertEqual(lines[1:], [f'program {path if "/" in path else "./copy"}, which PCBOARD names; nothing here tells that it was proved'])
 
     def package(self) -> None:
         """Leaves that repository as a package has it: the stored programs without the sources, and RELEASE."""
@@ -804,7 +804,7 @@ class Gate(ToolCase):
     def test_what_the_launcher_adds_to_the_program(self) -> None:
         top, run = self.clone(), './pcboard run examples/hello.asm'
         self.assertIn('proved elsewhere', self.launch(top, './pcboard --version').stderr)
-        for line, status, told in (
+        for line, status, wanted in (
             (f'{run} none', 3, "pcboard: none can't be opened: it isn't there\n"),
             (f'{run} examples', 3, "pcboard: examples can't be read: it is a folder\n"),
             (f'{run} examples/hello.json >/dev/full', 3, "pcboard: the answer couldn't be written, or what it is made from couldn't be read\n"),
@@ -814,7 +814,7 @@ class Gate(ToolCase):
         ):
             ran = self.launch(top, line)
             self.assertEqual(ran.returncode, status, line)
-            self.assertRegex(ran.stderr, rf'\A{told}\Z', line)
+            self.assertRegex(ran.stderr, rf'\A{wanted}\Z', line)
             self.assertEqual(ran.stdout != '', line.endswith('-h'), line)
 
 

@@ -75,7 +75,7 @@ class Held(Stepped):
                 if seed % 2:
                     while board.back_to([stop]):
                         back.append(board.clock)
-                    wanted = [it for it in wanted if it < board.budget]
+                    wanted = [clock for clock in wanted if clock < board.budget]
                 else:
                     while board.back([stop]).how == 'watch':
                         back.append(board.clock + 1)
@@ -158,24 +158,24 @@ class Words(ToolCase):
         return self.called('dbg', *files, given='\n'.join(commands) + '\n')[0].splitlines()
 
     def test_dbg(self) -> None:
-        told = self.dbg(
+        lines = self.dbg(
             example('ticks'), 'watch B0000', 'go', 'go', 'step', 'last', 'last b0000', 'last B0000', 'clear 1', 'when entries', 'go', 'last write B0000'
         )
         tick = 'F600:0058 tick ES: INC BYTE [00000h] | 41: tick: INC BYTE ES:[0]'
         first = 'B0000 was 00, is 30: clock 884, F600:0041 card+16 ES: MOV WORD [00000h],00730h | 30: MOV WORD ES:[0],0730h'
-        self.assertEqual(told[0], 'stop 1: watch B0000 1')
-        self.assertTrue(told[1].startswith('stop 1 (watch B0000 1), clock 885: F600:0048 card+1D'))
-        self.assertEqual((told[2], told[4]), (first, f'B0000 was 30, is 31: clock 1009, {tick}'))
-        self.assertEqual([it.split(':')[0] for it in told[5:9]], ['clock 1032', 'stop 1 (watch B0000 1), clock 1010', 'B0000 was 30, is 31', 'clock 885'])
-        self.assertEqual(told[9:12], [first, 'nothing changed there before this clock', 'no stops'])
-        self.assertEqual((told[12], told[14]), ('stop 2: when entries', '948 entry 08'))
-        self.assertEqual(told[15].split(':')[0], 'clock 885')
+        self.assertEqual(lines[0], 'stop 1: watch B0000 1')
+        self.assertTrue(lines[1].startswith('stop 1 (watch B0000 1), clock 885: F600:0048 card+1D'))
+        self.assertEqual((lines[2], lines[4]), (first, f'B0000 was 30, is 31: clock 1009, {tick}'))
+        self.assertEqual([line.split(':')[0] for line in lines[5:9]], ['clock 1032', 'stop 1 (watch B0000 1), clock 1010', 'B0000 was 30, is 31', 'clock 885'])
+        self.assertEqual(lines[9:12], [first, 'nothing changed there before this clock', 'no stops'])
+        self.assertEqual((lines[12], lines[14]), ('stop 2: when entries', '948 entry 08'))
+        self.assertEqual(lines[15].split(':')[0], 'clock 885')
 
     def test_writes_in_dbg(self) -> None:
         """A write of what stands there, one that changes it, one to ROM, and a word of which one byte changes."""
         files = self.program(WRITES)
-        told = self.dbg(files, 'watch 500 2', 'watch 500 2 --writes', 'watch F0000 --writes', *['go'] * 6)
-        seen = [(it.split()[1], after.split(':')[0]) for it, after in zip(told[3:], told[4:]) if it.startswith('stop')]
+        lines = self.dbg(files, 'watch 500 2', 'watch 500 2 --writes', 'watch F0000 --writes', *['go'] * 6)
+        seen = [(line.split()[1], after.split(':')[0]) for line, after in zip(lines[3:], lines[4:]) if line.startswith('stop')]
         self.assertEqual(
             seen,
             [
@@ -186,11 +186,11 @@ class Words(ToolCase):
                 ('1', '00501 was 00, is 01'),
             ],
         )
-        self.assertIn('50 is not taken there', told[told.index(next(it for it in told if it.startswith('F0000'))) :][0])
-        told = self.dbg(files, 'log writes starts 60', 'log writes=start-F000:0010 1000', 'log ports=20-21 0')
-        self.assertEqual(sum(' write 00500 ' in it for it in told), 3)
-        self.assertRegex('\n'.join(told), r'(?m)^ +\d+ start F000:0000 B85000 start \| 3: MOV AX,50h$')
-        self.assertRegex('\n'.join(told), r'(?m)^ +\d+ write F0000 50 start$')
+        self.assertIn('50 is not taken there', lines[lines.index(next(line for line in lines if line.startswith('F0000'))) :][0])
+        lines = self.dbg(files, 'log writes starts 60', 'log writes=start-F000:0010 1000', 'log ports=20-21 0')
+        self.assertEqual(sum(' write 00500 ' in line for line in lines), 3)
+        self.assertRegex('\n'.join(lines), r'(?m)^ +\d+ start F000:0000 B85000 start \| 3: MOV AX,50h$')
+        self.assertRegex('\n'.join(lines), r'(?m)^ +\d+ write F0000 50 start$')
         refusals = (
             ('watch 500 0', 'is no number of bytes'),
             ('watch 500 65537', '1 to 65536 can be watched'),
@@ -206,14 +206,14 @@ class Words(ToolCase):
             ('last write', 'no label'),
             ('last 500', 'nothing changed there'),
         )
-        for (command, why), told_of_it in zip(refusals, self.dbg(files, *(it for it, _ in refusals)), strict=True):
+        for (command, why), told_of_it in zip(refusals, self.dbg(files, *(asked for asked, _ in refusals)), strict=True):
             self.assertIn(why, told_of_it, command)
 
     def test_kinds(self) -> None:
         self.assertEqual(kind_of('writes=a-b', {'a': 0x500, 'b': 0x50F}.__getitem__), 'writes=500-50F')
-        self.assertEqual([kind_of(it, int) for it in ('starts', 'ports=60', 'writes')], ['starts', 'ports=60', 'writes'])
+        self.assertEqual([kind_of(kind, int) for kind in ('starts', 'ports=60', 'writes')], ['starts', 'ports=60', 'writes'])
         self.assertEqual(
-            [list(watched_by(it)) for it in ('changes B0000', 'changes B0000 2', 'when writes=B0000-B0001', 'when keys', 'break F000:0')][2:],
+            [list(watched_by(stop)) for stop in ('changes B0000', 'changes B0000 2', 'when writes=B0000-B0001', 'when keys', 'break F000:0')][2:],
             [[0xB0000, 0xB0001], [], []],
         )
         with self.assertRaises(Sorry):
@@ -223,10 +223,10 @@ class Words(ToolCase):
         """A seventeenth is refused in a sentence, whatever it is; all others stay."""
         commands = ['break tick', 'watch B0000', 'watch B0002 2 --writes', 'when keys', *(f'watch {0x500 + at:X}' for at in range(12))]
         refused = ('watch 600', 'when wires', 'break card', 'sound', 'byte 0 1')
-        told = self.dbg(example('ticks'), *commands, *(word for more in refused for word in (more, 'stops')), 'go')
-        stops, answers = told[:16], told[16:101]
+        lines = self.dbg(example('ticks'), *commands, *(word for more in refused for word in (more, 'stops')), 'go')
+        stops, answers = lines[:16], lines[16:101]
         self.assertEqual(answers, ['there are 16 stops, the most that go; clear N removes one', *stops] * 5)
-        self.assertEqual(told[101].split(',')[0], 'stop 2 (watch B0000 1)')
+        self.assertEqual(lines[101].split(',')[0], 'stop 2 (watch B0000 1)')
 
 
 class Gdb(ToolCase):
@@ -268,21 +268,21 @@ class Gdb(ToolCase):
         self.assertEqual([client.ask(f'Z0,{0xf0100 + at:x},1') for at in range(7)], ['OK'] * 7)
         self.assertEqual(client.ask('Z2,b0000,1'), 'OK')
         full = 'E.the board has room for 16 stops'
-        self.assertEqual([client.ask(it) for it in ('Z2,b0002,1', 'Z0,f6058,1', 'Z2,b0000,1')], [full, full, 'OK'])
+        self.assertEqual([client.ask(packet) for packet in ('Z2,b0002,1', 'Z0,f6058,1', 'Z2,b0000,1')], [full, full, 'OK'])
         self.assertEqual(client.ask('c'), 'T05watch:b0000;thread:1;')
 
     def test_gdb_itself(self) -> None:
         """The first change, the next ones, and back over them; reads are refused in a sentence."""
         typed = ('watch *(char*)0xb0000', *['continue'] * 3, 'reverse-continue', 'reverse-continue', 'stepi', 'rwatch *(char*)0xb0000', 'awatch tick')
-        told = self.gdb_on(example('ticks'), *typed)
+        printed = self.gdb_on(example('ticks'), *typed)
         if test_gdb.GDB:
             pattern = '.*'.join(f"Old value = {a} .*New value = {b} " for a, b in ((0, 48), (48, 49), (49, 50), (50, 49), (49, 48), (48, 49)))
-            self.assertRegex(told, f'(?s){pattern}')
-            self.assertEqual(told.count("Reads aren't watched, only changes"), 2)
+            self.assertRegex(printed, f'(?s){pattern}')
+            self.assertEqual(printed.count("Reads aren't watched, only changes"), 2)
 
     def gdb_on(self, files: tuple[str, str], *typed: str) -> str:
         """What gdb prints, if it is there."""
-        return self.tool('gdb', *files, '-batch', *(word for it in typed for word in ('-ex', it)))[0] if test_gdb.GDB else ''
+        return self.tool('gdb', *files, '-batch', *(word for line in typed for word in ('-ex', line)))[0] if test_gdb.GDB else ''
 
 
 class Dap(ToolCase):
@@ -304,11 +304,11 @@ class Dap(ToolCase):
         self.assertIsNone(client.ask('dataBreakpointInfo', variablesReference=1, name='AX')['dataId'])
         self.assertIn('frob', client.ask('dataBreakpointInfo', name='frob')['description'])
         self.assertEqual(client.ask('dataBreakpointInfo', name='WORD [8]')['dataId'], '00008 2')
-        told = client.ask('setDataBreakpoints', breakpoints=[{'dataId': 'B0000 1'}, {'dataId': '00500 2', 'accessType': 'readWrite'}, {'dataId': 'x'}])
-        first, *others = told['breakpoints']
+        answer = client.ask('setDataBreakpoints', breakpoints=[{'dataId': 'B0000 1'}, {'dataId': '00500 2', 'accessType': 'readWrite'}, {'dataId': 'x'}])
+        first, *others = answer['breakpoints']
         self.assertTrue(first['verified'])
         self.assertEqual(
-            [(it['verified'], it['message']) for it in others],
+            [(point['verified'], point['message']) for point in others],
             [(False, "reads aren't watched, only changes and writes"), (False, 'x is no data that can be watched')],
         )
         for command, clock, line in (('continue', 885, 31), ('continue', 1010, 42), ('next', 1036, 43), ('continue', 1398, 42), ('reverseContinue', 1010, 42)):
@@ -320,7 +320,7 @@ class Dap(ToolCase):
         client.ask('setDataBreakpoints', breakpoints=[{'dataId': 'B0000 1', 'condition': 'BYTE ES:[0] = 33h'}, {'dataId': 'B0000 2', 'hitCondition': '3'}])
         self.assertEqual([(client.move('continue')['reason'], client.clock()) for _ in range(2)], [('data breakpoint', 1398), ('data breakpoint', 1798)])
         many = client.ask('setDataBreakpoints', breakpoints=[{'dataId': f'{0x500 + at:05X} 1'} for at in range(16)])['breakpoints']
-        self.assertEqual([it['verified'] for it in many], [True] * 15 + [False])
+        self.assertEqual([point['verified'] for point in many], [True] * 15 + [False])
         self.assertIn('the most that go', many[15]['message'])
         self.assertEqual(client.leave(), 0)
 
@@ -331,12 +331,12 @@ class Dap(ToolCase):
         )
         source, run = self.program(f'        {lines}')
         client = self.client(source, run)
-        data = next(it['variablesReference'] for it in client.ask('scopes', frameId=1)['scopes'] if it['name'] == 'Data')
-        array = next(it['variablesReference'] for it in client.ask('variables', variablesReference=data)['variables'] if it['name'] == 'n')
+        data = next(scope['variablesReference'] for scope in client.ask('scopes', frameId=1)['scopes'] if scope['name'] == 'Data')
+        array = next(variable['variablesReference'] for variable in client.ask('variables', variablesReference=data)['variables'] if variable['name'] == 'n')
         ids = [client.ask('dataBreakpointInfo', variablesReference=at, name=name)['dataId'] for at, name in ((data, 'n'), (array, '[1]'), (data, 'b'))]
         self.assertEqual(ids, ['00500 6', '00502 2', '00506 1'])
-        told = client.ask('setDataBreakpoints', breakpoints=[{'dataId': it} for it in ids])['breakpoints']
-        self.assertEqual([client.move('continue')['hitBreakpointIds'] for _ in range(2)], [[it['id'] for it in told[:2]], [told[2]['id']]])
+        points = client.ask('setDataBreakpoints', breakpoints=[{'dataId': data_id} for data_id in ids])['breakpoints']
+        self.assertEqual([client.move('continue')['hitBreakpointIds'] for _ in range(2)], [[point['id'] for point in points[:2]], [points[2]['id']]])
         self.assertEqual(client.leave(), 0)
 
 
@@ -372,6 +372,6 @@ class Desk(ToolCase):
         self.assertEqual(board.stops, ['changes B0000 1'])
         board.set_stops(['byte B0000 32', 'changes B0000'])
         self.assertEqual(
-            [(it['clock'], it['told'][:19]) for it in (board.run(3000, False, 0, False) for _ in range(2))],
+            [(answer['clock'], answer['told'][:19]) for answer in (board.run(3000, False, 0, False) for _ in range(2))],
             [(1398, 'B0000 was 31, is 32'), (1798, 'B0000 was 32, is 33')],
         )
