@@ -17,7 +17,7 @@ from toolbox.command import write_text
 ROW = re.compile(r'^    row!\(\w+::\w+ 0x([0-9A-F]{2})(?: / \d)?, (\w+) (\w+), ', re.M)
 WIDTH = 99  # of a line; rt fmt lays it out anew
 CRATES = ('board_types', 'isa')
-TABLE, INDEX, OPERATIONS = (f'crates/isa/src/{it}.rt' for it in ('table', 'parts', 'operation'))
+TABLE, INDEX, OPERATIONS = (f'crates/isa/src/{stem}.rt' for stem in ('table', 'parts', 'operation'))
 DEFINITION = 'crates/isa/specs/Table.antt'
 # SALC, which the 8086's manual doesn't name, and for which no place but those that CONTRIBUTING lists changes.
 STEPS = (
@@ -38,7 +38,7 @@ def opcodes(first: int, kinds: set[str]) -> Iterable[int]:
     if kinds & {'Code8', 'Code16', 'EscNumber'}:
         return range(first, first + 8)
     if kinds & {'CodeSegment', 'CodeSegmentNotCs'}:
-        return [first + 8 * it for it in range(4) if it != 1 or 'CodeSegment' in kinds]
+        return [first + 8 * segment for segment in range(4) if segment != 1 or 'CodeSegment' in kinds]
     return [first]
 
 
@@ -52,8 +52,8 @@ def index(top: str) -> str:
     table = rows(top)
     first = [len(table)] * 256
     for place, (opcode, *kinds) in reversed(list(enumerate(table))):
-        for it in opcodes(int(opcode, 16), set(kinds)):
-            first[it] = place
+        for octet in opcodes(int(opcode, 16), set(kinds)):
+            first[octet] = place
     lines = ['   ']
     for number in first:
         if len(lines[-1]) + len(f' {number},') > WIDTH:
@@ -134,7 +134,7 @@ class MadeUpRow(ToolCase):
         """The numbers behind the new row shift by one, and nothing else changes; written once more, nothing does."""
         count = len(rows(TOP)) + 1
         self.assertEqual(self.changed, [INDEX, TABLE, 'docs/machine.md', 'CONTRIBUTING.md'])
-        before, after = ([int(it.strip(',')) for it in stored_index(top).split()] for top in (TOP, self.room))
+        before, after = ([int(word.strip(',')) for word in stored_index(top).split()] for top in (TOP, self.room))
         place = next(at for at, row in enumerate(rows(self.room)) if row[0] == 'D6')
         self.assertEqual(after, [place if at == 0xD6 else number + (number >= place) for at, number in enumerate(before)])
         self.assertIn(f'`[Row; {count}]`', read(f'{self.room}/CONTRIBUTING.md'))

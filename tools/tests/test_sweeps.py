@@ -69,22 +69,22 @@ class Sweeps(ToolCase):
     def kinds(self) -> list[int]:
         """How many reports, refusals and halves of either there are."""
         names = os.listdir(f'{self.room}/sweep')
-        return [sum(it.endswith(end) for it in names) for end in ('.txt', '.fault', '.new')]
+        return [sum(name.endswith(end) for name in names) for end in ('.txt', '.fault', '.new')]
 
     def check_table(self) -> None:
         """The sweep's table, with the refused run in it."""
-        told = self.tool(
+        rows = self.tool(
             'table',
             '--of',
             'name,state,line1',
-            *(f'{self.room}/sweep/{it}' for it in os.listdir(f'{self.room}/sweep') if it.endswith(('.txt', '.fault'))),
+            *(f'{self.room}/sweep/{name}' for name in os.listdir(f'{self.room}/sweep') if name.endswith(('.txt', '.fault'))),
             status=1,
         )[0].splitlines()
-        self.assertEqual((len(told), told[1], told[-1]), (13, 'key-1800\thalted\ttkttKtkttKttt', 'late\tfault 32 BadField\t'))
+        self.assertEqual((len(rows), rows[1], rows[-1]), (13, 'key-1800\thalted\ttkttKtkttKttt', 'late\tfault 32 BadField\t'))
 
     def test_refused_runs_are_told_and_kept_apart(self) -> None:
-        told = self.shell('examples/sweep/each examples/nested.asm sweep/*.json', status=1)
-        self.assertEqual(told, 'sweep/late.json: fault 32 BadField\n')
+        printed = self.shell('examples/sweep/each examples/nested.asm sweep/*.json', status=1)
+        self.assertEqual(printed, 'sweep/late.json: fault 32 BadField\n')
         self.assertEqual(self.kinds(), [11, 1, 0])
         self.check_table()
         self.assertEqual(self.shell('examples/sweep/each examples/nested.asm sweep/*.json', PCBOARD='/none'), '')
