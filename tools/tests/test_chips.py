@@ -20,7 +20,7 @@ QUIET = CONTROLLER.format('00', '00', '00', '00', 7, 0, 'none', 1, 0)
 class Facts(unittest.TestCase):
     """Which facts are told of which chips."""
 
-    def told(
+    def short_facts(
         self, controller: str, port_b: str = '00', latch: str = 'none', waiting: str = '', newest: str = '0064', state: str = 'halted', interrupts: int = 1
     ) -> list[str]:
         """The facts of such chips, each as far as its first colon or comma."""
@@ -46,25 +46,25 @@ class Facts(unittest.TestCase):
             (('30', '20', '14', '00', 3, 0, 'none', 1, 0), ['IR5 asks, and IR4 is still in service']),
             (('30', '20', '14', '10', 3, 0, 'none', 1, 1), ['IR5 asks, and IR2 is still in service']),
         ):
-            self.assertEqual(self.told(CONTROLLER.format(*fields)), wanted)
+            self.assertEqual(self.short_facts(CONTROLLER.format(*fields)), wanted)
 
     def test_requests_that_the_processor_does_not_take(self) -> None:
         served = CONTROLLER.format('01', '01', '01', 'FE', 7, 0, 'none', 1, 0)
-        self.assertEqual(self.told(served, interrupts=0), [])
-        self.assertEqual(self.told(served, state='running'), ['IR0 asks again, and is still in service'])
+        self.assertEqual(self.short_facts(served, interrupts=0), [])
+        self.assertEqual(self.short_facts(served, state='running'), ['IR0 asks again, and is still in service'])
 
     def test_a_tick_that_never_comes(self) -> None:
         waits = 'the processor waits for an interrupt, and IR0 comes from counter 0, which no count has been written to'
-        self.assertEqual(self.told(QUIET, newest='none'), [waits])
-        self.assertEqual(self.told(QUIET, newest='none', interrupts=0), [])
-        self.assertEqual(self.told(QUIET, newest='none', state='running'), [])
-        self.assertEqual(self.told(CONTROLLER.format('00', '00', '00', '01', 7, 0, 'none', 1, 0), newest='none'), [])
+        self.assertEqual(self.short_facts(QUIET, newest='none'), [waits])
+        self.assertEqual(self.short_facts(QUIET, newest='none', interrupts=0), [])
+        self.assertEqual(self.short_facts(QUIET, newest='none', state='running'), [])
+        self.assertEqual(self.short_facts(CONTROLLER.format('00', '00', '00', '01', 7, 0, 'none', 1, 0), newest='none'), [])
 
     def test_keys(self) -> None:
-        self.assertEqual(self.told(QUIET, '40', '1E'), [])
-        self.assertEqual(self.told(QUIET, '00', 'none', ' 1E'), ['1 key code waits'])
-        self.assertEqual(self.told(QUIET, 'C0', 'none', ' 1E 9E'), ['2 key codes wait'])
-        self.assertEqual(self.told(QUIET, '40', '1E', ' 9E'), ["1 key code waits behind 1Eh in the latch, which line 7 of port B hasn't emptied"])
+        self.assertEqual(self.short_facts(QUIET, '40', '1E'), [])
+        self.assertEqual(self.short_facts(QUIET, '00', 'none', ' 1E'), ['1 key code waits'])
+        self.assertEqual(self.short_facts(QUIET, 'C0', 'none', ' 1E 9E'), ['2 key codes wait'])
+        self.assertEqual(self.short_facts(QUIET, '40', '1E', ' 9E'), ["1 key code waits behind 1Eh in the latch, which line 7 of port B hasn't emptied"])
 
     def test_lines(self) -> None:
         chips = Chips.of([COUNTER.format('0005'), PORTS.format('4D'), 'speaker 1', PROCESSOR.format('jammed', 0)])
@@ -100,9 +100,9 @@ class Probed(ToolCase):
         """The chips that a session about a program shows, one behind the other."""
         source, _ = self.program(lines)
         fields = f'"version":2,"ram":64,"sw1":109,"sw2":26,"budget":9000,"keys":{keys},"timer":"{timer}","clocks":"C1"'
-        told = self.answers(source, self.file('p.json', f'{{{fields}}}'), commands)
-        starts = [at for at, line in enumerate(told) if line.startswith('controller')]
-        return [Chips.of(told[at : at + 9]) for at in starts]
+        answers = self.answers(source, self.file('p.json', f'{{{fields}}}'), commands)
+        starts = [at for at, line in enumerate(answers) if line.startswith('controller')]
+        return [Chips.of(answers[at : at + 9]) for at in starts]
 
     def answers(self, source: str, run: str, commands: str) -> list[str]:
         """The lines that a session answers."""
@@ -193,12 +193,12 @@ class Probed(ToolCase):
     def test_no_end_of_interrupt(self) -> None:
         files = self.program(writes(*READY, *COUNTS) + WAITS.format(''))
         asks = 'IR0 asks again, and is still in service: no end of interrupt (20h to port 20h) has come since it was taken'
-        told = self.answers(*files, 'go 3000\nchips\n')
-        it = Chips.of(told[1:])
-        self.assertEqual([it.value('controller', word) for word in ('IRR', 'ISR', 'IMR', 'INT')], ['01', '01', 'FE', '0'])
-        self.assertEqual(facts(told[1:]), [asks])
-        self.assertEqual(self.tool('dbg', *files, given='to 3000\nstate\n')[0].splitlines()[4:], [*told[1:], asks])
-        self.assertEqual(self.tool('dbg', *files, given='to 3000\nchips\n')[0].splitlines()[1:], told[1:])
+        answers = self.answers(*files, 'go 3000\nchips\n')
+        chips = Chips.of(answers[1:])
+        self.assertEqual([chips.value('controller', word) for word in ('IRR', 'ISR', 'IMR', 'INT')], ['01', '01', 'FE', '0'])
+        self.assertEqual(facts(answers[1:]), [asks])
+        self.assertEqual(self.tool('dbg', *files, given='to 3000\nstate\n')[0].splitlines()[4:], [*answers[1:], asks])
+        self.assertEqual(self.tool('dbg', *files, given='to 3000\nchips\n')[0].splitlines()[1:], answers[1:])
         self.assertIn(asks, self.tool('why', 'run', *files)[1])
         page = self.file('page', 'chip controller ISR = 0\nchip counter 0 newest = 64h\nchip keyboard waiting = none\nchip ports B = in 0\n')
         self.assertEqual(self.tool('judge', page, *files, status=1)[0].splitlines()[0], 'no  chip controller ISR = 0: came 01')
@@ -208,15 +208,15 @@ class Probed(ToolCase):
 
     def test_a_masked_timer(self) -> None:
         files = self.program(writes(*READY[:3], ('21h', '1'), *COUNTS) + WAITS.format(''))
-        told = self.answers(*files, 'go 3000\nchips\n')[1:]
-        self.assertEqual([Chips.of(told).value('controller', word) for word in ('IRR', 'ISR', 'IMR', 'INT')], ['01', '00', '01', '0'])
-        self.assertEqual(facts(told), ['IR0 asks, and is masked'])
+        answers = self.answers(*files, 'go 3000\nchips\n')[1:]
+        self.assertEqual([Chips.of(answers).value('controller', word) for word in ('IRR', 'ISR', 'IMR', 'INT')], ['01', '00', '01', '0'])
+        self.assertEqual(facts(answers), ['IR0 asks, and is masked'])
 
     def test_a_counter_that_was_never_programmed(self) -> None:
         files = self.program(writes(*READY) + WAITS.format(''))
-        told = self.answers(*files, 'go 3000\nchips\n')[1:]
-        self.assertEqual(told[1], 'counter 0 mode 0 RW 3 BCD 0 count 0000 newest none load 0 OUT 0 GATE 1 first none latch none high 0')
-        self.assertEqual(facts(told), ['the processor waits for an interrupt, and IR0 comes from counter 0, which no count has been written to'])
+        answers = self.answers(*files, 'go 3000\nchips\n')[1:]
+        self.assertEqual(answers[1], 'counter 0 mode 0 RW 3 BCD 0 count 0000 newest none load 0 OUT 0 GATE 1 first none latch none high 0')
+        self.assertEqual(facts(answers), ['the processor waits for an interrupt, and IR0 comes from counter 0, which no count has been written to'])
 
     def test_the_debuggers_commands(self) -> None:
         """Each is answered as `pcboard debug` answers it."""

@@ -51,7 +51,7 @@ class Texts(unittest.TestCase):
         header = Header(text)
         sizes = re.findall(r'sizeof\((\w+)\) == (\d+)', text)
         offsets = re.findall(r'offsetof\((\w+), (\w+)\) == (\d+)', text)
-        self.assertEqual({it for it, _ in sizes}, set(header.structs))
+        self.assertEqual({struct for struct, _ in sizes}, set(header.structs))
         for name, size in sizes:
             self.assertEqual(ctypes.sizeof(header.structs[name]), int(size), name)
         for name, field, offset in offsets:
@@ -83,8 +83,8 @@ class Texts(unittest.TestCase):
             environment = os.environ | {'PYTHONPATH': f'{TOP}/python', 'PYTHONDONTWRITEBYTECODE': '1'} | changed
             if not wanted:
                 words[2], wanted = 'import zebludor; zebludor.Pit()', "the chips' library /none.a isn't there"
-            told = subprocess.run(words, env=environment, capture_output=True, text=True, check=False).stderr
-            self.assertIn(wanted, told)
+            err = subprocess.run(words, env=environment, capture_output=True, text=True, check=False).stderr
+            self.assertIn(wanted, err)
 
 
 class Runs(ToolCase):
@@ -121,14 +121,14 @@ class Runs(ToolCase):
 
         environment = os.environ | {'PYTHONPATH': f'{self.room}:{TOP}/python', 'PCBOARD': program.path(), 'PYTHONDONTWRITEBYTECODE': '1'}
         done = subprocess.run([sys.executable, 'it.py'], env=environment, capture_output=True, text=True, cwd=self.room, check=False)
-        told = done.stdout.splitlines()
-        self.assertEqual((done.stderr, told[:3], len(told)), ('', ['H halted 63040', '1 2138', 'MOV AH,007h'], 14))
-        self.assertEqual((told[3], told[13]), ('1800 tkttKtttttt', '2800 ttkttKttttt'))
+        lines = done.stdout.splitlines()
+        self.assertEqual((done.stderr, lines[:3], len(lines)), ('', ['H halted 63040', '1 2138', 'MOV AH,007h'], 14))
+        self.assertEqual((lines[3], lines[13]), ('1800 tkttKtttttt', '2800 ttkttKttttt'))
 
     def test_labels_and_lines(self) -> None:
         """Of a path and of a text; of Intel HEX by its symbols."""
         path = pathlib.Path(example('ticks')[0])
-        number = 1 + next(n for n, it in enumerate(read(str(path)).split('\n')) if it.startswith('tick:'))
+        number = 1 + next(n for n, line in enumerate(read(str(path)).split('\n')) if line.startswith('tick:'))
         self.assertEqual(zebludor.__version__, read(f'{TOP}/VERSION').strip())
         for source in (path, read(str(path))):
             with Session(source) as session:
