@@ -247,9 +247,9 @@ class Release(Unpacked):
             self.assertEqual({oct(it.mode) for it in entries if it.isdir()}, {'0o755'})
             self.assertTrue({oct(it.mode) for it in entries} <= {'0o755', '0o644'})
             self.assertEqual({it.name.partition('/')[0] for it in entries}, {NAME})
-            for it in entries:
-                file = archive.extractfile(it) if it.isfile() else None
-                self.assertFalse(file and self.room.encode() in file.read(), it.name)
+            for entry in entries:
+                file = archive.extractfile(entry) if entry.isfile() else None
+                self.assertFalse(file and self.room.encode() in file.read(), entry.name)
         for path in (
             'pcboard',
             'stored/pcboard',
@@ -289,9 +289,9 @@ class Release(Unpacked):
         top = self.unpacked()
         self.assertEqual(self.run_in(top, 'sha256sum', '--strict', '--quiet', '-c', 'SHA256SUMS'), (0, '', ''))
         with open(f'{top}/SHA256SUMS', encoding='utf-8') as file:
-            told = {line[66:].rstrip('\n') for line in file}
-        there = {os.path.relpath(f'{folder}/{it}', top) for folder, _, files in os.walk(top) for it in files}
-        self.assertEqual(told | {'SHA256SUMS'}, there)
+            summed = {line[66:].rstrip('\n') for line in file}
+        there = {os.path.relpath(f'{folder}/{name}', top) for folder, _, files in os.walk(top) for name in files}
+        self.assertEqual(summed | {'SHA256SUMS'}, there)
 
     def test_links_lead_somewhere(self) -> None:
         """Those into the sources, which a clone has, are none here."""
@@ -307,9 +307,9 @@ class Release(Unpacked):
         top = self.unpacked()
         with open(f'{top}/README.md', encoding='utf-8') as file:
             command, printed = re.findall(r'^```\n(\./pcboard run .*)\n```\n\nprints\n\n```\n(.*?)^```', file.read(), re.M | re.S)[0]
-        status, out, told = self.run_in(top, *command.split())
+        status, out, err = self.run_in(top, *command.split())
         self.assertEqual((status, out.rstrip()), (0, printed.rstrip()))
-        self.assertRegex(told, r'\Apcboard: the programs [^\n]* were proved elsewhere, with rattle-kit-1; RELEASE has [^\n]*\n\Z')
+        self.assertRegex(err, r'\Apcboard: the programs [^\n]* were proved elsewhere, with rattle-kit-1; RELEASE has [^\n]*\n\Z')
         for name in PROGRAMS:
             self.assertEqual(
                 self.run_in(top, f'./{name}', '--version')[:2],
@@ -331,19 +331,19 @@ class Release(Unpacked):
     def test_each_tool(self) -> None:
         top = self.unpacked()
         tools = sorted(f'tools/{it}' for it in os.listdir(f'{top}/tools') if os.path.isfile(f'{top}/tools/{it}'))
-        self.assertLess({it.split()[0] for it, _, _ in WORDS}, {*tools, './pcprobe'})
+        self.assertLess({command.split()[0] for command, _, _ in WORDS}, {*tools, './pcprobe'})
         for tool in tools:
-            status, printed, told = self.run_in(top, tool, '--help')
-            self.assertEqual((status, told), (0, ''), tool)
+            status, printed, err = self.run_in(top, tool, '--help')
+            self.assertEqual((status, err), (0, ''), tool)
             self.assertIn(os.path.basename(tool), printed)
         report, page = self.run_in(top, './pcboard', 'run', *RUN.split())[1], self.file('it.page', 'shows = HI\n')
         os.mkdir(f'{self.room}/out')
         os.chmod(f'{self.room}/out', 0o777)
         for words, typed, wanted in WORDS:
             words = words.replace('PAGE', page).replace('OUT', f'{self.room}/out/it')
-            status, printed, told = self.run_in(top, *words.split(), given=typed.replace('REPORT', report))
-            self.assertEqual(status, 0, f'{words}: {told}')
-            self.assertIn(wanted, printed + told, words)
+            status, printed, err = self.run_in(top, *words.split(), given=typed.replace('REPORT', report))
+            self.assertEqual(status, 0, f'{words}: {err}')
+            self.assertIn(wanted, printed + err, words)
         self.assertTrue(os.path.isfile(f'{self.room}/out/it'))
 
     def test_one_that_is_damaged(self) -> None:
@@ -371,41 +371,41 @@ class Libraries(Unpacked):
     def test_the_shared_one_needs_only_the_c_library(self) -> None:
         if not is_there('readelf', 'what the shared library needs', 'binutils'):
             return
-        told = self.run_in(self.unpacked(), 'readelf', '-d', 'lib/libzebludor_chips.so', path='/usr/bin:/bin')[1]
-        self.assertLessEqual(set(re.findall(r'Shared library: \[(.*)\]', told)), {'libc.so.6'})
-        self.assertIn('soname: [libzebludor_chips.so]', told)
+        printed = self.run_in(self.unpacked(), 'readelf', '-d', 'lib/libzebludor_chips.so', path='/usr/bin:/bin')[1]
+        self.assertLessEqual(set(re.findall(r'Shared library: \[(.*)\]', printed)), {'libc.so.6'})
+        self.assertIn('soname: [libzebludor_chips.so]', printed)
 
     def test_pkg_config(self) -> None:
         if not is_there('pkg-config', 'the C bench by pkg-config', 'pkg-config'):
             return
         source = self.file('bench.c', BENCH)
         for top in (self.unpacked('plain'), self.unpacked()):
-            told = subprocess.run(
+            flags = subprocess.run(
                 ['pkg-config', '--cflags', '--libs', 'zebludor_chips'],
                 capture_output=True,
                 text=True,
                 check=True,
                 env={'PATH': '/usr/bin:/bin', 'PKG_CONFIG_PATH': f'{top}/lib/pkgconfig'},
             ).stdout
-            subprocess.run(['cc', '-std=c11', '-Wall', '-Werror', source, *shlex.split(told), '-o', f'{self.room}/bench'], check=True)
+            subprocess.run(['cc', '-std=c11', '-Wall', '-Werror', source, *shlex.split(flags), '-o', f'{self.room}/bench'], check=True)
             self.assertEqual(self.run_in(top, f'{self.room}/bench'), (0, self.wanted(), ''))
 
     def test_whole_runs_by_pkg_config(self) -> None:
         if not is_there('pkg-config', 'whole runs in C by pkg-config', 'pkg-config'):
             return
         top = self.unpacked('plain')
-        told = subprocess.run(
+        flags = subprocess.run(
             ['pkg-config', '--cflags', '--libs', 'zebludor_run'],
             capture_output=True,
             text=True,
             check=True,
             env={'PATH': '/usr/bin:/bin', 'PKG_CONFIG_PATH': f'{top}/lib/pkgconfig'},
         ).stdout
-        self.assertRegex(told, r' -L\S+/lib -l:libzebludor_run\.a -l:libzebludor_memory\.a ?\n\Z')
+        self.assertRegex(flags, r' -L\S+/lib -l:libzebludor_run\.a -l:libzebludor_memory\.a ?\n\Z')
         if not self.is_real:
             not_run('whole runs in C from a release; dev/benches builds their library')
             return
-        subprocess.run(['cc', '-std=c11', f'{top}/c/benches/runs.c', *shlex.split(told), '-o', f'{self.room}/runs'], check=True)
+        subprocess.run(['cc', '-std=c11', f'{top}/c/benches/runs.c', *shlex.split(flags), '-o', f'{self.room}/runs'], check=True)
         words = [f'{top}/{it}' for it in RUN.split()]
         self.assertEqual(self.run_in(top, f'{self.room}/runs', *words)[:2], self.run_in(top, './pcboard', 'run', *words)[:2])
 
@@ -454,8 +454,8 @@ class Lacking(Unpacked):
     def test_a_verdict_that_is_unknown(self) -> None:
         path = f'{self.top}/crates/zebludor_run/out/PROVED'
         with open(path, encoding='utf-8') as file:
-            told = file.read()
-        self.file(os.path.relpath(path, self.room), re.sub('^low: .*\n', '', told, flags=re.M))
+            verdicts = file.read()
+        self.file(os.path.relpath(path, self.room), re.sub('^low: .*\n', '', verdicts, flags=re.M))
         self.refused('its PROVED has no verdict of low')
 
     def test_another_kit(self) -> None:
