@@ -25,7 +25,7 @@ def is_python(path: str) -> bool:
 
 def files() -> list[str]:
     """All Python of the repository."""
-    found = (f'{folder}/{name}' for top in FOLDERS for folder, _, names in os.walk(f'{TOP}/{top}') for name in names if '/out' not in folder)
+    found = (f'{folder}/{name}' for top in FOLDERS for folder, _, names in os.walk(f'{TOP}/{top}') for name in names if '/out/' not in f'{folder}/')
     return sorted(path for path in found if os.path.isfile(path) and not path.endswith('.pyc') and is_python(path))
 
 
