@@ -3,16 +3,21 @@
   python3 -m tests.test_style --write     in tools/: lays out all files as black does"""
 from __future__ import annotations
 
+import ast
+import collections
+import io
 import os
 import re
 import subprocess
 import sys
+import tokenize
 import unittest
 
 from tests.support import TOP, is_there, not_run
 
 FOLDERS = ('bench', 'c', 'dev', 'editors', 'examples', 'python', 'tools')
 LAYOUT = 23  # the black whose layout this is; others differ
+MOST = {'it': 300, 'told': 50}  # how often names that say little may stand in all files together
 
 
 def is_python(path: str) -> bool:
@@ -31,6 +36,36 @@ def files() -> list[str]:
 
 def lay_out(*words: str) -> subprocess.CompletedProcess[str]:
     return subprocess.run(['black', '--quiet', *words, *files()], cwd=TOP, capture_output=True, text=True, check=False)
+
+
+def named(source: bytes) -> list[tokenize.TokenInfo]:
+    """Where a file has one of the names that are limited."""
+    return [token for token in tokenize.tokenize(io.BytesIO(source).readline) if token.type == tokenize.NAME and token.string in MOST]
+
+
+def span_of_it(node: ast.AST) -> tuple[int, int, int] | None:
+    """The line, the first byte and the last one of a comprehension or lambda on one line whose one variable is `it`; of all else None."""
+    if isinstance(node, ast.Lambda):
+        first, last, variables = node, node.body, [inner.arg for inner in ast.walk(node.args) if isinstance(inner, ast.arg)]
+    elif isinstance(node, (ast.ListComp, ast.SetComp, ast.GeneratorExp, ast.DictComp)):
+        first = node.key if isinstance(node, ast.DictComp) else node.elt
+        last = [node.generators[-1].iter, *node.generators[-1].ifs][-1]
+        variables = [ast.unparse(generator.target) for generator in node.generators]
+    else:
+        return None
+    is_one = variables == ['it'] and first.lineno == last.end_lineno
+    return (first.lineno, first.col_offset, last.end_col_offset) if is_one else None
+
+
+def astray(source: bytes, names: list[tokenize.TokenInfo]) -> list[int]:
+    """The lines of those names in a file that are an `it` which isn't the one variable of a comprehension or lambda of one line."""
+    spans = [span for span in map(span_of_it, ast.walk(ast.parse(source))) if span]
+    found = list[int]()
+    for name in names:
+        number, column = name.start[0], len(name.line[: name.start[1]].encode())
+        if name.string == 'it' and not any(line == number and first <= column < end for line, first, end in spans):
+            found.append(number)
+    return found
 
 
 class Style(unittest.TestCase):
@@ -56,6 +91,50 @@ class Style(unittest.TestCase):
     def test_all_files_are_found(self) -> None:
         found = {os.path.relpath(path, TOP) for path in files()}
         self.assertLess({'tools/why', 'tools/toolbox/command.py', 'dev/build', 'bench/count', 'python/zebludor.py', 'editors/grammar'}, found)
+
+    def test_names_say_what_they_stand_for(self) -> None:
+        """`it` is the one variable of a comprehension or lambda of one line, and neither it nor `told` is frequent."""
+        count, strays = collections.Counter[str](), list[str]()
+        for path in files():
+            with open(path, 'rb') as file:
+                source = file.read()
+            names = named(source)
+            count.update(name.string for name in names)
+            strays += [f'{os.path.relpath(path, TOP)}:{number}' for number in astray(source, names)]
+        self.assertEqual(strays[:20], [])
+        for name, most in MOST.items():
+            self.assertLessEqual(count[name], most, name)
+
+    def test_what_is_astray(self) -> None:
+        def lines(text: str) -> list[int]:
+            return astray(text.encode(), named(text.encode()))
+
+        for source in (
+            'a = [it + 1 for it in b if it]',
+            'a = {it: b[it] for it in c}, {it for it in c}',
+            'a = sum(\n    len(it) for it in b\n)',
+            'sort(key=lambda it: it[0])',
+            'a = lambda it=b: it.c',
+            "'é', [it for it in b]",
+            "a = 'it'  # it",
+        ):
+            self.assertEqual(lines(source), [], source)
+        for source in (
+            'it = 1',
+            'for it in b: c',
+            'def it(): b',
+            'a.it',
+            'a(it=1)',
+            'a = [(it, b) for it, b in c]',
+            'a = [it for b in c for it in b]',
+            'a = lambda it, b: b',
+            'a = lambda b: it',
+            "it, [it for it in 'é']",
+            'with a as it: b',
+        ):
+            self.assertEqual(set(lines(source)), {1}, source)
+        self.assertEqual(lines('a = [\n    it\n    for it in b\n]'), [2, 3])
+        self.assertEqual(lines('a = lambda it: (\n    it\n)'), [1, 2])
 
 
 if __name__ == '__main__':
