@@ -2,13 +2,14 @@
 shell is told as not run where that isn't there."""
 from __future__ import annotations
 
+import contextlib
 import os
 import shutil
 import signal
 import subprocess
 import unittest
 
-from tests.support import EXAMPLES, SECONDS, TOOLS, ToolCase, is_there, until
+from tests.support import EXAMPLES, TOOLS, ToolCase, is_there, until
 
 # It tells in a list which run file it was given. While a file `waits` is there, it waits once two reports are.
 STAND_IN = """#!/bin/sh
@@ -25,6 +26,19 @@ def is_group(number: int) -> bool:
     except ProcessLookupError:
         return False
     return True
+
+
+def interrupt(process: subprocess.Popen[bytes]) -> None:
+    """Interrupts a group of processes as often as it takes to end them all: a shell that is just starting a program can miss one."""
+
+    def has_ended() -> bool:
+        with contextlib.suppress(ProcessLookupError):
+            os.killpg(process.pid, signal.SIGINT)
+        return process.poll() is not None and not is_group(process.pid)
+
+    if not until(has_ended, 0.1):
+        os.killpg(process.pid, signal.SIGKILL)
+        raise AssertionError('an interrupted sweep goes on')
 
 
 class Sweeps(ToolCase):
@@ -106,9 +120,7 @@ class Sweeps(ToolCase):
             start_new_session=True,
         ) as process:
             self.assertTrue(until(lambda: self.kinds()[0] >= 2))
-            os.killpg(process.pid, signal.SIGINT)
-            process.wait(SECONDS)
-        self.assertTrue(until(lambda: not is_group(process.pid)))
+            interrupt(process)
         os.remove(waits)
         done, before = self.kinds(), self.ran()
         self.assertLess(sum(done[:2]), 12, 'it had come to its end')
