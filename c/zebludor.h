@@ -12,8 +12,8 @@
  * given, and no other thread touches it meanwhile.
  *
  * What each call does is proved: its clause stands in src/ of crates/zebludor_chips, zebludor_run and zebludor_session, and
- * the definitions that clauses name in the specs/ of the crates below. That this header declares what stands there is only
- * tested. docs/for-test-benches.md tells how to build and link. */
+ * the definitions that clauses name in the specs/ of the crates below. That memory is found and given back, and that this
+ * header declares what stands there, is only tested. docs/for-test-benches.md tells how to build and link. */
 #ifndef ZEBLUDOR_H
 #define ZEBLUDOR_H
 
