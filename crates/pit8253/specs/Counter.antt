@@ -82,13 +82,11 @@ power_on kind gate = record {
 
 abbrev pub is_awaited : Progress → Bool
 is_awaited Awaited = true
-is_awaited Written = false
-is_awaited Loaded = false
+is_awaited _ = false
 
 abbrev pub is_loaded : Progress → Bool
 is_loaded Loaded = true
-is_loaded Awaited = false
-is_loaded Written = false
+is_loaded _ = false
 
 -- The tick.
 
@@ -96,10 +94,7 @@ is_loaded Written = false
 abbrev pub out_at_load : Mode → Line → Line
 out_at_load TerminalCount out = out
 out_at_load OneShot out = Low
-out_at_load RateGenerator out = High
-out_at_load SquareWave out = High
-out_at_load SoftwareStrobe out = High
-out_at_load HardwareStrobe out = High
+out_at_load _ out = High
 
 -- the newest count becomes the running count
 abbrev pub after_load : CounterState → Line → CounterState
@@ -127,12 +122,8 @@ after_square_load c out = record (after_load c out) {
 
 -- the load that a write or a trigger asked for
 abbrev pub after_due_load : CounterState → Mode → CounterState
-after_due_load c TerminalCount = after_load c (out_at_load TerminalCount c.out)
-after_due_load c OneShot = after_load c (out_at_load OneShot c.out)
-after_due_load c RateGenerator = after_load c (out_at_load RateGenerator c.out)
 after_due_load c SquareWave = after_square_load c (out_at_load SquareWave c.out)
-after_due_load c SoftwareStrobe = after_load c (out_at_load SoftwareStrobe c.out)
-after_due_load c HardwareStrobe = after_load c (out_at_load HardwareStrobe c.out)
+after_due_load c mode = after_load c (out_at_load mode c.out)
 
 -- modes 0 and 1: the count falls by 1, and at 0 OUT goes high
 abbrev pub after_countdown : CounterState → CounterState
@@ -201,11 +192,7 @@ out_of c = c.out
 -- OUT after a control word
 abbrev pub out_at_control : Mode → Line
 out_at_control TerminalCount = Low
-out_at_control OneShot = High
-out_at_control RateGenerator = High
-out_at_control SquareWave = High
-out_at_control SoftwareStrobe = High
-out_at_control HardwareStrobe = High
+out_at_control _ = High
 
 -- what the counter shows: the latch, or else the running count in the radix that it was loaded in
 abbrev pub reading : CounterState → ℕ
@@ -215,24 +202,15 @@ reading c = unwrap_or c.latch (digits_of c.count_radix c.count)
 unfoldable pub after_latch : CounterState → CounterState
 after_latch c = record c { latch = Some (reading c) }
 
--- a control word that programs: the mode, the access and the radix are new, OUT takes the mode's first level,
--- and the count runs no more; it stays to be read. The gate is as before. Both byte orders begin anew, and both latches
--- end.
+-- a control word that programs: the mode, the access and the radix are new, OUT takes the mode's first level, and all
+-- else is as at power-on; but the count, which runs no more, stays to be read
 abbrev pub after_program : CounterState → Mode → Access → Radix → CounterState
-after_program c mode access radix = record c {
+after_program c mode access radix = record (power_on c.kind c.gate) {
   mode = mode;
   access = access;
   radix = radix;
-  first_byte = None;
-  newest = 0;
-  progress = Awaited;
-  load_due = false;
-  strobe_due = false;
-  is_null = true;
-  keeps_zero = false;
-  latch = None;
-  status = None;
-  high_next = false;
+  count = c.count;
+  count_radix = c.count_radix;
   out = out_at_control mode;
 }
 
@@ -247,20 +225,15 @@ after_control_word c word =
 -- whether a full count is loaded at the next tick: always in modes 0 and 4, in modes 2 and 3 the first
 abbrev pub loads_when_written : Mode → Progress → Bool
 loads_when_written TerminalCount progress = true
-loads_when_written OneShot progress = false
+loads_when_written SoftwareStrobe progress = true
 loads_when_written RateGenerator progress = is_awaited progress
 loads_when_written SquareWave progress = is_awaited progress
-loads_when_written SoftwareStrobe progress = true
-loads_when_written HardwareStrobe progress = false
+loads_when_written _ progress = false
 
 -- in mode 0 a full count, or the first of two bytes, sets OUT low
 abbrev pub out_at_write : Mode → Line → Line
 out_at_write TerminalCount out = Low
-out_at_write OneShot out = out
-out_at_write RateGenerator out = out
-out_at_write SquareWave out = out
-out_at_write SoftwareStrobe out = out
-out_at_write HardwareStrobe out = out
+out_at_write _ out = out
 
 -- a full count of sixteen bits: it takes the place of the one before, also where that isn't loaded yet
 abbrev pub after_full_count : CounterState → ℕ → CounterState
@@ -273,13 +246,9 @@ after_full_count c word = record c {
   out = out_at_write c.mode c.out;
 }
 
--- the low byte of two
-abbrev pub after_first_byte : CounterState → ℕ → CounterState
-after_first_byte c byte = record c { first_byte = Some byte; out = out_at_write c.mode c.out }
-
--- one of two bytes, by what was written before it
+-- one of two bytes, by what was written before it: the low byte waits for the high one
 abbrev pub after_byte_of_two : CounterState → Option ℕ → ℕ → CounterState
-after_byte_of_two c None byte = after_first_byte c byte
+after_byte_of_two c None byte = record c { first_byte = Some byte; out = out_at_write c.mode c.out }
 after_byte_of_two c (Some low) byte = after_full_count c (low + 256 * byte)
 
 abbrev pub after_write_by : CounterState → Access → ℕ → CounterState
@@ -305,10 +274,9 @@ next_byte c = unwrap_or c.status (if reads_high c.access c.high_next then readin
 
 -- a read ends the latch with its last byte, and turns the order of two bytes
 abbrev pub after_read_by : CounterState → Access → CounterState
-after_read_by c LowByte = record c { latch = None }
-after_read_by c HighByte = record c { latch = None }
 after_read_by c LowThenHigh =
     if c.high_next then record c { latch = None; high_next = false } else record c { high_next = true }
+after_read_by c _ = record c { latch = None }
 
 -- a read of a latched status ends it, and leaves the order of two bytes
 unfoldable pub after_read : CounterState → CounterState
@@ -342,20 +310,14 @@ rises before after = not (is_high before) && is_high after
 -- whether a rise of the gate loads
 abbrev pub is_triggered : Mode → Bool
 is_triggered TerminalCount = false
-is_triggered OneShot = true
-is_triggered RateGenerator = true
-is_triggered SquareWave = true
 is_triggered SoftwareStrobe = false
-is_triggered HardwareStrobe = true
+is_triggered _ = true
 
 -- in modes 2 and 3 a low gate sets OUT high at once
 abbrev pub out_at_gate : Mode → Line → Line → Line
-out_at_gate TerminalCount gate out = out
-out_at_gate OneShot gate out = out
 out_at_gate RateGenerator gate out = if is_high gate then out else High
 out_at_gate SquareWave gate out = if is_high gate then out else High
-out_at_gate SoftwareStrobe gate out = out
-out_at_gate HardwareStrobe gate out = out
+out_at_gate _ gate out = out
 
 -- the gate takes a level; in modes 1, 2, 3 and 5 its rise after a full count is a trigger, which no later fall
 -- takes back (this board's choice)

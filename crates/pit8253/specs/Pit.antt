@@ -45,16 +45,13 @@ after_tick p = record {
 abbrev pub after_ticks : PitState → ℕ → PitState
 after_ticks p n = iterate after_tick n p
 
--- a counter after a read-back, which reaches it where the bit that names it is 1
-abbrev pub after_read_back_by : CounterState → ℕ → ℕ → CounterState
-after_read_back_by c bit word = if bit == 1 then one.after_read_back c word else c
-
--- a read-back names counters 0, 1 and 2 by bits 1, 2 and 3; bit 0 names none (this board's choice)
+-- a read-back reaches counters 0, 1 and 2 where bits 1, 2 and 3, which name them, are 1; bit 0 names none (this board's
+-- choice)
 abbrev pub after_read_back : PitState → ℕ → PitState
 after_read_back p word = record {
-  counter_0 = after_read_back_by p.counter_0 (word / 2 % 2) word;
-  counter_1 = after_read_back_by p.counter_1 (word / 4 % 2) word;
-  counter_2 = after_read_back_by p.counter_2 (word / 8 % 2) word;
+  counter_0 = if word / 2 % 2 == 1 then one.after_read_back p.counter_0 word else p.counter_0;
+  counter_1 = if word / 4 % 2 == 1 then one.after_read_back p.counter_1 word else p.counter_1;
+  counter_2 = if word / 8 % 2 == 1 then one.after_read_back p.counter_2 word else p.counter_2;
 }
 
 -- a control word goes to the counter that its bits 7 and 6 name; 11 is a read-back, which the 8253 doesn't know and

@@ -6,7 +6,7 @@ ghost use Rattle.pit8253.specs.Program.{mode_of, access_of, radix_of, modulus, c
 ghost use Rattle.pit8253.specs.Laws.{size, ticks_left, after_fall, after_strobe_fall, after_rate_fall, falls_left, half_left, after_half_fall};
 ghost use Rattle.pit8253.specs.Ahead.{after_rests, after_rate, half_ticks, after_turn, after_halves, after_square, after_run, until_end, until_pulse, until_half, until_strobe, until_rest, until_turn, differ, a_tick_later};
 ghost use Rattle.pit8253.specs.Image.{counter_of};
-ghost use Rattle.pit8253.specs.Counter.{power_on, is_awaited, out_at_load, after_load, loads_less, after_square_load, after_due_load, out_at_control, reading, after_latch, after_program, after_control_word, loads_when_written, after_full_count, after_first_byte, after_write, next_byte, after_read, status_of, after_status_latch, after_read_back, rises, is_triggered, out_at_gate, after_gate};
+ghost use Rattle.pit8253.specs.Counter.{power_on, is_awaited, out_at_load, after_load, loads_less, after_square_load, after_due_load, out_at_control, reading, after_latch, after_program, after_control_word, loads_when_written, after_full_count, out_at_write, after_write, next_byte, after_read, status_of, after_status_latch, after_read_back, rises, is_triggered, out_at_gate, after_gate};
 
 use crate::count::{
     count_after, count_of, digits_of, half_of, high_byte, left_after, length_of, low_byte, word_of,
@@ -337,7 +337,7 @@ impl Counter {
     }
 
     fn keep_first_byte(&mut self, low: u8)
-        ensures { self.new ≡ after_first_byte self.old low }
+        ensures { self.new ≡ record self.old { first_byte = Some low; out = out_at_write self.old.mode self.old.out } }
     {
         self.first_byte = Some(low);
         if self.mode == Mode::TerminalCount {

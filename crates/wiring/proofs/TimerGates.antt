@@ -11,7 +11,7 @@ use Rattle.pit8253.specs.Program.{count_minus}
 use Rattle.pit8253.specs.Counter as one
 use Rattle.pit8253.specs.Counter.{CounterState, is_8254, is_loaded, after_count, after_rate_count, half_step, after_square_count, after_due_load, after_latch, after_status_latch, after_byte_of_two, after_write_by, after_read_by}
 use Rattle.pit8253.specs.Pit as pit
-use Rattle.pit8253.specs.Pit.{PitState, counter, with_counter, after_read_back_by}
+use Rattle.pit8253.specs.Pit.{PitState, counter, with_counter}
 
 -- a counter's mode and its gate
 abbrev pub setup : CounterState → Mode × Line
@@ -101,7 +101,7 @@ back_gate word c =
     choose (is_8254 c.kind) c.gate (if word / 16 % 2 == 0 then after_status_latch d else d) c
     (choose (word / 16 % 2 == 0) c.gate (after_status_latch d) d (told_gate d ∙ same) same) refl
 
-back_where_gate : (c : CounterState) (bit word : ℕ) → (after_read_back_by c bit word).gate ≡ c.gate
+back_where_gate : (c : CounterState) (bit word : ℕ) → (if bit == 1 then one.after_read_back c word else c).gate ≡ c.gate
 back_where_gate c bit word = choose (bit == 1) c.gate _ _ (back_gate word c) refl
 
 -- gates 0 and 1 of one state are those of another

@@ -9,7 +9,6 @@ use Rattle.pit8253.specs.declared.program.Mode.TheVariants.{TerminalCount, OneSh
 use Rattle.pit8253.specs.declared.program.Access.{Access}
 use Rattle.pit8253.specs.declared.program.Access.TheVariants.{LowByte, HighByte, LowThenHigh}
 use Rattle.pit8253.specs.Program.{count_minus}
-use Rattle.pit8253.specs.Pit.{after_read_back_by}
 use Rattle.pit8253.specs.Counter.{CounterState, is_8254, is_loaded, after_due_load, after_status_latch, after_read_back, after_count, after_rate_count, half_step, after_square_count, after_tick, after_latch, after_control_word, after_byte_of_two, after_write_by, after_write, after_read_by, after_read, after_gate}
 
 -- the counter with nothing latched, the low byte next
@@ -105,7 +104,7 @@ back_leaves word c =
     read_branch (is_8254 c.kind) c (if word / 16 % 2 == 0 then after_status_latch d else d) c
     (read_branch (word / 16 % 2 == 0) c (after_status_latch d) d (told_leaves d ∙ same) same) refl
 
-pub back_where_leaves : (c : CounterState) (bit word : ℕ) → unread (after_read_back_by c bit word) ≡ unread c
+pub back_where_leaves : (c : CounterState) (bit word : ℕ) → unread (if bit == 1 then after_read_back c word else c) ≡ unread c
 back_where_leaves c bit word = read_branch (bit == 1) c _ _ (back_leaves word c) refl
 
 -- where two counters differ only in what reads change, a rule leaves them so
