@@ -10,7 +10,7 @@ use Rattle.board_types.specs.Lines.{is_high}
 use Rattle.ppi8255.specs.declared.ppi.Direction.{Direction}
 use Rattle.ppi8255.specs.declared.ppi.Direction.TheVariants.{Input, Output}
 use Rattle.ppi8255.specs.declared.ppi.Inputs.{Inputs}
-use Rattle.ppi8255.specs.Ppi.{PpiState, port_byte, lines_b, pins_a, switches_c, pins_c, port_c_byte, byte_at, after_mode_word, with_bit, after_bit_word, after_write}
+use Rattle.ppi8255.specs.Ppi.{PpiState, port_byte, lines_b, pins_a, switches_c, pins_c, port_c_byte, byte_at, after_mode_word, with_bit, after_write}
 use Rattle.ppi8255.specs.Laws.{ReadsBack, BeginsAnew, SetsOneBit, ShowsSwitches, after_writes, LooksAlike, DiffersUnseen}
 
 output_shows : (direction : Direction) (latch pins : ℕ) → direction ≡ Output → port_byte direction latch pins ≡ latch
@@ -245,7 +245,7 @@ mode_alike s t word alike = record {
   c_latch_lower = λ _. refl;
 }
 
-bit_alike : (s t : PpiState) (word : ℕ) → DiffersUnseen s t → DiffersUnseen (after_bit_word s word) (after_bit_word t word)
+bit_alike : (s t : PpiState) (word : ℕ) → DiffersUnseen s t → DiffersUnseen (record s { c_latch = with_bit s.c_latch (word / 2 % 8) (has_bit word 0) }) (record t { c_latch = with_bit t.c_latch (word / 2 % 8) (has_bit word 0) })
 bit_alike s t word alike =
     c_latch_alike s t _ _ alike
     (λ out. with_bit_upper s.c_latch t.c_latch (word / 2 % 8) (has_bit word 0) (alike.c_latch_upper out))

@@ -74,33 +74,26 @@ byte_at s port inputs =
 abbrev pub direction_of : ℕ → ℕ → Direction
 direction_of word k = if has_bit word k then Input else Output
 
--- a mode word sets the directions and clears all output latches; its mode bits 6, 5 and 2 are ignored (this
--- board's choice)
+-- a mode word sets the directions, and the output latches are clear as after reset; its mode bits 6, 5 and 2 are ignored
+-- (this board's choice)
 abbrev pub after_mode_word : PpiState → ℕ → PpiState
-after_mode_word s word = record s {
+after_mode_word s word = record (power_on s.sw1 s.sw2) {
   a = direction_of word 4;
   b = direction_of word 1;
   c_upper = direction_of word 3;
   c_lower = direction_of word 0;
-  a_latch = 0;
-  b_latch = 0;
-  c_latch = 0;
 }
 
 -- a byte with its bit k made 1 where this holds, else 0
 abbrev pub with_bit : ℕ → ℕ → Bool → ℕ
 with_bit byte k set = if set then bit_or byte (2 ^ k) else bit_and byte (2 ^ 8 - 1 - 2 ^ k)
 
--- a bit word's bits 3 to 1 name the bit of port C that becomes as its bit 0
-abbrev pub after_bit_word : PpiState → ℕ → PpiState
-after_bit_word s word = record s { c_latch = with_bit s.c_latch (word / 2 % 8) (has_bit word 0) }
-
--- what a write makes: a port's byte goes into its output latch, whatever its direction; a control word is a mode
--- word where its bit 7 is 1, else a bit word
+-- what a write makes: a port's byte goes into its output latch, whatever its direction; a control word is a mode word
+-- where its bit 7 is 1, and else its bits 3 to 1 name the bit of port C that becomes as its bit 0
 unfoldable pub after_write : PpiState → ℕ → ℕ → PpiState
 after_write s port byte =
     if port == 0 then record s { a_latch = byte }
     else (if port == 1 then record s { b_latch = byte }
     else (if port == 2 then record s { c_latch = byte }
     else (if has_bit byte 7 then after_mode_word s byte
-    else after_bit_word s byte)))
+    else record s { c_latch = with_bit s.c_latch (byte / 2 % 8) (has_bit byte 0) })))

@@ -1,8 +1,9 @@
 //! The parallel port: three ports with an output latch each, and the switches, the keyboard's latch and
 //! counter 2's output on their pins (Intel 8255A data sheet; IBM PC Technical Reference, "System Board I/O").
-ghost use Rattle.std.specs.Prelude.{◌≡◌, ◌<◌};
+ghost use Rattle.std.specs.Prelude.{◌≡◌, ◌<◌, ◌/◌, ◌%◌};
+ghost use Rattle.board_types.specs.Bits.{has_bit};
 ghost use Rattle.ppi8255.specs.Image.{ppi_of};
-ghost use Rattle.ppi8255.specs.Ppi.{power_on, port_byte, lines_b, pins_a, pins_c, port_c_byte, byte_at, direction_of, after_mode_word, after_bit_word, after_write};
+ghost use Rattle.ppi8255.specs.Ppi.{power_on, port_byte, lines_b, pins_a, pins_c, port_c_byte, byte_at, direction_of, after_mode_word, with_bit, after_write};
 
 use crate::image;
 use crate::image::PpiImage;
@@ -208,7 +209,7 @@ impl Ppi {
     }
 
     fn set_bit(&mut self, word: u8)
-        ensures { self.new ≡ after_bit_word self.old word }
+        ensures { self.new ≡ record self.old { c_latch = with_bit self.old.c_latch (word / 2 % 8) (has_bit word 0) } }
     {
         let mask = 1 << (word / 2 % 8);
         if bit(word, 0) {
