@@ -20,10 +20,8 @@ pub record MemoryMap : Type 0 where
 
 -- FFh is read where nothing answers
 abbrev pub byte_answered : Region → ℕ → ℕ
-byte_answered Ram cell = cell
-byte_answered Text cell = cell
-byte_answered Rom cell = cell
 byte_answered Nothing cell = 0xFF
+byte_answered _ cell = cell
 
 unfoldable pub byte_at : MemoryMap → ℕ → ℕ
 byte_at memory address = byte_answered (region_of memory.ram_size address) (slice_index memory.cells address)
@@ -31,9 +29,7 @@ byte_at memory address = byte_answered (region_of memory.ram_size address) (slic
 -- RAM alone can be written
 abbrev pub is_ram : Region → Bool
 is_ram Ram = true
-is_ram Text = false
-is_ram Rom = false
-is_ram Nothing = false
+is_ram _ = false
 
 unfoldable pub is_writable : MemoryMap → ℕ → Bool
 is_writable memory address = is_ram (region_of memory.ram_size address) && nat_lt address (length memory.cells)
