@@ -244,11 +244,11 @@ class Books(ToolCase):
     def test_cases_lead_to_who_names_them(self) -> None:
         text = text_of(self.book('program'))
         self.assertRegex(text, r'\nSti  \[\d+\] Processor: shadow_of \[\d+\], after_flag_operation ')
-        self.assertRegex(text, r'\nSquareWave  \[\d+\] Mode: out_at_load ')
+        self.assertRegex(text, r'\nSquareWave  \[\d+\] Mode: after_due_load ')
 
     def test_manuals_are_cited(self) -> None:
         page = page_of(self.book('program'))
-        for cited in ('source: Intel 8259A data sheet, "Priority Resolver"', 'source: IBM PC Technical Reference, "Speaker Interface"'):
+        for cited in ('source: Intel 8259A data sheet, "Fully Nested Mode"', 'source: IBM PC Technical Reference, "Speaker Interface"'):
             self.assertIn(cited, page)
 
     def test_no_book_is_longer_than_it_may_be(self) -> None:

@@ -175,8 +175,9 @@ def cited_in(text: str) -> list[str]:
 
 
 def source_of(chapter: Chapter, entry: Entry) -> list[str]:
-    """The manual's places that are cited for a definition: by its own comment, by the heading above it, or by its file's head."""
-    for lines in (entry.definition.comment, entry.definition.heading):
+    """The manual's places that are cited for a definition: by its own comments, by the heading above it, or by its file's head."""
+    inside = [line for line in entry.definition.lines if line.startswith('--')]
+    for lines in ([*entry.definition.comment, *inside], entry.definition.heading):
         said = ' '.join(line.lstrip('-/ ') for line in lines)
         own = cited_in(said)
         if own:

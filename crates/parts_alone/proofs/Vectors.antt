@@ -1,7 +1,7 @@
 -- Two lines of a controller that was initialised for 8086 mode, the one with the lower priority rising first.
 use Rattle.std.proofs.Common.{◌≡◌, ℕ, ◌+◌, ◌*◌, ◌/◌, ◌<◌, [], ◌∷◌, false, refl, arith}
 use Rattle.board_types.specs.declared.line.Line.TheVariants.{High}
-use Rattle.pic8259.specs.Pic.{PicState, power_on, level_to_take, vector, after_taking, after_acknowledge, after_line, after_icw1, after_icw2, after_icw4, after_word, after_command, after_ocw2, after_end, highest_served, after_write}
+use Rattle.pic8259.specs.Pic.{PicState, power_on, level_to_take, vector, after_taking, after_acknowledge, after_line, after_icw1, after_word, after_command, after_ocw2, after_end, highest_served, after_write}
 use Rattle.pic8259.specs.Laws.{after_words}
 use Rattle.pic8259.proofs.Order.{by_level}
 
@@ -17,7 +17,7 @@ with_one_ended base first second = after_write (after_acknowledge (with_both bas
 -- an acknowledge gives the vector of the first, and the next one that of the second
 pub gives_both : (base first second : ℕ) → first < second → second < 8
     → (vector (with_both base first second) ≡ 8 * (base / 8) + first) × (vector (with_one_ended base first second) ≡ 8 * (base / 8) + second)
-unfolding level_to_take after_taking after_acknowledge after_line after_icw1 after_icw2 after_icw4 after_word after_command after_ocw2 after_end highest_served after_write
+unfolding level_to_take after_taking after_acknowledge after_line after_icw1 after_word after_command after_ocw2 after_end highest_served after_write
 gives_both base first second order within =
     let P : ℕ → ℕ → Type 0 = λ a b. (vector (with_both base a b) ≡ 8 * (base / 8) + a) × (vector (with_one_ended base a b) ≡ 8 * (base / 8) + b) in
     by_level (λ b. (a : ℕ) → a < 8 → a < b → P a b)

@@ -9,7 +9,7 @@ use Rattle.board_types.specs.declared.line.Line.TheVariants.{Low, High}
 use Rattle.pic8259.specs.declared.controller.Expected.{Expected}
 use Rattle.pic8259.specs.declared.controller.Expected.TheVariants.{Icw2, Icw3, Icw4, Operation}
 use Rattle.pic8259.specs.Levels.{no_levels, Levels, contains, with_level, without_level}
-use Rattle.pic8259.specs.Pic.{PicState, is_operating, asks, level_to_take, after_taking, after_acknowledge, after_read, after_line, after_icw1, after_icw2, after_icw3, after_icw4, after_ocw1, after_word, after_end, after_lowering, highest_served, after_ocw2, after_ocw3, after_command, after_write}
+use Rattle.pic8259.specs.Pic.{PicState, is_operating, asks, level_to_take, after_taking, after_acknowledge, after_read, after_line, after_icw1, after_word, after_end, after_lowering, highest_served, after_ocw2, after_ocw3, after_command, after_write}
 use Rattle.pic8259.specs.Laws.{Event, line_change, read, write, acknowledge, after_event, after_events}
 use Rattle.pic8259.specs.Edges.{keeps_line, all_keep_line, AsksOnceARise}
 use Rattle.pic8259.proofs.Order.{by_level}
@@ -60,7 +60,7 @@ unfolding after_read
 read_spent s level is = read_cases s.polled s level is
 
 word_spent : (expected : Expected) (value : ℕ) (s : PicState) (level : ℕ) → IsSpent s level → IsSpent (after_word s expected value) level
-unfolding after_word after_icw2 after_icw3 after_icw4 after_ocw1
+unfolding after_word
 word_spent Icw2 value s level is = record { edge = is.edge; high = is.high; spent = is.spent }
 word_spent Icw3 value s level is = record { edge = is.edge; high = is.high; spent = is.spent }
 word_spent Icw4 value s level is = record { edge = is.edge; high = is.high; spent = is.spent }

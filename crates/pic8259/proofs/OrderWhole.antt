@@ -8,7 +8,7 @@ use Rattle.board_types.specs.declared.line.Line.TheVariants.{Low, High}
 use Rattle.pic8259.specs.declared.controller.Expected.{Expected}
 use Rattle.pic8259.specs.declared.controller.Expected.TheVariants.{Icw2, Icw3, Icw4, Operation}
 use Rattle.pic8259.specs.Levels.{all_levels, with_lowest, order_with_lowest}
-use Rattle.pic8259.specs.Pic.{PicState, power_on, is_operating, is_ready, blocks, may_be_taken, level_to_take, after_taking, after_acknowledge, after_read, after_line, after_icw1, after_icw2, after_icw3, after_icw4, after_ocw1, after_word, after_end, after_lowering, highest_served, after_ocw2, after_ocw3, after_command, after_write}
+use Rattle.pic8259.specs.Pic.{PicState, power_on, is_operating, is_ready, blocks, may_be_taken, level_to_take, after_taking, after_acknowledge, after_read, after_line, after_icw1, after_word, after_end, after_lowering, highest_served, after_ocw2, after_ocw3, after_command, after_write}
 use Rattle.pic8259.specs.Laws.{Event, line_change, read, write, acknowledge, after_event, after_events, HoldsEachLevelOnce, IsTurn, OrderIsWhole, RotationTurns}
 use Rattle.pic8259.proofs.Order.{by_level, turned_to_lowest}
 use Rattle.pic8259.proofs.Places.{found_at, all_right}
@@ -139,7 +139,7 @@ unfolding after_ocw3
 ocw3_turn value s turn = turn
 
 word_turn : (expected : Expected) (value : ℕ) → KeepsTurn (λ s. after_word s expected value)
-unfolding after_word after_icw2 after_icw3 after_icw4 after_ocw1
+unfolding after_word
 word_turn Icw2 value s turn = turn
 word_turn Icw3 value s turn = turn
 word_turn Icw4 value s turn = turn

@@ -1,4 +1,5 @@
 -- What an acknowledge takes, what blocks it, and what a plain end of interrupt ends.
+use Rattle.pic8259.specs.Parts.{is_pending}
 use Rattle.std.proofs.Common.{◌≡◌, ℕ, ◌+◌, ◌%◌, ◌<◌, ◌==◌, Bool, true, false, not, ◌&&◌, cond, if◌then◌else◌, List, [], ◌∷◌, ◌++◌, length, get_or, find, count_by, All, Option, MatchOption, None, Some, unwrap_or, refl, sym, ap, ◌∙◌, arith, inl, inr, append_assoc, subst}
 use Rattle.std.specs.Option.{option_map_or}
 use Rattle.std.specs.List.{list_any, before_first}
@@ -9,7 +10,7 @@ use Rattle.std.proofs.lemmas.List.{get_or_past, get_or-set_same, get_or-set_othe
 use Rattle.std.proofs.lemmas.List.Elements.{All-cons, All-tail, All-same, All-weaker, All-from_get_or}
 use Rattle.board_types.specs.Bits.{has_bit}
 use Rattle.pic8259.specs.Levels.{Levels, contains, without_level, up_to}
-use Rattle.pic8259.specs.Pic.{PicState, is_operating, is_ready, asks, is_pending, blocks, may_be_taken, level_to_take, after_taking, after_acknowledge, after_end, highest_served, power_on, after_ocw2, after_ocw3, after_icw1, after_command, after_write}
+use Rattle.pic8259.specs.Pic.{PicState, is_operating, is_ready, asks, blocks, may_be_taken, level_to_take, after_taking, after_acknowledge, after_end, highest_served, power_on, after_ocw2, after_ocw3, after_icw1, after_command, after_write}
 use Rattle.pic8259.specs.Laws.{HoldsEachLevelOnce, IsFirstToTake, Takes, TakesNone, AcknowledgeTakesFirst, ServiceBlocks, SpecialMaskExcepts, Ends, EndsNone, EndsFirstInService, BeginsAnew, WaitsForSequence}
 use Rattle.pic8259.proofs.Places.{found_at, none_found, before_first_past, before_first_here, any_here, none_where_any_fails, none_counted, counted_here, count_at_place, all_right}
 

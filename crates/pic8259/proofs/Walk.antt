@@ -1,4 +1,5 @@
 -- A walk along a list in search of its first element that passes a test.
+use Rattle.pic8259.specs.Parts.{is_pending}
 use Rattle.std.proofs.Common.{◌≡◌, ℕ, ◌+◌, ◌%◌, ◌<◌, Bool, true, false, cond, All, List, [], ◌∷◌, map, length, take, drop, get_or, find, None, Some, refl, not, ◌&&◌, ◌||◌, sym, ◌∙◌, ap, inl, inr, arith}
 use Rattle.std.specs.Option.{option_or}
 use Rattle.std.specs.List.{list_any}
@@ -7,7 +8,7 @@ use Rattle.std.proofs.lemmas.List.{get_or_past, take_more, take-append-drop}
 use Rattle.std.proofs.lemmas.List.Folds.{find-append, list_any_more}
 use Rattle.std.proofs.lemmas.List.Elements.{All-head, All-tail, All-map, All-from_get_or}
 use Rattle.pic8259.specs.Levels.{all_levels, no_levels, contains, order_with_lowest, up_to}
-use Rattle.pic8259.specs.Pic.{PicState, blocks, is_pending, may_be_taken}
+use Rattle.pic8259.specs.Pic.{PicState, blocks, may_be_taken}
 use Rattle.pic8259.proofs.Order.{by_level}
 
 -- the next element fails too

@@ -9,7 +9,7 @@ use Rattle.pic8259.specs.declared.controller.Expected.{Expected}
 use Rattle.pic8259.specs.declared.controller.Expected.TheVariants.{Icw2, Icw3, Icw4, Operation}
 use Rattle.pic8259.specs.Levels.{no_levels, contains, with_level, byte_of, levels_of, up_to, with_lowest}
 use Rattle.pic8259.specs.Masks.{byte_of-levels_of}
-use Rattle.pic8259.specs.Pic.{PicState, is_operating, asks, blocks, level_to_take, after_taking, after_acknowledge, poll_byte, byte_at, after_read, after_icw1, after_icw2, after_icw3, after_icw4, after_ocw1, after_ocw2, after_ocw3, after_word, after_command, after_write}
+use Rattle.pic8259.specs.Pic.{PicState, is_operating, asks, blocks, level_to_take, after_taking, after_acknowledge, byte_at, after_read, after_icw1, after_ocw2, after_ocw3, after_word, after_command, after_write}
 use Rattle.pic8259.specs.Laws.{after_words, SequenceEnds, ServesTaken, HoldsMask, MaskHolds, Reads, PollTakes}
 use Rattle.pic8259.proofs.Masks.{contains_levels}
 use Rattle.pic8259.proofs.OrderWhole.{lowest_turned}
@@ -30,7 +30,7 @@ record EndState (s : PicState) (asks : Bool) (icw2 icw4 : ℕ) : Type 0 where
   unmasked : s.masked ≡ no_levels
 
 end_state : (s : PicState) (single asks : Bool) (icw2 icw3 icw4 : ℕ) → EndState (after_words (sequence_start s single asks) (words_of single asks icw2 icw3 icw4)) asks icw2 icw4
-unfolding after_write after_word after_icw2 after_icw3 after_icw4
+unfolding after_write after_word
 end_state s true true icw2 icw3 icw4 = record { operating = refl; base = refl; mode = refl; automatic = refl; unmasked = refl }
 end_state s true false icw2 icw3 icw4 = record { operating = refl; base = refl; mode = refl; automatic = refl; unmasked = refl }
 end_state s false true icw2 icw3 icw4 = record { operating = refl; base = refl; mode = refl; automatic = refl; unmasked = refl }
@@ -60,21 +60,24 @@ serves_taken s level = record {
   turns = λ on turn within. ap (λ b. if b then with_lowest s.order level else s.order) on ∙ lowest_turned level s.order turn within;
 }
 
-mask_word : (s : PicState) (mask : ℕ) (expected : Expected) → is_operating expected ≡ true → after_word s expected mask ≡ after_ocw1 s mask
+abbrev with_mask : PicState → ℕ → PicState
+with_mask s mask = record s { masked = levels_of mask }
+
+mask_word : (s : PicState) (mask : ℕ) (expected : Expected) → is_operating expected ≡ true → after_word s expected mask ≡ with_mask s mask
 unfolding after_word
 mask_word s mask Icw2 operating = absurd (cc)
 mask_word s mask Icw3 operating = absurd (cc)
 mask_word s mask Icw4 operating = absurd (cc)
 mask_word s mask Operation operating = refl
 
-holds_mask : (s : PicState) (mask : ℕ) → mask < 256 → HoldsMask (after_ocw1 s mask) mask
-unfolding after_ocw1 byte_at
+holds_mask : (s : PicState) (mask : ℕ) → mask < 256 → HoldsMask (with_mask s mask) mask
+unfolding byte_at
 holds_mask s mask small = record {
-  reads = λ unpolled. ap (λ b. if b then poll_byte (after_ocw1 s mask) else byte_of (levels_of mask)) unpolled ∙ byte_of-levels_of mask small;
+  reads = λ unpolled. ap (λ b. if b then option_map_or (λ level. 0x80 + level) (level_to_take (with_mask s mask)) 0 else byte_of (levels_of mask)) unpolled ∙ byte_of-levels_of mask small;
   held = λ level within is_masked.
       let out : contains (levels_of mask) level ≡ true = contains_levels mask level within ∙ is_masked in
-      ap (λ b. (asks s level && not b) && not (list_any (blocks (after_ocw1 s mask)) (up_to s.order level))) out
-      ∙ ap (λ b. b && not (list_any (blocks (after_ocw1 s mask)) (up_to s.order level))) (and-false (asks s level));
+      ap (λ b. (asks s level && not b) && not (list_any (blocks (with_mask s mask)) (up_to s.order level))) out
+      ∙ ap (λ b. b && not (list_any (blocks (with_mask s mask)) (up_to s.order level))) (and-false (asks s level));
 }
 
 pub mask_holds : MaskHolds

@@ -39,7 +39,7 @@ up_to order level = before_first (λ other. other == level) order ++ level ∷ [
 -- the list turned until this level is the last, and so has the lowest priority ("Specific Rotation")
 unfoldable pub with_lowest : List ℕ → ℕ → List ℕ
 with_lowest order level =
-    after_first (λ other. other == level) order ++ (before_first (λ other. other == level) order ++ level ∷ [])
+    after_first (λ other. other == level) order ++ up_to order level
 
 -- the list that has this level as its last: the numbers rise from the one after it, and 0 follows 7
 unfoldable pub order_with_lowest : ℕ → List ℕ

@@ -68,10 +68,8 @@ power_on = record {
 }
 
 abbrev pub is_operating : Expected → Bool
-is_operating Icw2 = false
-is_operating Icw3 = false
-is_operating Icw4 = false
 is_operating Operation = true
+is_operating _ = false
 
 -- the newest sequence has ended, in 8086 mode; before, nothing is taken (this board's choice)
 abbrev pub is_ready : PicState → Bool
@@ -81,21 +79,14 @@ is_ready s = is_operating s.expected && s.is_8086
 abbrev pub asks : PicState → ℕ → Bool
 asks s level = contains s.high level && (s.is_level_triggered || contains s.risen level)
 
--- the requests, as the IRR shows them
-abbrev pub requests : PicState → Levels
-requests s = map (asks s) all_levels
-
 -- "Fully Nested Mode": a level in service blocks; "Special Mask Mode": but not where it is masked
 abbrev pub blocks : PicState → ℕ → Bool
 blocks s level = contains s.served level && not (s.special_mask && contains s.masked level)
 
--- "Interrupt Mask Register (IMR)": it asks, and is unmasked
-abbrev pub is_pending : PicState → ℕ → Bool
-is_pending s level = asks s level && not (contains s.masked level)
-
--- "Priority Resolver": and no level that blocks stands in the list at or before its place
+-- "Interrupt Mask Register (IMR)": it asks, and is unmasked; "Priority Resolver": and no level that blocks stands in the
+-- list at or before its place
 abbrev pub may_be_taken : PicState → ℕ → Bool
-may_be_taken s level = is_pending s level && not (list_any (blocks s) (up_to s.order level))
+may_be_taken s level = (asks s level && not (contains s.masked level)) && not (list_any (blocks s) (up_to s.order level))
 
 -- the level that an acknowledge or a poll takes
 unfoldable pub level_to_take : PicState → Option ℕ
@@ -122,18 +113,15 @@ after_acknowledge s = option_map_or (λ level. after_taking s level) (level_to_t
 abbrev pub vector : PicState → ℕ
 vector s = s.vector_base + unwrap_or (level_to_take s) 7
 
--- "Poll Command": bit 7 and the level, or 0 where there is none (this board's choice)
-abbrev pub poll_byte : PicState → ℕ
-poll_byte s = option_map_or (λ level. 0x80 + level) (level_to_take s) 0
-
--- "Reading the 8259A Status": a pending poll is answered at either port (this board's choice); else A0 = 1 reads the
--- mask, in mid-sequence too (this board's choice), and A0 = 0 the register that was chosen
+-- "Reading the 8259A Status": a pending poll is answered at either port (this board's choice), by bit 7 and the level,
+-- or by 0 where there is none (this board's choice; "Poll Command"); else A0 = 1 reads the mask, in mid-sequence too
+-- (this board's choice), and A0 = 0 the register that was chosen: the levels in service, or the requests in the IRR
 unfoldable pub byte_at : PicState → Bool → ℕ
 byte_at s a0 =
-    if s.polled then poll_byte s
+    if s.polled then option_map_or (λ level. 0x80 + level) (level_to_take s) 0
     else if a0 then byte_of s.masked
     else if s.reads_served then byte_of s.served
-    else byte_of (requests s)
+    else byte_of (map (asks s) all_levels)
 
 -- a read changes something only where it answers a poll
 unfoldable pub after_read : PicState → PicState
@@ -147,65 +135,42 @@ after_line s level High = record s {
   risen = if contains s.high level then s.risen else with_level s.risen level;
 }
 
--- "Initialization Command Words 1 and 2": ICW1 begins a sequence. That it also clears the levels in service, a pending
--- poll and rotation under automatic end of interrupt is this board's choice
+-- "Initialization Command Words 1 and 2": ICW1 begins a sequence, from power-on but for the lines, the vector's bits and
+-- ICW3. That it also clears the levels in service, a pending poll and rotation under automatic end of interrupt is this
+-- board's choice
 unfoldable pub after_icw1 : PicState → ℕ → PicState
-after_icw1 s value = record {
-  order = all_levels;
+after_icw1 s value = record power_on {
   high = s.high;
-  risen = no_levels;
-  masked = no_levels;
-  served = no_levels;
   expected = Icw2;
   is_cascaded = not (has_bit value 1);
   asks_icw4 = has_bit value 0;
   is_level_triggered = has_bit value 3;
   vector_base = s.vector_base;
   slaves = s.slaves;
-  is_8086 = false;
-  auto_end = false;
-  is_specially_nested = false;
-  rotates = false;
-  special_mask = false;
-  polled = false;
-  reads_served = false;
 }
 
--- the word that follows
+-- the word that follows ICW3
 abbrev pub expected_after_icw3 : PicState → Expected
 expected_after_icw3 s = if s.asks_icw4 then Icw4 else Operation
 
-abbrev pub expected_after_icw2 : PicState → Expected
-expected_after_icw2 s = if s.is_cascaded then Icw3 else expected_after_icw3 s
-
--- ICW2: bits 7 to 3 are those of the vector
-unfoldable pub after_icw2 : PicState → ℕ → PicState
-after_icw2 s value = record s { vector_base = 8 * (value / 8); expected = expected_after_icw2 s }
-
--- "Initialization Command Word 3 (ICW3)": no slave hangs on this board, so it is kept without effect (this board's
--- choice)
-unfoldable pub after_icw3 : PicState → ℕ → PicState
-after_icw3 s value = record s { slaves = value; expected = expected_after_icw3 s }
-
+-- A0 = 1: the word that the sequence waits for, and the mask outside a sequence
+unfoldable pub after_word : PicState → Expected → ℕ → PicState
+-- bits 7 to 3 are those of the vector
+after_word s Icw2 value = record s {
+  vector_base = 8 * (value / 8);
+  expected = if s.is_cascaded then Icw3 else expected_after_icw3 s;
+}
+-- "Initialization Command Word 3 (ICW3)": no slave hangs on this board, so it is kept without effect (this board's choice)
+after_word s Icw3 value = record s { slaves = value; expected = expected_after_icw3 s }
 -- "Initialization Command Word 4 (ICW4)": special fully nested mode is kept without effect (this board's choice)
-unfoldable pub after_icw4 : PicState → ℕ → PicState
-after_icw4 s value = record s {
+after_word s Icw4 value = record s {
   is_8086 = has_bit value 0;
   auto_end = has_bit value 1;
   is_specially_nested = has_bit value 4;
   expected = Operation;
 }
-
--- "Operation Control Word 1 (OCW1)": the mask
-unfoldable pub after_ocw1 : PicState → ℕ → PicState
-after_ocw1 s value = record s { masked = levels_of value }
-
--- A0 = 1: the word that the sequence waits for, and the mask outside a sequence
-unfoldable pub after_word : PicState → Expected → ℕ → PicState
-after_word s Icw2 value = after_icw2 s value
-after_word s Icw3 value = after_icw3 s value
-after_word s Icw4 value = after_icw4 s value
-after_word s Operation value = after_ocw1 s value
+-- "Operation Control Word 1 (OCW1)"
+after_word s Operation value = record s { masked = levels_of value }
 
 -- "Specific EOI": this level is no longer in service
 unfoldable pub after_end : PicState → ℕ → PicState
@@ -250,6 +215,5 @@ after_command s value =
     else if has_bit value 3 then after_ocw3 s value
     else after_ocw2 s (has_bit value 7) (has_bit value 6) (has_bit value 5) (value % 8)
 
--- a write at either port
 unfoldable pub after_write : PicState → Bool → ℕ → PicState
 after_write s a0 value = if a0 then after_word s s.expected value else after_command s value

@@ -103,8 +103,11 @@ impl Pic {
     ghost use Rattle.pic8259.specs.Image.{pic_of};
     ghost use Rattle.pic8259.specs.Inhibited.{is_inhibited};
     ghost use Rattle.std.specs.List.{list_any};
+    ghost use Rattle.std.specs.Option.{option_map_or};
+    ghost use Rattle.pic8259.specs.declared.controller.Expected.TheVariants.{Icw2, Icw3, Icw4, Operation};
     ghost use Rattle.pic8259.specs.Levels.{all_levels, contains, no_levels, up_to};
-    ghost use Rattle.pic8259.specs.Pic.{power_on, is_requesting, is_ready, asks, is_pending, requests, blocks, may_be_taken, level_to_take, after_taking, after_acknowledge, vector, poll_byte, byte_at, after_read, after_line, after_icw1, after_icw2, after_icw3, after_icw4, after_ocw1, after_word, after_end, after_lowering, highest_served, after_ocw2, after_ocw3, after_command, after_write, is_operating, expected_after_icw3};
+    ghost use Rattle.pic8259.specs.Parts.{is_pending, requests};
+    ghost use Rattle.pic8259.specs.Pic.{power_on, is_requesting, is_ready, asks, blocks, may_be_taken, level_to_take, after_taking, after_acknowledge, vector, byte_at, after_read, after_line, after_icw1, after_word, after_end, after_lowering, highest_served, after_ocw2, after_ocw3, after_command, after_write, is_operating, expected_after_icw3};
 
     /// A controller at power-on: every line low, nothing masked or in service, edge mode, no initialisation
     /// sequence begun.
@@ -235,7 +238,7 @@ impl Pic {
 
     /// Writes at address line A0. At A0 = 0 it is ICW1, OCW2 or OCW3, by its bits 4 and 3; at A0 = 1 the word that
     /// the initialisation sequence waits for, and else the mask ("Programming the 8259A").
-    #[tactic(auto, unfolding(crate::specs::Pic::after_write, crate::specs::Pic::after_word))]
+    #[tactic(auto, unfolding(crate::specs::Pic::after_write))]
     pub fn write(&mut self, a0: bool, value: u8)
         ensures state { self.new ≡ after_write self.old a0 value }
         ensures lines { length self.old.high ≡ 8 }
@@ -323,7 +326,7 @@ impl Pic {
     }
 
     fn answer_poll(&mut self) -> u8
-        ensures value { result ≡ poll_byte self.old }
+        ensures value { result ≡ option_map_or (λ level. 0x80 + level) (level_to_take self.old) 0 }
         ensures state { self.new ≡ record (after_acknowledge self.old) { polled = false } }
     {
         let level = self.take_level();
@@ -505,9 +508,9 @@ impl Pic {
         };
     }
 
-    #[tactic(auto, unfolding(crate::specs::Pic::after_icw2))]
+    #[tactic(auto, unfolding(crate::specs::Pic::after_word))]
     fn write_icw2(&mut self, value: u8)
-        ensures { self.new ≡ after_icw2 self.old value }
+        ensures { self.new ≡ after_word self.old Icw2 value }
     {
         self.vector_base = value / 8 * 8;
         self.expected = if self.is_cascaded {
@@ -517,9 +520,9 @@ impl Pic {
         };
     }
 
-    #[tactic(auto, unfolding(crate::specs::Pic::after_icw3))]
+    #[tactic(auto, unfolding(crate::specs::Pic::after_word))]
     fn write_icw3(&mut self, value: u8)
-        ensures { self.new ≡ after_icw3 self.old value }
+        ensures { self.new ≡ after_word self.old Icw3 value }
     {
         self.slaves = value;
         self.expected = self.expected_after_icw3();
@@ -535,9 +538,9 @@ impl Pic {
         }
     }
 
-    #[tactic(auto, unfolding(crate::specs::Pic::after_icw4))]
+    #[tactic(auto, unfolding(crate::specs::Pic::after_word))]
     fn write_icw4(&mut self, value: u8)
-        ensures { self.new ≡ after_icw4 self.old value }
+        ensures { self.new ≡ after_word self.old Icw4 value }
     {
         self.is_8086 = bit(value, 0);
         self.auto_end = bit(value, 1);
@@ -545,9 +548,9 @@ impl Pic {
         self.expected = Expected::Operation;
     }
 
-    #[tactic(auto, unfolding(crate::specs::Pic::after_ocw1))]
+    #[tactic(auto, unfolding(crate::specs::Pic::after_word))]
     fn write_ocw1(&mut self, value: u8)
-        ensures { self.new ≡ after_ocw1 self.old value }
+        ensures { self.new ≡ after_word self.old Operation value }
     {
         self.masked = LevelSet::from_byte(value);
     }

@@ -2,13 +2,14 @@
 -- (ISR)", "Interrupt Mask Register (IMR)", "Priority Resolver", "Interrupt Sequence", "Initialization Command Words",
 -- "Operation Control Words").
 -- To be believed by callers of this crate: the headline does not rest on it.
+use Rattle.pic8259.specs.Parts.{requests}
 use Rattle.std.specs.Prelude.{ℕ, List, ◌++◌, codes, slice_index}
 use Rattle.std.specs.Fmt.{decimal}
 use Rattle.board_types.specs.Digits.{hex_byte_text}
 use Rattle.pic8259.specs.declared.controller.Expected.{Expected}
 use Rattle.pic8259.specs.declared.controller.Expected.TheVariants.{Icw2, Icw3, Icw4, Operation}
 use Rattle.pic8259.specs.Levels.{byte_of}
-use Rattle.pic8259.specs.Pic.{PicState, is_requesting, requests, vector}
+use Rattle.pic8259.specs.Pic.{PicState, is_requesting, vector}
 use Rattle.probe.specs.Shown.{flag_text}
 
 -- the word that an initialisation sequence waits for

@@ -1,9 +1,10 @@
 //! The interrupt controller as text.
+ghost use Rattle.pic8259.specs.Parts.{requests};
 ghost use Rattle.std.specs.Prelude.{◌≡◌, ◌<◌, IfOk, if◌then◌else◌, slice_index};
 ghost use Rattle.std.specs.String.{string_bytes};
 ghost use Rattle.pic8259.specs.Image.{expected_of, flag_of, pic_of};
 ghost use Rattle.pic8259.specs.Levels.{byte_of};
-ghost use Rattle.pic8259.specs.Pic.{is_requesting, requests, vector};
+ghost use Rattle.pic8259.specs.Pic.{is_requesting, vector};
 ghost use Rattle.probe.specs.Controller.{awaited_text, controller_line, controller_modes, controller_output, controller_reads, controller_registers};
 
 use crate::shown::digit;

@@ -6,7 +6,7 @@ use Rattle.board_types.specs.Bits.{has_bit}
 use Rattle.pic8259.specs.declared.controller.Expected.{Expected}
 use Rattle.pic8259.specs.declared.controller.Expected.TheVariants.{Icw2, Icw3, Icw4, Operation}
 use Rattle.pic8259.specs.Levels.{Levels}
-use Rattle.pic8259.specs.Pic.{PicState, level_to_take, after_taking, after_acknowledge, after_read, after_icw1, after_icw2, after_icw3, after_icw4, after_ocw1, after_ocw2, after_ocw3, after_word, after_command, after_write, after_end, after_lowering, highest_served, is_operating}
+use Rattle.pic8259.specs.Pic.{PicState, level_to_take, after_taking, after_acknowledge, after_read, after_icw1, after_ocw2, after_ocw3, after_word, after_command, after_write, after_end, after_lowering, highest_served, is_operating}
 
 choose : (b : Bool) (high : Levels) (s t : PicState) → s.high ≡ high → t.high ≡ high → (if b then s else t).high ≡ high
 choose true high s t first second = first
@@ -30,7 +30,7 @@ unfolding after_read
 high_after_read s = choose s.polled s.high (record (after_acknowledge s) { polled = false }) s (high_after_acknowledge s) refl
 
 high_after_word : (s : PicState) (expected : Expected) (value : ℕ) → (after_word s expected value).high ≡ s.high
-unfolding after_word after_icw2 after_icw3 after_icw4 after_ocw1
+unfolding after_word
 high_after_word s Icw2 value = refl
 high_after_word s Icw3 value = refl
 high_after_word s Icw4 value = refl
