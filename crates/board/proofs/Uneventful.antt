@@ -1,4 +1,5 @@
 -- Clocks in which nothing happens but to the wires.
+use Rattle.keyboard.specs.Parts.{after_sending}
 use Rattle.std.proofs.Common.{◌≡◌, ℕ, ◌+◌, ◌<◌, Bool, true, false, if◌then◌else◌, List, [], ◌++◌, map, Option, None, Some, refl, sym, ap, ◌∙◌, arith}
 use Rattle.std.specs.Prelude.{◌&&◌, is_none, slice_get}
 use Rattle.board_types.specs.Bits.{has_bit}
@@ -6,7 +7,7 @@ use Rattle.board_types.specs.Iterate.{iterate}
 use Rattle.board_types.specs.declared.state.State.{State}
 use Rattle.board_types.specs.declared.state.State.TheVariants.{Running, Halted, Jammed}
 use Rattle.keyboard.specs.Keyboard as keys
-use Rattle.keyboard.specs.Keyboard.{KeyboardState, after_clearing, after_sending}
+use Rattle.keyboard.specs.Keyboard.{KeyboardState, after_clearing}
 use Rattle.ppi8255.specs.Ppi.{lines_b}
 use Rattle.wiring.proofs.Clocks.{clock_of_clocks}
 use Rattle.wiring.specs.Chips.{ChipsState}

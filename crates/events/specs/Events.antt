@@ -2,6 +2,7 @@
 -- processor's new state; then the keys and the wires. What the processor does has the clock at which the board stands, as in
 -- the trail; what the chips bring has the clock that is reached, as a key's stamp and the speaker's changes have it.
 -- To be believed by callers of this crate: the headline does not rest on it.
+use Rattle.keyboard.specs.Parts.{has_room, sends}
 use Rattle.std.specs.Prelude.{ℕ, ◌+◌, Bool, ◌&&◌, if◌then◌else◌, List, [], ◌∷◌, ◌++◌, map, Option, None, Some, slice_get}
 use Rattle.std.specs.Bool.{beq}
 use Rattle.std.specs.List.{flat_map}
@@ -11,7 +12,7 @@ use Rattle.board_types.specs.Lines.{is_high}
 use Rattle.board_types.specs.declared.state.State.{State}
 use Rattle.execute_meaning.specs.Boundaries.{is_halted, is_jammed}
 use Rattle.keyboard.specs.Keyboard as keys
-use Rattle.keyboard.specs.Keyboard.{KeyboardState, has_room, sends}
+use Rattle.keyboard.specs.Keyboard.{KeyboardState}
 use Rattle.pic8259.specs.Levels.{contains}
 use Rattle.pic8259.specs.Pic.{is_requesting}
 use Rattle.ppi8255.specs.Ppi.{lines_b}

@@ -1,4 +1,5 @@
 -- What becomes of keys' codes, against the keyboard.
+use Rattle.keyboard.specs.Parts.{after_sending, count_after_loss, has_room, sends}
 use Rattle.std.proofs.Common.{◌≡◌, ℕ, zero, suc, ◌+◌, Bool, true, false, if◌then◌else◌, List, [], ◌∷◌, ◌++◌, None, refl, sym, ap, ◌∙◌, subst, append_assoc, append-nil}
 use Rattle.std.specs.Prelude.{drop, fold, slice_get}
 use Rattle.std.specs.List.{flat_map}
@@ -12,7 +13,7 @@ use Rattle.execute_meaning.specs.declared.boundary.Cause.{Cause}
 use Rattle.execute_meaning.specs.declared.boundary.Cause.TheVariants as causes
 use Rattle.execute_meaning.proofs.Writes.{again_keeps_any, enter_keeps_any, step_keeps_any}
 use Rattle.keyboard.specs.Keyboard as keys
-use Rattle.keyboard.specs.Keyboard.{KeyboardState, after_clearing, after_sending, count_after_loss, has_room, sends}
+use Rattle.keyboard.specs.Keyboard.{KeyboardState, after_clearing}
 use Rattle.memory.specs.Regions.{is_text_address}
 use Rattle.ppi8255.specs.Ppi.{lines_b}
 use Rattle.wiring.specs.Chips.{ChipsState}

@@ -1,11 +1,12 @@
 -- What a function of events gives of a clock, part by part, and of clocks that follow one another.
+use Rattle.keyboard.specs.Parts.{has_room}
 use Rattle.std.proofs.Common.{◌≡◌, ℕ, zero, suc, ◌+◌, Bool, true, false, if◌then◌else◌, List, [], ◌∷◌, ◌++◌, map, Option, None, Some, refl, ap, ◌∙◌, append-nil}
 use Rattle.std.specs.Bool.{beq}
 use Rattle.std.specs.List.{flat_map}
 use Rattle.std.proofs.lemmas.List.Concat.{flat_map-append}
 use Rattle.board_types.specs.Iterate.{gathered}
 use Rattle.keyboard.specs.Keyboard as keys
-use Rattle.keyboard.specs.Keyboard.{KeyboardState, has_room}
+use Rattle.keyboard.specs.Keyboard.{KeyboardState}
 use Rattle.wiring.specs.Wires.{after_arrivals}
 use Rattle.board_plain.specs.Plain.{Plain, after_clock, after_clocks, clock_of, state_of}
 use Rattle.board_plain.specs.Trail.{trail_next}

@@ -1,10 +1,10 @@
 -- What happens in a plain board's clocks, against memory, the trail, the speaker's list and the keyboard.
 -- Laws: claims above the definitions, each proved as the contract of a function.
+use Rattle.keyboard.specs.Parts.{count_after_loss}
 use Rattle.std.specs.Prelude.{ℕ, ◌≡◌, ◌==◌, Bool, ◌&&◌, if◌then◌else◌, List, [], ◌∷◌, ◌++◌, fold}
 use Rattle.std.specs.List.{flat_map}
 use Rattle.board_types.specs.Iterate.{gathered}
 use Rattle.board_types.specs.Lines.{from_bool}
-use Rattle.keyboard.specs.Keyboard.{count_after_loss}
 use Rattle.wiring.specs.Ports.{is_writable}
 use Rattle.board_plain.specs.declared.speaker.SpeakerChange.{SpeakerChange}
 use Rattle.board_plain.specs.declared.trail.TrailEntry.{TrailEntry}

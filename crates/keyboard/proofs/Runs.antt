@@ -1,9 +1,10 @@
 -- Every run of arrivals and settlings accounts for its codes.
+use Rattle.keyboard.specs.Parts.{has_room, after_sending}
 use Rattle.std.proofs.Common.{◌≡◌, ℕ, zero, suc, Option, Some, ◌+◌, ◌-◌, ◌^◌, ◌<◌, ◌≤◌, min, if◌then◌else◌, true, false, None, List, [], ◌∷◌, ◌++◌, length, drop, slice_get, refl, sym, ap, ◌∙◌, arith, append_assoc, append-nil, length-append}
 use Rattle.std.specs.Option.{option_to_list}
 use Rattle.std.proofs.Math.Seq.{take-nil}
 use Rattle.std.proofs.lemmas.Grind.{common_steps}
-use Rattle.keyboard.specs.Keyboard.{KeyboardState, has_room, after_arrival, after_settling, after_sending}
+use Rattle.keyboard.specs.Keyboard.{KeyboardState, after_arrival, after_settling}
 use Rattle.keyboard.specs.Runs.{Event, arrival, settling, after_event, after_events, codes_along, arriving_codes, accepted_codes, lost_codes, taken_codes, held_codes, ComesInTurn, SettlesOnce, IsMerge, merged_none, merged_left, merged_right, AccountsForCodes}
 
 -- the first item of a list, and then the others

@@ -1,2 +1,3 @@
 pub mod Keyboard
+pub mod Parts
 pub mod Runs

@@ -1,9 +1,10 @@
 -- Runs of arrivals and settlings, and what becomes of each code.
 -- Laws: claims above the definitions, each proved as the contract of a function.
+use Rattle.keyboard.specs.Parts.{has_room}
 use Rattle.std.specs.Prelude.{◌≡◌, ℕ, zero, suc, ◌+◌, ◌-◌, ◌^◌, ◌<◌, ◌≤◌, min, if◌then◌else◌, List, [], ◌∷◌, ◌++◌, length, take}
 use Rattle.std.specs.Option.{option_to_list}
 use Rattle.board_types.specs.Bits.{has_bit}
-use Rattle.keyboard.specs.Keyboard.{KeyboardState, has_room, after_arrival, after_settling}
+use Rattle.keyboard.specs.Keyboard.{KeyboardState, after_arrival, after_settling}
 
 -- what happens to a keyboard: a code arrives, or it settles to the lines of port B
 pub data Event : Type 0 where

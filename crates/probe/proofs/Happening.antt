@@ -1,4 +1,5 @@
 -- What some kinds list of a clock, told by what is seen of it.
+use Rattle.keyboard.specs.Parts.{after_sending, sends}
 use Rattle.std.proofs.Common.{◌≡◌, ◌≢◌, ℕ, zero, suc, ◌+◌, ◌<◌, ◌≤◌, Bool, true, false, if◌then◌else◌, not, List, [], ◌∷◌, ◌++◌, drop, length, map, Option, None, Some, refl, sym, ap, ◌∙◌, subst, arith}
 use Rattle.std.specs.Prelude.{◌||◌, ◌&&◌, ◌==◌, IsTrue, nat_eq, fold, slice_get}
 use Rattle.std.specs.Bool.{beq}
@@ -19,7 +20,7 @@ use Rattle.board_plain.specs.declared.trail.TrailEvent.TheVariants.{Instruction,
 use Rattle.board.specs.declared.one_turn.Begun.{Begun}
 use Rattle.board.specs.OneTurn.{begun_of, type_of, HaveSameWires}
 use Rattle.keyboard.specs.Keyboard as keys
-use Rattle.keyboard.specs.Keyboard.{KeyboardState, after_clearing, after_sending, has_room, sends}
+use Rattle.keyboard.specs.Keyboard.{KeyboardState, after_clearing}
 use Rattle.ppi8255.specs.Ppi.{lines_b}
 use Rattle.wiring.specs.Chips.{ChipsState}
 use Rattle.wiring.specs.Wires.{after_arrivals, after_key_settling, after_settling}

@@ -1,4 +1,5 @@
 -- Clocks of which is told what happens in them.
+use Rattle.keyboard.specs.Parts.{after_sending, count_after_loss, has_room, sends}
 use Rattle.std.proofs.Common.{◌≡◌, ◌≢◌, ℕ, zero, suc, ◌+◌, ◌-◌, ◌<◌, ◌≤◌, Bool, true, false, cond, if◌then◌else◌, not, List, [], ◌∷◌, ◌++◌, length, map, drop, take, get_or, Option, None, Some, refl, sym, ap, ◌∙◌, arith, append_assoc, append-nil}
 use Rattle.std.specs.Prelude.{◌||◌, ◌==◌, IsTrue, OnOk, Result, Ok, Err, codes, fold, nat_eq, nat_lt, slice_get}
 use Rattle.std.specs.Bool.{beq}
@@ -28,7 +29,7 @@ use Rattle.board.specs.declared.one_turn.Begun.{Begun}
 use Rattle.board.specs.OneTurn.{begun_of, HaveSameWires, IsOneTurn, type_of}
 use Rattle.debugger_meaning.specs.Stands.{SessionState}
 use Rattle.keyboard.specs.Keyboard as keys
-use Rattle.keyboard.specs.Keyboard.{KeyboardState, after_clearing, after_sending, count_after_loss, has_room, sends}
+use Rattle.keyboard.specs.Keyboard.{KeyboardState, after_clearing}
 use Rattle.ppi8255.specs.Ppi.{lines_b}
 use Rattle.wiring.specs.Chips.{ChipsState}
 use Rattle.wiring.specs.Wires.{after_arrivals, after_key_settling, after_settling}

@@ -1,7 +1,8 @@
 -- The keyboard's own settling empties the latch where line 7 of port B is 1.
+use Rattle.keyboard.specs.Parts.{sends, after_sending}
 use Rattle.std.proofs.Common.{◌≡◌, ℕ, Bool, true, false, if◌then◌else◌, refl, sym, ap, ◌∙◌}
 use Rattle.board_types.specs.Bits.{has_bit}
-use Rattle.keyboard.specs.Keyboard.{KeyboardState, after_settling, after_clearing, sends, after_sending}
+use Rattle.keyboard.specs.Keyboard.{KeyboardState, after_settling, after_clearing}
 use Rattle.ppi8255.specs.Ppi.{lines_b}
 use Rattle.wiring.specs.Chips.{ChipsState}
 use Rattle.wiring.specs.Laws.{KeysSettled}

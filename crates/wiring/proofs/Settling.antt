@@ -1,10 +1,11 @@
 -- The wires, and the keyboard before them, settle once and for all.
+use Rattle.keyboard.specs.Parts.{after_sending}
 use Rattle.std.proofs.Common.{◌≡◌, ◌≢◌, ◌<◌, ℕ, Bool, true, false, if◌then◌else◌, List, [], ◌∷◌, Option, None, Some, refl, sym, ap, ◌∙◌, arith}
 use Rattle.std.specs.Prelude.{◌&&◌, is_some, is_none}
 use Rattle.board_types.specs.Bits.{has_bit}
 use Rattle.board_types.specs.Lines.{from_bool}
 use Rattle.keyboard.specs.Keyboard as keys
-use Rattle.keyboard.specs.Keyboard.{KeyboardState, after_clearing, after_sending}
+use Rattle.keyboard.specs.Keyboard.{KeyboardState, after_clearing}
 use Rattle.pic8259.specs.Pic.{PicState}
 use Rattle.pit8253.specs.Pit.{PitState}
 use Rattle.ppi8255.specs.Ppi.{PpiState, lines_b}
