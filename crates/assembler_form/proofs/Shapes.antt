@@ -1,4 +1,5 @@
 -- What a row takes fits its parts. That no row has two operands in one part is computed from a test of one row.
+use Rattle.std.specs.Option.{option_map}
 use Rattle.std.proofs.Common.{ℕ, ◌≡◌, ◌≢◌, ◌+◌, ◌<◌, Bool, true, false, not, ◌&&◌, ◌||◌, cond, List, Contains, refl, sym, subst, ap, arith, rules, lit<, Option, Some, None}
 use Rattle.std.specs.Prelude.{IsTrue, pos, negsuc, slice_get}
 use Rattle.std.proofs.lemmas.Bool.{and_parts}
@@ -14,6 +15,7 @@ use Rattle.isa.specs.declared.register.SegmentRegister.TheVariants.{Es, Cs, Ss, 
 use Rattle.isa.specs.declared.layout.CodePart.{CodePart}
 use Rattle.isa.specs.declared.layout.CodePart.TheVariants as code_parts
 use Rattle.isa.specs.declared.layout.RegPart.{RegPart}
+use Rattle.isa.specs.declared.layout.RegPart.TheVariants as reg_parts
 use Rattle.isa.specs.declared.layout.PlacePart.{PlacePart}
 use Rattle.isa.specs.declared.layout.PlacePart.TheVariants as place_parts
 use Rattle.isa.specs.declared.form.Base.{Base as BaseType}
@@ -27,7 +29,7 @@ use Rattle.isa.specs.declared.row.Row.{Row}
 use Rattle.isa.specs.Table.{rows}
 use Rattle.isa.specs.Row.{first_of, second_of}
 use Rattle.isa.specs.Registers.{byte_register_number, segment_register_number, word_register_number}
-use Rattle.isa.specs.Layout.{digit_part, first_code, first_reg, kind_code, kind_reg, reg_part, places, second_with}
+use Rattle.isa.specs.Layout.{first_code, first_reg, kind_code, kind_reg, reg_part, places, second_with}
 use Rattle.isa.specs.Encoding.{FitsCode, FitsPlace, FitsReg, FitsSecond, IsForm, IsMemory, IsPlace}
 use Rattle.isa.proofs.Rows.{each}
 use Rattle.dialect.specs.declared.register.Register.TheVariants as registers
@@ -116,7 +118,7 @@ both_regs p None m n one p_fits q_fits = subst (FitsMaybe p) (omega (arith, q_fi
 both_regs (Some _) (Some _) m n one p_fits q_fits = cc
 
 -- a digit leaves reg to no operand
-with_digit : (d : Option ℕ) (p : Option RegPart) (n : ℕ) → (is_none_digit d || is_none p) ≡ true → FitsMaybe p n → FitsMaybe (first_reg (digit_part d) p) n
+with_digit : (d : Option ℕ) (p : Option RegPart) (n : ℕ) → (is_none_digit d || is_none p) ≡ true → FitsMaybe p n → FitsMaybe (first_reg (option_map reg_parts.Digit d) p) n
 with_digit None p n one fits = fits
 with_digit (Some _) None n one fits = fits
 with_digit (Some _) (Some _) n one fits = cc

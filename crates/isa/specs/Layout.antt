@@ -1,6 +1,7 @@
 -- What each part of an instruction's bytes is, by the operands of its row (8086 Family User's Manual, "Machine
 -- Instruction Encoding and Decoding"). An operand stands in at most one part, but an ESC's number in two.
 -- To be believed: the headline rests on it.
+use Rattle.std.specs.Option.{option_map}
 use Rattle.std.specs.Prelude.{ℕ, Option, Some, None}
 use Rattle.isa.specs.declared.row.Kind.{Kind}
 use Rattle.isa.specs.declared.row.Kind.TheVariants.{Ten, Code8, Code16, CodeSegment, CodeSegmentNotCs, EscNumber, Reg8, Reg16, Segment as SegmentKind, SegmentNotCs as SegmentNotCsKind, Memory as MemoryKind, Imm8, Imm16, Signed8, Rel8, Rel16, At8, At16, Far as FarKind}
@@ -66,12 +67,8 @@ abbrev pub field_part : Row → Field
 field_part r = first_field (kind_field r.first) (kind_field r.second)
 
 -- a row's digit stands in reg
-abbrev pub digit_part : Option ℕ → Option RegPart
-digit_part None = None
-digit_part (Some digit) = Some (reg_parts.Digit digit)
-
 abbrev pub reg_part : Row → Option RegPart
-reg_part r = first_reg (digit_part r.digit) (first_reg (kind_reg r.first) (kind_reg r.second))
+reg_part r = first_reg (option_map reg_parts.Digit r.digit) (first_reg (kind_reg r.first) (kind_reg r.second))
 
 abbrev pub places : Kind → Kind → PlacePart
 places MemoryKind _ = place_parts.Memory
@@ -92,8 +89,7 @@ second_part r = second_with (reg_part r) (place_part r) r.first
 
 abbrev pub second_size : Second → ℕ
 second_size seconds.Absent = 0
-second_size (seconds.Exactly _) = 1
-second_size (seconds.Addressing _ _) = 1
+second_size _ = 1
 
 abbrev pub field_size : Field → ℕ
 field_size Absent = 0

@@ -37,14 +37,7 @@ row operation opcode first second clocks = record {
 }
 
 abbrev pub row/ : Operation → ℕ → ℕ → Kind → Kind → Clocks → Row
-row/ operation opcode digit first second clocks = record {
-  operation = operation;
-  opcode = opcode;
-  digit = Some digit;
-  first = first;
-  second = second;
-  clocks = clocks;
-}
+row/ operation opcode digit first second clocks = record (row operation opcode first second clocks) { digit = Some digit }
 
 -- the families, each with its numbers
 abbrev pub arithmetics : (ArithmeticType → ℕ → Row) → List Row
