@@ -1,4 +1,5 @@
 -- MOVS, iteration after iteration.
+use Rattle.std.specs.Prelude.{unwrap_or}
 use Rattle.std.proofs.Common.{◌≡◌, ◌<◌, ◌+◌, ◌*◌, ◌-◌, ◌/◌, ◌%◌, ℕ, zero, suc, Bool, true, false, inl, inr, if◌then◌else◌, refl, sym, ap, ◌∙◌, subst, arith}
 use Rattle.std.proofs.lemmas.Bool.{cases_eq}
 use Rattle.board_types.specs.Address.{physical, offset_after}
@@ -16,7 +17,7 @@ use Rattle.execute_machine.specs.declared.width.Width.TheVariants as widths
 use Rattle.execute_machine.specs.RegisterFile.{Registers}
 use Rattle.execute_machine.specs.Registers.{segment_register, string_offset_after, word_register}
 use Rattle.execute_machine.specs.declared.location.OperandLocation.{OperandLocation}
-use Rattle.execute_machine.specs.Locations.{Machine, chosen_or, segment_for, value_at, with_value_at, word_at}
+use Rattle.execute_machine.specs.Locations.{Machine, segment_for, value_at, with_value_at, word_at}
 use Rattle.execute_machine.specs.Memory.{HoldsBytes, HoldsWords}
 use Rattle.execute_machine.proofs.Memory.{word_fixed, word_leaves, word_reads_back}
 use Rattle.execute_strings.specs.Meaning.{after_iteration, after_movs, after_element, destination, element_at, element_size, source}
@@ -173,7 +174,7 @@ bus_after bus m width i n words =
     ∙ copied bus before width i
     ∙ ap (λ q. with_copy bus before (destination q width) (source q i width)) at
     ∙ ap (λ segment. with_copy bus before (destination_element r width n) (element_at width segment si))
-    (segment_stays r si (element_offset r.flags.direction r.di (element_size width) n) ((r.cx + 65536 * n - n) % 65536) (chosen_or (chosen_segment i.prefixes.items) Ds))
+    (segment_stays r si (element_offset r.flags.direction r.di (element_size width) n) ((r.cx + 65536 * n - n) % 65536) (unwrap_or (chosen_segment i.prefixes.items) Ds))
 
 fixed_after : {S : Type 0} (bus : BusMeaning S) → IsBus bus → (m : Machine S) (width : Width) (i : Instr) (n address : ℕ) → bus.is_writable (after_copies bus m width i n).bus address ≡ bus.is_writable m.bus address
 unfolding iterate

@@ -1,4 +1,5 @@
 -- PUSH, and then POP.
+use Rattle.std.specs.Prelude.{unwrap_or}
 use Rattle.std.proofs.Common.{◌≡◌, ◌<◌, ℕ, refl, ap, ◌∙◌, arith}
 use Rattle.board_types.specs.Address.{offset_after}
 use Rattle.isa.specs.declared.register.SegmentRegister.{SegmentRegister}
@@ -19,7 +20,7 @@ use Rattle.execute_machine.specs.Registers.{segment_register}
 use Rattle.execute_machine.specs.declared.location.OperandLocation.{OperandLocation}
 use Rattle.execute_machine.specs.declared.location.OperandLocation.TheVariants.{ByteAt, WordAt}
 use Rattle.isa.specs.Encoding.{sign_extended}
-use Rattle.execute_machine.specs.Locations.{Machine, base_offset, byte_place, chosen_or, location_of, machine, place_offset, segment_for, usual_segment, with_value_at, word_place}
+use Rattle.execute_machine.specs.Locations.{Machine, base_offset, byte_place, location_of, machine, place_offset, segment_for, usual_segment, with_value_at, word_place}
 use Rattle.execute_machine.specs.Memory.{TakesWord}
 use Rattle.execute_machine.specs.Stack.{after_pop, after_push, top_word}
 use Rattle.execute_machine.proofs.Memory.{word_reads_back}
@@ -58,7 +59,7 @@ segment_without_sp r sp Ds = refl
 
 memory_without_sp : (at : ℕ → ℕ → OperandLocation) (r : Registers) (sp : ℕ) (i : Instr) (place : Place) → at (segment_for (with_sp r sp) i (usual_segment place)) (place_offset (with_sp r sp) place i.values.displacement) ≡ at (segment_for r i (usual_segment place)) (place_offset r place i.values.displacement)
 memory_without_sp at r sp i place =
-    ap (λ s. at s (place_offset (with_sp r sp) place i.values.displacement)) (segment_without_sp r sp (chosen_or (chosen_segment i.prefixes.items) (usual_segment place)))
+    ap (λ s. at s (place_offset (with_sp r sp) place i.values.displacement)) (segment_without_sp r sp (unwrap_or (chosen_segment i.prefixes.items) (usual_segment place)))
     ∙ ap (λ o. at (segment_for r i (usual_segment place)) o) (offset_without_sp r sp place i.values.displacement)
 
 byte_place_without_sp : (r : Registers) (sp : ℕ) (i : Instr) (place : Place) → byte_place (with_sp r sp) i place ≡ byte_place r i place
@@ -82,8 +83,8 @@ unfolding location_of
 place_without_sp r sp i kinds.Rm8 = byte_place_without_sp r sp i i.form.place
 place_without_sp r sp i kinds.Rm16 = word_place_without_sp r sp i i.form.place
 place_without_sp r sp i kinds.Memory = word_place_without_sp r sp i i.form.place
-place_without_sp r sp i kinds.At8 = ap (λ s. ByteAt s i.values.number) (segment_without_sp r sp (chosen_or (chosen_segment i.prefixes.items) Ds))
-place_without_sp r sp i kinds.At16 = ap (λ s. WordAt s i.values.number) (segment_without_sp r sp (chosen_or (chosen_segment i.prefixes.items) Ds))
+place_without_sp r sp i kinds.At8 = ap (λ s. ByteAt s i.values.number) (segment_without_sp r sp (unwrap_or (chosen_segment i.prefixes.items) Ds))
+place_without_sp r sp i kinds.At16 = ap (λ s. WordAt s i.values.number) (segment_without_sp r sp (unwrap_or (chosen_segment i.prefixes.items) Ds))
 place_without_sp r sp i _ = refl
 
 -- what is pushed stands on top, and to take it off raises SP to where it stood
