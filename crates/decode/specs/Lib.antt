@@ -1,4 +1,5 @@
 pub mod Decoding
+pub mod Parts
 pub mod Laws
 pub mod Fields
 pub mod FieldsAgain
