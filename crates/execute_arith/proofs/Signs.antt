@@ -1,10 +1,11 @@
 -- Numbers by a sign and a magnitude.
+use Rattle.execute_machine.specs.Flags.{differ}
 use Rattle.std.proofs.Common.{◌≡◌, ℕ, zero, suc, ◌+◌, ◌*◌, ◌<◌, ◌≤◌, Bool, true, false, refl, sym, ap, ◌∙◌, arith, ◌⊎◌, inl, inr}
 use Rattle.std.specs.Prelude.{ℤ, pos, negsuc, neg_ℤ, ◌+ℤ◌, ◌*ℤ◌, nat_abs, int_lt}
 use Rattle.std.proofs.Math.Nat.{mul-zero, zero-mul, mul-suc}
 use Rattle.std.proofs.lemmas.Int.{ints, unsigned_abs-mul}
 use Rattle.std.proofs.lemmas.Bool.Decides.{nat_tests}
-use Rattle.execute_arith.specs.Numbers.{differ, is_minus, magnitude, with_sign}
+use Rattle.execute_arith.specs.Numbers.{is_minus, magnitude, with_sign}
 use Rattle.execute_arith.specs.ProductLaws.{signed, Divides, DividesSigned}
 
 abbrev pub number : Bool → ℕ → ℤ

@@ -1,7 +1,8 @@
 -- Products and quotients of a byte or a word (8086 Family User's Manual, "Multiplication Instructions", "Division
 -- Instructions"). A signed number is read as a sign and a magnitude; from half of its values on it is negative.
 -- To be believed: the headline rests on it.
-use Rattle.std.specs.Prelude.{ℕ, ◌*◌, ◌/◌, ◌%◌, ◌-◌, ◌==◌, nat_le, Bool, true, false, not, if◌then◌else◌, Option, Some, None}
+use Rattle.execute_machine.specs.Flags.{differ}
+use Rattle.std.specs.Prelude.{ℕ, ◌*◌, ◌/◌, ◌%◌, ◌-◌, ◌==◌, nat_le, Bool, not, if◌then◌else◌, Option, Some, None}
 use Rattle.execute_machine.specs.declared.width.Width.{Width}
 use Rattle.execute_machine.specs.declared.width.Width.TheVariants.{Byte, Word}
 use Rattle.execute_machine.specs.Widths.{size_of, half_size, is_negative}
@@ -12,10 +13,6 @@ use Rattle.execute_arith.specs.declared.numbers.Division.{Division}
 abbrev pub double_half : Width → ℕ
 double_half Byte = 32768
 double_half Word = 2147483648
-
-abbrev pub differ : Bool → Bool → Bool
-differ true other = not other
-differ false other = other
 
 abbrev pub is_minus : ℕ → ℕ → Bool
 is_minus half number = nat_le half number

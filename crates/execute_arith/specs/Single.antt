@@ -1,17 +1,14 @@
 -- One shift by one place (8086 Family User's Manual, "Shift Instructions", "Rotate Instructions"), on an operand, CF
 -- and OF.
 -- To be believed: the headline rests on it.
-use Rattle.std.specs.Prelude.{ℕ, ◌+◌, ◌*◌, ◌/◌, ◌%◌, ◌==◌, nat_le, Bool, true, false, not}
+use Rattle.execute_machine.specs.Flags.{differ}
+use Rattle.std.specs.Prelude.{ℕ, ◌+◌, ◌*◌, ◌/◌, ◌%◌, ◌==◌, nat_le, Bool, false}
 use Rattle.board_types.specs.Flags.{flag_bit}
 use Rattle.isa.specs.declared.operation.Shift.{Shift}
 use Rattle.isa.specs.declared.operation.Shift.TheVariants.{Rol, Ror, Rcl, Rcr, Shl, Shr, Sar}
 use Rattle.execute_machine.specs.declared.width.Width.{Width}
 use Rattle.execute_machine.specs.Widths.{size_of, half_size, is_negative}
 use Rattle.execute_arith.specs.declared.single.Shifted.{Shifted}
-
-abbrev pub differ : Bool → Bool → Bool
-differ true other = not other
-differ false other = other
 
 -- the bit below the top one
 abbrev pub second_bit : Width → ℕ → Bool
@@ -29,7 +26,8 @@ left_value width value entering = 2 * value % size_of width + flag_bit entering 
 abbrev pub right_value : Width → ℕ → Bool → ℕ
 right_value width value entering = value / 2 + flag_bit entering (half_size width)
 
--- CF is the bit that left; OF tells whether the new top bit differs from it
+-- one place to the left: CF is the top bit, which leaves, and a bit enters at the bottom; OF tells whether the new top bit
+-- differs from CF
 unfoldable pub after_left : Width → Shifted → Bool → Shifted
 after_left width s entering =
     let value = left_value width s.value entering in

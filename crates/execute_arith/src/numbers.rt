@@ -1,7 +1,7 @@
 //! Products and quotients of a byte or a word.
 ghost use Rattle.std.specs.Prelude.{◌≡◌, ◌<◌, ◌≤◌, ◌*◌, ◌^◌, IfSome};
 ghost use Rattle.execute_machine.specs.Widths.{half_size, size_of};
-ghost use Rattle.execute_arith.specs.Numbers.{differ, double_half, is_minus, magnitude, sign_extension, signed_division, signed_product, signed_result, signed_value, unsigned_division, unsigned_product, with_sign};
+ghost use Rattle.execute_arith.specs.Numbers.{double_half, is_minus, magnitude, sign_extension, signed_division, signed_product, signed_result, signed_value, unsigned_division, unsigned_product, with_sign};
 
 use execute_machine::width::Width;
 
