@@ -1,10 +1,11 @@
 -- What the adjustments make of sums and differences of decimal digits.
+use Rattle.isa.specs.declared.operation.Adjust.TheVariants.{Aaa, Aas}
 use Rattle.std.proofs.Common.{◌≡◌, ℕ, ◌+◌, ◌*◌, ◌/◌, ◌%◌, ◌-◌, ◌<◌, ◌≤◌, Bool, true, false, ◌||◌, if◌then◌else◌, nat_lt, nat_le, refl, ap, subst, ◌∙◌, arith}
 use Rattle.std.specs.Int.{from_bool}
 use Rattle.std.proofs.lemmas.Bool.Decides.{nat_tests}
 use Rattle.execute_machine.specs.RegisterFile.{Registers}
 use Rattle.execute_machine.specs.Sums.{with_difference, with_sum}
-use Rattle.execute_arith.specs.Meaning.{after_aaa, after_aad, after_aam, after_aas, after_daa, after_das, adjusts_low, ah_of, al_of, with_unpacked}
+use Rattle.execute_arith.specs.Meaning.{adjusts_low, ah_of, al_of, with_unpacked, after_adjust}
 use Rattle.execute_arith.specs.Laws.{packed, AaaAdds, AadJoins, AadUndoesAam, AamParts, AasSubtracts, DaaAdds, DasSubtracts, HasDifference, HasSum, LeavesDigit}
 
 -- DAA and DAS on plain numbers: AL, AF and CF as the sum or the difference left them
@@ -44,14 +45,14 @@ low_half : (word n : ℕ) → (word / 256 * 256 + n % 256) % 256 ≡ n % 256
 low_half word n = omega arith
 
 pub daa_adds : DaaAdds
-unfolding after_daa
+unfolding after_adjust
 daa_adds r x y carry p q b h = record {
   digits = low_half r.ax _ ∙ sum_adjusted x y carry (al_of r) _ _ p q b h.al (low_of_sum _ _ _ _ h) (carry_of_sum _ _ _ _ h);
   carry = sum_carries x y carry (al_of r) _ p q b h.al (carry_of_sum _ _ _ _ h);
 }
 
 pub das_subtracts : DasSubtracts
-unfolding after_das
+unfolding after_adjust
 das_subtracts r x y borrow p q b h = record {
   digits = low_half r.ax _ ∙ difference_adjusted x y borrow (al_of r) _ _ p q b h.al (low_of_difference _ _ _ _ h) (carry_of_difference _ _ _ _ h);
   carry = difference_borrows x y borrow (al_of r) _ p q b h.al (carry_of_difference _ _ _ _ h);
@@ -81,10 +82,10 @@ low_digit_of_sum : (a b carry al : ℕ) → al ≡ (a + b + carry) % 256 → al 
 low_digit_of_sum a b carry al is = omega arith
 
 pub aaa_adds : AaaAdds
-unfolding after_aaa
+unfolding after_adjust
 aaa_adds r a b carry big p q c h =
     let e = digit_adjusts a b carry (al_of r) _ p q c h.al (low_of_sum _ _ _ _ h) in
-    subst (λ carries. LeavesDigit (after_aaa r) ((ah_of r + (a % 16 + b % 16 + carry) / 10) % 256) ((a % 16 + b % 16 + carry) % 10) carries) e
+    subst (λ carries. LeavesDigit (after_adjust r Aaa) ((ah_of r + (a % 16 + b % 16 + carry) / 10) % 256) ((a % 16 + b % 16 + carry) % 10) carries) e
     (aaa_leaves r (a % 16 + b % 16 + carry) (adjusts_low r.flags (al_of r)) big (omega arith) (low_digit_of_sum a b carry (al_of r) h.al) e)
 
 -- AAS, where the difference of the digits is below 0, and where it isn't
@@ -111,20 +112,20 @@ aas_leaves r x y true big p q is e = borrow_is_taken r x y big p q is (is_below 
 aas_leaves r x y false big p q is e = no_borrow_is_taken r x y big p is (is_not_below x y e)
 
 pub aas_subtracts : AasSubtracts
-unfolding after_aas
+unfolding after_adjust
 aas_subtracts r a b borrow big m n p q c h =
     let e = digit_borrows a b borrow (al_of r) _ m n p q c h.al (low_of_difference _ _ _ _ h) in
-    subst (λ borrows. LeavesDigit (after_aas r) ((ah_of r + 256 - from_bool borrows) % 256) ((a % 16 + 10 - (b % 16 + borrow)) % 10) borrows) e
+    subst (λ borrows. LeavesDigit (after_adjust r Aas) ((ah_of r + 256 - from_bool borrows) % 256) ((a % 16 + 10 - (b % 16 + borrow)) % 10) borrows) e
     (aas_leaves r (a % 16) (b % 16 + borrow) (adjusts_low r.flags (al_of r)) big p (omega arith) (low_digit_of_difference a b borrow (al_of r) m n c h.al) e)
 
 pub aam_parts : AamParts
-unfolding after_aam
+unfolding after_adjust
 aam_parts r small = record { high = omega arith; low = omega arith; number = omega arith }
 
 pub aad_joins : AadJoins
-unfolding after_aad
+unfolding after_adjust
 aad_joins r n h = omega (arith, h.high, h.low, h.number)
 
 pub aad_undoes_aam : AadUndoesAam
-unfolding after_aad after_aam
+unfolding after_adjust
 aad_undoes_aam r = omega arith

@@ -8,7 +8,7 @@ use Rattle.execute_machine.specs.declared.width.Width.{Width}
 use Rattle.execute_machine.specs.declared.width.Width.TheVariants.{Byte, Word}
 use Rattle.execute_machine.specs.Widths.{size_of}
 use Rattle.execute_machine.specs.Sums.{with_difference}
-use Rattle.execute_arith.specs.Meaning.{after_arithmetic, with_flags_of, after_cbw, after_cwd, unary_result_of}
+use Rattle.execute_arith.specs.Meaning.{after_arithmetic, with_flags_of, unary_result_of, after_adjust}
 use Rattle.execute_arith.specs.Laws.{CmpTells, ComparisonTells, NotInverts, SignsExtend}
 
 pub comparison_tells : ComparisonTells
@@ -25,7 +25,7 @@ unfolding after_arithmetic with_flags_of
 cmp_tells bus m i = comparison_tells _ _ _ _ (below _ _) (below _ _)
 
 pub signs_extend : SignsExtend
-unfolding after_cbw after_cwd
+unfolding after_adjust
 signs_extend r big = (grind (arith, nat_tests, ints), grind (arith, nat_tests, ints))
 
 inverted : (x y : ℕ) → y < 2 → x ≡ 1 - y → (x == 1) ≡ not (y == 1)

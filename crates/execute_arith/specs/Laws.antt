@@ -1,6 +1,7 @@
 -- The laws of comparisons, of decimal digits and of signs (8086 Family User's Manual, "Conditional Transfers",
 -- "Arithmetic Instructions").
 -- Laws: claims above the definitions, each proved as the contract of a function.
+use Rattle.isa.specs.declared.operation.Adjust.TheVariants.{Daa, Das, Aaa, Aas, Aam, Aad, Cbw, Cwd}
 use Rattle.std.specs.Prelude.{◌≡◌, ℕ, Bool, ◌+◌, ◌*◌, ◌/◌, ◌%◌, ◌-◌, ◌^◌, ◌<◌, not, if◌then◌else◌, nat_lt, nat_le, ℤ, pos, ◌-ℤ◌, ◌<ℤ◌, IsTrue, ◌↔◌}
 use Rattle.std.specs.Int.{from_bool}
 use Rattle.board_types.specs.Bits.{has_bit}
@@ -18,7 +19,7 @@ use Rattle.execute_machine.specs.declared.width.Width.{Width}
 use Rattle.execute_machine.specs.declared.width.Width.TheVariants.{Byte, Word}
 use Rattle.execute_machine.specs.Widths.{size_of}
 use Rattle.execute_machine.specs.Sums.{difference_of, signed_of, sum_of, with_difference, with_sum}
-use Rattle.execute_arith.specs.Meaning.{after_aaa, after_aad, after_aam, after_aas, after_arithmetic, after_cbw, after_cwd, after_daa, after_das, ah_of, al_of, unary_result_of}
+use Rattle.execute_arith.specs.Meaning.{after_arithmetic, ah_of, al_of, unary_result_of, after_adjust}
 
 -- what flags tell of two numbers of a width: whether the first lies below the second, as unsigned and as signed ones
 pub record TellsOrder (f : FlagState) (width : Width) (a b : ℕ) : Type 0 where
@@ -80,13 +81,13 @@ pub record LeavesPacked (r : Registers) (n : ℕ) (carries : Bool) : Type 0 wher
 abbrev pub DaaAdds : Type 0
 DaaAdds =
     (r : Registers) (x y carry : ℕ) → x < 100 → y < 100 → carry < 2 → HasSum r (packed x) (packed y) carry
-    → LeavesPacked (after_daa r) ((x + y + carry) % 100) (nat_le 100 (x + y + carry))
+    → LeavesPacked (after_adjust r Daa) ((x + y + carry) % 100) (nat_le 100 (x + y + carry))
 
 -- DAS after SUB or SBB of packed numbers: their decimal difference, with its borrow
 abbrev pub DasSubtracts : Type 0
 DasSubtracts =
     (r : Registers) (x y borrow : ℕ) → x < 100 → y < 100 → borrow < 2 → HasDifference r (packed x) (packed y) borrow
-    → LeavesPacked (after_das r) ((x + 100 - (y + borrow)) % 100) (nat_lt x (y + borrow))
+    → LeavesPacked (after_adjust r Das) ((x + 100 - (y + borrow)) % 100) (nat_lt x (y + borrow))
 
 -- AL holds this digit and AH this byte, and CF tells of a carry
 pub record LeavesDigit (r : Registers) (high digit : ℕ) (carries : Bool) : Type 0 where
@@ -99,7 +100,7 @@ abbrev pub AaaAdds : Type 0
 AaaAdds =
     (r : Registers) (a b carry : ℕ) → r.ax < 65536 → a % 16 < 10 → b % 16 < 10 → carry < 2 → HasSum r a b carry
     → let sum = a % 16 + b % 16 + carry in
-    LeavesDigit (after_aaa r) ((ah_of r + sum / 10) % 256) (sum % 10) (nat_le 10 sum)
+    LeavesDigit (after_adjust r Aaa) ((ah_of r + sum / 10) % 256) (sum % 10) (nat_le 10 sum)
 
 -- AAS after SUB or SBB of bytes whose low halves are digits: their difference's digit, and its borrow, which AH gives
 abbrev pub AasSubtracts : Type 0
@@ -107,7 +108,7 @@ AasSubtracts =
     (r : Registers) (a b borrow : ℕ) → r.ax < 65536 → a < 256 → b < 256 → a % 16 < 10 → b % 16 < 10 → borrow < 2
     → HasDifference r a b borrow
     → let borrows = nat_lt (a % 16) (b % 16 + borrow) in
-    LeavesDigit (after_aas r) ((ah_of r + 256 - from_bool borrows) % 256)
+    LeavesDigit (after_adjust r Aas) ((ah_of r + 256 - from_bool borrows) % 256)
     ((a % 16 + 10 - (b % 16 + borrow)) % 10) borrows
 
 -- AX holds this number as two unpacked digits
@@ -118,15 +119,15 @@ pub record HoldsDigits (r : Registers) (n : ℕ) : Type 0 where
 
 -- AAM makes digits of a number below 100, as the product of two digits is
 abbrev pub AamParts : Type 0
-AamParts = (r : Registers) → al_of r < 100 → HoldsDigits (after_aam r) (al_of r)
+AamParts = (r : Registers) → al_of r < 100 → HoldsDigits (after_adjust r Aam) (al_of r)
 
 -- AAD makes a number of its digits
 abbrev pub AadJoins : Type 0
-AadJoins = (r : Registers) (n : ℕ) → HoldsDigits r n → (after_aad r).ax ≡ n
+AadJoins = (r : Registers) (n : ℕ) → HoldsDigits r n → (after_adjust r Aad).ax ≡ n
 
 -- and of what AAM parted, whatever AL was
 abbrev pub AadUndoesAam : Type 0
-AadUndoesAam = (r : Registers) → (after_aad (after_aam r)).ax ≡ al_of r
+AadUndoesAam = (r : Registers) → (after_adjust (after_adjust r Aam) Aad).ax ≡ al_of r
 
 -- DX and AX as one signed number
 abbrev pub signed_pair : Registers → ℤ
@@ -138,7 +139,7 @@ signed_pair r =
 abbrev pub SignsExtend : Type 0
 SignsExtend =
     (r : Registers) → r.ax < 65536
-    → (signed_of Word (after_cbw r).ax ≡ signed_of Byte (al_of r)) × (signed_pair (after_cwd r) ≡ signed_of Word r.ax)
+    → (signed_of Word (after_adjust r Cbw).ax ≡ signed_of Byte (al_of r)) × (signed_pair (after_adjust r Cwd) ≡ signed_of Word r.ax)
 
 -- how many bits it has
 abbrev pub bits_of : Width → ℕ

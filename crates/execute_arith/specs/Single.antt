@@ -18,10 +18,6 @@ second_bit width value = nat_le (half_size width) (2 * value % size_of width)
 abbrev pub is_odd : ℕ → Bool
 is_odd value = value % 2 == 1
 
--- one place to the left: the top bit leaves, and a bit enters at the bottom
-abbrev pub left_value : Width → ℕ → Bool → ℕ
-left_value width value entering = 2 * value % size_of width + flag_bit entering 1
-
 -- one place to the right: the bottom bit leaves, and a bit enters at the top
 abbrev pub right_value : Width → ℕ → Bool → ℕ
 right_value width value entering = value / 2 + flag_bit entering (half_size width)
@@ -30,7 +26,7 @@ right_value width value entering = value / 2 + flag_bit entering (half_size widt
 -- differs from CF
 unfoldable pub after_left : Width → Shifted → Bool → Shifted
 after_left width s entering =
-    let value = left_value width s.value entering in
+    let value = 2 * s.value % size_of width + flag_bit entering 1 in
     let leaving = is_negative width s.value in
     record { value = value; carry = leaving; overflow = differ (is_negative width value) leaving }
 

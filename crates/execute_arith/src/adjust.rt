@@ -1,6 +1,7 @@
 //! Adjustments of AL and AX: decimal and ASCII digits, and signs.
+ghost use Rattle.isa.specs.declared.operation.Adjust.TheVariants.{Daa, Das, Aaa, Aas, Aam, Aad, Cbw, Cwd};
 ghost use Rattle.std.specs.Prelude.{◌≡◌, ◌<◌};
-ghost use Rattle.execute_arith.specs.Meaning.{adjusts_high, adjusts_low, after_aaa, after_aad, after_aam, after_aas, after_adjust, after_cbw, after_cwd, after_daa, after_das, decimal_change, with_packed, with_unpacked};
+ghost use Rattle.execute_arith.specs.Meaning.{adjusts_high, adjusts_low, after_adjust, decimal_change, with_packed, with_unpacked};
 ghost use Rattle.execute_machine.specs.Flags.{flag_state};
 
 use board_types::regs::Flags;
@@ -66,18 +67,18 @@ fn set_packed(registers: &mut Registers, al: u16)
     });
 }
 
-#[tactic(auto, unfolding(crate::specs::Meaning::after_daa))]
+#[tactic(auto, unfolding(crate::specs::Meaning::after_adjust))]
 fn daa(registers: &mut Registers)
-    ensures { registers.new ≡ after_daa registers.old }
+    ensures { registers.new ≡ after_adjust registers.old Daa }
 {
     let al = registers.ax() % 256;
     let change = decimal_change(registers.flags.get(), al);
     set_packed(registers, (al + change) % 256);
 }
 
-#[tactic(auto, unfolding(crate::specs::Meaning::after_das))]
+#[tactic(auto, unfolding(crate::specs::Meaning::after_adjust))]
 fn das(registers: &mut Registers)
-    ensures { registers.new ≡ after_das registers.old }
+    ensures { registers.new ≡ after_adjust registers.old Das }
 {
     let al = registers.ax() % 256;
     let change = decimal_change(registers.flags.get(), al);
@@ -98,9 +99,9 @@ fn set_unpacked(registers: &mut Registers, ah: u16, digit: u16, adjusted: bool)
     });
 }
 
-#[tactic(auto, unfolding(crate::specs::Meaning::after_aaa))]
+#[tactic(auto, unfolding(crate::specs::Meaning::after_adjust))]
 fn aaa(registers: &mut Registers)
-    ensures { registers.new ≡ after_aaa registers.old }
+    ensures { registers.new ≡ after_adjust registers.old Aaa }
 {
     let (ah, al) = (registers.ax() / 256, registers.ax() % 256);
     if adjusts_low(registers.flags.get(), al) {
@@ -110,9 +111,9 @@ fn aaa(registers: &mut Registers)
     }
 }
 
-#[tactic(auto, unfolding(crate::specs::Meaning::after_aas))]
+#[tactic(auto, unfolding(crate::specs::Meaning::after_adjust))]
 fn aas(registers: &mut Registers)
-    ensures { registers.new ≡ after_aas registers.old }
+    ensures { registers.new ≡ after_adjust registers.old Aas }
 {
     let (ah, al) = (registers.ax() / 256, registers.ax() % 256);
     if adjusts_low(registers.flags.get(), al) {
@@ -122,9 +123,9 @@ fn aas(registers: &mut Registers)
     }
 }
 
-#[tactic(auto, unfolding(crate::specs::Meaning::after_aam))]
+#[tactic(auto, unfolding(crate::specs::Meaning::after_adjust))]
 fn aam(registers: &mut Registers)
-    ensures { registers.new ≡ after_aam registers.old }
+    ensures { registers.new ≡ after_adjust registers.old Aam }
 {
     let al = registers.ax() % 256;
     registers.set_ax(256 * (al / 10) + al % 10);
@@ -133,9 +134,9 @@ fn aam(registers: &mut Registers)
         .set(with_result(registers.flags.get(), Width::Byte, al % 10));
 }
 
-#[tactic(auto, unfolding(crate::specs::Meaning::after_aad))]
+#[tactic(auto, unfolding(crate::specs::Meaning::after_adjust))]
 fn aad(registers: &mut Registers)
-    ensures { registers.new ≡ after_aad registers.old }
+    ensures { registers.new ≡ after_adjust registers.old Aad }
 {
     let al = (10 * (registers.ax() / 256) + registers.ax() % 256) % 256;
     registers.set_ax(al);
@@ -144,17 +145,17 @@ fn aad(registers: &mut Registers)
         .set(with_result(registers.flags.get(), Width::Byte, al));
 }
 
-#[tactic(auto, unfolding(crate::specs::Meaning::after_cbw))]
+#[tactic(auto, unfolding(crate::specs::Meaning::after_adjust))]
 fn cbw(registers: &mut Registers)
-    ensures { registers.new ≡ after_cbw registers.old }
+    ensures { registers.new ≡ after_adjust registers.old Cbw }
 {
     let al = registers.ax() % 256;
     registers.set_ax(if al < 128 { al } else { 0xFF00 + al });
 }
 
-#[tactic(auto, unfolding(crate::specs::Meaning::after_cwd))]
+#[tactic(auto, unfolding(crate::specs::Meaning::after_adjust))]
 fn cwd(registers: &mut Registers)
-    ensures { registers.new ≡ after_cwd registers.old }
+    ensures { registers.new ≡ after_adjust registers.old Cwd }
 {
     registers.set_dx(if registers.ax() < 32768 { 0 } else { 0xFFFF });
 }

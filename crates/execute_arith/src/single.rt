@@ -1,7 +1,8 @@
 //! One shift by one place, and several in turn.
-ghost use Rattle.std.specs.Prelude.{◌≡◌, ◌<◌, ◌≤◌, ◌*◌, ◌/◌, ◌%◌, ◌^◌};
+ghost use Rattle.board_types.specs.Flags.{flag_bit};
+ghost use Rattle.std.specs.Prelude.{◌≡◌, ◌<◌, ◌≤◌, ◌*◌, ◌/◌, ◌%◌, ◌^◌, ◌+◌};
 ghost use Rattle.execute_machine.specs.Widths.{is_negative, size_of};
-ghost use Rattle.execute_arith.specs.Single.{after_left, after_right, after_right_rotation, after_single, left_value, right_value, second_bit};
+ghost use Rattle.execute_arith.specs.Single.{after_left, after_right, after_right_rotation, after_single, right_value, second_bit};
 ghost use Rattle.execute_arith.specs.Places.{alone, signed_right};
 ghost use Rattle.execute_arith.specs.Shifts.{after_shifts};
 
@@ -25,7 +26,7 @@ fn second_bit(width: Width, value: u16) -> bool
 
 fn left_value(width: Width, value: u16, entering: bool) -> u16
     requires { value < size_of width }
-    ensures value { result ≡ left_value width value entering }
+    ensures value { result ≡ 2 * value % size_of width + flag_bit entering 1 }
     ensures bound { result < size_of width }
 {
     2 * (value % width.half_size()) + u16::from(entering)
