@@ -36,8 +36,8 @@ use Rattle.execute_arith.specs.declared.numbers.Division.{Division}
 use Rattle.execute_arith.specs.Products as product
 use Rattle.execute_arith.specs.Products.{after_division, after_product}
 use Rattle.execute_strings.specs.Meaning.{after_movs, after_cmps, after_stos, after_lods, after_scas, after_element, after_iteration}
-use Rattle.execute_transfer.specs.Meaning.{after_mov, after_xchg, after_lea, after_pointer_load, after_push_operand, after_pop_operand, after_pushf, after_popf, after_xlat, after_byte_input, after_word_input, after_in, after_out, after_transfer, is_ax, outputs_at, outputs_of, port_of}
-use Rattle.execute_control.specs.Meaning.{after_call, after_control, after_far_call, after_far_jump, after_far_pop, after_far_return, after_int, after_interrupt_return, after_into, after_ip_pop, after_return}
+use Rattle.execute_transfer.specs.Meaning.{after_mov, after_xchg, after_lea, after_pointer_load, after_push_operand, after_pop_operand, after_popf, after_xlat, after_byte_input, after_word_input, after_in, after_out, after_transfer, is_ax, outputs_at, outputs_of, port_of}
+use Rattle.execute_control.specs.Meaning.{after_call, after_control, after_far_pop, after_interrupt_return, after_ip_pop, after_return}
 use Rattle.execute_meaning.specs.declared.repeating.Repeating.{Repeating}
 use Rattle.execute_meaning.specs.Boundaries.{after_enter}
 use Rattle.execute_meaning.specs.Cpu.{CpuState}
@@ -167,7 +167,7 @@ output_few bus count counts s port ax true = two_are_few _ _ (more _ _ _ 1 1 (co
 output_few bus count counts s port ax false = one_is_few _ _ (counts.output _ _ _)
 
 transfer_few : {S : Type 0} (bus : BusMeaning S) (count : S → ℕ) → Counts bus count → (m : Machine S) (op : Transfer) (i : Instr) → count (after_transfer bus m op i).bus ≤ count m.bus + 6
-unfolding after_transfer after_mov after_lea after_push_operand after_pop_operand after_pop after_pushf after_popf after_xlat after_in after_out outputs_of
+unfolding after_transfer after_mov after_lea after_push_operand after_pop_operand after_pop after_popf after_xlat after_in after_out outputs_of
 transfer_few bus count counts m Mov i = two_are_few _ _ (put_few bus count counts _ _ _)
 transfer_few bus count counts m Xchg i = xchg_few bus count counts m i
 transfer_few bus count counts m Lea i = two_are_few _ _ (put_few bus count counts _ _ _)
@@ -188,7 +188,7 @@ into_few bus count counts m true = entry_few bus count counts m 4
 into_few bus count counts m false = none (count m.bus) 6
 
 control_few : {S : Type 0} (bus : BusMeaning S) (count : S → ℕ) → Counts bus count → (m : Machine S) (op : Control) (i : Instr) → count (after_control bus m op i).bus ≤ count m.bus + 6
-unfolding after_control after_call after_return after_far_jump after_far_call after_far_return after_int after_into after_interrupt_return after_far_pop after_ip_pop after_pop
+unfolding after_control after_call after_return after_interrupt_return after_far_pop after_ip_pop after_pop
 control_few bus count counts m Jmp i = none (count m.bus) 6
 control_few bus count counts m Call i = two_are_few _ _ (push_few bus count counts m _)
 control_few bus count counts m Ret i = none (count m.bus) 6

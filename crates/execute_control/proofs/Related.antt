@@ -12,7 +12,7 @@ use Rattle.execute_machine.specs.Flags.{popped_flags}
 use Rattle.execute_machine.specs.Locations.{Machine, machine, location_of}
 use Rattle.execute_machine.specs.Stack.{after_entry, after_pop, top_word}
 use Rattle.execute_machine.proofs.Related.{Alike, Same, same_by_entry, same_by_push, same_far_segment, same_operand, same_top, same_value}
-use Rattle.execute_control.specs.Meaning.{after_call, after_control, after_far_call, after_far_jump, after_far_pop, after_far_return, after_int, after_interrupt_return, after_into, after_ip_pop, after_return, control_operand, control_segment, is_relative, near_target, relative_target, with_cs_ip, with_ip}
+use Rattle.execute_control.specs.Meaning.{after_call, after_control, after_far_pop, after_interrupt_return, after_ip_pop, after_return, control_operand, control_segment, is_relative, near_target, relative_target, with_cs_ip, with_ip}
 
 unchanged : {S T : Type 0} (R : S → T → Type 0) (r : Registers) (s : S) (t : T) → R s t → Same R (machine r s) (machine r t)
 unchanged R r s t related = record { registers = refl; bus = related }
@@ -77,14 +77,14 @@ unfolding after_call
 same_by_call bus other R alike r s t i related =
     same_with_ip R _ _ _ _ (same_near_target bus other R alike r s t i related) (same_by_push bus other R alike (machine r s) (machine r t) _ _ refl (unchanged R r s t related))
 
-same_by_far_call : {S T : Type 0} (bus : BusMeaning S) (other : BusMeaning T) (R : S → T → Type 0) → Alike bus other R → (r : Registers) (s : S) (t : T) (i : Instr) → R s t → Same R (after_far_call bus (machine r s) i) (after_far_call other (machine r t) i)
-unfolding after_far_call
+same_by_far_call : {S T : Type 0} (bus : BusMeaning S) (other : BusMeaning T) (R : S → T → Type 0) → Alike bus other R → (r : Registers) (s : S) (t : T) (i : Instr) → R s t → Same R (after_control bus (machine r s) CallFar i) (after_control other (machine r t) CallFar i)
+unfolding after_control
 same_by_far_call bus other R alike r s t i related =
     same_with_cs_ip R _ _ _ _ _ _ (same_control_segment bus other R alike r s t i related) (same_control_operand bus other R alike r s t i related)
     (same_by_push bus other R alike _ _ _ _ refl (same_by_push bus other R alike (machine r s) (machine r t) _ _ refl (unchanged R r s t related)))
 
-same_by_int : {S T : Type 0} (bus : BusMeaning S) (other : BusMeaning T) (R : S → T → Type 0) → Alike bus other R → (r : Registers) (s : S) (t : T) (i : Instr) → R s t → Same R (after_int bus (machine r s) i) (after_int other (machine r t) i)
-unfolding after_int
+same_by_int : {S T : Type 0} (bus : BusMeaning S) (other : BusMeaning T) (R : S → T → Type 0) → Alike bus other R → (r : Registers) (s : S) (t : T) (i : Instr) → R s t → Same R (after_control bus (machine r s) Int i) (after_control other (machine r t) Int i)
+unfolding after_control
 same_by_int bus other R alike r s t i related =
     same_by_entry bus other R alike (machine r s) (machine r t) _ _ (same_operand bus other R alike r s t (location_of r i (first_of i.form.row)) Byte related) (unchanged R r s t related)
 
@@ -93,7 +93,7 @@ same_if bus other R alike r s t kind true related = same_by_entry bus other R al
 same_if bus other R alike r s t kind false related = unchanged R r s t related
 
 pub same_by_control : {S T : Type 0} (bus : BusMeaning S) (other : BusMeaning T) (R : S → T → Type 0) → Alike bus other R → (r : Registers) (s : S) (t : T) (control : Control) (i : Instr) → R s t → Same R (after_control bus (machine r s) control i) (after_control other (machine r t) control i)
-unfolding after_control after_return after_far_jump after_far_return after_into
+unfolding after_control after_return
 same_by_control bus other R alike r s t Jmp i related = same_with_ip R (machine r s) (machine r t) _ _ (same_near_target bus other R alike r s t i related) (unchanged R r s t related)
 same_by_control bus other R alike r s t Call i related = same_by_call bus other R alike r s t i related
 same_by_control bus other R alike r s t Ret i related =

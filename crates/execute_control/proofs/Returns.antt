@@ -8,7 +8,7 @@ use Rattle.execute_machine.specs.FlagState.{FlagState}
 use Rattle.execute_machine.specs.Flags.{pushed_word, popped_flags}
 use Rattle.execute_machine.specs.Locations.{Machine, machine, word_at}
 use Rattle.execute_machine.specs.Stack.{after_push, top_word, after_pop, after_entry_pushes, after_vector, after_entry}
-use Rattle.execute_control.specs.Meaning.{after_control, after_call, after_return, after_far_call, after_far_return, after_far_pop, after_interrupt_return, after_ip_pop, control_operand}
+use Rattle.execute_control.specs.Meaning.{after_control, after_call, after_return, after_far_pop, after_interrupt_return, after_ip_pop, control_operand}
 use Rattle.execute_control.specs.Laws.{TakesPushes, KeepsStack, CallReturns, FarCallReturns, InterruptReturns}
 use Rattle.execute_control.proofs.FlagsWord.{popped_again}
 use Rattle.execute_control.proofs.StackWords.{next, below, back_up, TakesWord, takes_at, first_of_one, first_of_two, second_of_two, first_of_three, second_of_three, third_of_three}
@@ -89,7 +89,7 @@ call_returns bus is m n call return small takes keeps =
     (ap (λ o. offset_after o (control_operand bus n return)) (raised_once n.registers.sp sp keeps.sp small))
 
 pub far_call_returns : {S : Type 0} (bus : BusMeaning S) → IsBus bus → FarCallReturns bus
-unfolding after_control after_far_call after_push after_far_return after_far_pop after_ip_pop after_pop top_word far_returned
+unfolding after_control after_push after_far_pop after_ip_pop after_pop top_word far_returned
 far_call_returns bus is m n call return small takes keeps =
     let sp = m.registers.sp in
     let ss = m.registers.ss in

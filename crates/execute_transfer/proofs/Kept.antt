@@ -9,7 +9,7 @@ use Rattle.bus.specs.Bus.{BusMeaning}
 use Rattle.bus.specs.PortWrites.{after_port_writes}
 use Rattle.execute_machine.specs.Locations.{Machine}
 use Rattle.execute_machine.proofs.Kept.{Kept, kept_by_pop, kept_by_push, kept_by_put}
-use Rattle.execute_transfer.specs.Meaning.{after_byte_input, after_in, after_lea, after_mov, after_out, after_pointer_load, after_pop_operand, after_popf, after_push_operand, after_pushf, after_transfer, after_word_input, after_xchg, after_xlat, is_ax, outputs_at, outputs_of, port_of}
+use Rattle.execute_transfer.specs.Meaning.{after_byte_input, after_in, after_lea, after_mov, after_out, after_pointer_load, after_pop_operand, after_popf, after_push_operand, after_transfer, after_word_input, after_xchg, after_xlat, is_ax, outputs_at, outputs_of, port_of}
 
 kept_by_pointer_load : {S : Type 0} (bus : BusMeaning S) (P : S → Type 0) → Kept bus P → (m : Machine S) (segment : SegmentRegister) (i : Instr) → P m.bus → P (after_pointer_load bus m segment i).bus
 unfolding after_pointer_load
@@ -29,7 +29,7 @@ kept_by_input bus P inputs m port true holds = inputs _ _ (inputs _ _ holds)
 kept_by_input bus P inputs m port false holds = inputs _ _ holds
 
 pub kept_by_transfer : {S : Type 0} (bus : BusMeaning S) (P : S → Type 0) → Kept bus P → InputsKeep bus P → (m : Machine S) (operation : Transfer) (i : Instr) → operation ≢ Out → P m.bus → P (after_transfer bus m operation i).bus
-unfolding after_transfer after_mov after_xchg after_lea after_push_operand after_pushf after_popf after_xlat after_in
+unfolding after_transfer after_mov after_xchg after_lea after_push_operand after_popf after_xlat after_in
 kept_by_transfer bus P kept inputs m Mov i other holds = kept_by_put bus P kept m _ _ holds
 kept_by_transfer bus P kept inputs m Xchg i other holds = kept_by_put bus P kept _ _ _ (kept_by_put bus P kept m _ _ holds)
 kept_by_transfer bus P kept inputs m Lea i other holds = kept_by_put bus P kept m _ _ holds

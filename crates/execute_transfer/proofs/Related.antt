@@ -14,12 +14,12 @@ use Rattle.bus.specs.Bus.{BusMeaning}
 use Rattle.bus.specs.PortWrites.{after_port_writes}
 use Rattle.execute_machine.specs.RegisterFile.{Registers}
 use Rattle.execute_machine.specs.Registers.{with_byte_register}
-use Rattle.execute_machine.specs.Flags.{popped_flags}
+use Rattle.execute_machine.specs.Flags.{popped_flags, pushed_word}
 use Rattle.execute_machine.specs.declared.location.OperandLocation.{OperandLocation}
 use Rattle.execute_machine.specs.Locations.{machine, segment_for}
-use Rattle.execute_machine.specs.Stack.{after_pop}
+use Rattle.execute_machine.specs.Stack.{after_pop, after_push}
 use Rattle.execute_machine.proofs.Related.{Alike, Same, both, same_by_push, same_by_put, same_far_segment, same_top, same_value}
-use Rattle.execute_transfer.specs.Meaning.{after_byte_input, after_in, after_lea, after_mov, after_out, outputs_of, after_pointer_load, after_pop_operand, after_popf, after_push_operand, after_pushf, after_transfer, after_word_input, after_xchg, after_xlat, first_place, is_ax, is_sp, port_of, pushed_operand, second_place}
+use Rattle.execute_transfer.specs.Meaning.{after_byte_input, after_in, after_lea, after_mov, after_out, outputs_of, after_pointer_load, after_pop_operand, after_popf, after_push_operand, after_transfer, after_word_input, after_xchg, after_xlat, first_place, is_ax, is_sp, port_of, pushed_operand, second_place}
 
 -- the ports that an IN reads: AX's high byte comes from the next port, which wraps
 abbrev pub inputs_at : ℕ → Bool → List ℕ
@@ -82,8 +82,7 @@ unfolding after_pop_operand after_pop
 same_by_pop_operand bus other R alike r s t i related =
     same_by_put bus other R alike _ _ (first_place r i) _ _ (same_top bus other R alike r s t related) (unchanged R _ s t related)
 
-same_by_pushf : {S T : Type 0} (bus : BusMeaning S) (other : BusMeaning T) (R : S → T → Type 0) → Alike bus other R → (r : Registers) (s : S) (t : T) → R s t → Same R (after_pushf bus (machine r s)) (after_pushf other (machine r t))
-unfolding after_pushf
+same_by_pushf : {S T : Type 0} (bus : BusMeaning S) (other : BusMeaning T) (R : S → T → Type 0) → Alike bus other R → (r : Registers) (s : S) (t : T) → R s t → Same R (after_push bus (machine r s) (pushed_word r.flags)) (after_push other (machine r t) (pushed_word r.flags))
 same_by_pushf bus other R alike r s t related = same_by_push bus other R alike _ _ _ _ refl (unchanged R r s t related)
 
 same_by_popf : {S T : Type 0} (bus : BusMeaning S) (other : BusMeaning T) (R : S → T → Type 0) → Alike bus other R → (r : Registers) (s : S) (t : T) → R s t → Same R (after_popf bus (machine r s)) (after_popf other (machine r t))

@@ -1,8 +1,11 @@
 //! The flags as a word or a byte.
-ghost use Rattle.std.specs.Prelude.{◌≡◌};
-ghost use Rattle.execute_machine.specs.Flags.{flag_state};
+ghost use Rattle.isa.specs.declared.register.ByteRegister.TheVariants.{Ah};
+ghost use Rattle.execute_machine.specs.Stack.{after_push};
+ghost use Rattle.execute_machine.specs.Registers.{with_byte_register};
+ghost use Rattle.std.specs.Prelude.{◌≡◌, ◌/◌, ◌%◌};
+ghost use Rattle.execute_machine.specs.Flags.{flag_state, popped_flags, pushed_word};
 ghost use Rattle.execute_machine.specs.Locations.{machine};
-ghost use Rattle.execute_transfer.specs.Meaning.{after_lahf, after_popf, after_pushf, after_sahf, with_low_flags};
+ghost use Rattle.execute_transfer.specs.Meaning.{after_popf, with_low_flags};
 
 use board_types::regs::Flags;
 use bus::Bus;
@@ -12,10 +15,9 @@ use execute_machine::stack::{pop, push};
 use isa::register::ByteRegister;
 
 #[inline(never)]
-#[tactic(auto, unfolding(crate::specs::Meaning::after_pushf))]
 pub(crate) fn perform_pushf<B: Bus>(bus: &mut B, registers: &mut Registers)
     ensures { machine registers.new (B.state bus.new)
-        ≡ after_pushf B.meaning (machine registers.old (B.state bus.old)) }
+        ≡ after_push B.meaning (machine registers.old (B.state bus.old)) (pushed_word registers.old.flags) }
 {
     let word = registers.flags.get().word();
     push(bus, registers, word);
@@ -45,9 +47,10 @@ fn with_low_flags(flags: Flags, low: Flags) -> Flags
 }
 
 #[inline(never)]
-#[tactic(auto, unfolding(crate::specs::Meaning::after_sahf))]
 pub(crate) fn perform_sahf(registers: &mut Registers)
-    ensures { registers.new ≡ after_sahf registers.old }
+    ensures { registers.new ≡ record registers.old {
+      flags = with_low_flags registers.old.flags (popped_flags (registers.old.ax / 256));
+    } }
 {
     let low = popped_flags(registers.ax() / 256);
     let flags = registers.flags.get();
@@ -55,9 +58,8 @@ pub(crate) fn perform_sahf(registers: &mut Registers)
 }
 
 #[inline(never)]
-#[tactic(auto, unfolding(crate::specs::Meaning::after_lahf))]
 pub(crate) fn perform_lahf(registers: &mut Registers)
-    ensures { registers.new ≡ after_lahf registers.old }
+    ensures { registers.new ≡ with_byte_register registers.old Ah (pushed_word registers.old.flags % 256) }
 {
     let word = registers.flags.get().word();
     set_byte(registers, ByteRegister::Ah, (word % 256) as u8);
