@@ -1,10 +1,12 @@
 -- When the processor takes a request.
+use Rattle.wiring.specs.EachWire.{is_requested}
+use Rattle.execute_meaning.specs.Takes.{takes_requests, takes_single_step}
 use Rattle.std.proofs.Common.{◌≡◌, ◌≢◌, ℕ, zero, suc, ◌<◌, ◌≤◌, ◌⊎◌, inl, inr, Bool, true, false, if◌then◌else◌, refl, sym, ap, ◌∙◌, arith}
 use Rattle.std.specs.Prelude.{◌==◌, ◌&&◌, is_some}
 use Rattle.std.proofs.lemmas.Bool.Decides.{eqb_tells, nat_tests}
 use Rattle.board_types.specs.declared.state.State.{State}
 use Rattle.board_types.specs.declared.state.State.TheVariants.{Running, Halted, Jammed}
-use Rattle.execute_meaning.specs.Boundaries.{boundary_of, is_halted, is_jammed, lets_requests, takes_requests, takes_single_step}
+use Rattle.execute_meaning.specs.Boundaries.{boundary_of, is_halted, is_jammed, lets_requests}
 use Rattle.execute_meaning.specs.Cpu.{CpuState}
 use Rattle.execute_meaning.specs.declared.boundary.Boundary.{Boundary}
 use Rattle.execute_meaning.specs.declared.boundary.Boundary.TheVariants as boundaries

@@ -1,6 +1,7 @@
 pub mod Cpu
 pub mod Meaning
 pub mod Boundaries
+pub mod Takes
 pub mod PortWrites
 pub mod PortReads
 pub mod Laws
