@@ -1,4 +1,5 @@
 -- Clocks in which the chips alone go on: what a board is after them, and that nothing is seen of them.
+use Rattle.wiring.specs.EachWire.{is_requested}
 use Rattle.std.proofs.Common.{◌≡◌, ℕ, ◌+◌, ◌-◌, ◌<◌, ◌≤◌, inl, inr, false, List, refl, sym, ap, ◌∙◌, arith}
 use Rattle.std.specs.Prelude.{nat_eq}
 use Rattle.board_types.proofs.Iterate.{iterate_more, iterate_zero}
@@ -9,7 +10,6 @@ use Rattle.wiring.proofs.Clocks.{clock_of_clocks}
 use Rattle.wiring.proofs.Alone.{keyboard_of_clocks, low_alone}
 use Rattle.wiring.proofs.Inhibited.{request_stays}
 use Rattle.wiring.specs.Wires as wires
-use Rattle.wiring.specs.Wires.{is_requested}
 use Rattle.board_plain.specs.declared.act.Act.TheVariants.{Nothing}
 use Rattle.board_plain.specs.declared.stop.Condition.{Condition}
 use Rattle.board_plain.specs.Laws.{WiresHold}

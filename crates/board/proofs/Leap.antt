@@ -1,4 +1,5 @@
 -- Clocks that may be leapt over: what a board is after them, and that nothing is told of them.
+use Rattle.wiring.specs.EachWire.{is_requested}
 use Rattle.std.proofs.Common.{◌≡◌, ℕ, zero, suc, ◌+◌, ◌-◌, ◌<◌, ◌≤◌, inl, inr, Bool, false, if◌then◌else◌, List, [], ◌∷◌, ◌++◌, Some, refl, sym, ap, ◌∙◌, subst, arith}
 use Rattle.std.specs.Prelude.{◌&&◌, ◌==◌, cond, nat_eq}
 use Rattle.std.specs.List.{position_from}
@@ -25,7 +26,7 @@ use Rattle.wiring.specs.Edges.{ticks_between}
 use Rattle.wiring.specs.Ports.{byte_at}
 use Rattle.wiring.specs.Speaker.{is_speaker_high}
 use Rattle.wiring.specs.Wires as wires
-use Rattle.wiring.specs.Wires.{after_settling, is_requested}
+use Rattle.wiring.specs.Wires.{after_settling}
 use Rattle.board_plain.specs.declared.act.Act.{Act}
 use Rattle.board_plain.specs.declared.act.Act.TheVariants.{Nothing}
 use Rattle.board_plain.specs.declared.stop.Condition.{Condition}

@@ -1,4 +1,5 @@
 -- Up to the least deadline nothing happens, and in the clock after it something does.
+use Rattle.wiring.specs.EachWire.{is_requested}
 use Rattle.std.proofs.Common.{◌≡◌, ℕ, ◌+◌, ◌-◌, ◌<◌, ◌≤◌, ◌^◌, inl, inr, Bool, true, false, if◌then◌else◌, List, [], ◌∷◌, ◌++◌, length, take, drop, get_or, Option, None, Some, refl, sym, ap, ◌∙◌, subst, arith}
 use Rattle.std.specs.Prelude.{All, ◌⊎◌, nat_eq}
 use Rattle.std.proofs.lemmas.Bool.Decides.{eqb_tells, leb_tells}
@@ -16,7 +17,6 @@ use Rattle.scheduler.specs.declared.deadlines.Source.TheVariants.{Counter0, Coun
 use Rattle.scheduler.specs.Deadlines.{DeadlinesState, deadline_of, no_deadlines, place_of, with_deadline}
 use Rattle.wiring.specs.Chips.{ChipsState}
 use Rattle.wiring.specs.Edges.{ticks_between, IsEdgeOf, TurnsIn}
-use Rattle.wiring.specs.Wires.{is_requested}
 use Rattle.board_plain.specs.declared.act.Act.TheVariants.{Nothing}
 use Rattle.board.specs.Arrivals.{Awaits, IsNextStamp}
 use Rattle.board_plain.specs.Laws.{NoKeyComes, WiresHold}

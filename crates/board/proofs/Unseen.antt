@@ -1,4 +1,5 @@
 -- Clocks of which nothing is seen: what a board is after them, which wires stay, and how a leap over them is told.
+use Rattle.wiring.specs.EachWire.{is_requested}
 use Rattle.std.proofs.Common.{◌≡◌, ℕ, ◌+◌, ◌-◌, ◌≤◌, inl, inr, Option, sym, ap, ◌∙◌, subst, arith}
 use Rattle.board_types.proofs.Iterate.{iterate_zero}
 use Rattle.cached_chips.proofs.Quiet.{quiet_for}
@@ -7,7 +8,6 @@ use Rattle.execute_meaning.specs.Boundaries.{boundary_of}
 use Rattle.execute_meaning.specs.declared.boundary.Boundary.TheVariants as boundaries
 use Rattle.wiring.specs.Chips.{ChipsState}
 use Rattle.wiring.specs.Wires as wires
-use Rattle.wiring.specs.Wires.{is_requested}
 use Rattle.board_plain.specs.Laws.{NoKeyComes, WiresHold}
 use Rattle.board_plain.specs.Plain.{Plain, after_clock, after_clocks, clock_of, speaker_level}
 use Rattle.board.specs.Alone.{BeginsNothing, GoUnseen, IsUnseen, MayPass, StaysIdleAnyhow, WiresStay, passed_by}

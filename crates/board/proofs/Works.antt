@@ -19,7 +19,8 @@ use Rattle.wiring.specs.Chips.{ChipsState}
 use Rattle.wiring.specs.Edges.{ticks_between, TurnsIn}
 use Rattle.wiring.specs.Leap as leaps
 use Rattle.wiring.specs.Wires as wires
-use Rattle.wiring.specs.Wires.{after_arrival, after_arrivals, after_gate_wire, after_key_settling, after_settling}
+use Rattle.wiring.specs.Wires.{after_arrival, after_arrivals, after_key_settling, after_settling}
+use Rattle.wiring.specs.EachWire.{after_gate_wire}
 use Rattle.board_plain.specs.declared.act.Act.{Act}
 use Rattle.board_plain.specs.declared.act.Act.TheVariants.{Nothing, Request, SingleStep, Iteration, Instruction}
 use Rattle.board_plain.specs.Laws.{NoKeyComes, WiresHold}

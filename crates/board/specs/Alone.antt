@@ -1,6 +1,7 @@
 -- Clocks in which the processor does nothing and of which nothing is seen but where they end, and leaps over them: no wire
 -- changes in them, or the chips go on alone, whatever the timer does.
 -- For proofs alone: no public contract rests on it.
+use Rattle.wiring.specs.EachWire.{is_requested}
 use Rattle.std.specs.Prelude.{ℕ, ◌≡◌, ◌+◌, ◌-◌, ◌<◌, ◌≤◌, ◌⊎◌, List, [], Bool, true, min, Option, None, Some}
 use Rattle.board_types.specs.declared.choice.ClockTable.{ClockTable}
 use Rattle.board_types.specs.declared.keys.StampedKey.{StampedKey}
@@ -11,7 +12,6 @@ use Rattle.execute_meaning.specs.declared.boundary.Boundary.TheVariants as bound
 use Rattle.wiring.specs.Alone.{GoesOnAlone, IsTimerInhibited}
 use Rattle.wiring.specs.Chips.{ChipsState}
 use Rattle.wiring.specs.Wires as wires
-use Rattle.wiring.specs.Wires.{is_requested}
 use Rattle.board_plain.specs.declared.stop.Condition.{Condition}
 use Rattle.board_plain.specs.Laws.{NoKeyComes, WiresHold}
 use Rattle.board_plain.specs.Plain.{Plain, after_clock, after_clocks, changes_in, chips_after_clock, clock_of}

@@ -1,6 +1,7 @@
 -- Clocks in which nothing happens but that the beam moves, the counters tick and the processor is busy or idle: how
 -- many there are at least, and what is left of a board after them.
 -- For proofs alone: no public contract rests on it.
+use Rattle.wiring.specs.EachWire.{is_requested}
 use Rattle.std.specs.Prelude.{ℕ, ◌≡◌, ◌≢◌, ◌+◌, ◌-◌, ◌<◌, ◌≤◌, ◌^◌, ◌⊎◌, [], Bool, true, false, min, Option, None, Some}
 use Rattle.board_types.specs.Timed.{IsSteady}
 use Rattle.cached_chips.specs.Quiet.{IsQuiet}
@@ -14,7 +15,6 @@ use Rattle.scheduler.specs.declared.deadlines.Source.TheVariants.{Counter0, Coun
 use Rattle.scheduler.specs.Deadlines.{DeadlinesState, IsNext}
 use Rattle.wiring.specs.Edges.{ticks_between, IsEdgeOf}
 use Rattle.wiring.specs.Leap as wires
-use Rattle.wiring.specs.Wires.{is_requested}
 use Rattle.board_plain.specs.declared.act.Act.{Act}
 use Rattle.board_plain.specs.declared.act.Act.TheVariants.{Nothing}
 use Rattle.board.specs.Arrivals.{IsNextStamp}

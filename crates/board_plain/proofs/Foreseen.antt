@@ -1,4 +1,5 @@
 -- The speaker's level at the next clock, known from the port writes of what the processor does.
+use Rattle.wiring.specs.EachWire.{requested_type}
 use Rattle.std.proofs.Common.{◌≡◌, ℕ, ◌+◌, ◌-◌, Bool, true, false, if◌then◌else◌, List, [], ◌∷◌, refl, sym, ap, ◌∙◌, subst}
 use Rattle.board_types.specs.declared.choice.ClockTable.{ClockTable}
 use Rattle.board_types.specs.Lines.{from_bool}
@@ -20,7 +21,7 @@ use Rattle.wiring.specs.Chips.{ChipsState}
 use Rattle.wiring.specs.Laws.{SoundsAlike}
 use Rattle.wiring.specs.Ports.{chips_bus, with_byte, after_input, after_output}
 use Rattle.wiring.specs.Speaker.{is_speaker_high, is_speaker_high_after}
-use Rattle.wiring.specs.Wires.{after_settling, after_acknowledge, requested_type}
+use Rattle.wiring.specs.Wires.{after_settling, after_acknowledge}
 use Rattle.wiring.proofs.Entries.{no_entry_touches}
 use Rattle.wiring.proofs.Alike.{alike_after_input, alike_after_output, depends_on_writes, no_key_touches}
 use Rattle.wiring.proofs.Settling.{settles_once}

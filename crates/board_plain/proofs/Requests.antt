@@ -13,7 +13,6 @@ use Rattle.execute_meaning.specs.declared.boundary.Boundary.TheVariants as bound
 use Rattle.execute_meaning.specs.declared.shadow.Shadow.{Shadow}
 use Rattle.execute_meaning.specs.declared.shadow.Shadow.TheVariants as shadows
 use Rattle.wiring.specs.Chips.{ChipsState}
-use Rattle.wiring.specs.Wires.{is_requested}
 use Rattle.board_plain.specs.declared.act.Act.{Act}
 use Rattle.board_plain.specs.declared.act.Act.TheVariants.{Nothing, Request, SingleStep, Iteration, Instruction}
 use Rattle.board_plain.specs.Laws.{IsRequested, IsTakenWithin, MayTakeRequest, NoRequestWithoutIf, RequestIsTaken, RequestStays, StayingRequestIsTaken, TakesRequest}

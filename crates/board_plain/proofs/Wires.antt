@@ -1,4 +1,5 @@
 -- The wires at every clock of a board.
+use Rattle.wiring.specs.EachWire.{requested_type}
 use Rattle.std.proofs.Common.{◌≡◌, ℕ, ◌+◌, ◌*◌, zero, suc, List, [], ◌∷◌, refl, sym, ap, ◌∙◌, subst}
 use Rattle.board_types.specs.declared.choice.ClockTable.{ClockTable}
 use Rattle.board_types.specs.declared.choice.TimerKind.{TimerKind}
@@ -18,7 +19,7 @@ use Rattle.wiring.specs.Chips.{ChipsState}
 use Rattle.wiring.specs.Laws.{FixedWires, KeysSettled}
 use Rattle.wiring.specs.Ports.{chips_bus}
 use Rattle.wiring.specs.Wires as wires
-use Rattle.wiring.specs.Wires.{after_settling, after_arrival, after_arrivals, after_key_settling, after_acknowledge, requested_type}
+use Rattle.wiring.specs.Wires.{after_settling, after_arrival, after_arrivals, after_key_settling, after_acknowledge}
 use Rattle.board_plain.specs.declared.act.Act.{Act}
 use Rattle.board_plain.specs.declared.act.Act.TheVariants.{Nothing, Request, SingleStep, Iteration, Instruction}
 use Rattle.board_plain.specs.declared.config.Config.{Config}

@@ -1,4 +1,5 @@
 -- Which addresses take bytes, at every clock of a board.
+use Rattle.wiring.specs.EachWire.{requested_type}
 use Rattle.std.proofs.Common.{◌≡◌, ℕ, ◌+◌, ◌*◌, ◌-◌, ◌<◌, ◌≤◌, ◌⊎◌, inl, inr, zero, suc, true, false, if◌then◌else◌, List, [], ◌∷◌, length, refl, ap, ◌∙◌, arith}
 use Rattle.std.specs.Prelude.{nat_lt}
 use Rattle.std.proofs.lemmas.Grind.{common_steps}
@@ -23,7 +24,7 @@ use Rattle.wiring.specs.Chips.{ChipsState}
 use Rattle.wiring.specs.Chips as chips
 use Rattle.wiring.specs.Ports.{chips_bus, is_writable}
 use Rattle.wiring.specs.Wires as wires
-use Rattle.wiring.specs.Wires.{after_arrival, after_arrivals, after_key_settling, after_acknowledge, requested_type}
+use Rattle.wiring.specs.Wires.{after_arrival, after_arrivals, after_key_settling, after_acknowledge}
 use Rattle.board_plain.specs.declared.act.Act.{Act}
 use Rattle.board_plain.specs.declared.act.Act.TheVariants.{Nothing, Request, SingleStep, Iteration, Instruction}
 use Rattle.board_plain.specs.declared.config.Config.{Config}

@@ -1,5 +1,6 @@
 -- What holds of every plain board.
 -- Laws: claims above the definitions, each proved as the contract of a function.
+use Rattle.wiring.specs.EachWire.{is_requested}
 use Rattle.std.specs.Prelude.{ℕ, ◌≡◌, ◌≢◌, ◌+◌, ◌-◌, ◌*◌, ◌/◌, ◌<◌, ◌≤◌, true, false, ◌⊎◌, ◌↔◌, List, [], ◌∷◌, ◌++◌, length, All, Option, MatchOption}
 use Rattle.board_types.specs.declared.keys.StampedKey.{StampedKey}
 use Rattle.board_types.specs.declared.state.State.TheVariants.{Halted, Jammed}
@@ -16,7 +17,7 @@ use Rattle.wiring.specs.Laws.{KeysSettled, FixedWires}
 use Rattle.wiring.specs.Ports.{is_writable}
 use Rattle.wiring.specs.Speaker.{is_speaker_high_after}
 use Rattle.wiring.specs.Wires as wires
-use Rattle.wiring.specs.Wires.{after_settling, is_requested}
+use Rattle.wiring.specs.Wires.{after_settling}
 use Rattle.board_plain.specs.declared.act.Act.{Act}
 use Rattle.board_plain.specs.declared.act.Act.TheVariants.{Nothing, Request, Instruction}
 use Rattle.board_plain.specs.declared.config.Config.{Config}

@@ -1,4 +1,5 @@
 -- The keyboard's queue in a clock: the processor and the wires keep it, the codes of the clock arrive, and the keyboard settles.
+use Rattle.wiring.specs.EachWire.{requested_type}
 use Rattle.std.proofs.Common.{◌≡◌, ℕ, ◌+◌, Bool, true, false, if◌then◌else◌, List, [], ◌∷◌, refl, sym, ap, ◌∙◌, subst}
 use Rattle.std.specs.Prelude.{fold}
 use Rattle.board_types.specs.Bits.{has_bit}
@@ -17,7 +18,7 @@ use Rattle.wiring.specs.Ports.{after_input, after_output, after_port_read, after
 use Rattle.wiring.specs.declared.port.Port.{Port}
 use Rattle.wiring.specs.declared.port.Port.TheVariants as ports
 use Rattle.wiring.specs.Wires as wires
-use Rattle.wiring.specs.Wires.{after_acknowledge, after_arrival, after_arrivals, after_key_settling, after_settling, requested_type}
+use Rattle.wiring.specs.Wires.{after_acknowledge, after_arrival, after_arrivals, after_key_settling, after_settling}
 use Rattle.board_plain.specs.declared.act.Act.{Act}
 use Rattle.board_plain.specs.declared.act.Act.TheVariants.{Nothing, Request, SingleStep, Iteration, Instruction}
 use Rattle.board_plain.specs.Plain.{Plain, after_act, after_clock, chips_after_clock, clock_of, codes_at, next_act}

@@ -1,6 +1,7 @@
 -- The accesses that a plain board's processor makes in a clock, in order (8086 Family User's Manual, "Instruction Set"): those of
 -- its step, of the next iteration of a repeat, or of an entry, made over a bus that notes them.
 -- To be believed by callers of this crate: the headline does not rest on it.
+use Rattle.wiring.specs.EachWire.{requested_type}
 use Rattle.std.specs.Prelude.{ℕ, List}
 use Rattle.board_types.specs.declared.choice.ClockTable.{ClockTable}
 use Rattle.board_plain.specs.declared.act.Act.{Act}
@@ -12,7 +13,7 @@ use Rattle.execute_meaning.specs.Meaning.{StepResult, step_result, after_step, a
 use Rattle.execute_meaning.specs.declared.boundary.Cause.TheVariants as causes
 use Rattle.wiring.specs.Chips.{ChipsState}
 use Rattle.wiring.specs.Ports.{chips_bus}
-use Rattle.wiring.specs.Wires.{after_acknowledge, requested_type}
+use Rattle.wiring.specs.Wires.{after_acknowledge}
 use Rattle.events.specs.declared.access.Access.{Access}
 use Rattle.events.specs.Noting.{Noted, noting, unnoted}
 

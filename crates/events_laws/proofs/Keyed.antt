@@ -21,7 +21,7 @@ use Rattle.wiring.specs.Ports.{after_input, after_output, after_port_read, after
 use Rattle.wiring.specs.declared.port.Port.{Port}
 use Rattle.wiring.specs.declared.port.Port.TheVariants as ports
 use Rattle.wiring.specs.Wires as wires
-use Rattle.wiring.specs.Wires.{after_acknowledge, after_arrival, after_arrivals, after_key_settling, after_latch_wire, after_settling, requested_type}
+use Rattle.wiring.specs.Wires.{after_acknowledge, after_arrival, after_arrivals, after_key_settling, after_settling}
 use Rattle.board_plain.specs.declared.act.Act.{Act}
 use Rattle.board_plain.specs.declared.act.Act.TheVariants.{Nothing, Request, SingleStep, Iteration, Instruction}
 use Rattle.board_plain.specs.Plain.{Plain, after_act, after_clock, after_clocks, chips_after_clock, clock_of, codes_at, lost_codes, next_act, state_of}

@@ -1,4 +1,5 @@
 -- What happens, against the trail, the speaker's list and memory.
+use Rattle.wiring.specs.EachWire.{requested_type}
 use Rattle.std.proofs.Common.{◌≡◌, ◌≢◌, ℕ, zero, suc, ◌+◌, Bool, true, false, if◌then◌else◌, List, [], ◌∷◌, ◌++◌, map, Option, refl, sym, ap, ◌∙◌, append-nil, arith}
 use Rattle.std.specs.Prelude.{◌&&◌, nat_eq, fold}
 use Rattle.std.specs.Bool.{beq}
@@ -20,7 +21,7 @@ use Rattle.wiring.specs.BusLaws.{chips_keep_bytes}
 use Rattle.wiring.specs.Chips.{ChipsState}
 use Rattle.wiring.specs.Ports.{byte_at, chips_bus, is_writable}
 use Rattle.wiring.specs.Wires as wires
-use Rattle.wiring.specs.Wires.{after_acknowledge, after_arrival, after_arrivals, after_key_settling, requested_type}
+use Rattle.wiring.specs.Wires.{after_acknowledge, after_arrival, after_arrivals, after_key_settling}
 use Rattle.board_plain.specs.declared.act.Act.{Act}
 use Rattle.board_plain.specs.declared.act.Act.TheVariants.{Nothing, Request, SingleStep, Iteration, Instruction}
 use Rattle.board_plain.specs.declared.trail.TrailEntry.{TrailEntry}

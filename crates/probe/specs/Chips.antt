@@ -2,6 +2,7 @@
 -- counter (IBM PC Technical Reference, "System Board I/O", "Keyboard", "Speaker Interface", "IBM Monochrome Display and
 -- Parallel Printer Adapter"; Intel 8255A data sheet, "Operating Modes: Mode 0"; 8086 Family User's Manual, "Interrupts").
 -- To be believed by callers of this crate: the headline does not rest on it.
+use Rattle.wiring.specs.EachWire.{inputs_of}
 use Rattle.std.specs.Prelude.{ℕ, List, ◌++◌, codes, is_some}
 use Rattle.std.specs.Fmt.{decimal}
 use Rattle.std.specs.List.{flat_map}
@@ -20,7 +21,6 @@ use Rattle.ppi8255.specs.declared.ppi.Direction.{Direction}
 use Rattle.ppi8255.specs.declared.ppi.Direction.TheVariants.{Input, Output}
 use Rattle.ppi8255.specs.declared.ppi.Inputs.{Inputs}
 use Rattle.ppi8255.specs.Ppi.{PpiState, byte_at}
-use Rattle.wiring.specs.Ports.{inputs_of}
 use Rattle.probe.specs.Controller.{controller_line}
 use Rattle.probe.specs.Counter.{counter_line}
 use Rattle.probe.specs.Shown.{byte_or_none, flag_text, line_text}

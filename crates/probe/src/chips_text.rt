@@ -1,10 +1,10 @@
 //! What a board's chips hold, as text.
+ghost use Rattle.wiring.specs.EachWire.{inputs_of};
 ghost use Rattle.std.specs.Prelude.{◌≡◌, ◌++◌, IfOk, OnOk, codes};
 ghost use Rattle.std.specs.List.{flat_map};
 ghost use Rattle.std.specs.String.{string_bytes};
 ghost use Rattle.debugger_meaning.specs.Dump.{spaced_byte};
 ghost use Rattle.ppi8255.specs.Image.{direction_by};
-ghost use Rattle.wiring.specs.Ports.{inputs_of};
 ghost use Rattle.probe.specs.Chips.{adapter_line, chips_text, direction_text, inhibited_text, keyboard_line, ports_line, processor_boundary, processor_line, processor_state, speaker_line, timer_lines};
 
 use crate::controller_text::controller_line;

@@ -13,7 +13,8 @@ use Rattle.pit8253.specs.Counter as counter
 use Rattle.pit8253.specs.Pit as pit
 use Rattle.pit8253.specs.Pit.{PitState}
 use Rattle.ppi8255.specs.Ppi.{lines_b}
-use Rattle.wiring.specs.Wires.{after_latch_wire, after_gate_wire, after_request_wires, after_settling}
+use Rattle.wiring.specs.Wires.{after_settling}
+use Rattle.wiring.specs.EachWire.{after_latch_wire, after_gate_wire, after_request_wires}
 use Rattle.wiring.specs.Laws.{SettledAgree}
 
 -- which lines are high, once a line has taken a level

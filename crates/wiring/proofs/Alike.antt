@@ -14,7 +14,8 @@ use Rattle.wiring.specs.declared.port.Port.{Port}
 use Rattle.wiring.specs.declared.port.Port.TheVariants.{Controller, Timer, Parallel, Adapter, Nothing}
 use Rattle.wiring.specs.Chips.{ChipsState}
 use Rattle.wiring.specs.Ports.{port_at, after_port_read, after_port_write, after_input, after_output}
-use Rattle.wiring.specs.Wires.{port_b_line, pit_after_clock, after_settling, after_clock, after_arrival, after_arrivals, after_key_settling}
+use Rattle.wiring.specs.Wires.{pit_after_clock, after_settling, after_clock, after_arrival, after_arrivals, after_key_settling}
+use Rattle.wiring.specs.EachWire.{port_b_line}
 use Rattle.wiring.specs.Speaker.{is_speaker_high, is_speaker_high_after}
 use Rattle.wiring.specs.Laws.{SoundsAlike, DependsOnWrites, NoKeyTouches, NoReadTouches}
 use Rattle.wiring.proofs.TimerGates.{changed_at}

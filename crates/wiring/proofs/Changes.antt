@@ -12,7 +12,8 @@ use Rattle.pic8259.specs.Pic.{PicState, after_line}
 use Rattle.pit8253.specs.Pit as pit
 use Rattle.pit8253.specs.Pit.{PitState}
 use Rattle.ppi8255.specs.Ppi.{lines_b}
-use Rattle.wiring.specs.Wires.{after_latch_wire, after_gate_wire, after_request_wires, after_settling}
+use Rattle.wiring.specs.Wires.{after_settling}
+use Rattle.wiring.specs.EachWire.{after_latch_wire, after_gate_wire, after_request_wires}
 use Rattle.wiring.specs.Laws.{SettlingChangesAlone}
 use Rattle.wiring.proofs.Agreement.{high_after_line, high_after_requests}
 use Rattle.wiring.proofs.FixedWires.{above, other_line}

@@ -14,7 +14,8 @@ use Rattle.wiring.specs.declared.port.Port.{Port}
 use Rattle.wiring.specs.declared.port.Port.TheVariants.{Controller, Timer, Parallel, Adapter, Nothing}
 use Rattle.wiring.specs.Chips.{ChipsState, power_on}
 use Rattle.wiring.specs.Ports.{with_byte, port_at, after_port_read, after_port_write, after_input, after_output}
-use Rattle.wiring.specs.Wires.{port_b_line, after_latch_wire, after_gate_wire, after_settling, after_clock, after_arrival, after_key_settling, after_acknowledge}
+use Rattle.wiring.specs.Wires.{after_settling, after_clock, after_arrival, after_key_settling, after_acknowledge}
+use Rattle.wiring.specs.EachWire.{port_b_line, after_latch_wire, after_gate_wire}
 use Rattle.wiring.specs.Laws.{FixedWires, WiresStay}
 use Rattle.wiring.proofs.Agreement.{high_after_requests}
 use Rattle.wiring.proofs.HighLines.{high_after_acknowledge, high_after_read, high_after_write}

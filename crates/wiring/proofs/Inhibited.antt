@@ -10,7 +10,8 @@ use Rattle.pic8259.specs.Pic.{PicState, after_line, is_requesting}
 use Rattle.wiring.specs.Alone.{IsTimerInhibited}
 use Rattle.wiring.specs.Chips.{ChipsState}
 use Rattle.wiring.specs.Laws.{KeysSettled}
-use Rattle.wiring.specs.Wires.{pit_after_clock, after_gate_wire, after_latch_wire, after_settling, after_clock, after_clocks, is_requested}
+use Rattle.wiring.specs.Wires.{pit_after_clock, after_settling, after_clock, after_clocks}
+use Rattle.wiring.specs.EachWire.{after_gate_wire, after_latch_wire, is_requested}
 use Rattle.wiring.proofs.Alone.{keys_settled_later}
 use Rattle.wiring.proofs.Latch.{latch_settled}
 use Rattle.wiring.proofs.Requests.{line_twice, lines_either}

@@ -6,7 +6,7 @@ use Rattle.keyboard.specs.Keyboard.{KeyboardState, after_settling, after_clearin
 use Rattle.ppi8255.specs.Ppi.{lines_b}
 use Rattle.wiring.specs.Chips.{ChipsState}
 use Rattle.wiring.specs.Laws.{KeysSettled}
-use Rattle.wiring.specs.Wires.{after_latch_wire}
+use Rattle.wiring.specs.EachWire.{after_latch_wire}
 
 pub line_7_clears : (s : KeyboardState) (lines : ℕ) → has_bit lines 7 ≡ true → after_settling s lines ≡ after_clearing s
 unfolding after_settling

@@ -18,7 +18,8 @@ use Rattle.pit8253.specs.Pit.{PitState}
 use Rattle.wiring.specs.Chips.{ChipsState}
 use Rattle.wiring.specs.Edges.{ticks_between}
 use Rattle.wiring.specs.Leap.{IsStill, leapt}
-use Rattle.wiring.specs.Wires.{port_b_line, after_latch_wire, after_gate_wire, after_request_wires, pit_after_clock, after_settling, after_clock, after_clocks}
+use Rattle.wiring.specs.Wires.{pit_after_clock, after_settling, after_clock, after_clocks}
+use Rattle.wiring.specs.EachWire.{port_b_line, after_latch_wire, after_gate_wire, after_request_wires}
 use Rattle.wiring.proofs.Agreement.{first_line, high_after_requests, second_line}
 use Rattle.wiring.proofs.Behind.{gate_stays}
 use Rattle.wiring.proofs.Requests.{risen_line, same_line}

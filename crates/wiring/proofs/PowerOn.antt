@@ -14,7 +14,8 @@ use Rattle.ppi8255.specs.Ppi.{PpiState, lines_b}
 use Rattle.keyboard.specs.Keyboard as keys
 use Rattle.keyboard.specs.Keyboard.{KeyboardState, after_clearing}
 use Rattle.wiring.specs.Chips.{ChipsState, power_on}
-use Rattle.wiring.specs.Wires.{after_latch_wire, after_gate_wire, after_settling, after_arrival, after_arrivals}
+use Rattle.wiring.specs.Wires.{after_settling, after_arrival, after_arrivals}
+use Rattle.wiring.specs.EachWire.{after_latch_wire, after_gate_wire}
 use Rattle.wiring.specs.Laws.{KeysSettled}
 
 -- a key that arrives only waits

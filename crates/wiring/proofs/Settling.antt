@@ -10,7 +10,8 @@ use Rattle.pic8259.specs.Pic.{PicState}
 use Rattle.pit8253.specs.Pit.{PitState}
 use Rattle.ppi8255.specs.Ppi.{PpiState, lines_b}
 use Rattle.wiring.specs.Chips.{ChipsState}
-use Rattle.wiring.specs.Wires.{port_b_line, after_latch_wire, after_gate_wire, after_request_wires, after_settling, after_key_settling}
+use Rattle.wiring.specs.Wires.{after_settling, after_key_settling}
+use Rattle.wiring.specs.EachWire.{port_b_line, after_latch_wire, after_gate_wire, after_request_wires}
 use Rattle.wiring.specs.Laws.{SettlesOnce, KeysSettleOnce}
 use Rattle.wiring.proofs.Gates.{gate_2_twice}
 use Rattle.wiring.proofs.Requests.{both_lines_twice}

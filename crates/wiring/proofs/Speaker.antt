@@ -13,7 +13,8 @@ use Rattle.wiring.specs.declared.port.Port.TheVariants.{Controller, Timer, Paral
 use Rattle.wiring.specs.declared.sound.Sound.{Sound}
 use Rattle.wiring.specs.Chips.{ChipsState}
 use Rattle.wiring.specs.Ports.{port_at, after_port_write, after_output}
-use Rattle.wiring.specs.Wires.{after_settling, after_clock, after_clocks, after_key_settling, pit_after_clock, port_b_line}
+use Rattle.wiring.specs.Wires.{after_settling, after_clock, after_clocks, after_key_settling, pit_after_clock}
+use Rattle.wiring.specs.EachWire.{port_b_line}
 use Rattle.wiring.specs.Sound.{sound_of, sound_after_settling, sound_after_clock, sound_after_write, is_sound_high}
 use Rattle.wiring.specs.Speaker.{is_speaker_high, is_speaker_high_after}
 use Rattle.wiring.proofs.Gates.{gate_2_twice}

@@ -13,7 +13,8 @@ use Rattle.pit8253.specs.Pit as pit
 use Rattle.ppi8255.specs.Ppi.{lines_b}
 use Rattle.wiring.specs.Chips.{ChipsState, power_on}
 use Rattle.wiring.specs.Ports.{after_input, after_output, with_byte, byte_at, is_writable}
-use Rattle.wiring.specs.Wires.{port_b_line, after_settling, after_clock, after_clocks, after_arrival, after_arrivals, after_key_settling, after_acknowledge}
+use Rattle.wiring.specs.Wires.{after_settling, after_clock, after_clocks, after_arrival, after_arrivals, after_key_settling, after_acknowledge}
+use Rattle.wiring.specs.EachWire.{port_b_line}
 use Rattle.wiring.specs.Speaker.{is_speaker_high, is_speaker_high_after}
 
 -- to settle again changes nothing

@@ -1,6 +1,7 @@
 pub mod Chips
 pub mod Ports
 pub mod Wires
+pub mod EachWire
 pub mod Sound
 pub mod Speaker
 pub mod BusLaws

@@ -8,7 +8,6 @@ use Rattle.memory.specs.Map as map
 use Rattle.pic8259.specs.Pic as pic
 use Rattle.pit8253.specs.Pit as pit
 use Rattle.ppi8255.specs.Ppi as ppi
-use Rattle.ppi8255.specs.declared.ppi.Inputs.{Inputs}
 use Rattle.mda_text.specs.Mda as mda
 use Rattle.wiring.specs.declared.port.Port.{Port}
 use Rattle.wiring.specs.declared.port.Port.TheVariants.{Controller, Timer, Parallel, Adapter, Nothing}
@@ -44,15 +43,11 @@ port_at n =
     else if (n == 0x3B4) || (n == 0x3B5) || (n == 0x3B8) || (n == 0x3BA) then Adapter n
     else Nothing
 
--- what the board brings to the parallel port's pins
-abbrev pub inputs_of : ChipsState → Inputs
-inputs_of s = record { latch = s.keyboard.latch; out2 = s.pit.counter_2.out }
-
 -- the byte that a read gives
 abbrev pub port_byte : ChipsState → Port → ℕ
 port_byte s (Controller a0) = pic.byte_at s.pic a0
 port_byte s (Timer n) = pit.byte_at s.pit n
-port_byte s (Parallel n) = ppi.byte_at s.ppi n (inputs_of s)
+port_byte s (Parallel n) = ppi.byte_at s.ppi n (record { latch = s.keyboard.latch; out2 = s.pit.counter_2.out })
 port_byte s (Adapter n) = mda.byte_at s.mda n
 port_byte s Nothing = 0xFF
 
@@ -60,9 +55,7 @@ port_byte s Nothing = 0xFF
 abbrev pub after_port_read : ChipsState → Port → ChipsState
 after_port_read s (Controller a0) = record s { pic = pic.after_read s.pic }
 after_port_read s (Timer n) = record s { pit = pit.after_read s.pit n }
-after_port_read s (Parallel n) = s
-after_port_read s (Adapter n) = s
-after_port_read s Nothing = s
+after_port_read s _ = s
 
 -- what a write changes
 abbrev pub after_port_write : ChipsState → Port → ℕ → ChipsState

@@ -10,7 +10,8 @@ use Rattle.wiring.specs.declared.port.Port.{Port}
 use Rattle.wiring.specs.declared.port.Port.TheVariants.{Controller, Timer, Parallel, Adapter, Nothing}
 use Rattle.wiring.specs.declared.sound.Sound.{Sound}
 use Rattle.wiring.specs.Chips.{ChipsState}
-use Rattle.wiring.specs.Wires.{after_gate_wire, pit_after_clock}
+use Rattle.wiring.specs.Wires.{pit_after_clock}
+use Rattle.wiring.specs.EachWire.{after_gate_wire}
 
 -- a chip's own port is one of its four
 abbrev pub HasNumber : Port → Type 0
