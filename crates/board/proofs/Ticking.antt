@@ -41,10 +41,7 @@ pub stopped : (n passed : ℕ) (s t u : BoardState) → passed < n → Ran passe
 stopped n passed s t u within so_far held = record {
   passed = passed;
   before_end = within;
-  plain = ap (λ (b : BoardState). b.plain) held.kept ∙ so_far.plain;
-  clock = let c = so_far.clock in let same : clock_of u.plain ≡ clock_of t.plain = ap (λ (b : BoardState). clock_of b.plain) held.kept in omega arith;
-  changes = ap (λ (b : BoardState). b.changes) held.kept ∙ so_far.changes;
-  trail = ap (λ (b : BoardState). b.trail) held.kept ∙ so_far.trail;
+  ran = subst (Ran passed s) (sym held.kept) so_far;
   changes_next = subst (λ (b : BoardState). speaker_level (after_clock b.plain) ≢ speaker_level b.plain) (sym held.kept) held.changes_next;
   full = ap (λ (b : BoardState). b.room) held.kept ∙ held.full;
 }

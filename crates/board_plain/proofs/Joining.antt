@@ -1,5 +1,5 @@
 -- A search in two pieces is one search.
-use Rattle.std.proofs.Common.{◌≡◌, ℕ, ◌+◌, ◌-◌, inl, inr, List, length, Option, None, Some, sym, ap, ◌∙◌, subst, arith}
+use Rattle.std.proofs.Common.{◌≡◌, ℕ, ◌+◌, ◌-◌, inl, inr, List, Option, None, Some, sym, ap, ◌∙◌, subst, arith}
 use Rattle.std.proofs.lemmas.Bool.{cases_lt}
 use Rattle.board_types.proofs.Iterate.{iterate_add}
 use Rattle.board_plain.specs.declared.stop.Condition.{Condition}
@@ -52,15 +52,10 @@ lengths_join stops a b s t u (Some stop) first is second =
 -- so is one whose second piece finds no memory
 pub early_join : (a b : ℕ) (s t u : BoardState) → Ran a s t → StoppedEarly b t u → StoppedEarly (a + b) s u
 early_join a b s t u first early =
-    let before = early.before_end in
-    let whole = runs_join a early.passed s t (record u { room = t.room + length t.changes }) first
-    (record { plain = early.plain; clock = early.clock; changes = early.changes; trail = early.trail; room = omega arith }) in record {
+    let before = early.before_end in record {
       passed = a + early.passed;
       before_end = omega (arith, before);
-      plain = whole.plain;
-      clock = whole.clock;
-      changes = whole.changes;
-      trail = whole.trail;
+      ran = runs_join a early.passed s t u first early.ran;
       changes_next = early.changes_next;
       full = early.full;
     }

@@ -30,10 +30,7 @@ pub record Ran (n : ℕ) (old new : BoardState) : Type 0 where
 pub record StoppedEarly (n : ℕ) (old new : BoardState) : Type 0 where
   pub passed : ℕ
   pub before_end : passed < n
-  pub plain : new.plain ≡ after_clocks old.plain passed
-  pub clock : clock_of new.plain ≡ clock_of old.plain + passed
-  pub changes : new.changes ≡ old.changes ++ changes_in old.plain passed
-  pub trail : new.trail ≡ last 32 (old.trail ++ trail_in old.plain passed)
+  pub ran : Ran passed old new
   pub changes_next : speaker_level (after_clock new.plain) ≢ speaker_level new.plain
   pub full : new.room ≡ 0
 

@@ -105,10 +105,7 @@ early_by : (b n : ℕ) (s t : BoardState) → b ≤ n → StoppedEarly b s t →
 early_by b n s t more early = record {
   passed = early.passed;
   before_end = let before = early.before_end in omega (arith, before, more);
-  plain = early.plain;
-  clock = early.clock;
-  changes = early.changes;
-  trail = early.trail;
+  ran = early.ran;
   changes_next = early.changes_next;
   full = early.full;
 }
@@ -117,7 +114,7 @@ lacks_on : (count left piece clock : ℕ) (s t : SessionState) (u : BoardState) 
 lacks_on count left piece clock s t u few went lacks =
     let less = went.left_is in
     let first = went.ran.clock in
-    let second = lacks.early.clock in record {
+    let second = lacks.early.ran.clock in record {
       within = went.within;
       early = early_by (count - left + piece) count s.board u (omega (arith, few, less)) (early_join (count - left) piece s.board t.board u went.ran lacks.early);
       none_passed = subst (λ n. NoStop s.stops n s.board.plain) (omega (arith, first, second))

@@ -54,10 +54,7 @@ stands_later first k b c at ran = (at.0 + k, stands_on first at.0 k b c at.1 ran
 
 -- a run that found no memory has made some clocks, too
 pub stands_early : (first : Shown) (k : ℕ) (b c : BoardState) → StandsAfter first b → StoppedEarly k b c → StandsAfter first c
-stands_early first k b c at early =
-    let on = stands_on first at.0 early.passed b (record c { room = b.room + length b.changes }) at.1
-    (record { plain = early.plain; clock = early.clock; changes = early.changes; trail = early.trail; room = omega arith }) in
-    (at.0 + early.passed, record { plain = on.plain; clock = on.clock; changes = on.changes; trail = on.trail })
+stands_early first k b c at early = stands_later first early.passed b c at early.ran
 
 pub stands_refused : (first : Shown) (stops : List Condition) (k : ℕ) (b c : BoardState) (fault : DebugFault) → StandsAfter first b → RefusesRun stops k b c fault → StandsAfter first c
 stands_refused first stops k b c ClockLimit at is = subst (StandsAfter first) (sym is.1) at
