@@ -52,7 +52,7 @@ WAYS: list[tuple[str, list[Node]]] = [
     ('which image a source gives', [('assembler', 'Gives', 'Gives')]),
     ('which bytes an instruction has', [('isa', 'Table', 'rows'), ('isa', 'Encoding', 'encoding')]),
     ('what a board is', [('board_plain', 'Plain', 'Plain'), ('wiring', 'Chips', 'ChipsState')]),
-    ('what it is at power-on', [('board_plain', 'Plain', 'power_on'), ('board_plain', 'Reset', 'reset')]),
+    ('what it is at power-on', [('board_plain', 'Plain', 'power_on'), ('board_plain', 'Reset', 'reset_cpu')]),
     ('what one clock does', [('board_plain', 'Plain', 'after_clock'), ('board_plain', 'Plain', 'next_act'), ('board_plain', 'Plain', 'after_act')]),
     (
         'what the chips do in it, in order',

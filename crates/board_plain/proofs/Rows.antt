@@ -1,5 +1,6 @@
 -- The definition of work on a board worked out by hand: CLI and HLT at FFFF:0000 are two steps, begun in the clocks 0 and
 -- 2, and nothing else is done in the first five clocks.
+use Rattle.execute_machine.specs.Flags.{popped_flags}
 use Rattle.std.proofs.Common.{◌≡◌, ℕ, suc, ◌+◌, ◌-◌, ◌<◌, List, [], ◌∷◌, map, refl, ap, ◌∙◌, arith}
 use Rattle.std.specs.Prelude.{⊤}
 use Rattle.std.specs.List.{range_with_len}
@@ -15,7 +16,6 @@ use Rattle.isa.specs.Words.{clocks_in, data_words, whole_words}
 use Rattle.decode.specs.declared.decoding.Decoding.{Decoding as Decoded}
 use Rattle.decode.specs.Decoding.{decoded_behind, decoded_from, form_at, values_at}
 use Rattle.execute_meaning.specs.Boundaries.{boundary_of}
-use Rattle.execute_meaning.specs.Cpu.{initial_cpu}
 use Rattle.execute_meaning.specs.Meaning.{StepResult, after_found, after_operation, after_step, after_whole, is_taken, lacks_quotient}
 use Rattle.execute_control.specs.Meaning.{after_flag_operation}
 use Rattle.keyboard.specs.Keyboard as keyboard
@@ -63,7 +63,7 @@ work_by s act n is told = ap (work_acting s) is ∙ told
 
 -- what a row unfolds
 unfoldable on_clocks : ⊤
-unfolding rows row_at form_at values_at decoded_behind decoded_from form_length encoding clocks_of clocks_in data_words whole_words boundary_of initial_cpu after_found after_operation after_step after_whole is_taken lacks_quotient after_flag_operation keyboard.after_settling pic.level_to_take pic.after_line counter.after_tick counter.after_gate pit.power_on pit.after_tick pit.after_gate chips.power_on wires.after_settling wires.after_clock wires.after_key_settling chips_after_clock clock_of keys_next power_on next_act after_acting work_acting
+unfolding rows row_at form_at values_at decoded_behind decoded_from form_length encoding clocks_of clocks_in data_words whole_words boundary_of popped_flags after_found after_operation after_step after_whole is_taken lacks_quotient after_flag_operation keyboard.after_settling pic.level_to_take pic.after_line counter.after_tick counter.after_gate pit.power_on pit.after_tick pit.after_gate chips.power_on wires.after_settling wires.after_clock wires.after_key_settling chips_after_clock clock_of keys_next power_on next_act after_acting work_acting
 on_clocks = tt
 
 abbrev image : List (ℕ × ℕ)

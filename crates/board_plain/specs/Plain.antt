@@ -11,7 +11,7 @@ use Rattle.board_types.specs.declared.regs.Regs.{Regs}
 use Rattle.board_types.specs.declared.state.State.{State}
 use Rattle.decode.specs.declared.decoding.Decoding.{Decoding as Decoded}
 use Rattle.decode.specs.Decoding.{code_at, decoded_from}
-use Rattle.execute_meaning.specs.Cpu.{CpuState, initial_cpu, regs_of}
+use Rattle.execute_meaning.specs.Cpu.{CpuState, regs_of}
 use Rattle.execute_meaning.specs.Meaning.{StepResult, step_result, after_step, after_again}
 use Rattle.execute_meaning.specs.Boundaries.{boundary_of, after_enter}
 use Rattle.execute_meaning.specs.declared.boundary.Boundary.{Boundary}
@@ -28,7 +28,7 @@ use Rattle.board_plain.specs.declared.act.Act.{Act}
 use Rattle.board_plain.specs.declared.act.Act.TheVariants.{Nothing, Request, SingleStep, Iteration, Instruction}
 use Rattle.board_plain.specs.declared.config.Config.{Config}
 use Rattle.board_plain.specs.declared.speaker.SpeakerChange.{SpeakerChange}
-use Rattle.board_plain.specs.Reset.{reset}
+use Rattle.board_plain.specs.Reset.{reset_cpu}
 
 pub record Plain : Type 0 where
   pub cpu : CpuState
@@ -101,7 +101,7 @@ after_clocks s n = iterate after_clock n s
 -- the board at power-on with an image's bytes in its memory; keys stamped 0 have arrived
 unfoldable pub power_on : List (ℕ × ℕ) → Config → List StampedKey → Plain
 power_on image config keys = record {
-  cpu = initial_cpu reset;
+  cpu = reset_cpu;
   busy = 0;
   chips = after_arrivals (chips.power_on image (1024 * config.ram_kb) config.sw1 config.sw2 config.timer) (codes_at keys 0);
   keys = keys;

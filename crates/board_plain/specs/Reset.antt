@@ -1,25 +1,16 @@
--- the registers at power-on (8086 Family User's Manual, "Processor Reset and Initialization"; that the
--- general registers are 0 is this board's choice)
+-- The processor at power-on (8086 Family User's Manual, "Processor Reset and Initialization"; that the general registers are
+-- 0 is this board's choice).
 -- To be believed: the headline rests on it.
-use Rattle.std.specs.Prelude.{false}
-use Rattle.board_types.specs.declared.regs.Flags.{Flags}
-use Rattle.board_types.specs.declared.regs.Regs.{Regs}
+use Rattle.std.specs.Prelude.{false, None}
+use Rattle.board_types.specs.declared.state.State.TheVariants.{Running}
+use Rattle.execute_machine.specs.RegisterFile.{Registers}
+use Rattle.execute_machine.specs.Flags.{popped_flags}
+use Rattle.execute_meaning.specs.declared.shadow.Shadow.TheVariants.{Nothing}
+use Rattle.execute_meaning.specs.Cpu.{CpuState}
 
-abbrev pub no_flags : Flags
-no_flags = record {
-  carry = false;
-  parity = false;
-  auxiliary_carry = false;
-  zero = false;
-  sign = false;
-  trap = false;
-  interrupt_enable = false;
-  direction = false;
-  overflow = false;
-}
-
-abbrev pub reset : Regs
-reset = record {
+-- all flags are 0
+abbrev pub reset_registers : Registers
+reset_registers = record {
   ax = 0;
   cx = 0;
   dx = 0;
@@ -33,5 +24,9 @@ reset = record {
   ss = 0;
   ds = 0;
   ip = 0;
-  flags = no_flags;
+  flags = popped_flags 0;
 }
+
+-- the processor runs, and nothing is due
+abbrev pub reset_cpu : CpuState
+reset_cpu = record { registers = reset_registers; state = Running; shadow = Nothing; step_due = false; repeat = None }
