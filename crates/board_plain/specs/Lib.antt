@@ -1,6 +1,7 @@
 pub mod Reset
 pub mod Plain
 pub mod Trail
+pub mod Parts
 pub mod Board
 pub mod Stops
 pub mod Lasts

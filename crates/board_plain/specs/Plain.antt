@@ -9,7 +9,6 @@ use Rattle.board_types.specs.declared.keys.StampedKey.{StampedKey}
 use Rattle.board_types.specs.declared.line.Line.{Line}
 use Rattle.board_types.specs.declared.regs.Regs.{Regs}
 use Rattle.board_types.specs.declared.state.State.{State}
-use Rattle.decode.specs.declared.decoding.Decoding.{Decoding as Decoded}
 use Rattle.decode.specs.Decoding.{code_at, decoded_from}
 use Rattle.execute_meaning.specs.Cpu.{CpuState, regs_of}
 use Rattle.execute_meaning.specs.Meaning.{StepResult, step_result, after_step, after_again}
@@ -18,12 +17,13 @@ use Rattle.execute_meaning.specs.declared.boundary.Boundary.{Boundary}
 use Rattle.execute_meaning.specs.declared.boundary.Boundary.TheVariants as boundaries
 use Rattle.execute_meaning.specs.declared.boundary.Cause.TheVariants as causes
 use Rattle.mda_text.specs.Screen.{screen_text}
+use Rattle.pic8259.specs.Pic as pic
 use Rattle.wiring.specs.Chips as chips
 use Rattle.wiring.specs.Chips.{ChipsState}
 use Rattle.wiring.specs.Ports.{chips_bus, byte_at}
 use Rattle.wiring.specs.Speaker.{is_speaker_high}
 use Rattle.wiring.specs.Wires as wires
-use Rattle.wiring.specs.Wires.{after_arrivals, after_key_settling, after_acknowledge, is_requested, requested_type}
+use Rattle.wiring.specs.Wires.{after_arrivals, after_key_settling, after_acknowledge}
 use Rattle.board_plain.specs.declared.act.Act.{Act}
 use Rattle.board_plain.specs.declared.act.Act.TheVariants.{Nothing, Request, SingleStep, Iteration, Instruction}
 use Rattle.board_plain.specs.declared.config.Config.{Config}
@@ -48,27 +48,24 @@ clock_of s = s.chips.clock
 abbrev pub is_free : Plain → Bool
 is_free s = s.busy == 0
 
--- what stands at CS:IP
-abbrev pub decoded_at : CpuState → ChipsState → Decoded
-decoded_at cpu chips = decoded_from (code_at (byte_at chips) cpu.registers.cs cpu.registers.ip)
-
--- what the processor does at a free boundary of this case
+-- what the processor does at a free boundary of this case; an instruction is what stands at CS:IP
 abbrev pub act_at : CpuState → ChipsState → Boundary → Act
 act_at cpu chips boundaries.Request = Request
 act_at cpu chips boundaries.SingleStep = SingleStep
 act_at cpu chips boundaries.Nothing = Nothing
 act_at cpu chips boundaries.Iteration = Iteration
-act_at cpu chips boundaries.Instruction = Instruction (decoded_at cpu chips)
+act_at cpu chips boundaries.Instruction =
+    Instruction (decoded_from (code_at (byte_at chips) cpu.registers.cs cpu.registers.ip))
 
 -- what the processor does in a clock; a busy one does nothing
 unfoldable pub next_act : Plain → Act
-next_act s = if is_free s then act_at s.cpu s.chips (boundary_of s.cpu (is_requested s.chips)) else Nothing
+next_act s = if is_free s then act_at s.cpu s.chips (boundary_of s.cpu (pic.is_requesting s.chips.pic)) else Nothing
 
 -- The processor's part of a clock, at once and whole (this board's choice). A request is acknowledged as it is entered.
 abbrev pub after_act : ClockTable → CpuState → ℕ → ChipsState → Act → StepResult ChipsState
 after_act table cpu busy chips Nothing = step_result cpu chips busy
 after_act table cpu busy chips Request =
-    after_enter chips_bus table cpu (after_acknowledge chips) (requested_type chips) causes.Request
+    after_enter chips_bus table cpu (after_acknowledge chips) (pic.vector chips.pic) causes.Request
 after_act table cpu busy chips SingleStep = after_enter chips_bus table cpu chips 1 causes.SingleStep
 after_act table cpu busy chips Iteration = after_again chips_bus table cpu chips
 after_act table cpu busy chips (Instruction decoded) = after_step chips_bus table cpu chips decoded
@@ -129,7 +126,6 @@ screen_of s = screen_text s.chips.mda
 unfoldable pub lost_codes : Plain → ℕ
 lost_codes s = s.chips.keyboard.lost
 
--- the speaker's level
 unfoldable pub speaker_level : Plain → Line
 speaker_level s = from_bool (is_speaker_high s.chips)
 
