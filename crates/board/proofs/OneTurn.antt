@@ -1,5 +1,4 @@
 -- A turn is one of those that a caller makes by itself: its entries and its wires.
-use Rattle.board_plain.specs.Parts.{start_of}
 use Rattle.std.proofs.Common.{◌≡◌, ℕ, ◌+◌, ◌-◌, ◌<◌, ◌≤◌, inl, inr, Bool, true, false, List, [], ◌∷◌, ◌++◌, length, map, Option, None, refl, sym, ap, ◌∙◌, subst, arith, append-nil}
 use Rattle.std.proofs.lemmas.Bool.Decides.{nat_tests}
 use Rattle.std.specs.Prelude.{◌⊎◌, nat_lt, IfOk, IfSome, IsTrue, OnOk, Result, Ok, Err}
@@ -7,7 +6,7 @@ use Rattle.std.specs.Option.{option_to_list}
 use Rattle.board_types.proofs.Iterate.{iterate_add, iterate_zero, gathered_add}
 use Rattle.board_plain.specs.Board.{BoardState}
 use Rattle.board_plain.specs.Plain.{Plain, after_clock, after_clocks, clock_of, next_act}
-use Rattle.board_plain.specs.Trail.{entry_at, event_of, trail_in, trail_next}
+use Rattle.board_plain.specs.Trail.{entry_at, event_of, trail_in, trail_next, start_of}
 use Rattle.board_plain.specs.declared.act.Act.{Act}
 use Rattle.decode.specs.declared.decoding.Decoding.{Decoding}
 use Rattle.decode.specs.declared.decoding.Decoding.TheVariants.{Found, NoRow}

@@ -1,10 +1,9 @@
 //! One turn of a board at a time, with what begins in it.
-ghost use Rattle.board_plain.specs.Parts.{start_of};
 ghost use Rattle.std.specs.Prelude.{◌≡◌, ◌<◌, ◌≤◌, IfOk, IfSome, OnErr, OnOk, map};
 ghost use Rattle.std.specs.Option.{option_to_list};
 ghost use Rattle.std.specs.Result.{IfErr};
 ghost use Rattle.board_plain.specs.Plain.{clock_of};
-ghost use Rattle.board_plain.specs.Trail.{entry_at, event_of};
+ghost use Rattle.board_plain.specs.Trail.{entry_at, event_of, start_of};
 ghost use Rattle.board_plain.specs.declared.act.Act.TheVariants.{Instruction};
 ghost use Rattle.events.specs.Accesses.{accesses_next};
 ghost use Rattle.board.specs.HeldBack.{IsHeldBack};

@@ -1,8 +1,7 @@
 //! What stands in the parts of an instruction's bytes.
-ghost use Rattle.decode.specs.Parts.{reg_of};
 ghost use Rattle.std.specs.Prelude.{◌≡◌, ◌≤◌, ◌<◌, length};
 ghost use Rattle.isa.specs.Layout.{field_size};
-ghost use Rattle.decode.specs.Decoding.{base_of, code_of, number_at, place_at, place_of, prefix_of, reg_at, segment_at};
+ghost use Rattle.decode.specs.Decoding.{base_of, code_of, number_at, place_at, place_of, prefix_of, reg_at, segment_at, reg_of};
 
 use isa::form::{Base, Place, Prefix, Repeat};
 use isa::layout::{CodePart, Field, RegPart, Second};
