@@ -1,3 +1,4 @@
 pub mod First
 pub mod Shapes
 pub mod FieldRanges
+pub mod Alike

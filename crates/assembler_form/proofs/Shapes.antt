@@ -38,7 +38,9 @@ use Rattle.assembler_form.specs.declared.operand.Number.TheVariants.{Constant, L
 use Rattle.assembler_form.specs.declared.operand.KnownOperand.{KnownOperand}
 use Rattle.assembler_form.specs.declared.operand.KnownOperand.TheVariants as operands
 use Rattle.assembler_form.specs.declared.asked.Asked.{Asked}
-use Rattle.assembler_form.specs.Takes.{is_of, is_within, is_segment_not_cs, is_segment_register, is_pointer, is_far_memory, is_word_memory, Takes}
+use Rattle.assembler_form.specs.Takes.{is_within, Takes}
+use Rattle.assembler_form.specs.Kinds.{is_of, is_segment_not_cs, is_segment_register, is_pointer, is_far_memory, is_word_memory}
+use Rattle.assembler_form.proofs.Alike.{in_steps}
 use Rattle.assembler_form.specs.Choice.{IsChosen, IsFirst}
 use Rattle.assembler_form.specs.Parts.{escape_number, first_place, form_with, in_opcode, in_place, in_reg, is_zero, place_at, place_of, place_with, place_without, register_number}
 
@@ -288,6 +290,8 @@ unfolding form_with
 form_fits r a shape within takes =
     let k : Kind = first_of r in
     let l : Kind = second_of r in
+    let first : IsTrue (is_of a.operation k a.first) = in_steps a.operation k a.first takes.first in
+    let second : IsTrue (is_of a.operation l a.second) = in_steps a.operation l a.second takes.second in
     let codes : Bool = is_fixed (kind_code k) || is_fixed (kind_code l) in
     let regs : Bool = is_none (kind_reg k) || is_none (kind_reg l) in
     let digits : Bool = is_none_digit r.digit || is_none (first_reg (kind_reg k) (kind_reg l)) in
@@ -298,15 +302,15 @@ form_fits r a shape within takes =
       row = within;
       code = both_codes (kind_code k) (kind_code l) (in_opcode k a.first) (in_opcode l a.second)
           (and_parts codes (regs && (digits && placed)) shape).0
-          (code_fits a.operation k a.first takes.first) (code_fits a.operation l a.second takes.second);
+          (code_fits a.operation k a.first first) (code_fits a.operation l a.second second);
       second = second_fits (reg_part r) k l (in_reg k a.first + in_reg l a.second) (in_place k a.first) (in_place l a.second)
           (and_parts digits placed after_regs).1
           (with_digit r.digit (first_reg (kind_reg k) (kind_reg l)) (in_reg k a.first + in_reg l a.second)
           (and_parts digits placed after_regs).0
           (both_regs (kind_reg k) (kind_reg l) (in_reg k a.first) (in_reg l a.second)
           (and_parts regs (digits && placed) after_codes).0
-          (reg_fits a.operation k a.first takes.first) (reg_fits a.operation l a.second takes.second)))
-          (place_fits a.operation k a.first takes.first) (place_fits a.operation l a.second takes.second);
+          (reg_fits a.operation k a.first first) (reg_fits a.operation l a.second second)))
+          (place_fits a.operation k a.first first) (place_fits a.operation l a.second second);
     }
 
 form_is : (r : Row) (a : Asked) → Contains rows r → Takes r a → IsForm (form_with r a)

@@ -1,5 +1,6 @@
 pub mod Asked
 pub mod Takes
+pub mod Kinds
 pub mod Parts
 pub mod Choice
 pub mod Fields

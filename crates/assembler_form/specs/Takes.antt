@@ -1,14 +1,13 @@
 -- When a row of the encoding table takes what a line asks: its operation is the line's, and so are the kinds of its
 -- operands.
 -- To be believed: the headline rests on it.
-use Rattle.std.specs.Prelude.{ℤ, pos, negsuc, ◌≡◌, Bool, true, false, ◌&&◌, ◌||◌, IsTrue, Option, Some, None, int_le}
+use Rattle.std.specs.Prelude.{ℤ, pos, negsuc, ◌≡◌, Bool, true, false, ◌&&◌, IsTrue, Option, Some, is_none, int_le}
 use Rattle.isa.specs.declared.operation.Operation.{Operation}
 use Rattle.isa.specs.declared.operation.Operation.TheVariants.{Control}
 use Rattle.isa.specs.declared.operation.Control.TheVariants.{Jmp}
 use Rattle.isa.specs.declared.register.ByteRegister.TheVariants as byte_registers
 use Rattle.isa.specs.declared.register.WordRegister.TheVariants as word_registers
 use Rattle.isa.specs.declared.register.SegmentRegister.TheVariants.{Cs}
-use Rattle.isa.specs.declared.form.Base.{Base}
 use Rattle.isa.specs.declared.row.Kind.{Kind}
 use Rattle.isa.specs.declared.row.Kind.TheVariants as kinds
 use Rattle.isa.specs.declared.row.Row.{Row}
@@ -22,53 +21,6 @@ use Rattle.assembler_form.specs.declared.operand.KnownOperand.TheVariants.{Nothi
 use Rattle.assembler_form.specs.declared.asked.Asked.{Asked}
 use Rattle.assembler_form.specs.Asked.{is_far_size}
 
--- what an operand is
-abbrev pub is_nothing : KnownOperand → Bool
-is_nothing Nothing = true
-is_nothing _ = false
-
-abbrev pub is_al : KnownOperand → Bool
-is_al (Register (Byte byte_registers.Al)) = true
-is_al _ = false
-
-abbrev pub is_cl : KnownOperand → Bool
-is_cl (Register (Byte byte_registers.Cl)) = true
-is_cl _ = false
-
-abbrev pub is_ax : KnownOperand → Bool
-is_ax (Register (Word word_registers.Ax)) = true
-is_ax _ = false
-
-abbrev pub is_dx : KnownOperand → Bool
-is_dx (Register (Word word_registers.Dx)) = true
-is_dx _ = false
-
-abbrev pub is_byte_register : KnownOperand → Bool
-is_byte_register (Register (Byte _)) = true
-is_byte_register _ = false
-
-abbrev pub is_word_register : KnownOperand → Bool
-is_word_register (Register (Word _)) = true
-is_word_register _ = false
-
-abbrev pub is_segment_register : KnownOperand → Bool
-is_segment_register (Register (Segment _)) = true
-is_segment_register _ = false
-
-abbrev pub is_segment_not_cs : KnownOperand → Bool
-is_segment_not_cs (Register (Segment Cs)) = false
-is_segment_not_cs (Register (Segment _)) = true
-is_segment_not_cs _ = false
-
-abbrev pub is_one : KnownOperand → Bool
-is_one One = true
-is_one _ = false
-
-abbrev pub is_number : KnownOperand → Bool
-is_number One = true
-is_number (Number _) = true
-is_number _ = false
-
 abbrev pub is_within : ℤ → ℤ → ℤ → Bool
 is_within least greatest n = int_le least n && int_le n greatest
 
@@ -78,13 +30,10 @@ is_constant_within least greatest One = is_within least greatest (pos 1)
 is_constant_within least greatest (Number (Constant n)) = is_within least greatest n
 is_constant_within least greatest _ = false
 
-abbrev pub is_short : KnownOperand → Bool
-is_short Short = true
-is_short _ = false
-
-abbrev pub is_far_target : KnownOperand → Bool
-is_far_target Far = true
-is_far_target _ = false
+abbrev pub is_number : KnownOperand → Bool
+is_number One = true
+is_number (Number _) = true
+is_number _ = false
 
 abbrev pub is_byte_size : Option Size → Bool
 is_byte_size (Some sizes.Byte) = true
@@ -94,66 +43,51 @@ abbrev pub is_word_size : Option Size → Bool
 is_word_size (Some sizes.Word) = true
 is_word_size _ = false
 
-abbrev pub is_byte_memory : KnownOperand → Bool
-is_byte_memory (Memory m) = is_byte_size m.size
-is_byte_memory _ = false
-
-abbrev pub is_word_memory : KnownOperand → Bool
-is_word_memory (Memory m) = is_word_size m.size
-is_word_memory _ = false
-
-abbrev pub is_far_memory : KnownOperand → Bool
-is_far_memory (Memory m) = is_far_size m.size
-is_far_memory _ = false
-
--- memory at an offset alone
-abbrev pub is_no_base : Option Base → Bool
-is_no_base None = true
-is_no_base (Some _) = false
-
-abbrev pub is_direct : KnownOperand → Bool
-is_direct (Memory m) = is_no_base m.base
-is_direct _ = false
-
 -- far jumps and calls go through an offset and a segment; LEA, LES and LDS name the word
-abbrev pub is_pointer : Operation → KnownOperand → Bool
-is_pointer (Control _) operand = is_far_memory operand
-is_pointer _ operand = is_word_memory operand
+abbrev pub is_pointer_size : Operation → Option Size → Bool
+is_pointer_size (Control _) size = is_far_size size
+is_pointer_size _ size = is_word_size size
 
 -- SHORT is said of JMP, whose near form would be taken else, and of no other jump
 abbrev pub is_near : Operation → KnownOperand → Bool
-is_near (Control Jmp) operand = is_short operand
+is_near (Control Jmp) Short = true
+is_near (Control Jmp) _ = false
 is_near _ operand = is_number operand
 
--- an operand is what a row of the operation has by this kind
+-- an operand is what a row of the operation has by this kind; memory without registers is at an offset alone
 abbrev pub is_of : Operation → Kind → KnownOperand → Bool
-is_of _ kinds.Nothing operand = is_nothing operand
-is_of _ kinds.Ten operand = is_nothing operand
-is_of _ kinds.Al operand = is_al operand
-is_of _ kinds.Ax operand = is_ax operand
-is_of _ kinds.Cl operand = is_cl operand
-is_of _ kinds.Dx operand = is_dx operand
-is_of _ kinds.One operand = is_one operand
-is_of _ kinds.Code8 operand = is_byte_register operand
-is_of _ kinds.Code16 operand = is_word_register operand
-is_of _ kinds.CodeSegment operand = is_segment_register operand
-is_of _ kinds.CodeSegmentNotCs operand = is_segment_not_cs operand
+is_of _ kinds.Nothing Nothing = true
+is_of _ kinds.Ten Nothing = true
+is_of _ kinds.Al (Register (Byte byte_registers.Al)) = true
+is_of _ kinds.Ax (Register (Word word_registers.Ax)) = true
+is_of _ kinds.Cl (Register (Byte byte_registers.Cl)) = true
+is_of _ kinds.Dx (Register (Word word_registers.Dx)) = true
+is_of _ kinds.One One = true
+is_of _ kinds.Code8 (Register (Byte _)) = true
+is_of _ kinds.Code16 (Register (Word _)) = true
+is_of _ kinds.CodeSegment (Register (Segment _)) = true
+is_of _ kinds.CodeSegmentNotCs (Register (Segment Cs)) = false
+is_of _ kinds.CodeSegmentNotCs (Register (Segment _)) = true
 is_of _ kinds.EscNumber operand = is_constant_within (pos 0) (pos 63) operand
-is_of _ kinds.Reg8 operand = is_byte_register operand
-is_of _ kinds.Reg16 operand = is_word_register operand
-is_of _ kinds.Segment operand = is_segment_register operand
-is_of _ kinds.SegmentNotCs operand = is_segment_not_cs operand
-is_of _ kinds.Rm8 operand = is_byte_register operand || is_byte_memory operand
-is_of _ kinds.Rm16 operand = is_word_register operand || is_word_memory operand
-is_of operation kinds.Memory operand = is_pointer operation operand
+is_of _ kinds.Reg8 (Register (Byte _)) = true
+is_of _ kinds.Reg16 (Register (Word _)) = true
+is_of _ kinds.Segment (Register (Segment _)) = true
+is_of _ kinds.SegmentNotCs (Register (Segment Cs)) = false
+is_of _ kinds.SegmentNotCs (Register (Segment _)) = true
+is_of _ kinds.Rm8 (Register (Byte _)) = true
+is_of _ kinds.Rm8 (Memory m) = is_byte_size m.size
+is_of _ kinds.Rm16 (Register (Word _)) = true
+is_of _ kinds.Rm16 (Memory m) = is_word_size m.size
+is_of operation kinds.Memory (Memory m) = is_pointer_size operation m.size
 is_of _ kinds.Imm8 operand = is_number operand
 is_of _ kinds.Imm16 operand = is_number operand
 is_of _ kinds.Signed8 operand = is_constant_within (negsuc 127) (pos 127) operand
 is_of operation kinds.Rel8 operand = is_near operation operand
 is_of _ kinds.Rel16 operand = is_number operand
-is_of _ kinds.At8 operand = is_direct operand && is_byte_memory operand
-is_of _ kinds.At16 operand = is_direct operand && is_word_memory operand
-is_of _ kinds.Far operand = is_far_target operand
+is_of _ kinds.At8 (Memory m) = is_none m.base && is_byte_size m.size
+is_of _ kinds.At16 (Memory m) = is_none m.base && is_word_size m.size
+is_of _ kinds.Far Far = true
+is_of _ _ _ = false
 
 -- a row takes what is asked
 pub record Takes (r : Row) (a : Asked) : Type 0 where

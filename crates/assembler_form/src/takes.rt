@@ -1,6 +1,7 @@
 //! Whether a row takes what is asked.
-ghost use Rattle.std.specs.Prelude.{ℤ, ◌≡◌, ◌↔◌, IsTrue};
-ghost use Rattle.assembler_form.specs.Takes.{is_al, is_byte_memory, is_byte_register, is_byte_size, is_cl, is_constant_within, is_direct, is_dx, is_far_memory, is_near, is_number, is_of, is_pointer, is_segment_not_cs, is_segment_register, is_ax, is_within, is_word_memory, is_word_register, is_word_size, Takes};
+ghost use Rattle.std.specs.Prelude.{◌≡◌, ◌↔◌, IsTrue, ℤ};
+ghost use Rattle.assembler_form.specs.Kinds.{is_al, is_ax, is_byte_memory, is_byte_register, is_cl, is_direct, is_dx, is_far_memory, is_near, is_of, is_pointer, is_segment_not_cs, is_segment_register, is_word_memory, is_word_register};
+ghost use Rattle.assembler_form.specs.Takes.{is_byte_size, is_constant_within, is_number, is_within, is_word_size, Takes};
 
 use crate::asked::Asked;
 use crate::operand::{KnownMemory, KnownOperand, Number};
@@ -12,6 +13,7 @@ use isa::row::{Kind, Row};
 
 impl Asked {
     /// Whether a row takes it.
+    #[tactic(auto, using(crate::proofs::Alike::alike))]
     pub(crate) fn is_taken_by(&self, row: Row) -> bool
         ensures { IsTrue result ↔ Takes row self.now }
     {

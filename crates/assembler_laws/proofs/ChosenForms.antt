@@ -32,7 +32,8 @@ use Rattle.assembler_form.specs.declared.operand.KnownOperand.{KnownOperand}
 use Rattle.assembler_form.specs.declared.operand.KnownOperand.TheVariants as known
 use Rattle.assembler_form.specs.declared.fields.Numbers.{Numbers}
 use Rattle.assembler_form.specs.Asked.{is_far_size}
-use Rattle.assembler_form.specs.Takes.{is_al, is_ax, is_byte_memory, is_byte_register, is_byte_size, is_cl, is_constant_within, is_direct, is_dx, is_far_memory, is_far_target, is_near, is_no_base, is_nothing, is_number, is_of, is_one, is_pointer, is_segment_not_cs, is_segment_register, is_short, is_within, is_word_memory, is_word_register, is_word_size}
+use Rattle.assembler_form.specs.Kinds.{is_al, is_ax, is_byte_memory, is_byte_register, is_cl, is_direct, is_dx, is_far_memory, is_far_target, is_near, is_no_base, is_nothing, is_of, is_one, is_pointer, is_segment_not_cs, is_segment_register, is_short, is_word_memory, is_word_register}
+use Rattle.assembler_form.specs.Takes.{is_byte_size, is_constant_within, is_number, is_within, is_word_size}
 use Rattle.assembler_form.specs.Fields.{byte_of, displacement_in, modulo, number_in, segment_in, signed_byte_of, word_of}
 use Rattle.assembler_form.specs.Parts.{escape_number, place_at, place_of, place_without, register_number}
 use Rattle.assembler_laws.specs.SameMeaning.{a_number, a_register, asked_meant, count, size_of, byte_meant, far_away, in_memory, memory_meant, nothing, operand_meant, pointer_size, word_meant, AreOf, IsWord}

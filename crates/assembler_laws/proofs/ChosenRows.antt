@@ -19,7 +19,9 @@ use Rattle.assembler_form.specs.declared.asked.Asked.{Asked}
 use Rattle.assembler_form.specs.declared.fields.Numbers.{Numbers}
 use Rattle.assembler_form.specs.Fields.{displacement_in, field_kind, field_kind_of, number_in, segment_in, values_of}
 use Rattle.assembler_form.specs.Parts.{first_place, form_with, in_opcode, in_place, in_reg}
-use Rattle.assembler_form.specs.Takes.{is_of, Takes}
+use Rattle.assembler_form.specs.Kinds.{is_of}
+use Rattle.assembler_form.specs.Takes.{Takes}
+use Rattle.assembler_form.proofs.Alike.{in_steps}
 use Rattle.assembler_form.proofs.FieldRanges.{values_are}
 use Rattle.assembler_laws.specs.SameMeaning.{FormsMeanWhatIsAsked}
 use Rattle.assembler_laws.proofs.ChosenForms.{kind_means, Puts}
@@ -237,8 +239,8 @@ forms_mean_what_is_asked a f v next n chosen e first_is second_is =
     let is : HasForm f a = has_form f a chosen.parts in
     record {
       operation = takes.operation;
-      first = kind_means f v next n (first_of r) a.first (subst (λ o. is_of o (first_of r) a.first ≡ true) (sym takes.operation) takes.first) first_is
+      first = kind_means f v next n (first_of r) a.first (subst (λ o. is_of o (first_of r) a.first ≡ true) (sym takes.operation) (in_steps a.operation (first_of r) a.first takes.first)) first_is
           (puts_of f v (pos next) n (first_of r) a.first (first_parts f a v (pos next) n apart is e));
-      second = kind_means f v next n (second_of r) a.second (subst (λ o. is_of o (second_of r) a.second ≡ true) (sym takes.operation) takes.second) second_is
+      second = kind_means f v next n (second_of r) a.second (subst (λ o. is_of o (second_of r) a.second ≡ true) (sym takes.operation) (in_steps a.operation (second_of r) a.second takes.second)) second_is
           (puts_of f v (pos next) n (second_of r) a.second (second_parts f a v (pos next) n apart is e));
     }

@@ -22,7 +22,9 @@ use Rattle.assembler_form.specs.declared.asked.Asked.{Asked}
 use Rattle.assembler_form.specs.declared.fields.Numbers.{Numbers}
 use Rattle.assembler_form.specs.Fields.{byte_of, displacement_in, field_kind, modulo, number_in, segment_in, signed_byte_of, values_of, values_with, word_of}
 use Rattle.assembler_form.specs.Parts.{first_place, in_place, place_at, place_of, place_without}
-use Rattle.assembler_form.specs.Takes.{is_constant_within, is_direct, is_far_target, is_of, is_within, Takes}
+use Rattle.assembler_form.specs.Kinds.{is_direct, is_far_target, is_of}
+use Rattle.assembler_form.specs.Takes.{is_constant_within, is_within, Takes}
+use Rattle.assembler_form.proofs.Alike.{in_steps}
 use Rattle.assembler_laws.specs.SameMeaning.{AreOf, IsWord}
 use Rattle.assembler_laws.specs.Fitting.{FitsByte, NumbersFit}
 use Rattle.assembler_laws.proofs.ChosenForms.{a_word}
@@ -124,11 +126,11 @@ field_there : (f : Form) (a : Asked) (next : ℕ) (n : Numbers) → Takes f.row 
 field_there f a next n takes one two fits true e =
     let is : field_kind f.row ≡ first_of f.row = first_field (first_of f.row) (second_of f.row) e in
     subst (λ (k : Kind). IsThere (number_in k (pos next) n) × IsThere (segment_in k n.segment)) (sym is)
-    (number_there a.operation (first_of f.row) a.first next n takes.first one (subst (λ (k : Kind). FitsByte k next n) is fits))
+    (number_there a.operation (first_of f.row) a.first next n (in_steps a.operation (first_of f.row) a.first takes.first) one (subst (λ (k : Kind). FitsByte k next n) is fits))
 field_there f a next n takes one two fits false e =
     let is : field_kind f.row ≡ second_of f.row = second_field (first_of f.row) (second_of f.row) e in
     subst (λ (k : Kind). IsThere (number_in k (pos next) n) × IsThere (segment_in k n.segment)) (sym is)
-    (number_there a.operation (second_of f.row) a.second next n takes.second two (subst (λ (k : Kind). FitsByte k next n) is fits))
+    (number_there a.operation (second_of f.row) a.second next n (in_steps a.operation (second_of f.row) a.second takes.second) two (subst (λ (k : Kind). FitsByte k next n) is fits))
 
 kind_place_there : (k : Kind) (x : KnownOperand) (n : Numbers) → AreOf x n → IsThere (displacement_in (displacement_field (in_place k x)) n.displacement)
 kind_place_there kinds.Rm8 x n of = operand_place_there x n of

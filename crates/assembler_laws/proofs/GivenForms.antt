@@ -27,7 +27,9 @@ use Rattle.assembler_form.specs.declared.operand.KnownOperand.TheVariants as kno
 use Rattle.assembler_form.specs.Asked.{asked_in_order, is_exchanged, is_memory, is_register_and_ax, sized}
 use Rattle.assembler_form.specs.Choice.{IsChosen}
 use Rattle.assembler_form.specs.Fields.{field_kind}
-use Rattle.assembler_form.specs.Takes.{is_near, is_of, is_within, Takes}
+use Rattle.assembler_form.specs.Kinds.{is_near, is_of}
+use Rattle.assembler_form.specs.Takes.{is_within, Takes}
+use Rattle.assembler_form.proofs.Alike.{in_steps}
 use Rattle.assembler_form.proofs.Shapes.{form_of_first}
 use Rattle.assembler_meaning.specs.declared.symbol.Location.{Location}
 use Rattle.assembler_meaning.specs.Instructions.{instruction_asked, instruction_size, no_numbers, prefixes_of, IsFormFor}
@@ -64,9 +66,9 @@ registers_fit s op r t from n takes = by (has_field (first_of s)) refl
   where
     by : (b : Bool) → has_field (first_of s) ≡ b → FitsByte (field_kind s) from n
     by true e =
-        subst (λ (k : Kind). FitsByte k from n) (sym (first_field (first_of s) (second_of s) e)) (register_fits op (first_of s) r from n takes.first)
+        subst (λ (k : Kind). FitsByte k from n) (sym (first_field (first_of s) (second_of s) e)) (register_fits op (first_of s) r from n (in_steps op (first_of s) (known.Register r) takes.first))
     by false e =
-        subst (λ (k : Kind). FitsByte k from n) (sym (second_field (first_of s) (second_of s) e)) (register_fits op (second_of s) t from n takes.second)
+        subst (λ (k : Kind). FitsByte k from n) (sym (second_field (first_of s) (second_of s) e)) (register_fits op (second_of s) t from n (in_steps op (second_of s) (known.Register t) takes.second))
 
 -- ---- the law
 given : (before names : Names) (location : Location) (size : ℕ) (i : Instr) (f : Form) (x y : KnownOperand) (n : Numbers) (a : Asked)

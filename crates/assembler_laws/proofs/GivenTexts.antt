@@ -34,7 +34,9 @@ use Rattle.assembler_form.specs.declared.operand.KnownOperand.TheVariants as kno
 use Rattle.assembler_form.specs.declared.fields.Numbers.{Numbers}
 use Rattle.assembler_form.specs.Asked.{asked_in_order, size_beside, size_or, sized}
 use Rattle.assembler_form.specs.Fields.{field_kind}
-use Rattle.assembler_form.specs.Takes.{is_byte_memory, is_byte_register, is_byte_size, is_near, is_number, is_of, is_short, is_within, Takes}
+use Rattle.assembler_form.specs.Kinds.{is_byte_memory, is_byte_register, is_near, is_of, is_short}
+use Rattle.assembler_form.specs.Takes.{is_byte_size, is_number, is_within, Takes}
+use Rattle.assembler_form.proofs.Alike.{in_steps}
 use Rattle.assembler_laws.specs.SaidTexts.{first_written, said_size, second_written}
 use Rattle.assembler_laws.specs.Fitting.{FitsByte}
 use Rattle.assembler_laws.proofs.AskedTexts.{asked_by, Has, HasSize}
@@ -338,13 +340,13 @@ in_order_fits f v next n s from is near = by (has_field (first_of s)) refl
         subst (λ (k : Kind). FitsByte k from n) (sym same)
         (fits_byte (first_of s) from n
         (λ imm. byte_first_by f v next s n is.tight is.s_tight is.takes.operation imm is.has_first
-        (subst (λ (k : Kind). is_of (operation_of f.row) k (sized (operation_of f.row) (asked_by (first_written f v next)) (asked_by (second_written f v next))) ≡ true) imm is.takes.first))
+        (subst (λ (k : Kind). is_of (operation_of f.row) k (sized (operation_of f.row) (asked_by (first_written f v next)) (asked_by (second_written f v next))) ≡ true) imm (in_steps (operation_of f.row) (first_of s) (sized (operation_of f.row) (asked_by (first_written f v next)) (asked_by (second_written f v next))) is.takes.first)))
         (λ rel. near (target_kind f v next s is.tight is.s_tight is.agrees is.takes.operation rel
-        (subst (λ (k : Kind). is_of (operation_of f.row) k (sized (operation_of f.row) (asked_by (first_written f v next)) (asked_by (second_written f v next))) ≡ true) rel is.takes.first)) rel))
+        (subst (λ (k : Kind). is_of (operation_of f.row) k (sized (operation_of f.row) (asked_by (first_written f v next)) (asked_by (second_written f v next))) ≡ true) rel (in_steps (operation_of f.row) (first_of s) (sized (operation_of f.row) (asked_by (first_written f v next)) (asked_by (second_written f v next))) is.takes.first))) rel))
     by false e =
         let same : field_kind s ≡ second_of s = second_field (first_of s) (second_of s) e in
         subst (λ (k : Kind). FitsByte k from n) (sym same)
         (fits_byte (second_of s) from n
-        (λ imm. byte_second_by f v next s n is.tight is.s_tight is.takes.operation imm is.size is.takes.first is.has_second
-        (subst (λ (k : Kind). is_of (operation_of f.row) k (sized (operation_of f.row) (asked_by (second_written f v next)) (asked_by (first_written f v next))) ≡ true) imm is.takes.second))
+        (λ imm. byte_second_by f v next s n is.tight is.s_tight is.takes.operation imm is.size (in_steps (operation_of f.row) (first_of s) (sized (operation_of f.row) (asked_by (first_written f v next)) (asked_by (second_written f v next))) is.takes.first) is.has_second
+        (subst (λ (k : Kind). is_of (operation_of f.row) k (sized (operation_of f.row) (asked_by (second_written f v next)) (asked_by (first_written f v next))) ≡ true) imm (in_steps (operation_of f.row) (second_of s) (sized (operation_of f.row) (asked_by (second_written f v next)) (asked_by (first_written f v next))) is.takes.second)))
         (λ rel. never (is_rel8 (second_of s)) (not_true (is_rel8 (second_of s)) is.s_tight.no_second) (ap is_rel8 rel)))

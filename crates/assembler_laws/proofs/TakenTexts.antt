@@ -45,7 +45,9 @@ use Rattle.assembler_form.specs.declared.operand.KnownOperand.TheVariants as kno
 use Rattle.assembler_form.specs.declared.asked.Asked.{Asked}
 use Rattle.assembler_form.specs.declared.fields.Numbers.{Numbers}
 use Rattle.assembler_form.specs.Asked.{asked, asked_in_order, asked_of, is_exchanged, is_far_size, is_memory, is_register_and_ax, size_beside, size_or, sized}
-use Rattle.assembler_form.specs.Takes.{is_byte_size, is_near, is_of, is_pointer, is_segment_not_cs, is_within, is_word_size, Takes}
+use Rattle.assembler_form.specs.Kinds.{is_near, is_of, is_pointer, is_segment_not_cs}
+use Rattle.assembler_form.specs.Takes.{is_byte_size, is_within, is_word_size, Takes}
+use Rattle.assembler_form.proofs.Alike.{from_steps}
 use Rattle.assembler_meaning.specs.Instructions.{instruction_asked, known_operands, no_numbers, prefixes_of, IsFormFor}
 use Rattle.assembler_meaning.specs.Values.{Names}
 use Rattle.assembler_laws.specs.SaidTexts.{first_written, mnemonic_in, next_of, operands_in, said_instruction, said_size, second_written}
@@ -241,7 +243,17 @@ Taken a = (r : Row) × Contains rows r × Takes r a
 same_row : (f : Form) (v : Values) (next : ℕ) → IsForm f → IsNear (second_of f.row) v.number
     → Taken (asked_in_order (operation_of f.row) (asked_by (first_written f v next)) (asked_by (second_written f v next)))
 same_row f v next is near =
-    (f.row, is.row, record { operation = refl; first = first_taken f v next is; second = second_taken f v next is near })
+    let op : Operation = operation_of f.row in
+    let x : KnownOperand = asked_by (first_written f v next) in
+    let y : KnownOperand = asked_by (second_written f v next) in (
+      f.row,
+      is.row,
+      record {
+        operation = refl;
+        first = from_steps op (first_of f.row) (sized op x y) (first_taken f v next is);
+        second = from_steps op (second_of f.row) (sized op y x) (second_taken f v next is near);
+      },
+    )
 
 -- a word as the number
 record HasWide (op : Operation) : Type 0 where
@@ -291,8 +303,8 @@ wide_taken f v next is signed =
       wide.within,
       record {
         operation = wide.operation;
-        first = subst (λ (k : Kind). is_of op k (sized op x y) ≡ true) (sym wide.first) first;
-        second = subst (λ (k : Kind). is_of op k (sized op y x) ≡ true) (sym wide.second) second;
+        first = from_steps op (first_of wide.wide) (sized op x y) (subst (λ (k : Kind). is_of op k (sized op x y) ≡ true) (sym wide.first) first);
+        second = from_steps op (second_of wide.wide) (sized op y x) (subst (λ (k : Kind). is_of op k (sized op y x) ≡ true) (sym wide.second) second);
       },
     )
 
