@@ -8,6 +8,7 @@ use Rattle.isa.specs.declared.row.Kind.TheVariants as kinds
 use Rattle.isa.specs.declared.row.Row.{Row}
 use Rattle.isa.specs.declared.form.Form.{Form}
 use Rattle.isa.specs.declared.form.Values.{Values}
+use Rattle.isa.specs.Layout.{kind_field}
 use Rattle.isa.specs.Row.{first_of, second_of}
 use Rattle.isa.specs.Encoding.{displacement_field}
 use Rattle.assembler_form.specs.declared.fields.Numbers.{Numbers}
@@ -34,17 +35,13 @@ displacement_in Absent displacement = Some 0
 displacement_in Byte displacement = signed_byte_of displacement
 displacement_in _ displacement = word_of displacement
 
--- the operand in the row's own field
+-- the operand in the row's own field: the second, if the first has none
+abbrev pub kind_in_field : Field → Kind → Kind → Kind
+kind_in_field Absent _ second = second
+kind_in_field _ first _ = first
+
 abbrev pub field_kind_of : Kind → Kind → Kind
-field_kind_of kinds.Imm8 _ = kinds.Imm8
-field_kind_of kinds.Imm16 _ = kinds.Imm16
-field_kind_of kinds.Signed8 _ = kinds.Signed8
-field_kind_of kinds.Rel8 _ = kinds.Rel8
-field_kind_of kinds.Rel16 _ = kinds.Rel16
-field_kind_of kinds.At8 _ = kinds.At8
-field_kind_of kinds.At16 _ = kinds.At16
-field_kind_of kinds.Far _ = kinds.Far
-field_kind_of _ second = second
+field_kind_of first second = kind_in_field (kind_field first) first second
 
 abbrev pub field_kind : Row → Kind
 field_kind r = field_kind_of (first_of r) (second_of r)
