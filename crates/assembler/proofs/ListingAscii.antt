@@ -1,5 +1,5 @@
 -- The names of a source are ASCII.
-use Rattle.std.proofs.Common.{◌≡◌, ℕ, zero, suc, ◌-◌, ◌<◌, ◌==◌, List, [], ◌∷◌, ◌++◌, length, map, take, replicate, refl, sym, ap, subst, arith, Bool, true, false, ◌&&◌, Option, None, Some, Result, Ok, Err, nat_le, nat_lt, if◌then◌else◌}
+use Rattle.std.proofs.Common.{◌≡◌, ◌∙◌, ℕ, zero, suc, ◌-◌, ◌<◌, ◌==◌, List, [], ◌∷◌, ◌++◌, length, map, take, replicate, refl, sym, ap, subst, arith, Bool, true, false, ◌&&◌, Option, None, Some, Result, Ok, Err, nat_le, nat_lt, if◌then◌else◌}
 use Rattle.std.specs.Prelude.{slice_get, codes, ℤ}
 use Rattle.std.specs.List.{AllByRecursion, list_all}
 use Rattle.std.specs.Char.{to_ascii_uppercase}
@@ -34,12 +34,14 @@ use Rattle.board_types.specs.TextLines.{begins_with, onto_first, text_lines}
 use Rattle.assembler_lexeme.specs.Numbers.{number_of, last_byte}
 use Rattle.assembler_lexeme.specs.Faults.{◌>>=◌, wanted, all_of}
 use Rattle.assembler_lexeme.specs.Tokens.{between_quotes, mark_of, mark_token, name_of, number_token, quoted_token, text_token, token_of, tokens_of, word_token}
-use Rattle.assembler_syntax.specs.Expressions.{constant_of}
-use Rattle.assembler_syntax.specs.Operands.{operands_of}
-use Rattle.assembler_syntax.specs.Items.{items_of}
-use Rattle.assembler_syntax.specs.Parts.{is_colon}
-use Rattle.assembler_syntax.specs.Statements.{data_of, directive_of, ends_of, equ_of, instruction_of, is_at, is_directive, is_equ, keyword_statement, led_statement, onto_prefixes, org_of, prefixed_statement, prefixes_of, segment_by, segment_of, segment_token, statement_behind, statement_of, word_statement}
-use Rattle.assembler_syntax.specs.Lines.{labelled, line_of, read_line, with_label}
+use Rattle.assembler_syntax.specs.ExpressionSteps.{constant_of}
+use Rattle.assembler_syntax.specs.OperandSteps.{operands_of}
+use Rattle.assembler_syntax.specs.ItemSteps.{items_of}
+use Rattle.assembler_syntax.specs.PartSteps.{is_colon}
+use Rattle.assembler_syntax.specs.StatementSteps.{data_of, directive_of, ends_of, equ_of, instruction_of, is_at, is_directive, is_equ, keyword_statement, led_statement, onto_prefixes, org_of, prefixed_statement, prefixes_of, segment_by, segment_of, segment_token, statement_behind, statement_of, word_statement}
+use Rattle.assembler_syntax.specs.LineSteps.{labelled, line_of, read_line as read_in_steps, with_label}
+use Rattle.assembler_syntax.specs.Lines.{read_line}
+use Rattle.assembler_syntax.proofs.Alike.{text_alike}
 use Rattle.assembler_meaning.specs.declared.symbol.Location.{Location}
 use Rattle.assembler_meaning.specs.declared.symbol.Symbol.{Symbol}
 use Rattle.assembler.specs.declared.row.KeptRow.{KeptRow}
@@ -324,14 +326,14 @@ where_true : (b : Bool) (r : Result Line SyntaxFault) → (b ≡ true → AsciiR
 where_true true r there = there refl
 where_true false r there = tt
 
-text_read : (text : List ℕ) → AsciiRead (read_line text)
-unfolding read_line lexemes
+text_read : (text : List ℕ) → AsciiRead (read_in_steps text)
+unfolding read_in_steps lexemes
 text_read text =
     where_true (list_all is_character text) (tokens_of (lexemes text) >>= line_of)
     (λ all. lines_with (tokens_of (lexemes text)) (tokens_ascii (lexemes text) (lexemes_ascii false text all)))
 
 read_ascii : (text : List ℕ) (line : Line) → read_line text ≡ Ok line → AsciiLine line
-read_ascii text line is = subst AsciiRead is (text_read text)
+read_ascii text line is = subst AsciiRead (text_alike text ∙ is) (text_read text)
 
 -- the names that rows define
 abbrev pub AsciiNames : Names → Type 0

@@ -1,5 +1,5 @@
 -- The quoted texts that are read of a line are bytes.
-use Rattle.std.proofs.Common.{◌≡◌, ℕ, zero, suc, ◌+◌, ◌-◌, ◌<◌, Bool, true, false, ◌==◌, ◌&&◌, if◌then◌else◌, nat_lt, nat_le, List, [], ◌∷◌, length, take, drop, Option, Some, None, refl, arith, Result, Ok, Err}
+use Rattle.std.proofs.Common.{◌≡◌, ◌∙◌, ℕ, zero, suc, ◌+◌, ◌-◌, ◌<◌, Bool, true, false, ◌==◌, ◌&&◌, if◌then◌else◌, nat_lt, nat_le, List, [], ◌∷◌, length, take, drop, Option, Some, None, refl, arith, Result, Ok, Err}
 use Rattle.std.specs.Prelude.{position}
 use Rattle.std.specs.List.{list_all}
 use Rattle.std.specs.Option.{option_map, option_map_or}
@@ -37,12 +37,14 @@ use Rattle.assembler_syntax.specs.declared.statement.Item.TheVariants as items
 use Rattle.assembler_syntax.specs.declared.statement.Statement.{Statement}
 use Rattle.assembler_syntax.specs.declared.statement.Statement.TheVariants as statements
 use Rattle.assembler_syntax.specs.declared.statement.Line.{Line}
-use Rattle.assembler_syntax.specs.Parts.{parts, parts_from, parts_here, is_open_after, onto_part, at_place, around, closed, is_colon, is_open_parenthesis, is_close_parenthesis, is_dup}
-use Rattle.assembler_syntax.specs.Expressions.{expression_of, constant_of}
-use Rattle.assembler_syntax.specs.Operands.{operands_of}
-use Rattle.assembler_syntax.specs.Items.{value_piece, single_piece, piece_of, pieces_of, in_parentheses, repeated, item_by, item_of, items_of}
-use Rattle.assembler_syntax.specs.Statements.{segment_by, is_at, segment_of, ends_of, org_of, data_of, equ_of, directive_of, instruction_of, onto_prefixes, segment_token, prefixes_of, is_directive, keyword_statement, word_statement, led_statement, statement_behind, prefixed_statement, is_equ, statement_of}
-use Rattle.assembler_syntax.specs.Lines.{with_label, labelled, line_of, read_line}
+use Rattle.assembler_syntax.specs.PartSteps.{parts, parts_from, parts_here, is_open_after, onto_part, at_place, around, closed, is_colon, is_open_parenthesis, is_close_parenthesis, is_dup}
+use Rattle.assembler_syntax.specs.ExpressionSteps.{expression_of, constant_of}
+use Rattle.assembler_syntax.specs.OperandSteps.{operands_of}
+use Rattle.assembler_syntax.specs.ItemSteps.{value_piece, single_piece, piece_of, pieces_of, in_parentheses, repeated, item_by, item_of, items_of}
+use Rattle.assembler_syntax.specs.StatementSteps.{segment_by, is_at, segment_of, ends_of, org_of, data_of, equ_of, directive_of, instruction_of, onto_prefixes, segment_token, prefixes_of, is_directive, keyword_statement, word_statement, led_statement, statement_behind, prefixed_statement, is_equ, statement_of}
+use Rattle.assembler_syntax.specs.LineSteps.{with_label, labelled, line_of, read_line as read_in_steps}
+use Rattle.assembler_syntax.specs.Lines.{read_line}
+use Rattle.assembler_syntax.proofs.Alike.{text_alike}
 
 -- ---- bytes
 unfoldable pub is_byte : ℕ → Bool
@@ -465,7 +467,10 @@ read_by (Ok ts) line true in_tokens is = line_in ts line (in_tokens refl ts refl
 read_by (Err fault) line true in_tokens is = absurd (cc)
 read_by r line false in_tokens is = absurd (cc)
 
+steps_are_bytes : (text : List ℕ) (line : Line) → read_in_steps text ≡ Ok line → has_bytes_texts line.statement ≡ true
+unfolding read_in_steps
+steps_are_bytes text line is = read_by (tokens_of (lexemes text)) line (list_all is_character text) (λ all ts. tokens_in text ts (characters_bytes text all)) is
+
 -- the quoted texts that are read of a line are bytes
 pub texts_are_bytes : (text : List ℕ) (line : Line) → read_line text ≡ Ok line → has_bytes_texts line.statement ≡ true
-unfolding read_line
-texts_are_bytes text line is = read_by (tokens_of (lexemes text)) line (list_all is_character text) (λ all ts. tokens_in text ts (characters_bytes text all)) is
+texts_are_bytes text line is = steps_are_bytes text line (text_alike text ∙ is)

@@ -10,7 +10,7 @@ use Rattle.dialect.specs.declared.keyword.Keyword.TheVariants as keywords
 use Rattle.assembler_lexeme.specs.declared.token.Token.{Token}
 use Rattle.assembler_lexeme.specs.declared.token.Token.TheVariants.{Word, Mark}
 use Rattle.assembler_lexeme.specs.declared.token.Mark.TheVariants.{Comma, Colon, OpenBracket, CloseBracket, OpenParenthesis, CloseParenthesis}
-use Rattle.assembler_syntax.specs.Parts.{around}
+use Rattle.assembler_syntax.specs.PartSteps.{around}
 use Rattle.assembler_syntax.specs.Spellings.{Exactly, InTurn, WithCommas}
 
 -- ---- tests that all tokens pass

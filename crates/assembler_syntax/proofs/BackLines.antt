@@ -25,17 +25,18 @@ use Rattle.assembler_syntax.specs.declared.statement.Item.TheVariants as items
 use Rattle.assembler_syntax.specs.declared.statement.Statement.{Statement}
 use Rattle.assembler_syntax.specs.declared.statement.Statement.TheVariants as statements
 use Rattle.assembler_syntax.specs.declared.statement.Line.{Line}
-use Rattle.assembler_syntax.specs.Parts.{around, closed, is_colon, is_open_parenthesis, is_close_parenthesis, is_dup}
-use Rattle.assembler_syntax.specs.Expressions.{expression_of, constant_of}
-use Rattle.assembler_syntax.specs.Operands.{operands_of}
-use Rattle.assembler_syntax.specs.Items.{value_piece, single_piece, piece_of, pieces_of, in_parentheses, repeated, item_by, item_of, items_of}
-use Rattle.assembler_syntax.specs.Statements.{segment_at, segment_by, is_at, segment_of, ends_of, org_of, data_of, equ_at, equ_of, directive_of, instruction_of, onto_prefixes, segment_token, prefixes_of, is_directive, keyword_statement, word_statement, led_statement, statement_behind, prefixed_statement, is_equ, statement_of}
-use Rattle.assembler_syntax.specs.Lines.{with_label, labelled, line_of}
+use Rattle.assembler_syntax.specs.PartSteps.{around, closed, is_colon, is_open_parenthesis, is_close_parenthesis, is_dup}
+use Rattle.assembler_syntax.specs.ExpressionSteps.{expression_of, constant_of}
+use Rattle.assembler_syntax.specs.OperandSteps.{operands_of}
+use Rattle.assembler_syntax.specs.ItemSteps.{value_piece, single_piece, piece_of, pieces_of, in_parentheses, repeated, item_by, item_of, items_of}
+use Rattle.assembler_syntax.specs.StatementSteps.{segment_at, segment_by, is_at, segment_of, ends_of, org_of, data_of, equ_at, equ_of, directive_of, instruction_of, onto_prefixes, segment_token, prefixes_of, is_directive, keyword_statement, word_statement, led_statement, statement_behind, prefixed_statement, is_equ, statement_of}
+use Rattle.assembler_syntax.specs.LineSteps.{with_label, labelled, line_of}
 use Rattle.assembler_syntax.specs.Laws.{EachLineReadIsSpelled}
 use Rattle.assembler_syntax.specs.Spelling.{keyword, label_tokens, width_keyword}
 use Rattle.assembler_syntax.specs.Spellings.{SpellsItem, SpellsLine, SpellsPiece, SpellsPrefix, SpellsPrefixes, SpellsStatement, WithCommas}
 use Rattle.assembler_syntax.proofs.BackTerms.{StandsAround, around_spelled, commas_spelled, constant_spelled, expression_spelled, ok_is, reads}
 use Rattle.assembler_syntax.proofs.BackOperands.{closed_is, colon_is, operands_spelled}
+use Rattle.assembler_syntax.proofs.Alike.{line_alike}
 
 -- ---- items
 value_spelled : (width : DataWidth) (ts : List Token) (p : Piece) → value_piece ts ≡ Ok p → SpellsPiece width p ts
@@ -319,8 +320,11 @@ labelled_spelled : (t u : Token) (ts : List Token) (l : Line) → labelled t u t
 labelled_spelled (Named label) u ts l is = named_spelled label u ts l is
 labelled_spelled t u ts l is = with_label_spelled None (t ∷ u ∷ ts) l is
 
-pub each_line_read_is_spelled : EachLineReadIsSpelled
+pub read_is_spelled : (ts : List Token) (l : Line) → line_of ts ≡ Ok l → SpellsLine l ts
 unfolding line_of
-each_line_read_is_spelled [] l is = with_label_spelled None [] l is
-each_line_read_is_spelled (t ∷ []) l is = with_label_spelled None (t ∷ []) l is
-each_line_read_is_spelled (t ∷ u ∷ ts) l is = labelled_spelled t u ts l is
+read_is_spelled [] l is = with_label_spelled None [] l is
+read_is_spelled (t ∷ []) l is = with_label_spelled None (t ∷ []) l is
+read_is_spelled (t ∷ u ∷ ts) l is = labelled_spelled t u ts l is
+
+pub each_line_read_is_spelled : EachLineReadIsSpelled
+each_line_read_is_spelled ts l is = read_is_spelled ts l (line_alike ts ∙ is)

@@ -21,9 +21,9 @@ use Rattle.assembler_syntax.specs.declared.expression.Term.{Term}
 use Rattle.assembler_syntax.specs.declared.operand.Address.{Address}
 use Rattle.assembler_syntax.specs.declared.operand.Operand.{Operand}
 use Rattle.assembler_syntax.specs.declared.operand.Operand.TheVariants as operands
-use Rattle.assembler_syntax.specs.Parts.{Signed, signed_parts, around, closed, is_colon, is_open_bracket, is_close_bracket}
-use Rattle.assembler_syntax.specs.Expressions.{expression_of, term_of}
-use Rattle.assembler_syntax.specs.Operands.{base_with, with_register, terms_with, with_term, single_register, register_of, with_part_by, with_part, with_parts, empty_address, memory_of, value_of, behind_segment, brackets_by, brackets_of, memory_in, single_label, far_label, far_pointer, far_target, far_by, far_of, short_of, single_operand, place_or_value, led_operand, operand_of, operands_of}
+use Rattle.assembler_syntax.specs.PartSteps.{Signed, signed_parts, around, closed, is_colon, is_open_bracket, is_close_bracket}
+use Rattle.assembler_syntax.specs.ExpressionSteps.{expression_of, term_of}
+use Rattle.assembler_syntax.specs.OperandSteps.{base_with, with_register, terms_with, with_term, single_register, register_of, with_part_by, with_part, with_parts, empty_address, memory_of, value_of, behind_segment, brackets_by, brackets_of, memory_in, single_label, far_label, far_pointer, far_target, far_by, far_of, short_of, single_operand, place_or_value, led_operand, operand_of, operands_of}
 use Rattle.assembler_syntax.specs.Spelling.{keyword, register, word, sign_token, size_tokens, segment_tokens}
 use Rattle.assembler_syntax.specs.Spellings.{AddressPart, a_register, a_term, AreOfBase, SpellsAtom, SpellsFirstPart, SpellsInner, SpellsMoreParts, SpellsOperand, SpellsOperands, SpellsPart, WithCommas, leading_tokens, part_registers, part_terms, some_terms}
 use Rattle.assembler_syntax.proofs.BackTerms.{AreParts, StandsAround, around_spelled, behind_signs, commas_spelled, expression_spelled, ok_is, parts_are_signed, reads, term_spelled}

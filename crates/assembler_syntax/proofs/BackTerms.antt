@@ -13,8 +13,8 @@ use Rattle.assembler_lexeme.specs.Faults.{◌>>=◌, all_of}
 use Rattle.assembler_syntax.specs.declared.expression.Atom.{Atom}
 use Rattle.assembler_syntax.specs.declared.expression.Atom.TheVariants as atoms
 use Rattle.assembler_syntax.specs.declared.expression.Term.{Term}
-use Rattle.assembler_syntax.specs.Parts.{Signed, signed_part, parts, parts_from, parts_here, is_open_after, onto_part, sign_of, signed_by, signed_from, onto_signed, signed_parts, is_minus, at_place, around}
-use Rattle.assembler_syntax.specs.Expressions.{single_atom, segment_atom, atom_of, term_of, expression_of, is_constant, constant_of}
+use Rattle.assembler_syntax.specs.PartSteps.{Signed, signed_part, parts, parts_from, parts_here, is_open_after, onto_part, sign_of, signed_by, signed_from, onto_signed, signed_parts, is_minus, at_place, around}
+use Rattle.assembler_syntax.specs.ExpressionSteps.{single_atom, segment_atom, atom_of, term_of, expression_of, is_constant, constant_of}
 use Rattle.assembler_syntax.specs.Spelling.{sign_token, with_commas}
 use Rattle.assembler_syntax.specs.Spellings.{WithCommas, SpellsAtom, leading_tokens, SpellsSigned, SpellsExpression, SpellsConstant}
 

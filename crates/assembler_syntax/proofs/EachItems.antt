@@ -14,9 +14,9 @@ use Rattle.assembler_syntax.specs.declared.statement.Piece.{Piece}
 use Rattle.assembler_syntax.specs.declared.statement.Piece.TheVariants as pieces
 use Rattle.assembler_syntax.specs.declared.statement.Item.{Item}
 use Rattle.assembler_syntax.specs.declared.statement.Item.TheVariants as items
-use Rattle.assembler_syntax.specs.Parts.{onto_part, closed, is_dup, is_close_parenthesis}
-use Rattle.assembler_syntax.specs.Items.{value_piece, single_piece, piece_of, pieces_of, in_parentheses, repeated, item_by, item_of, items_of}
-use Rattle.assembler_syntax.specs.Statements.{is_equ}
+use Rattle.assembler_syntax.specs.PartSteps.{onto_part, closed, is_dup, is_close_parenthesis}
+use Rattle.assembler_syntax.specs.ItemSteps.{value_piece, single_piece, piece_of, pieces_of, in_parentheses, repeated, item_by, item_of, items_of}
+use Rattle.assembler_syntax.specs.StatementSteps.{is_equ}
 use Rattle.assembler_syntax.specs.Spelling.{keyword}
 use Rattle.assembler_syntax.specs.Spellings.{Exactly, InTurn, SpellsConstant, SpellsItem, SpellsPiece, WithCommas}
 use Rattle.assembler_syntax.proofs.Around.{AllPass, EachPasses, around_none, around_one, commas_pass, exactly_passes, fails, is_plain, pass_too, turn_passes}

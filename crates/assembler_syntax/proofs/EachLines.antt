@@ -27,17 +27,18 @@ use Rattle.assembler_syntax.specs.declared.statement.Item.{Item}
 use Rattle.assembler_syntax.specs.declared.statement.Statement.{Statement}
 use Rattle.assembler_syntax.specs.declared.statement.Statement.TheVariants as statements
 use Rattle.assembler_syntax.specs.declared.statement.Line.{Line}
-use Rattle.assembler_syntax.specs.Statements.{segment_of, ends_of, org_of, data_of, equ_of, directive_of, instruction_of, onto_prefixes, prefixes_of, statement_behind, prefixed_statement, is_equ, statement_of}
-use Rattle.assembler_syntax.specs.Lines.{with_label, line_of, read_line}
+use Rattle.assembler_syntax.specs.StatementSteps.{segment_of, ends_of, org_of, data_of, equ_of, directive_of, instruction_of, onto_prefixes, prefixes_of, statement_behind, prefixed_statement, is_equ, statement_of}
+use Rattle.assembler_syntax.specs.LineSteps.{with_label, line_of, read_line}
 use Rattle.assembler_syntax.specs.Spelling.{keyword, label_tokens, prefix_tokens, width_keyword}
-use Rattle.assembler_syntax.specs.Spellings.{Exactly, InTurn, SpellsConstant, SpellsItem, SpellsOperands, SpellsPrefix, SpellsPrefixes, SpellsStatement, WithCommas}
+use Rattle.assembler_syntax.specs.Spellings.{Exactly, InTurn, SpellsConstant, SpellsItem, SpellsOperands, SpellsPrefix, SpellsPrefixes, SpellsStatement, WithCommas, SpellsLine}
 use Rattle.assembler_syntax.specs.Laws.{EachSpellingIsRead, EachTextIsReadAsItSays, Says}
 use Rattle.assembler_syntax.proofs.Around.{AllPass, EachPasses, both_pass, exactly_passes, fails, turn_passes}
 use Rattle.assembler_syntax.proofs.EachTerms.{constant_read, led}
 use Rattle.assembler_syntax.proofs.EachOperands.{operands_no_equ, operands_read}
-use Rattle.assembler_syntax.proofs.BackLines.{each_line_read_is_spelled}
+use Rattle.assembler_syntax.proofs.BackLines.{read_is_spelled}
 use Rattle.assembler_syntax.proofs.BackTerms.{no_ok, reads}
 use Rattle.assembler_syntax.proofs.EachItems.{constant_no_equ, items_no_equ, items_read}
+use Rattle.assembler_syntax.proofs.Alike.{line_alike, text_alike}
 
 not_true : (b : Bool) → not b ≡ true → b ≡ false
 not_true true e = absurd (cc)
@@ -253,18 +254,21 @@ line_by : (label : Option Name) (s : Statement) (ts : List Token) → SpellsStat
 line_by None s ts is = no_label s ts is
 line_by (Some name) s ts is = label_is name ts
 
-pub each_spelling_read : EachSpellingIsRead
-each_spelling_read ts l is =
+pub spelling_read : (ts : List Token) (l : Line) → SpellsLine l ts → line_of ts ≡ Ok l
+spelling_read ts l is =
     let behind = led (label_tokens l.label) (SpellsStatement l.statement) ts is in
     ap line_of behind.are
     ∙ line_by l.label l.statement behind.back behind.other
     ∙ ap (λ (r : Result Statement SyntaxFault). r >>= λ s. Ok (record { label = l.label; statement = s })) (statement_read l.statement behind.back behind.other)
 
+pub each_spelling_read : EachSpellingIsRead
+each_spelling_read ts l is = sym (line_alike ts) ∙ spelling_read ts l is
+
 -- ---- texts
 said_by : (text : List ℕ) (l : Line) (test : Bool) → list_all is_character text ≡ test → (if test then (tokens_of (lexemes text) >>= line_of) else Err BadCharacter) ≡ Ok l → Says text l
 said_by text l true characters is =
     let of = reads (tokens_of (lexemes text)) line_of l is in
-    record { characters = characters; tokens = of.read; are = of.is; spelled = each_line_read_is_spelled of.read l of.then' }
+    record { characters = characters; tokens = of.read; are = of.is; spelled = read_is_spelled of.read l of.then' }
 said_by text l false characters is = absurd (no_ok BadCharacter l is)
 
 says_what_is_read : (text : List ℕ) (l : Line) → read_line text ≡ Ok l → Says text l
@@ -276,7 +280,7 @@ unfolding read_line
 reads_what_is_said text l says =
     ap (λ (b : Bool). if b then (tokens_of (lexemes text) >>= line_of) else Err BadCharacter) says.characters
     ∙ ap (λ (r : Result (List Token) SyntaxFault). r >>= line_of) says.are
-    ∙ each_spelling_read says.tokens l says.spelled
+    ∙ spelling_read says.tokens l says.spelled
 
 pub texts_read : EachTextIsReadAsItSays
-texts_read text l = (says_what_is_read text l, reads_what_is_said text l)
+texts_read text l = (λ is. says_what_is_read text l (text_alike text ∙ is), λ says. sym (text_alike text) ∙ reads_what_is_said text l says)

@@ -9,7 +9,7 @@ use Rattle.assembler_lexeme.specs.declared.token.Token.{Token}
 use Rattle.assembler_lexeme.specs.declared.token.Token.TheVariants.{Word, Mark}
 use Rattle.assembler_lexeme.specs.declared.token.Mark.TheVariants.{Comma, OpenParenthesis, CloseParenthesis}
 use Rattle.assembler_lexeme.specs.Faults.{◌>>=◌, all_of}
-use Rattle.assembler_syntax.specs.Parts.{parts, parts_from, onto_part}
+use Rattle.assembler_syntax.specs.PartSteps.{parts, parts_from, onto_part}
 use Rattle.assembler_syntax.specs.Spellings.{WithCommas}
 use Rattle.assembler_syntax.proofs.Around.{AllPass, is_plain}
 use Rattle.assembler_syntax.proofs.EachTerms.{led}

@@ -22,10 +22,10 @@ use Rattle.assembler_syntax.specs.declared.expression.Term.{Term}
 use Rattle.assembler_syntax.specs.declared.operand.Address.{Address}
 use Rattle.assembler_syntax.specs.declared.operand.Operand.{Operand}
 use Rattle.assembler_syntax.specs.declared.operand.Operand.TheVariants as operands
-use Rattle.assembler_syntax.specs.Parts.{Signed, signed_part, signed_parts, onto_signed, parts, around, closed, is_colon, is_close_bracket}
-use Rattle.assembler_syntax.specs.Expressions.{term_of, expression_of}
-use Rattle.assembler_syntax.specs.Operands.{base_with, with_register, terms_with, with_term, with_part, with_parts, empty_address, memory_of, value_of, brackets_of, far_of, far_target, operand_of, operands_of}
-use Rattle.assembler_syntax.specs.Statements.{is_equ}
+use Rattle.assembler_syntax.specs.PartSteps.{Signed, signed_part, signed_parts, onto_signed, parts, around, closed, is_colon, is_close_bracket}
+use Rattle.assembler_syntax.specs.ExpressionSteps.{term_of, expression_of}
+use Rattle.assembler_syntax.specs.OperandSteps.{base_with, with_register, terms_with, with_term, with_part, with_parts, empty_address, memory_of, value_of, brackets_of, far_of, far_target, operand_of, operands_of}
+use Rattle.assembler_syntax.specs.StatementSteps.{is_equ}
 use Rattle.assembler_syntax.specs.Spelling.{keyword, register, word, sign_token, segment_tokens, size_tokens}
 use Rattle.assembler_syntax.specs.Spellings.{AddressPart, a_register, a_term, AreOfBase, Exactly, InTurn, leading_tokens, part_registers, part_terms, some_terms, SpellsAtom, SpellsExpression, SpellsFirstPart, SpellsInner, SpellsMoreParts, SpellsOperand, SpellsOperands, SpellsPart, SpellsParts, WithCommas}
 use Rattle.assembler_syntax.proofs.Around.{AllPass, EachPasses, around_one, commas_pass, exactly_passes, fails, is_plain, pass_too, turn_passes}

@@ -13,8 +13,8 @@ use Rattle.assembler_lexeme.specs.Faults.{◌>>=◌, all_of}
 use Rattle.assembler_syntax.specs.declared.expression.Atom.{Atom}
 use Rattle.assembler_syntax.specs.declared.expression.Atom.TheVariants as atoms
 use Rattle.assembler_syntax.specs.declared.expression.Term.{Term}
-use Rattle.assembler_syntax.specs.Parts.{Signed, signed_part, signed_from, signed_parts, onto_signed}
-use Rattle.assembler_syntax.specs.Expressions.{atom_of, term_of, expression_of, constant_of, is_constant}
+use Rattle.assembler_syntax.specs.PartSteps.{Signed, signed_part, signed_from, signed_parts, onto_signed}
+use Rattle.assembler_syntax.specs.ExpressionSteps.{atom_of, term_of, expression_of, constant_of, is_constant}
 use Rattle.assembler_syntax.specs.Spelling.{keyword, sign_token}
 use Rattle.assembler_syntax.specs.Spellings.{Exactly, InTurn, leading_tokens, SpellsAtom, SpellsSigned, SpellsExpression, SpellsConstant}
 use Rattle.assembler_syntax.proofs.Around.{AllPass, EachPasses, exactly_passes, is_plain, turn_passes}

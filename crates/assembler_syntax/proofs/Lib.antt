@@ -3,6 +3,7 @@ mod Gathering
 mod Folding
 pub mod Weights
 mod Around
+pub mod Alike
 mod EachTerms
 mod EachLists
 mod EachOperands

@@ -29,7 +29,8 @@ use Rattle.assembler_syntax.specs.declared.statement.Line.{Line}
 use Rattle.assembler_syntax.specs.Laws.{EachLineIsRead}
 use Rattle.assembler_syntax.specs.Spelling.{atom_tokens, base_tokens, expression_tokens, first_tokens, inner_tokens, item_tokens, keyword, label_tokens, line_tokens, operand_tokens, piece_tokens, prefix_tokens, segment_tokens, sign_token, signed_tokens, size_tokens, statement_tokens, width_keyword, with_commas, word, IsConstant, IsExpression, IsInner, IsItem, IsOperand, IsPiece, IsStatement, SomeAre}
 use Rattle.assembler_syntax.specs.Spellings.{AddressPart, a_register, a_term, AreOfBase, leading_tokens, part_registers, part_terms, some_terms, SpellsAtom, SpellsConstant, SpellsExpression, SpellsInner, SpellsItem, SpellsLine, SpellsMoreParts, SpellsOperand, SpellsOperands, SpellsParts, SpellsPiece, SpellsPrefixes, SpellsSigned, SpellsStatement, WithCommas}
-use Rattle.assembler_syntax.proofs.EachLines.{each_spelling_read}
+use Rattle.assembler_syntax.proofs.EachLines.{spelling_read}
+use Rattle.assembler_syntax.proofs.Alike.{line_alike}
 
 -- ---- expressions
 atom_spelled : (a : Atom) → SpellsAtom a (atom_tokens a)
@@ -317,4 +318,4 @@ line_spelled : (l : Line) → IsStatement l.statement → SpellsLine l (line_tok
 line_spelled l is = record { front = label_tokens l.label; back = statement_tokens l.statement; are = refl; first = refl; second = statement_spelled l.statement is }
 
 pub each_line_read : EachLineIsRead
-each_line_read l is = each_spelling_read (line_tokens l) l (line_spelled l is)
+each_line_read l is = sym (line_alike (line_tokens l)) ∙ spelling_read (line_tokens l) l (line_spelled l is)

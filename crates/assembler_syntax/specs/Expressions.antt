@@ -15,21 +15,13 @@ use Rattle.assembler_lexeme.specs.declared.token.Mark.TheVariants.{Dollar}
 use Rattle.assembler_lexeme.specs.Faults.{◌>>=◌, all_of}
 use Rattle.assembler_syntax.specs.Parts.{Signed, signed_parts}
 
-abbrev pub single_atom : Token → Result Atom SyntaxFault
-single_atom One = Ok (atoms.Number 1)
-single_atom (Number n) = Ok (atoms.Number n)
-single_atom (Named name) = Ok (atoms.Named name)
-single_atom (Mark Dollar) = Ok atoms.Here
-single_atom t = Err BadLine
-
-abbrev pub segment_atom : Token → Token → Result Atom SyntaxFault
-segment_atom (Word (Keyword Seg)) (Named name) = Ok (atoms.SegmentOf name)
-segment_atom s t = Err BadLine
-
 -- a number, a name, $, or SEG and a name
 unfoldable pub atom_of : List Token → Result Atom SyntaxFault
-atom_of (t ∷ []) = single_atom t
-atom_of (s ∷ t ∷ []) = segment_atom s t
+atom_of (One ∷ []) = Ok (atoms.Number 1)
+atom_of (Number n ∷ []) = Ok (atoms.Number n)
+atom_of (Named name ∷ []) = Ok (atoms.Named name)
+atom_of (Mark Dollar ∷ []) = Ok atoms.Here
+atom_of (Word (Keyword Seg) ∷ Named name ∷ []) = Ok (atoms.SegmentOf name)
 atom_of ts = Err BadLine
 
 abbrev pub term_of : Signed → Result Term SyntaxFault
@@ -44,8 +36,7 @@ expression_of ts = all_of term_of (signed_parts ts)
 abbrev pub is_constant_atom : Atom → Bool
 is_constant_atom (atoms.Number n) = true
 is_constant_atom (atoms.Named name) = true
-is_constant_atom atoms.Here = false
-is_constant_atom (atoms.SegmentOf name) = false
+is_constant_atom _ = false
 
 abbrev pub is_constant : Term → Bool
 is_constant term = is_constant_atom term.atom

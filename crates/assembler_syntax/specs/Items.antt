@@ -1,6 +1,6 @@
 -- Items of data lines.
 -- To be believed: the headline rests on it.
-use Rattle.std.specs.Prelude.{List, [], ◌∷◌, if◌then◌else◌, Option, None, Some, Result, Ok, Err}
+use Rattle.std.specs.Prelude.{List, [], ◌∷◌, Option, None, Some, Result, Ok, Err}
 use Rattle.assembler_lexeme.specs.declared.fault.SyntaxFault.{SyntaxFault}
 use Rattle.assembler_lexeme.specs.declared.fault.SyntaxFault.TheVariants.{BadLine}
 use Rattle.assembler_syntax.specs.declared.statement.DataWidth.{DataWidth}
@@ -10,32 +10,26 @@ use Rattle.assembler_syntax.specs.declared.statement.Piece.TheVariants as pieces
 use Rattle.assembler_syntax.specs.declared.statement.Item.{Item}
 use Rattle.assembler_syntax.specs.declared.statement.Item.TheVariants as items
 use Rattle.assembler_lexeme.specs.declared.token.Token.{Token}
-use Rattle.assembler_lexeme.specs.declared.token.Token.TheVariants.{Quoted}
+use Rattle.assembler_lexeme.specs.declared.token.Token.TheVariants.{Mark, Quoted}
+use Rattle.assembler_lexeme.specs.declared.token.Mark.TheVariants.{OpenParenthesis}
 use Rattle.assembler_lexeme.specs.Faults.{◌>>=◌, all_of}
-use Rattle.assembler_syntax.specs.Parts.{parts, around, closed, is_dup, is_open_parenthesis, is_close_parenthesis}
+use Rattle.assembler_syntax.specs.Parts.{parts, around, closed, is_dup, is_close_parenthesis}
 use Rattle.assembler_syntax.specs.Expressions.{expression_of, constant_of}
 
-abbrev pub value_piece : List Token → Result Piece SyntaxFault
-value_piece ts = do
+-- an expression, or in DB a quoted text
+unfoldable pub piece_of : DataWidth → List Token → Result Piece SyntaxFault
+piece_of widths.Byte (Quoted text ∷ []) = Ok (pieces.Text text)
+piece_of width ts = do
   value ← expression_of ts
   Ok (pieces.Value value)
-
--- an expression, or in DB a quoted text
-abbrev pub single_piece : DataWidth → Token → Result Piece SyntaxFault
-single_piece widths.Byte (Quoted text) = Ok (pieces.Text text)
-single_piece width t = value_piece (t ∷ [])
-
-unfoldable pub piece_of : DataWidth → List Token → Result Piece SyntaxFault
-piece_of width (t ∷ []) = single_piece width t
-piece_of width ts = value_piece ts
 
 unfoldable pub pieces_of : DataWidth → List Token → Result (List Piece) SyntaxFault
 pieces_of width ts = all_of (piece_of width) (parts ts)
 
 -- what stands behind DUP: pieces in parentheses
 abbrev pub in_parentheses : List Token → Result (List Token) SyntaxFault
-in_parentheses [] = Err BadLine
-in_parentheses (t ∷ ts) = if is_open_parenthesis t then closed (around is_close_parenthesis ts) else Err BadLine
+in_parentheses (Mark OpenParenthesis ∷ ts) = closed (around is_close_parenthesis ts)
+in_parentheses ts = Err BadLine
 
 unfoldable pub repeated : DataWidth → List Token → List Token → Result Item SyntaxFault
 repeated width front back = do
@@ -44,14 +38,11 @@ repeated width front back = do
   each ← pieces_of width inner
   Ok (items.Repeated count each)
 
-abbrev pub once : DataWidth → List Token → Result Item SyntaxFault
-once width ts = do
-  piece ← piece_of width ts
-  Ok (items.Once piece)
-
 abbrev pub item_by : Option (List Token × List Token) → DataWidth → List Token → Result Item SyntaxFault
 item_by (Some dup) width ts = repeated width dup.0 dup.1
-item_by None width ts = once width ts
+item_by None width ts = do
+  piece ← piece_of width ts
+  Ok (items.Once piece)
 
 -- pieces that DUP repeats, or one piece
 unfoldable pub item_of : DataWidth → List Token → Result Item SyntaxFault

@@ -4,6 +4,12 @@ pub mod Operands
 pub mod Items
 pub mod Statements
 pub mod Lines
+pub mod PartSteps
+pub mod ExpressionSteps
+pub mod OperandSteps
+pub mod ItemSteps
+pub mod StatementSteps
+pub mod LineSteps
 pub mod Weights
 pub mod Spelling
 pub mod Laws

@@ -19,13 +19,9 @@ with_label label ts = do
   statement ← statement_of ts
   Ok (record { label = label; statement = statement })
 
-abbrev pub labelled : Token → Token → List Token → Result Line SyntaxFault
-labelled (Named label) (Mark Colon) ts = with_label (Some label) ts
-labelled t u ts = with_label None (t ∷ u ∷ ts)
-
 -- a name with a colon behind it is a label
 unfoldable pub line_of : List Token → Result Line SyntaxFault
-line_of (t ∷ u ∷ ts) = labelled t u ts
+line_of (Named label ∷ Mark Colon ∷ ts) = with_label (Some label) ts
 line_of ts = with_label None ts
 
 -- What a line of the source says: a fault of its characters comes first, then one of its tokens, then one of its

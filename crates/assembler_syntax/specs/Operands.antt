@@ -1,7 +1,6 @@
 -- Operands of instructions.
 -- To be believed: the headline rests on it.
-use Rattle.std.specs.Prelude.{◌&&◌, List, [], ◌∷◌, ◌++◌, if◌then◌else◌, Option, None, Some, Result, Ok, Err}
-use Rattle.std.specs.Borrow.{Bor}
+use Rattle.std.specs.Prelude.{List, [], ◌∷◌, ◌++◌, if◌then◌else◌, Option, None, Some, Result, Ok, Err}
 use Rattle.isa.specs.declared.form.Base.{Base}
 use Rattle.isa.specs.declared.form.Base.TheVariants as bases
 use Rattle.isa.specs.declared.register.SegmentRegister.{SegmentRegister}
@@ -21,9 +20,9 @@ use Rattle.assembler_syntax.specs.declared.operand.Operand.{Operand}
 use Rattle.assembler_syntax.specs.declared.operand.Operand.TheVariants as operands
 use Rattle.assembler_lexeme.specs.declared.token.Token.{Token}
 use Rattle.assembler_lexeme.specs.declared.token.Token.TheVariants.{One, Named, Word, Mark}
-use Rattle.assembler_lexeme.specs.declared.token.Mark.TheVariants.{OpenBracket}
+use Rattle.assembler_lexeme.specs.declared.token.Mark.TheVariants.{Colon, OpenBracket}
 use Rattle.assembler_lexeme.specs.Faults.{◌>>=◌, wanted, all_of}
-use Rattle.assembler_syntax.specs.Parts.{Signed, parts, signed_parts, around, closed, is_colon, is_open_bracket, is_close_bracket}
+use Rattle.assembler_syntax.specs.Parts.{Signed, parts, signed_parts, around, closed, is_colon, is_close_bracket}
 use Rattle.assembler_syntax.specs.Expressions.{expression_of, term_of}
 
 -- at most one of BX and BP, and at most one of SI and DI
@@ -56,12 +55,8 @@ abbrev pub with_term : Address → Term → Address
 with_term a term = record a { displacement = Some (terms_with a.displacement term) }
 
 -- the register that a part in brackets is
-abbrev pub single_register : Token → Option RegisterType
-single_register (Word (Register r)) = Some r
-single_register t = None
-
 abbrev pub register_of : List Token → Option RegisterType
-register_of (t ∷ []) = single_register t
+register_of (Word (Register r) ∷ []) = Some r
 register_of ts = None
 
 -- no minus stands before a register
@@ -95,37 +90,21 @@ value_of ts = do
   value ← expression_of ts
   Ok (operands.Value value)
 
--- as the code gives it
-abbrev pub brackets_view : Option (Option SegmentRegister × Bor (List Token))
-    → Option (Option SegmentRegister × List Token)
-brackets_view (Some b) = Some (b.0, b.1.now)
-brackets_view None = None
-
 -- what stands behind the open bracket of a place in memory, and the segment register before it, if there is one
-abbrev pub behind_segment : RegisterType → List Token → Option (Option SegmentRegister × List Token)
-behind_segment (registers.Segment s) (t ∷ u ∷ ts) = if is_colon t && is_open_bracket u then Some (Some s, ts) else None
-behind_segment r ts = None
-
-abbrev pub brackets_by : Token → List Token → Option (Option SegmentRegister × List Token)
-brackets_by (Mark OpenBracket) ts = Some (None, ts)
-brackets_by (Word (Register r)) ts = behind_segment r ts
-brackets_by t ts = None
-
 unfoldable pub brackets_of : List Token → Option (Option SegmentRegister × List Token)
-brackets_of [] = None
-brackets_of (t ∷ ts) = brackets_by t ts
+brackets_of (Mark OpenBracket ∷ ts) = Some (None, ts)
+brackets_of (Word (Register (registers.Segment s)) ∷ Mark Colon ∷ Mark OpenBracket ∷ ts) = Some (Some s, ts)
+brackets_of ts = None
 
-abbrev pub memory_in : Option Size → Option (Option SegmentRegister × List Token) → Result Operand SyntaxFault
-memory_in size (Some brackets) = memory_of size brackets.0 brackets.1
-memory_in size None = Err BadLine
+-- a place in memory, or what else stands there
+abbrev pub memory_or : Option Size → Option (Option SegmentRegister × List Token) → Result Operand SyntaxFault
+    → Result Operand SyntaxFault
+memory_or size (Some brackets) other = memory_of size brackets.0 brackets.1
+memory_or size None other = other
 
 -- FAR label, or FAR segment:offset
-abbrev pub single_label : Token → Result Operand SyntaxFault
-single_label (Named label) = Ok (operands.FarLabel label)
-single_label t = Err BadLine
-
 abbrev pub far_label : List Token → Result Operand SyntaxFault
-far_label (t ∷ []) = single_label t
+far_label (Named label ∷ []) = Ok (operands.FarLabel label)
 far_label ts = Err BadLine
 
 abbrev pub far_pointer : List Token → List Token → Result Operand SyntaxFault
@@ -138,40 +117,20 @@ abbrev pub far_target : Option (List Token × List Token) → List Token → Res
 far_target (Some colon) ts = far_pointer colon.0 colon.1
 far_target None ts = far_label ts
 
-abbrev pub far_by : Option (Option SegmentRegister × List Token) → List Token → Result Operand SyntaxFault
-far_by (Some brackets) ts = memory_of (Some sizes.Far) brackets.0 brackets.1
-far_by None ts = far_target (around is_colon ts) ts
-
-unfoldable pub far_of : List Token → Result Operand SyntaxFault
-far_of ts = far_by (brackets_of ts) ts
-
 abbrev pub short_of : List Token → Result Operand SyntaxFault
 short_of ts = do
   target ← expression_of ts
   Ok (operands.Short target)
 
--- an operand of one token
-abbrev pub single_operand : Token → Result Operand SyntaxFault
-single_operand (Word (Register r)) = Ok (operands.Register r)
-single_operand One = Ok operands.One
-single_operand t = value_of (t ∷ [])
-
-abbrev pub place_or_value : Option (Option SegmentRegister × List Token) → List Token → Result Operand SyntaxFault
-place_or_value (Some brackets) ts = memory_of None brackets.0 brackets.1
-place_or_value None ts = value_of ts
-
--- an operand of more tokens, by its first
-abbrev pub led_operand : Token → List Token → Result Operand SyntaxFault
-led_operand (Word (Keyword keywords.Short)) ts = short_of ts
-led_operand (Word (Keyword keywords.Byte)) ts = memory_in (Some sizes.Byte) (brackets_of ts)
-led_operand (Word (Keyword keywords.Word)) ts = memory_in (Some sizes.Word) (brackets_of ts)
-led_operand (Word (Keyword keywords.Far)) ts = far_of ts
-led_operand t ts = place_or_value (brackets_of (t ∷ ts)) (t ∷ ts)
-
 unfoldable pub operand_of : List Token → Result Operand SyntaxFault
-operand_of [] = Err BadLine
-operand_of (t ∷ []) = single_operand t
-operand_of (t ∷ u ∷ ts) = led_operand t (u ∷ ts)
+operand_of (Word (Register r) ∷ []) = Ok (operands.Register r)
+operand_of (One ∷ []) = Ok operands.One
+operand_of (Word (Keyword keywords.Short) ∷ ts) = short_of ts
+operand_of (Word (Keyword keywords.Byte) ∷ ts) = memory_or (Some sizes.Byte) (brackets_of ts) (Err BadLine)
+operand_of (Word (Keyword keywords.Word) ∷ ts) = memory_or (Some sizes.Word) (brackets_of ts) (Err BadLine)
+operand_of (Word (Keyword keywords.Far) ∷ ts) =
+    memory_or (Some sizes.Far) (brackets_of ts) (far_target (around is_colon ts) ts)
+operand_of ts = memory_or None (brackets_of ts) (value_of ts)
 
 -- none, or some with commas between them
 unfoldable pub operands_of : List Token → Result (List Operand) SyntaxFault

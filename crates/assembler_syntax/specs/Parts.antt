@@ -1,34 +1,22 @@
 -- The parts of a list of tokens: between commas, between signs, and around a token.
 -- To be believed: the headline rests on it.
-use Rattle.std.specs.Prelude.{ℕ, ◌+◌, Bool, true, false, not, ◌&&◌, if◌then◌else◌, List, [], ◌∷◌, take, drop, position, Option, None, Some, Result, Ok, Err}
-use Rattle.std.specs.Borrow.{Bor}
+use Rattle.std.specs.Prelude.{◌+◌, Bool, true, false, List, [], ◌∷◌, take, drop, position, Option, Some, Result, Ok, Err}
+use Rattle.std.specs.Option.{option_map}
 use Rattle.dialect.specs.declared.meaning.Meaning.TheVariants.{Keyword}
 use Rattle.dialect.specs.declared.keyword.Keyword.TheVariants.{Dup}
 use Rattle.assembler_lexeme.specs.declared.fault.SyntaxFault.{SyntaxFault}
 use Rattle.assembler_lexeme.specs.declared.fault.SyntaxFault.TheVariants.{BadLine}
 use Rattle.assembler_lexeme.specs.declared.token.Token.{Token}
 use Rattle.assembler_lexeme.specs.declared.token.Token.TheVariants.{Word, Mark}
-use Rattle.assembler_lexeme.specs.declared.token.Mark.TheVariants.{Comma, Colon, Plus, Minus, OpenBracket, CloseBracket, OpenParenthesis, CloseParenthesis}
-
-abbrev pub is_comma : Token → Bool
-is_comma (Mark Comma) = true
-is_comma t = false
+use Rattle.assembler_lexeme.specs.declared.token.Mark.TheVariants.{Comma, Colon, Plus, Minus, CloseBracket, OpenParenthesis, CloseParenthesis}
 
 abbrev pub is_colon : Token → Bool
 is_colon (Mark Colon) = true
 is_colon t = false
 
-abbrev pub is_open_bracket : Token → Bool
-is_open_bracket (Mark OpenBracket) = true
-is_open_bracket t = false
-
 abbrev pub is_close_bracket : Token → Bool
 is_close_bracket (Mark CloseBracket) = true
 is_close_bracket t = false
-
-abbrev pub is_open_parenthesis : Token → Bool
-is_open_parenthesis (Mark OpenParenthesis) = true
-is_open_parenthesis t = false
 
 abbrev pub is_close_parenthesis : Token → Bool
 is_close_parenthesis (Mark CloseParenthesis) = true
@@ -38,73 +26,30 @@ abbrev pub is_dup : Token → Bool
 is_dup (Word (Keyword Dup)) = true
 is_dup t = false
 
--- what stands before the token at a place, and what stands behind it
-abbrev pub at_place : List Token → Option ℕ → Option (List Token × List Token)
-at_place ts (Some k) = Some (take k ts, drop (k + 1) ts)
-at_place ts None = None
-
 -- what stands before the first token that passes, and what stands behind it
 abbrev pub around : (Token → Bool) → List Token → Option (List Token × List Token)
-around passes ts = at_place ts (position passes ts)
-
--- as the code gives it
-abbrev pub around_view : Option (Bor (List Token) × Bor (List Token)) → Option (List Token × List Token)
-around_view (Some p) = Some (p.0.now, p.1.now)
-around_view None = None
+around passes ts = option_map (λ k. (take k ts, drop (k + 1) ts)) (position passes ts)
 
 -- nothing stands behind it
 abbrev pub closed : Option (List Token × List Token) → Result (List Token) SyntaxFault
 closed (Some (inner, [])) = Ok inner
 closed found = Err BadLine
 
--- whether parentheses are open behind a token
-abbrev pub is_open_after : Bool → Token → Bool
-is_open_after is_open (Mark OpenParenthesis) = true
-is_open_after is_open (Mark CloseParenthesis) = false
-is_open_after is_open t = is_open
-
-abbrev pub parts_here : Bool → Token → Bool
-parts_here is_open t = not is_open && is_comma t
-
 -- the token, put before the first of the parts
 abbrev pub onto_part : Token → List (List Token) → List (List Token)
 onto_part t [] = (t ∷ []) ∷ []
 onto_part t (part ∷ parts) = (t ∷ part) ∷ parts
 
+-- the parts between commas, where parentheses are open or not; a comma in parentheses parts nothing
 abbrev pub parts_from : Bool → List Token → List (List Token)
 parts_from is_open [] = [] ∷ []
-parts_from is_open (t ∷ ts) =
-    if parts_here is_open t then [] ∷ parts_from false ts else onto_part t (parts_from (is_open_after is_open t) ts)
+parts_from false (Mark Comma ∷ ts) = [] ∷ parts_from false ts
+parts_from is_open (Mark OpenParenthesis ∷ ts) = onto_part (Mark OpenParenthesis) (parts_from true ts)
+parts_from is_open (Mark CloseParenthesis ∷ ts) = onto_part (Mark CloseParenthesis) (parts_from false ts)
+parts_from is_open (t ∷ ts) = onto_part t (parts_from is_open ts)
 
--- the parts between commas; a comma in parentheses parts nothing
 unfoldable pub parts : List Token → List (List Token)
 parts ts = parts_from false ts
-
--- the tokens behind the first one, if there is one
-abbrev pub tail_of : List Token → Option (List Token)
-tail_of [] = None
-tail_of (t ∷ ts) = Some ts
-
--- as the code gives it
-abbrev pub tail_view : Option (Bor (List Token)) → Option (List Token)
-tail_view (Some ts) = Some ts.now
-tail_view None = None
-
--- the parts behind a comma, if there was one
-abbrev pub parts_left : Option (List Token) → List (List Token)
-parts_left (Some ts) = parts ts
-parts_left None = []
-
--- how many tokens stand before the first comma
-abbrev pub part_size : Bool → List Token → ℕ
-part_size is_open [] = 0
-part_size is_open (t ∷ ts) = if parts_here is_open t then 0 else 1 + part_size (is_open_after is_open t) ts
-
--- whether a sign is a minus; other tokens are no signs
-abbrev pub sign_of : Token → Option Bool
-sign_of (Mark Plus) = Some false
-sign_of (Mark Minus) = Some true
-sign_of t = None
 
 -- tokens with a sign before them
 pub record Signed : Type 0 where
@@ -118,38 +63,13 @@ abbrev pub onto_signed : Bool → Token → List Signed → List Signed
 onto_signed is_negative t [] = signed_part is_negative (t ∷ []) ∷ []
 onto_signed is_negative t (part ∷ parts) = signed_part part.is_negative (t ∷ part.tokens) ∷ parts
 
-abbrev pub signed_by : Option Bool → Bool → Token → (Bool → List Signed) → List Signed
-signed_by None is_negative t parts = onto_signed is_negative t (parts is_negative)
-signed_by (Some next) is_negative t parts = signed_part is_negative [] ∷ parts next
-
 abbrev pub signed_from : Bool → List Token → List Signed
 signed_from is_negative [] = signed_part is_negative [] ∷ []
-signed_from is_negative (t ∷ ts) = signed_by (sign_of t) is_negative t (λ next. signed_from next ts)
-
--- the parts behind a sign, if there was one
-abbrev pub signed_left : Bool → Option (List Token) → List Signed
-signed_left is_negative (Some ts) = signed_from is_negative ts
-signed_left is_negative None = []
-
-abbrev pub is_minus : Token → Bool
-is_minus (Mark Minus) = true
-is_minus t = false
-
-abbrev pub begins_with_minus : List Token → Bool
-begins_with_minus [] = false
-begins_with_minus (t ∷ ts) = is_minus t
+signed_from is_negative (Mark Plus ∷ ts) = signed_part is_negative [] ∷ signed_from false ts
+signed_from is_negative (Mark Minus ∷ ts) = signed_part is_negative [] ∷ signed_from true ts
+signed_from is_negative (t ∷ ts) = onto_signed is_negative t (signed_from is_negative ts)
 
 -- the parts between signs, each with the sign before it; a minus may stand before the first
 abbrev pub signed_parts : List Token → List Signed
-signed_parts [] = signed_from false []
-signed_parts (t ∷ ts) = if is_minus t then signed_from true ts else signed_from false (t ∷ ts)
-
-abbrev pub is_sign : Token → Bool
-is_sign (Mark Plus) = true
-is_sign (Mark Minus) = true
-is_sign t = false
-
--- how many tokens stand before the first sign
-abbrev pub signed_size : List Token → ℕ
-signed_size [] = 0
-signed_size (t ∷ ts) = if is_sign t then 0 else 1 + signed_size ts
+signed_parts (Mark Minus ∷ ts) = signed_from true ts
+signed_parts ts = signed_from false ts

@@ -1,46 +1,32 @@
 -- Statements.
 -- To be believed: the headline rests on it.
 use Rattle.std.specs.Prelude.{Bool, true, false, List, [], ◌∷◌, if◌then◌else◌, Result, Ok, Err}
-use Rattle.isa.specs.declared.register.SegmentRegister.{SegmentRegister}
 use Rattle.isa.specs.declared.form.Prefix.{Prefix as PrefixType}
 use Rattle.isa.specs.declared.form.Prefix.TheVariants as prefixes
 use Rattle.dialect.specs.declared.mnemonic.Mnemonic.{Mnemonic as MnemonicType}
-use Rattle.dialect.specs.declared.meaning.Meaning.{Meaning}
 use Rattle.dialect.specs.declared.meaning.Meaning.TheVariants.{Mnemonic, Register, Prefix, Keyword}
 use Rattle.dialect.specs.declared.register.Register.TheVariants as registers
 use Rattle.dialect.specs.declared.keyword.Keyword.{Keyword as KeywordType}
 use Rattle.dialect.specs.declared.keyword.Keyword.TheVariants as keywords
 use Rattle.assembler_lexeme.specs.declared.fault.SyntaxFault.{SyntaxFault}
 use Rattle.assembler_lexeme.specs.declared.fault.SyntaxFault.TheVariants.{BadLine, UnknownName}
-use Rattle.assembler_lexeme.specs.declared.name.Name.{Name}
 use Rattle.assembler_syntax.specs.declared.statement.DataWidth.{DataWidth}
 use Rattle.assembler_syntax.specs.declared.statement.DataWidth.TheVariants as widths
 use Rattle.assembler_syntax.specs.declared.statement.Statement.{Statement}
 use Rattle.assembler_syntax.specs.declared.statement.Statement.TheVariants as statements
 use Rattle.assembler_lexeme.specs.declared.token.Token.{Token}
-use Rattle.assembler_lexeme.specs.declared.token.Token.TheVariants.{Named, Word}
+use Rattle.assembler_lexeme.specs.declared.token.Token.TheVariants.{Mark, Named, Word}
+use Rattle.assembler_lexeme.specs.declared.token.Mark.TheVariants.{Colon}
 use Rattle.assembler_lexeme.specs.Faults.{◌>>=◌}
-use Rattle.assembler_syntax.specs.Parts.{is_colon}
 use Rattle.assembler_syntax.specs.Expressions.{constant_of}
 use Rattle.assembler_syntax.specs.Operands.{operands_of}
 use Rattle.assembler_syntax.specs.Items.{items_of}
 
 -- name AT paragraph
-abbrev pub segment_at : Name → List Token → Result Statement SyntaxFault
-segment_at name ts = do
+unfoldable pub segment_of : List Token → Result Statement SyntaxFault
+segment_of (Named name ∷ Word (Keyword keywords.At) ∷ ts) = do
   paragraph ← constant_of ts
   Ok (statements.Segment name paragraph)
-
-abbrev pub segment_by : Token → List Token → Result Statement SyntaxFault
-segment_by (Named name) ts = segment_at name ts
-segment_by t ts = Err BadLine
-
-abbrev pub is_at : Token → Bool
-is_at (Word (Keyword keywords.At)) = true
-is_at t = false
-
-unfoldable pub segment_of : List Token → Result Statement SyntaxFault
-segment_of (t ∷ u ∷ ts) = if is_at u then segment_by t ts else Err BadLine
 segment_of ts = Err BadLine
 
 unfoldable pub ends_of : List Token → Result Statement SyntaxFault
@@ -56,16 +42,6 @@ unfoldable pub data_of : DataWidth → List Token → Result Statement SyntaxFau
 data_of width ts = do
   items ← items_of width ts
   Ok (statements.Data width items)
-
-abbrev pub equ_at : Name → List Token → Result Statement SyntaxFault
-equ_at name ts = do
-  value ← constant_of ts
-  Ok (statements.Equ name value)
-
--- a statement with EQU behind its first token, which must be a name
-unfoldable pub equ_of : Token → List Token → Result Statement SyntaxFault
-equ_of (Named name) ts = equ_at name ts
-equ_of t ts = Err BadLine
 
 -- a statement that begins with a keyword
 unfoldable pub directive_of : KeywordType → List Token → Result Statement SyntaxFault
@@ -86,13 +62,10 @@ instruction_of ps mnemonic ts = do
 abbrev pub onto_prefixes : PrefixType → (List PrefixType × List Token) → (List PrefixType × List Token)
 onto_prefixes p (ps, ts) = (p ∷ ps, ts)
 
-abbrev pub segment_token : SegmentRegister → Token
-segment_token s = Word (Register (registers.Segment s))
-
 abbrev pub prefixes_of : List Token → (List PrefixType × List Token)
 prefixes_of (Word (Prefix p) ∷ ts) = onto_prefixes p (prefixes_of ts)
-prefixes_of (Word (Register (registers.Segment s)) ∷ t ∷ ts) =
-    if is_colon t then onto_prefixes (prefixes.Segment s) (prefixes_of ts) else ([], segment_token s ∷ t ∷ ts)
+prefixes_of (Word (Register (registers.Segment s)) ∷ Mark Colon ∷ ts) =
+    onto_prefixes (prefixes.Segment s) (prefixes_of ts)
 prefixes_of ts = ([], ts)
 
 -- the keywords that begin a statement
@@ -105,34 +78,21 @@ is_directive keywords.Dw = true
 is_directive keywords.Dd = true
 is_directive k = false
 
--- such a keyword behind prefixes stands in a wrong place; another one is no statement's
-abbrev pub keyword_statement : List PrefixType → KeywordType → List Token → Result Statement SyntaxFault
-keyword_statement [] k ts = directive_of k ts
-keyword_statement (p ∷ ps) k ts = if is_directive k then Err BadLine else Err UnknownName
-
-abbrev pub word_statement : List PrefixType → Meaning → List Token → Result Statement SyntaxFault
-word_statement ps (Mnemonic m) ts = instruction_of ps m ts
-word_statement ps (Keyword k) ts = keyword_statement ps k ts
-word_statement ps meaning ts = Err UnknownName
-
-abbrev pub led_statement : List PrefixType → Token → List Token → Result Statement SyntaxFault
-led_statement ps (Word meaning) ts = word_statement ps meaning ts
-led_statement ps (Named name) ts = Err UnknownName
-led_statement ps t ts = Err BadLine
-
--- what stands behind these prefixes, which may be none
+-- What stands behind these prefixes, which may be none. A keyword that begins a statement stands in a wrong place behind
+-- prefixes; another one is no statement's.
 unfoldable pub statement_behind : List PrefixType → List Token → Result Statement SyntaxFault
-statement_behind ps [] = Err BadLine
-statement_behind ps (t ∷ ts) = led_statement ps t ts
+statement_behind ps (Word (Mnemonic m) ∷ ts) = instruction_of ps m ts
+statement_behind [] (Word (Keyword k) ∷ ts) = directive_of k ts
+statement_behind (p ∷ ps) (Word (Keyword k) ∷ ts) = if is_directive k then Err BadLine else Err UnknownName
+statement_behind ps (Word meaning ∷ ts) = Err UnknownName
+statement_behind ps (Named name ∷ ts) = Err UnknownName
+statement_behind ps ts = Err BadLine
 
-unfoldable pub prefixed_statement : List Token → Result Statement SyntaxFault
-prefixed_statement ts = statement_behind ((prefixes_of ts).0) ((prefixes_of ts).1)
-
-abbrev pub is_equ : Token → Bool
-is_equ (Word (Keyword keywords.Equ)) = true
-is_equ t = false
-
+-- a statement with EQU behind its first token, which must be a name, or one with prefixes, which may be none
 unfoldable pub statement_of : List Token → Result Statement SyntaxFault
 statement_of [] = Ok statements.Empty
-statement_of (t ∷ []) = prefixed_statement (t ∷ [])
-statement_of (t ∷ u ∷ ts) = if is_equ u then equ_of t ts else prefixed_statement (t ∷ u ∷ ts)
+statement_of (Named name ∷ Word (Keyword keywords.Equ) ∷ ts) = do
+  value ← constant_of ts
+  Ok (statements.Equ name value)
+statement_of (t ∷ Word (Keyword keywords.Equ) ∷ ts) = Err BadLine
+statement_of ts = statement_behind (prefixes_of ts).0 (prefixes_of ts).1

@@ -2,7 +2,7 @@
 ghost use Rattle.std.specs.Prelude.{Bool, false, ◌≡◌, ◌≢◌, ◌<◌, ◌≤◌, [], ◌∷◌, position, length, IfSome, IfNone};
 ghost use Rattle.std.specs.Option.{option_map};
 ghost use Rattle.assembler_lexeme.specs.Faults.{wanted};
-ghost use Rattle.assembler_syntax.specs.Parts.{around_view, at_place, begins_with_minus, closed, is_close_bracket, is_close_parenthesis, is_colon, is_comma, is_dup, is_minus, is_open_after, is_open_bracket, is_open_parenthesis, is_sign, part_size, parts, parts_left, signed_from, signed_left, signed_part, signed_parts, signed_size, tail_of, tail_view};
+ghost use Rattle.assembler_syntax.specs.PartSteps.{around_view, at_place, begins_with_minus, closed, is_close_bracket, is_close_parenthesis, is_colon, is_comma, is_dup, is_minus, is_open_after, is_open_bracket, is_open_parenthesis, is_sign, part_size, parts, parts_left, signed_from, signed_left, signed_part, signed_parts, signed_size, tail_of, tail_view};
 
 use assembler_lexeme::token::{Mark, Token};
 use dialect::keyword::Keyword;
@@ -155,7 +155,7 @@ pub(crate) struct Parts<'a, 'b> {
 impl<'a, 'b> Model for Parts<'a, 'b> {
     ghost use Rattle.std.specs.Prelude.{List};
     ghost use Rattle.assembler_lexeme.specs.declared.token.Token.{Token};
-    ghost use Rattle.assembler_syntax.specs.Parts.{parts_left, tail_view};
+    ghost use Rattle.assembler_syntax.specs.PartSteps.{parts_left, tail_view};
 
     ghost Value = { List (List Token) };
 
@@ -217,7 +217,7 @@ pub(crate) struct SignedParts<'a, 'b> {
 
 impl<'a, 'b> Model for SignedParts<'a, 'b> {
     ghost use Rattle.std.specs.Prelude.{List};
-    ghost use Rattle.assembler_syntax.specs.Parts.{Signed, signed_left, tail_view};
+    ghost use Rattle.assembler_syntax.specs.PartSteps.{Signed, signed_left, tail_view};
 
     ghost Value = { List Signed };
 

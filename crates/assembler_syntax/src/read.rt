@@ -3,7 +3,8 @@ ghost use Rattle.std.specs.Prelude.{◌≡◌, ◌∷◌};
 ghost use Rattle.std.specs.List.{list_all};
 ghost use Rattle.assembler_lexeme.specs.Lexemes.{is_character};
 ghost use Rattle.assembler_lexeme.specs.Faults.{Gives};
-ghost use Rattle.assembler_syntax.specs.Lines.{labelled, line_of, read_line, with_label};
+ghost use Rattle.assembler_syntax.specs.LineSteps.{labelled, line_of, with_label};
+ghost use Rattle.assembler_syntax.specs.Lines.{read_line};
 
 mod expression;
 mod item;
@@ -20,7 +21,7 @@ use std::alloc::Global;
 
 /// What a line of a source says by itself, or why it is no line of the dialect: a fault of its characters comes
 /// first, then one of its words, then one of its grammar.
-#[tactic(auto, unfolding(crate::specs::Lines::read_line))]
+#[tactic(auto, using(crate::proofs::Alike::text_alike), unfolding(crate::specs::LineSteps::read_line))]
 pub fn read_line(alloc: Global, text: &[u8]) -> Result<Line, SyntaxError>
     ensures { Gives result (read_line text.now) }
 {
@@ -37,7 +38,7 @@ fn are_characters(text: &[u8]) -> bool
     text.iter().all(|byte| is_character(*byte))
 }
 
-#[tactic(auto, unfolding(crate::specs::Lines::line_of))]
+#[tactic(auto, unfolding(crate::specs::LineSteps::line_of))]
 fn labelled_line(alloc: Global, tokens: &[Token]) -> Result<Line, SyntaxError>
     ensures { Gives result (line_of tokens.now) }
 {

@@ -2,8 +2,8 @@
 ghost use Rattle.std.specs.Prelude.{◌≡◌, [], ◌∷◌};
 ghost use Rattle.std.specs.List.{list_all};
 ghost use Rattle.assembler_lexeme.specs.Faults.{all_of, with_front, Gives};
-ghost use Rattle.assembler_syntax.specs.Parts.{signed_part};
-ghost use Rattle.assembler_syntax.specs.Expressions.{atom_of, constant_of, expression_of, is_constant, is_constant_atom, segment_atom, single_atom, term_of};
+ghost use Rattle.assembler_syntax.specs.PartSteps.{signed_part};
+ghost use Rattle.assembler_syntax.specs.ExpressionSteps.{atom_of, constant_of, expression_of, is_constant, is_constant_atom, segment_atom, single_atom, term_of};
 
 use crate::expression::{Atom, Expression, Term};
 use crate::part::SignedParts;
@@ -36,7 +36,7 @@ fn segment_atom(first: &Token, second: &Token) -> Result<Atom, SyntaxError>
     }
 }
 
-#[tactic(auto, unfolding(crate::specs::Expressions::atom_of))]
+#[tactic(auto, unfolding(crate::specs::ExpressionSteps::atom_of))]
 fn atom_of(tokens: &[Token]) -> Result<Atom, SyntaxError>
     ensures { Gives result (atom_of tokens.now) }
 {
@@ -56,7 +56,7 @@ pub(crate) fn read_term(is_negative: bool, tokens: &[Token]) -> Result<Term, Syn
 }
 
 /// An expression.
-#[tactic(auto, unfolding(crate::specs::Expressions::expression_of))]
+#[tactic(auto, unfolding(crate::specs::ExpressionSteps::expression_of))]
 pub(crate) fn read_expression(alloc: Global, tokens: &[Token]) -> Result<Expression, SyntaxError>
     ensures { Gives result (expression_of tokens.now) }
 {
@@ -83,7 +83,7 @@ fn read_terms(alloc: Global, first: Term, parts: SignedParts) -> Result<Expressi
 }
 
 /// An expression that must be a constant: it holds neither `$` nor SEG.
-#[tactic(auto, unfolding(crate::specs::Expressions::constant_of))]
+#[tactic(auto, unfolding(crate::specs::ExpressionSteps::constant_of))]
 pub(crate) fn read_constant(alloc: Global, tokens: &[Token]) -> Result<Expression, SyntaxError>
     ensures { Gives result (constant_of tokens.now) }
 {

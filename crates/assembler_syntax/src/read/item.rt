@@ -2,7 +2,7 @@
 ghost use Rattle.std.specs.Prelude.{◌≡◌, [], ◌∷◌};
 ghost use Rattle.assembler_lexeme.specs.Faults.{wanted, Gives};
 ghost use Rattle.std.specs.Option.{option_map};
-ghost use Rattle.assembler_syntax.specs.Items.{in_parentheses, item_of, items_of, once, piece_of, pieces_of, repeated, single_piece, value_piece};
+ghost use Rattle.assembler_syntax.specs.ItemSteps.{in_parentheses, item_of, items_of, once, piece_of, pieces_of, repeated, single_piece, value_piece};
 
 use crate::part::{
     Parts, around, before_last, close_parenthesis_place, dup_place, is_open_parenthesis,
@@ -15,7 +15,7 @@ use assembler_lexeme::token::Token;
 use std::alloc::Global;
 
 /// The items of a data line: one or more, with commas between them.
-#[tactic(auto, unfolding(crate::specs::Items::items_of))]
+#[tactic(auto, unfolding(crate::specs::ItemSteps::items_of))]
 pub(crate) fn read_items(
     alloc: Global,
     width: DataWidth,
@@ -33,7 +33,7 @@ pub(crate) fn read_items(
 }
 
 /// Pieces that DUP repeats, or one piece.
-#[tactic(auto, unfolding(crate::specs::Items::item_of))]
+#[tactic(auto, unfolding(crate::specs::ItemSteps::item_of))]
 fn read_item(alloc: Global, width: DataWidth, tokens: &[Token]) -> Result<Item, SyntaxError>
     ensures { Gives result (item_of width tokens.now) }
 {
@@ -43,7 +43,7 @@ fn read_item(alloc: Global, width: DataWidth, tokens: &[Token]) -> Result<Item, 
     }
 }
 
-#[tactic(auto, unfolding(crate::specs::Items::repeated))]
+#[tactic(auto, unfolding(crate::specs::ItemSteps::repeated))]
 fn read_repeated(
     alloc: Global,
     width: DataWidth,
@@ -73,7 +73,7 @@ fn in_parentheses<'a, 'b>(tokens: &'a [Token<'b>]) -> Option<&'a [Token<'b>]>
     }
 }
 
-#[tactic(auto, unfolding(crate::specs::Items::pieces_of))]
+#[tactic(auto, unfolding(crate::specs::ItemSteps::pieces_of))]
 fn read_pieces(
     alloc: Global,
     width: DataWidth,
@@ -91,7 +91,7 @@ fn read_pieces(
 }
 
 /// An expression, or in DB a quoted text.
-#[tactic(auto, unfolding(crate::specs::Items::piece_of))]
+#[tactic(auto, unfolding(crate::specs::ItemSteps::piece_of))]
 fn read_piece(alloc: Global, width: DataWidth, tokens: &[Token]) -> Result<Piece, SyntaxError>
     ensures { Gives result (piece_of width tokens.now) }
 {

@@ -2,8 +2,8 @@
 ghost use Rattle.std.specs.Prelude.{◌≡◌, [], ◌∷◌};
 ghost use Rattle.std.specs.Option.{option_map};
 ghost use Rattle.assembler_lexeme.specs.Faults.{all_of, Gives};
-ghost use Rattle.assembler_syntax.specs.Parts.{parts, signed_part, signed_parts};
-ghost use Rattle.assembler_syntax.specs.Operands.{base_with, behind_segment, brackets_by, brackets_of, brackets_view, empty_address, far_label, far_of, far_pointer, far_target, led_operand, memory_in, memory_of, operand_of, operands_of, place_or_value, register_of, short_of, single_label, single_operand, single_register, terms_with, value_of, with_part, with_parts, with_register, with_term};
+ghost use Rattle.assembler_syntax.specs.PartSteps.{parts, signed_part, signed_parts};
+ghost use Rattle.assembler_syntax.specs.OperandSteps.{base_with, behind_segment, brackets_by, brackets_of, brackets_view, empty_address, far_label, far_of, far_pointer, far_target, led_operand, memory_in, memory_of, operand_of, operands_of, place_or_value, register_of, short_of, single_label, single_operand, single_register, terms_with, value_of, with_part, with_parts, with_register, with_term};
 
 use crate::expression::{Expression, Term};
 use crate::operand::{Address, Operand};
@@ -27,7 +27,7 @@ use std::alloc::Global;
 type Brackets<'a, 'b> = (Option<SegmentRegister>, &'a [Token<'b>]);
 
 /// The operands of an instruction: none, or some with commas between them.
-#[tactic(auto, unfolding(crate::specs::Operands::operands_of))]
+#[tactic(auto, unfolding(crate::specs::OperandSteps::operands_of))]
 pub(crate) fn read_operands(
     alloc: Global,
     tokens: &[Token],
@@ -53,7 +53,7 @@ fn read_parts(alloc: Global, parts: Parts) -> Result<Sequence<Operand>, SyntaxEr
     Ok(operands)
 }
 
-#[tactic(auto, unfolding(crate::specs::Operands::operand_of))]
+#[tactic(auto, unfolding(crate::specs::OperandSteps::operand_of))]
 fn read_operand(alloc: Global, tokens: &[Token]) -> Result<Operand, SyntaxError>
     ensures { Gives result (operand_of tokens.now) }
 {
@@ -114,7 +114,7 @@ fn place_or_value(alloc: Global, tokens: &[Token]) -> Result<Operand, SyntaxErro
     }
 }
 
-#[tactic(auto, unfolding(crate::specs::Operands::value_of))]
+#[tactic(auto, unfolding(crate::specs::OperandSteps::value_of))]
 fn read_value(alloc: Global, tokens: &[Token]) -> Result<Operand, SyntaxError>
     ensures { Gives result (value_of tokens.now) }
 {
@@ -122,7 +122,7 @@ fn read_value(alloc: Global, tokens: &[Token]) -> Result<Operand, SyntaxError>
 }
 
 /// FAR and memory, a label, or a segment and an offset.
-#[tactic(auto, unfolding(crate::specs::Operands::far_of))]
+#[tactic(auto, unfolding(crate::specs::OperandSteps::far_of))]
 fn read_far(alloc: Global, tokens: &[Token]) -> Result<Operand, SyntaxError>
     ensures { Gives result (far_of tokens.now) }
 {
@@ -162,7 +162,7 @@ fn single_label(token: &Token) -> Result<Operand, SyntaxError>
 }
 
 /// The segment register before an open bracket, if there is one, and what stands behind the bracket.
-#[tactic(auto, unfolding(crate::specs::Operands::brackets_of))]
+#[tactic(auto, unfolding(crate::specs::OperandSteps::brackets_of))]
 fn brackets_of<'a, 'b>(tokens: &'a [Token<'b>]) -> Option<Brackets<'a, 'b>>
     ensures { brackets_view result ≡ brackets_of tokens.now }
 {
@@ -193,7 +193,7 @@ fn behind_segment<'a, 'b>(register: Register, rest: &'a [Token<'b>]) -> Option<B
 }
 
 /// Memory: the parts behind an open bracket, and the other bracket.
-#[tactic(auto, unfolding(crate::specs::Operands::memory_of))]
+#[tactic(auto, unfolding(crate::specs::OperandSteps::memory_of))]
 fn read_memory(
     alloc: Global,
     size: Option<Size>,
@@ -226,7 +226,7 @@ fn with_parts(alloc: Global, address: Address, parts: SignedParts) -> Result<Add
     Ok(address)
 }
 
-#[tactic(auto, unfolding(crate::specs::Operands::with_part))]
+#[tactic(auto, unfolding(crate::specs::OperandSteps::with_part))]
 fn with_part(
     alloc: Global,
     address: Address,

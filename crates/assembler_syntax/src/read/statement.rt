@@ -1,7 +1,7 @@
 //! Statements.
 ghost use Rattle.std.specs.Prelude.{◌≡◌, ◌+◌, ◌<◌, ◌≤◌, [], ◌∷◌, drop, length, IfSome, IfNone};
 ghost use Rattle.assembler_lexeme.specs.Faults.{Gives};
-ghost use Rattle.assembler_syntax.specs.Statements.{data_of, directive_of, ends_of, equ_of, instruction_of, is_at, is_directive, is_equ, keyword_statement, led_statement, onto_prefixes, org_of, prefixed_statement, prefixes_of, segment_at, segment_by, segment_of, segment_token, statement_behind, statement_of, word_statement};
+ghost use Rattle.assembler_syntax.specs.StatementSteps.{data_of, directive_of, ends_of, equ_of, instruction_of, is_at, is_directive, is_equ, keyword_statement, led_statement, onto_prefixes, org_of, prefixed_statement, prefixes_of, segment_at, segment_by, segment_of, segment_token, statement_behind, statement_of, word_statement};
 
 use crate::part::{is_colon, split};
 use crate::read::expression::read_constant;
@@ -21,7 +21,7 @@ use isa::register::SegmentRegister;
 use std::alloc::Global;
 
 /// What a line says behind its label.
-#[tactic(auto, unfolding(crate::specs::Statements::statement_of))]
+#[tactic(auto, unfolding(crate::specs::StatementSteps::statement_of))]
 pub(crate) fn read_statement(alloc: Global, tokens: &[Token]) -> Result<Statement, SyntaxError>
     ensures { Gives result (statement_of tokens.now) }
 {
@@ -44,7 +44,7 @@ fn is_equ(token: &Token) -> bool
     matches!(token, Token::Word(Meaning::Keyword(Keyword::Equ)))
 }
 
-#[tactic(auto, unfolding(crate::specs::Statements::equ_of))]
+#[tactic(auto, unfolding(crate::specs::StatementSteps::equ_of))]
 fn read_equ(alloc: Global, first: &Token, value: &[Token]) -> Result<Statement, SyntaxError>
     ensures { Gives result (equ_of first.now value.now) }
 {
@@ -55,7 +55,7 @@ fn read_equ(alloc: Global, first: &Token, value: &[Token]) -> Result<Statement, 
 }
 
 /// Prefixes, if there are any, and what stands behind them.
-#[tactic(auto, unfolding(crate::specs::Statements::prefixed_statement))]
+#[tactic(auto, unfolding(crate::specs::StatementSteps::prefixed_statement))]
 fn prefixed_statement(alloc: Global, tokens: &[Token]) -> Result<Statement, SyntaxError>
     ensures { Gives result (prefixed_statement tokens.now) }
 {
@@ -111,7 +111,7 @@ fn override_by(segment: SegmentRegister, rest: &[Token]) -> Option<(Prefix, usiz
 }
 
 /// The statement behind these prefixes.
-#[tactic(auto, unfolding(crate::specs::Statements::statement_behind))]
+#[tactic(auto, unfolding(crate::specs::StatementSteps::statement_behind))]
 fn statement_behind(
     alloc: Global,
     prefixes: Sequence<Prefix>,
@@ -154,7 +154,7 @@ fn is_directive(keyword: Keyword) -> bool
     )
 }
 
-#[tactic(auto, unfolding(crate::specs::Statements::instruction_of))]
+#[tactic(auto, unfolding(crate::specs::StatementSteps::instruction_of))]
 fn read_instruction(
     alloc: Global,
     prefixes: Sequence<Prefix>,
@@ -171,7 +171,7 @@ fn read_instruction(
     }))
 }
 
-#[tactic(auto, unfolding(crate::specs::Statements::directive_of))]
+#[tactic(auto, unfolding(crate::specs::StatementSteps::directive_of))]
 fn read_directive(
     alloc: Global,
     keyword: Keyword,
@@ -190,7 +190,7 @@ fn read_directive(
     }
 }
 
-#[tactic(auto, unfolding(crate::specs::Statements::segment_of))]
+#[tactic(auto, unfolding(crate::specs::StatementSteps::segment_of))]
 fn read_segment(alloc: Global, tokens: &[Token]) -> Result<Statement, SyntaxError>
     ensures { Gives result (segment_of tokens.now) }
 {
@@ -215,7 +215,7 @@ fn segment_at(alloc: Global, name: Name, paragraph: &[Token]) -> Result<Statemen
     Ok(Statement::Segment(name, read_constant(alloc, paragraph)?))
 }
 
-#[tactic(auto, unfolding(crate::specs::Statements::ends_of))]
+#[tactic(auto, unfolding(crate::specs::StatementSteps::ends_of))]
 fn read_ends(tokens: &[Token]) -> Result<Statement, SyntaxError>
     ensures { Gives result (ends_of tokens.now) }
 {
@@ -225,14 +225,14 @@ fn read_ends(tokens: &[Token]) -> Result<Statement, SyntaxError>
     }
 }
 
-#[tactic(auto, unfolding(crate::specs::Statements::org_of))]
+#[tactic(auto, unfolding(crate::specs::StatementSteps::org_of))]
 fn read_org(alloc: Global, tokens: &[Token]) -> Result<Statement, SyntaxError>
     ensures { Gives result (org_of tokens.now) }
 {
     Ok(Statement::Org(read_constant(alloc, tokens)?))
 }
 
-#[tactic(auto, unfolding(crate::specs::Statements::data_of))]
+#[tactic(auto, unfolding(crate::specs::StatementSteps::data_of))]
 fn read_data(alloc: Global, width: DataWidth, tokens: &[Token]) -> Result<Statement, SyntaxError>
     ensures { Gives result (data_of width tokens.now) }
 {

@@ -1,5 +1,5 @@
 use Rattle.std.proofs.Common.{◌≡◌, ◌+◌, length, false}
-use Rattle.assembler_syntax.specs.Parts.{part_size}
+use Rattle.assembler_syntax.specs.PartSteps.{part_size}
 use Rattle.assembler_syntax.proofs.part.part_size.Given as goal
 
 abbrev pub invariant-loop-rest : goal.invariant-loop-rest

@@ -1,5 +1,5 @@
 use Rattle.std.proofs.Common.{◌≡◌, ◌+◌, length}
-use Rattle.assembler_syntax.specs.Parts.{signed_size}
+use Rattle.assembler_syntax.specs.PartSteps.{signed_size}
 use Rattle.assembler_syntax.proofs.part.signed_size.Given as goal
 
 abbrev pub invariant-loop-rest : goal.invariant-loop-rest

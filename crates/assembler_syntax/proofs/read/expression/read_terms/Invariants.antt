@@ -1,6 +1,6 @@
 use Rattle.std.proofs.Common.{◌≡◌, [], ◌∷◌, length}
 use Rattle.assembler_lexeme.specs.Faults.{all_of, with_front}
-use Rattle.assembler_syntax.specs.Expressions.{term_of}
+use Rattle.assembler_syntax.specs.ExpressionSteps.{term_of}
 use Rattle.assembler_syntax.proofs.read.expression.read_terms.Given as goal
 
 abbrev pub invariant-loop-is_negative : goal.invariant-loop-is_negative

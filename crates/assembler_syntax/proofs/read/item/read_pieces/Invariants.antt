@@ -1,7 +1,7 @@
 use Rattle.std.proofs.Common.{◌≡◌, length}
 use Rattle.assembler_lexeme.specs.Faults.{all_of, with_front}
-use Rattle.assembler_syntax.specs.Parts.{parts}
-use Rattle.assembler_syntax.specs.Items.{piece_of}
+use Rattle.assembler_syntax.specs.PartSteps.{parts}
+use Rattle.assembler_syntax.specs.ItemSteps.{piece_of}
 use Rattle.assembler_syntax.proofs.read.item.read_pieces.Given as goal
 
 abbrev pub invariant-loop-part : goal.invariant-loop-part

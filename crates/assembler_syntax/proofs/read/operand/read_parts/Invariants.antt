@@ -1,6 +1,6 @@
 use Rattle.std.proofs.Common.{◌≡◌, length}
 use Rattle.assembler_lexeme.specs.Faults.{all_of, with_front}
-use Rattle.assembler_syntax.specs.Operands.{operand_of}
+use Rattle.assembler_syntax.specs.OperandSteps.{operand_of}
 use Rattle.assembler_syntax.proofs.read.operand.read_parts.Given as goal
 
 abbrev pub invariant-loop-part : goal.invariant-loop-part

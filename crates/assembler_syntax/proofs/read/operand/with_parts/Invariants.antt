@@ -1,5 +1,5 @@
 use Rattle.std.proofs.Common.{◌≡◌, length}
-use Rattle.assembler_syntax.specs.Operands.{with_parts}
+use Rattle.assembler_syntax.specs.OperandSteps.{with_parts}
 use Rattle.assembler_syntax.proofs.read.operand.with_parts.Given as goal
 
 abbrev pub invariant-loop-is_negative : goal.invariant-loop-is_negative

@@ -1,5 +1,5 @@
 use Rattle.std.proofs.Common.{◌≡◌, ◌++◌, ◌≤◌, length}
-use Rattle.assembler_syntax.specs.Statements.{prefixes_of}
+use Rattle.assembler_syntax.specs.StatementSteps.{prefixes_of}
 use Rattle.assembler_syntax.proofs.read.statement.prefixed_statement.Given as goal
 
 abbrev pub invariant-loop-prefix : goal.invariant-loop-prefix
