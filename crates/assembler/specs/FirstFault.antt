@@ -72,46 +72,38 @@ IsFirst source (InLine fault number) =
     (length source ≤ source_limit) × (IsEarlyFault source fault number ⊎ IsLateFault source fault number)
 IsFirst source Memory = Unit {0}
 
--- the faults' numbers
+-- a fault's title: its number and its name
+abbrev pub source_fault_title : SourceFault → ℕ × List ℕ
+source_fault_title BadCharacter = (2, codes "BadCharacter")
+source_fault_title BadLine = (3, codes "BadLine")
+source_fault_title UnknownName = (4, codes "UnknownName")
+source_fault_title BadForm = (5, codes "BadForm")
+source_fault_title TwiceDefined = (6, codes "TwiceDefined")
+source_fault_title Undefined = (7, codes "Undefined")
+source_fault_title OutOfRange = (8, codes "OutOfRange")
+source_fault_title OutOfSegment = (9, codes "OutOfSegment")
+source_fault_title Overlap = (10, codes "Overlap")
+source_fault_title NoSegment = (11, codes "NoSegment")
+source_fault_title NotLoadable = (12, codes "NotLoadable")
+
+abbrev pub fault_title : AsmFault → ℕ × List ℕ
+fault_title SourceTooLong = (1, codes "SourceTooLong")
+fault_title (InLine fault line) = source_fault_title fault
+fault_title Memory = (13, codes "Memory")
+
 abbrev pub source_fault_number : SourceFault → ℕ
-source_fault_number BadCharacter = 2
-source_fault_number BadLine = 3
-source_fault_number UnknownName = 4
-source_fault_number BadForm = 5
-source_fault_number TwiceDefined = 6
-source_fault_number Undefined = 7
-source_fault_number OutOfRange = 8
-source_fault_number OutOfSegment = 9
-source_fault_number Overlap = 10
-source_fault_number NoSegment = 11
-source_fault_number NotLoadable = 12
+source_fault_number fault = (source_fault_title fault).0
+
+abbrev pub source_fault_name : SourceFault → List ℕ
+source_fault_name fault = (source_fault_title fault).1
 
 abbrev pub fault_number : AsmFault → ℕ
-fault_number SourceTooLong = 1
-fault_number (InLine fault line) = source_fault_number fault
-fault_number Memory = 13
-
--- the faults' names
-abbrev pub source_fault_name : SourceFault → List ℕ
-source_fault_name BadCharacter = codes "BadCharacter"
-source_fault_name BadLine = codes "BadLine"
-source_fault_name UnknownName = codes "UnknownName"
-source_fault_name BadForm = codes "BadForm"
-source_fault_name TwiceDefined = codes "TwiceDefined"
-source_fault_name Undefined = codes "Undefined"
-source_fault_name OutOfRange = codes "OutOfRange"
-source_fault_name OutOfSegment = codes "OutOfSegment"
-source_fault_name Overlap = codes "Overlap"
-source_fault_name NoSegment = codes "NoSegment"
-source_fault_name NotLoadable = codes "NotLoadable"
+fault_number fault = (fault_title fault).0
 
 abbrev pub fault_name : AsmFault → List ℕ
-fault_name SourceTooLong = codes "SourceTooLong"
-fault_name (InLine fault line) = source_fault_name fault
-fault_name Memory = codes "Memory"
+fault_name fault = (fault_title fault).1
 
--- the faults' lines
+-- the line that a fault tells
 abbrev pub fault_line : AsmFault → Option ℕ
-fault_line SourceTooLong = None
 fault_line (InLine fault line) = Some line
-fault_line Memory = None
+fault_line _ = None

@@ -16,30 +16,23 @@ answer_text (StopAt number clock) =
     codes "stop " ++ (decimal number ++ (codes " clock " ++ (decimal clock ++ codes "\n")))
 answer_text (Text text) = string_bytes text
 
+-- a fault's title: its number and its name
+abbrev pub fault_title : DebugFault → ℕ × List ℕ
+fault_title BadScan = (33, codes "BadScan")
+fault_title StampsFall = (34, codes "StampsFall")
+fault_title ClockLimit = (42, codes "ClockLimit")
+fault_title BadCommand = (51, codes "BadCommand")
+fault_title TooManyStops = (52, codes "TooManyStops")
+fault_title (Memory clock) = (53, codes "Memory")
+fault_title BeforeStart = (54, codes "BeforeStart")
+
 abbrev pub fault_number : DebugFault → ℕ
-fault_number BadScan = 33
-fault_number StampsFall = 34
-fault_number ClockLimit = 42
-fault_number BadCommand = 51
-fault_number TooManyStops = 52
-fault_number (Memory clock) = 53
-fault_number BeforeStart = 54
+fault_number fault = (fault_title fault).0
 
 abbrev pub fault_name : DebugFault → List ℕ
-fault_name BadScan = codes "BadScan"
-fault_name StampsFall = codes "StampsFall"
-fault_name ClockLimit = codes "ClockLimit"
-fault_name BadCommand = codes "BadCommand"
-fault_name TooManyStops = codes "TooManyStops"
-fault_name (Memory clock) = codes "Memory"
-fault_name BeforeStart = codes "BeforeStart"
+fault_name fault = (fault_title fault).1
 
 -- the clock that a refusal for want of memory tells
 abbrev pub fault_clock : DebugFault → Option ℕ
-fault_clock BadScan = None
-fault_clock StampsFall = None
-fault_clock ClockLimit = None
-fault_clock BadCommand = None
-fault_clock TooManyStops = None
 fault_clock (Memory clock) = clock
-fault_clock BeforeStart = None
+fault_clock _ = None

@@ -6,31 +6,31 @@ use Rattle.loader.specs.declared.hex_fault.RecordFault.TheVariants.{BadRecord, B
 use Rattle.loader.specs.declared.hex_fault.HexFault.{HexFault}
 use Rattle.loader.specs.declared.hex_fault.HexFault.TheVariants.{InLine, NoEnd, Memory}
 
+-- a fault's title: its number and its name
+abbrev pub line_fault_title : RecordFault → ℕ × List ℕ
+line_fault_title BadRecord = (21, codes "BadRecord")
+line_fault_title BadSum = (22, codes "BadSum")
+line_fault_title BadType = (23, codes "BadType")
+line_fault_title AfterEnd = (25, codes "AfterEnd")
+line_fault_title NotLoadable = (26, codes "NotLoadable")
+
 abbrev pub line_fault_number : RecordFault → ℕ
-line_fault_number BadRecord = 21
-line_fault_number BadSum = 22
-line_fault_number BadType = 23
-line_fault_number AfterEnd = 25
-line_fault_number NotLoadable = 26
+line_fault_number fault = (line_fault_title fault).0
 
 abbrev pub line_fault_name : RecordFault → List ℕ
-line_fault_name BadRecord = codes "BadRecord"
-line_fault_name BadSum = codes "BadSum"
-line_fault_name BadType = codes "BadType"
-line_fault_name AfterEnd = codes "AfterEnd"
-line_fault_name NotLoadable = codes "NotLoadable"
+line_fault_name fault = (line_fault_title fault).1
+
+abbrev pub hex_fault_title : HexFault → ℕ × List ℕ
+hex_fault_title (InLine fault line) = line_fault_title fault
+hex_fault_title NoEnd = (24, codes "NoEnd")
+hex_fault_title Memory = (27, codes "Memory")
 
 abbrev pub hex_fault_number : HexFault → ℕ
-hex_fault_number (InLine fault line) = line_fault_number fault
-hex_fault_number NoEnd = 24
-hex_fault_number Memory = 27
+hex_fault_number fault = (hex_fault_title fault).0
 
 abbrev pub hex_fault_name : HexFault → List ℕ
-hex_fault_name (InLine fault line) = line_fault_name fault
-hex_fault_name NoEnd = codes "NoEnd"
-hex_fault_name Memory = codes "Memory"
+hex_fault_name fault = (hex_fault_title fault).1
 
 abbrev pub hex_fault_line : HexFault → Option ℕ
 hex_fault_line (InLine fault line) = Some line
-hex_fault_line NoEnd = None
-hex_fault_line Memory = None
+hex_fault_line _ = None

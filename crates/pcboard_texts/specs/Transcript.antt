@@ -7,7 +7,7 @@ use Rattle.board_types.specs.TextLines.{onto_first}
 use Rattle.debugger_meaning.specs.declared.answer.Answer.{Answer}
 use Rattle.debugger_meaning.specs.declared.fault.DebugFault.{DebugFault}
 use Rattle.debugger_meaning.specs.declared.fault.DebugFault.TheVariants.{BadCommand}
-use Rattle.debugger_meaning.specs.Answers.{answer_text, fault_clock, fault_name, fault_number}
+use Rattle.debugger_meaning.specs.Answers.{answer_text, fault_clock, fault_title}
 use Rattle.debugger_meaning.specs.Commands.{command_of, is_quit}
 use Rattle.debugger_meaning.specs.Session.{AnswersLine}
 use Rattle.board_plain.specs.Board.{BoardState}
@@ -49,8 +49,8 @@ clock_suffix (Some clock) = codes " clock " ++ (decimal clock ++ codes "\n")
 -- `fault 51 BadCommand`
 abbrev pub refusal_text : DebugFault → List ℕ
 refusal_text fault =
-    codes "fault " ++ (decimal (fault_number fault) ++ (codes " "
-    ++ (fault_name fault ++ clock_suffix (fault_clock fault))))
+    codes "fault " ++ (decimal (fault_title fault).0 ++ (codes " "
+    ++ ((fault_title fault).1 ++ clock_suffix (fault_clock fault))))
 
 -- what is printed of an answer or a refusal
 abbrev pub reply_text : Result Answer DebugFault → List ℕ
