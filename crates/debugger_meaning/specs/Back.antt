@@ -1,13 +1,13 @@
 -- Going back: how a session answers, and where it then stands.
 -- To be believed: the headline rests on it.
-use Rattle.std.specs.Prelude.{ℕ, ◌≡◌, ◌+◌, ◌-◌, ◌<◌, ◌≤◌, List, length, None, Some}
+use Rattle.std.specs.Prelude.{ℕ, ◌≡◌, ◌+◌, ◌-◌, ◌<◌, ◌≤◌, List, length, None}
 use Rattle.board_plain.specs.declared.stop.Condition.{Condition}
 use Rattle.board_plain.specs.Lasts.{HeldLast, NoneHeld}
 use Rattle.board_plain.specs.Plain.{clock_of}
 use Rattle.debugger_meaning.specs.declared.answer.Answer.{Answer}
 use Rattle.debugger_meaning.specs.declared.answer.Answer.TheVariants.{Clock}
 use Rattle.debugger_meaning.specs.declared.fault.DebugFault.{DebugFault}
-use Rattle.debugger_meaning.specs.declared.fault.DebugFault.TheVariants.{BadScan, StampsFall, ClockLimit, BadCommand, TooManyStops, Memory, BeforeStart}
+use Rattle.debugger_meaning.specs.declared.fault.DebugFault.TheVariants.{Memory, BeforeStart}
 use Rattle.debugger_meaning.specs.Stands.{SessionState, StandsAt, gone}
 
 -- n clocks back, one at least; the stops stay
@@ -34,22 +34,12 @@ tell_clock number clock = Clock clock
 
 -- A way back is refused where it leads to before the first clock, and for want of memory; nothing changes.
 abbrev pub RefusesBack : ℕ → SessionState → SessionState → DebugFault → Type 0
-RefusesBack n old new ClockLimit = ⊥
-RefusesBack n old new BadScan = ⊥
-RefusesBack n old new StampsFall = ⊥
-RefusesBack n old new BadCommand = ⊥
-RefusesBack n old new TooManyStops = ⊥
 RefusesBack n old new (Memory None) = (clock_of old.first.plain + n ≤ clock_of old.board.plain) × (new ≡ old)
-RefusesBack n old new (Memory (Some clock)) = ⊥
 RefusesBack n old new BeforeStart = (clock_of old.board.plain < clock_of old.first.plain + n) × (new ≡ old)
+RefusesBack n old new _ = ⊥
 
 -- so is one to a condition where none holds at any clock from the first one up to the one before this
 abbrev pub RefusesBackTo : List Condition → SessionState → SessionState → DebugFault → Type 0
-RefusesBackTo stops old new ClockLimit = ⊥
-RefusesBackTo stops old new BadScan = ⊥
-RefusesBackTo stops old new StampsFall = ⊥
-RefusesBackTo stops old new BadCommand = ⊥
-RefusesBackTo stops old new TooManyStops = ⊥
 RefusesBackTo stops old new (Memory None) = (1 ≤ length stops) × (new ≡ old)
-RefusesBackTo stops old new (Memory (Some clock)) = ⊥
 RefusesBackTo stops old new BeforeStart = NoneHeld stops (gone old) old.first.plain × (new ≡ old)
+RefusesBackTo stops old new _ = ⊥

@@ -22,8 +22,7 @@ is_colon b = b == 58
 
 abbrev pub break_of : Option ℕ → Option ℕ → Option Command
 break_of (Some segment) (Some offset) = Some (Break segment offset)
-break_of (Some segment) None = None
-break_of None _ = None
+break_of _ _ = None
 
 abbrev pub break_round : List ℕ → Option ℕ → Option Command
 break_round place None = None
@@ -58,8 +57,7 @@ command_with name rest =
 -- an address of one to five digits and a byte of one or two
 abbrev pub byte_of : Option ℕ → Option ℕ → Option Command
 byte_of (Some address) (Some byte) = Some (Byte address byte)
-byte_of (Some address) None = None
-byte_of None _ = None
+byte_of _ _ = None
 
 unfoldable pub byte_command : List ℕ → List ℕ → Option Command
 byte_command address byte = byte_of (hex_number 5 address) (hex_number 2 byte)
@@ -71,8 +69,7 @@ dump_within first count =
 
 abbrev pub dump_of : Option ℕ → Option ℕ → Option Command
 dump_of (Some first) (Some count) = dump_within first count
-dump_of (Some first) None = None
-dump_of None _ = None
+dump_of _ _ = None
 
 unfoldable pub dump_command : List ℕ → List ℕ → Option Command
 dump_command first count = dump_of (hex_number 5 first) (count_of count)
@@ -85,20 +82,18 @@ command_with_two name first second =
 
 -- the command that words are, if they are one
 abbrev pub command_in : List (List ℕ) → Option Command
-command_in [] = None
 command_in (name ∷ []) = plain_command name
 command_in (name ∷ first ∷ []) = command_with name first
 command_in (name ∷ first ∷ second ∷ []) = command_with_two name first second
-command_in (name ∷ first ∷ second ∷ third ∷ rest) = None
+command_in _ = None
 
 unfoldable pub command_of : List ℕ → Option Command
 command_of line = command_in (words_of line)
 
 -- the one word `quit`
 abbrev pub is_quit_in : List (List ℕ) → Bool
-is_quit_in [] = false
 is_quit_in (name ∷ []) = bytes_eq name (codes "quit")
-is_quit_in (name ∷ second ∷ rest) = false
+is_quit_in _ = false
 
 unfoldable pub is_quit : List ℕ → Bool
 is_quit line = is_quit_in (words_of line)

@@ -15,7 +15,7 @@ use Rattle.debugger_meaning.specs.declared.answer.Answer.TheVariants.{Stop, Cloc
 use Rattle.debugger_meaning.specs.declared.command.Command.{Command}
 use Rattle.debugger_meaning.specs.declared.command.Command.TheVariants as commands
 use Rattle.debugger_meaning.specs.declared.fault.DebugFault.{DebugFault}
-use Rattle.debugger_meaning.specs.declared.fault.DebugFault.TheVariants.{BadScan, StampsFall, ClockLimit, BadCommand, TooManyStops, Memory, BeforeStart}
+use Rattle.debugger_meaning.specs.declared.fault.DebugFault.TheVariants.{ClockLimit, BadCommand, TooManyStops, Memory}
 use Rattle.debugger_meaning.specs.Back.{GoesBack, GoesBackTo, RefusesBack, RefusesBackTo, tell_clock}
 use Rattle.debugger_meaning.specs.Dump.{dump_text}
 use Rattle.debugger_meaning.specs.Stands.{SessionState}
@@ -52,13 +52,8 @@ pub record FindsNoMemory (stops : List Condition) (n : ℕ) (old new : BoardStat
 -- a run is refused where it would go past clock 2^40, and for want of memory
 abbrev pub RefusesRun : List Condition → ℕ → BoardState → BoardState → DebugFault → Type 0
 RefusesRun stops n old new ClockLimit = (2 ^ 40 < clock_of old.plain + n) × (new ≡ old)
-RefusesRun stops n old new BadScan = ⊥
-RefusesRun stops n old new StampsFall = ⊥
-RefusesRun stops n old new BadCommand = ⊥
-RefusesRun stops n old new TooManyStops = ⊥
-RefusesRun stops n old new (Memory None) = ⊥
 RefusesRun stops n old new (Memory (Some clock)) = FindsNoMemory stops n old new clock
-RefusesRun stops n old new BeforeStart = ⊥
+RefusesRun stops n old new _ = ⊥
 
 -- what a run's end is answered: its stop's number and clock, or the clock that was reached
 abbrev pub told_of : Option StopType → ℕ → Answer
@@ -93,21 +88,14 @@ pub record Steps (old new : SessionState) (answer : Answer) : Type 0 where
 -- a step is refused at the last clock, and for want of memory
 abbrev pub RefusesStep : SessionState → SessionState → DebugFault → Type 0
 RefusesStep old new ClockLimit = (clock_of old.board.plain ≡ 2 ^ 40) × (new ≡ old)
-RefusesStep old new BadScan = ⊥
-RefusesStep old new StampsFall = ⊥
-RefusesStep old new BadCommand = ⊥
-RefusesStep old new TooManyStops = ⊥
-RefusesStep old new (Memory None) = ⊥
 RefusesStep old new (Memory (Some clock)) =
     FindsNoMemory (conditions.Free ∷ []) (clocks_left old.board) old.board new.board clock
     × (new.stops ≡ old.stops) × (new.first ≡ old.first)
-RefusesStep old new BeforeStart = ⊥
+RefusesStep old new _ = ⊥
 
 abbrev pub IsText : List ℕ → Answer → Type 0
-IsText bytes (Stop number) = ⊥
-IsText bytes (Clock clock) = ⊥
-IsText bytes (StopAt number clock) = ⊥
 IsText bytes (Text text) = string_bytes text ≡ bytes
+IsText bytes _ = ⊥
 
 -- a text is shown, or there is no memory for it; nothing changes
 abbrev pub Shows : List ℕ → Result Answer DebugFault → Type 0

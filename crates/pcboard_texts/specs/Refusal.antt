@@ -52,10 +52,7 @@ IsWantOfTask (tasks.Debug file run hex) fault = IsWantOfRun hex fault ⊎ (fault
 -- a refusal is true of a source that is to be assembled: it is its first fault
 abbrev pub IsTrueOfText : List ℕ → Fault → Type 0
 IsTrueOfText source (Source fault) = IsFirst source fault
-IsTrueOfText source (Hex fault) = ⊥
-IsTrueOfText source (Run fault) = ⊥
-IsTrueOfText source (Board fault) = ⊥
-IsTrueOfText source (Session fault) = ⊥
+IsTrueOfText source _ = ⊥
 
 -- a refusal is true of the bytes of a program and of a run file, where these are known
 abbrev pub IsTrueOfFiles : Bool → Option (List ℕ) → Option (List ℕ) → Fault → Type 0
@@ -109,12 +106,10 @@ pub record BeginsSession {S : Type 0} (By : Answering S) (hex : Bool) (bytes run
 -- other task does
 abbrev pub PrintsReplies : {S : Type 0} → Answering S → Task → (List ℕ → Option (List ℕ)) → Option (List ℕ) → Option (List ℕ)
     → Option (List ℕ) → Type 0
-PrintsReplies By tasks.Stored files input old new = ⊥
-PrintsReplies By (tasks.Asm file list) files input old new = ⊥
-PrintsReplies By (tasks.Run file run hex) files input old new = ⊥
 PrintsReplies By (tasks.Debug file run hex) files input old new =
     IfSome (files file.now) (λ bytes. IfSome (files run.now)
     (λ said. IfSome input (λ typed. AppendsA (BeginsSession By hex bytes said typed) old new)))
+PrintsReplies By _ files input old new = ⊥
 
 -- Nothing is printed beside a refusal, unless the words name a session, whose replies come as it goes: for a program that
 -- reads words and answers lines in these ways.

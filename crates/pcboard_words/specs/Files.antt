@@ -15,10 +15,9 @@ files_of (Debug file run hex) = file.now ∷ run.now ∷ []
 
 -- whether a task's program is a HEX text
 abbrev pub hex_of : Task → Bool
-hex_of Stored = false
-hex_of (Asm file list) = false
 hex_of (Run file run hex) = hex
 hex_of (Debug file run hex) = hex
+hex_of _ = false
 
 -- a file that a task reads is one of those that can't be opened
 abbrev pub LacksFile : Task → (List ℕ → Type 0) → Type 0
