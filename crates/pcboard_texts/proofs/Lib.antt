@@ -1,4 +1,5 @@
 pub mod Reading
+mod Parted
 pub mod Refusals
 pub mod Listed
 pub mod Sessions

@@ -1,6 +1,7 @@
 -- What the program prints.
 -- To be believed: the headline rests on it.
-use Rattle.std.specs.Prelude.{ℕ, ◌≡◌, ◌+◌, ◌==◌, Bool, true, false, List, [], ◌∷◌, ◌++◌, take, drop, Option, None, Some, IfSome, Result, Ok, Err, position}
+use Rattle.std.specs.Prelude.{ℕ, ◌≡◌, ◌==◌, Bool, true, false, List, [], ◌∷◌, ◌++◌, Option, IfSome, Result, Ok, Err}
+use Rattle.std.specs.List.{after_first, before_first}
 use Rattle.std.specs.Io.KnownBytes.{Appends}
 use Rattle.board_types.specs.TextLines.{text_lines}
 use Rattle.assembler.specs.Rows.{Row, names_of}
@@ -18,28 +19,17 @@ use Rattle.loader.specs.Reading.{Fails, image_of}
 use Rattle.loader.specs.declared.run_file.RunFile.{RunFile}
 use Rattle.loader.specs.RunFile.{Answers, run_of_text}
 use Rattle.pcboard_texts.specs.declared.fault.Fault.{Fault}
-use Rattle.pcboard_texts.specs.declared.fault.Fault.TheVariants.{Source, Hex, Run, Board, Session}
+use Rattle.pcboard_texts.specs.declared.fault.Fault.TheVariants.{Source, Hex, Run, Board}
 use Rattle.pcboard_texts.specs.Report.{config_of, report_of}
 use Rattle.pcboard_texts.specs.Transcript.{Answering, AnswersCommand, Transcript, input_lines}
 use Rattle.pcboard_texts.specs.Faults.{IsTrueOfBoard}
 
--- the first line of a stored run, and what follows it
-abbrev pub up_to : Option ℕ → List ℕ → List ℕ
-up_to None text = text
-up_to (Some at) text = take at text
-
-abbrev pub past : Option ℕ → List ℕ → List ℕ
-past None text = []
-past (Some at) text = drop (at + 1) text
-
-abbrev pub first_line_end : List ℕ → Option ℕ
-first_line_end text = position (λ byte. byte == 10) text
-
+-- of a stored run the first line, and what stands behind its line feed
 abbrev pub run_text_of : List ℕ → List ℕ
-run_text_of text = up_to (first_line_end text) text
+run_text_of text = before_first (λ byte. byte == 10) text
 
 abbrev pub source_of : List ℕ → List ℕ
-source_of text = past (first_line_end text) text
+source_of text = after_first (λ byte. byte == 10) text
 
 -- what a file's bytes give: as a HEX text, if `hex`, else as a source
 abbrev pub GivesImage : Bool → List ℕ → List (ℕ × ℕ) → Type 0
@@ -129,12 +119,10 @@ Prints = PrintsFor AnswersWords AnswersCommand
 -- board's, of what image and run file say.
 abbrev pub IsTrueRefusal : Bool → List ℕ → List ℕ → Fault → Type 0
 IsTrueRefusal false bytes run (Source fault) = IsFirst bytes fault
-IsTrueRefusal true bytes run (Source fault) = ⊥
-IsTrueRefusal false bytes run (Hex fault) = ⊥
 IsTrueRefusal true bytes run (Hex fault) = Fails fault (image_of bytes)
 IsTrueRefusal hex bytes run (Run fault) =
     Answers (Err fault) (run_of_text run) × ((image : List (ℕ × ℕ)) × GivesImage hex bytes image)
 IsTrueRefusal hex bytes run (Board fault) =
     (run_file : RunFile) × Answers (Ok run_file) (run_of_text run)
     × ((image : List (ℕ × ℕ)) × GivesImage hex bytes image × IsTrueOfBoard image run_file fault)
-IsTrueRefusal hex bytes run (Session fault) = ⊥
+IsTrueRefusal hex bytes run _ = ⊥

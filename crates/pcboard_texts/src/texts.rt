@@ -1,8 +1,8 @@
 //! What a program's bytes and the text of a run file give, and how a stored run has both in one text.
-ghost use Rattle.std.specs.Prelude.{◌≡◌, ◌<◌, ℕ, List, length, IfErr, IfOk, IfSome, MatchResult, Ok};
+ghost use Rattle.std.specs.Prelude.{◌≡◌, ◌<◌, ◌==◌, position, ℕ, List, length, IfErr, IfOk, IfSome, MatchResult, Ok};
 ghost use Rattle.loader.specs.declared.run_file.RunFile.{RunFile};
 ghost use Rattle.loader.specs.RunFile.{Answers, run_of_text};
-ghost use Rattle.pcboard_texts.specs.Answer.{GivesImage, IsTrueRefusal, first_line_end, run_text_of, source_of};
+ghost use Rattle.pcboard_texts.specs.Answer.{GivesImage, IsTrueRefusal, run_text_of, source_of};
 ghost use Rattle.pcboard_texts.specs.Faults.{IsWantOfMemory};
 
 use crate::fault::Fault;
@@ -50,6 +50,7 @@ fn read_image(alloc: Global, hex: bool, bytes: &[u8]) -> Result<Image, Fault>
 }
 
 /// The text before the first line feed, and the text after it: none where there is no line feed.
+#[tactic(auto, using(crate::proofs::Parted::front, crate::proofs::Parted::back, crate::proofs::Parted::front_all, crate::proofs::Parted::back_none))]
 pub fn parted(text: &[u8]) -> (&[u8], &[u8])
     ensures run { result.0.now ≡ run_text_of text.now }
     ensures source { result.1.now ≡ source_of text.now }
@@ -61,7 +62,7 @@ pub fn parted(text: &[u8]) -> (&[u8], &[u8])
 }
 
 fn first_line_end(text: &[u8]) -> Option<usize>
-    ensures end { result ≡ first_line_end text.now }
+    ensures end { result ≡ position (λ byte. byte == 10) text.now }
     ensures bound { IfSome result (λ at. at < length text.now) }
 {
     text.iter().position(|byte| *byte == b'\n')
