@@ -180,6 +180,7 @@ KIT: dict[str, str] = {
     'range_with_len': '`range_with_len a n`: the `n` numbers from `a` on',
     'read': 'the JSON value that a text spells, if it spells one',
     'replicate': '`replicate n x`: `n` times `x`',
+    'sameb': '`sameb K x y`: whether `x` and `y` are one value of the enum `K`, whose variants have no fields',
     'slice_get': '`slice_get xs i`: element `i`, counted from 0, if there is one',
     'slice_index': '`slice_index xs i`: element `i`, or 0 past the end',
     'slice_index_or': '`slice_index_or xs i d`: element `i`, or `d` past the end',

@@ -20,7 +20,9 @@ ITEM = (
     r'^{}(pub )?(?:pub\(.*?\) )?(?:safe |const |unsafe |extern "C" )*'
     r'(fn|struct|enum|trait|impl|mod|use|type|static|const|ghost)\b(?:<.*?> | )(?:([^{{\n]*) for )?&?(?:\w+::)*(\w+)'
 )
-USE = re.compile(r'^\s*(?:pub |ghost |unfoldable )*use Rattle\.(\w+)\.specs\.([\w.]+?)(?:\.\{(.*)\}| as (\w+));?$', re.M)
+USE = re.compile(
+    r'^\s*(?:pub |ghost |unfoldable )*use (?:Rattle\.(?=\w+\.specs\.)|(?=denote\.))(\w+)(?:\.specs)?\.([\w.]+?)(?:\.\{(.*)\}| as (\w+));?$', re.M
+)
 DEFINED = re.compile(r'(?:(?:abbrev|unfoldable|pub|record|data) )*([^\s(]+)(?: [({].*)? :(?: |$)')
 IMPORT = re.compile(r'(?:pub |unfoldable )*use ')
 COMMENT, NOTE = re.compile(r'(^|\s)--.*', re.M), re.compile(r'//.*')
@@ -271,7 +273,7 @@ def scope_of(text: str, crate: str) -> Scope:
         scope.update({name: (crate if top == 'crate' else top, '', name) for name in re.findall(r'\b[A-Z]\w*', names)})
     for top, path, names, alias in USE.findall(text):
         file, *inner = path.split('.')
-        if file == 'declared':
+        if file in ('declared', 'contracts'):  # a type itself, or as the logic has it
             file, inner = '', [part for part in inner if part[0].isupper()]
         elif inner and names and not (CRATES / top).is_dir():  # the kit has files in folders
             file, inner = path, []

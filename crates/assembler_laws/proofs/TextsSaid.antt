@@ -70,6 +70,7 @@ closes_bracket = opens_mark 93 (tokens.Mark marks.CloseBracket) (λ rest. refl) 
 
 -- ---- words
 plain_byte : (r : _) → is_plain (register_name (registers.Byte r)) ≡ true
+unfolding words
 plain_byte byte_registers.Al = refl
 plain_byte byte_registers.Cl = refl
 plain_byte byte_registers.Dl = refl
@@ -80,6 +81,7 @@ plain_byte byte_registers.Dh = refl
 plain_byte byte_registers.Bh = refl
 
 plain_word : (r : WordRegister) → is_plain (register_name (registers.Word r)) ≡ true
+unfolding words
 plain_word word_registers.Ax = refl
 plain_word word_registers.Cx = refl
 plain_word word_registers.Dx = refl
@@ -90,6 +92,7 @@ plain_word word_registers.Si = refl
 plain_word word_registers.Di = refl
 
 plain_segment : (r : _) → is_plain (register_name (registers.Segment r)) ≡ true
+unfolding words
 plain_segment segment_registers.Es = refl
 plain_segment segment_registers.Cs = refl
 plain_segment segment_registers.Ss = refl
@@ -133,6 +136,7 @@ tokens_said os = with_commas (map operand_tokens os)
 
 -- ---- the mnemonic
 all_plain : (o : Operation) → is_plain (operation_name o) ≡ true
+unfolding words
 all_plain o = each_operation (λ o. is_plain (operation_name o)) refl o
 
 abbrev Means : List ℕ → Mnemonic → Type 0
@@ -186,6 +190,38 @@ nop_means : Means (mnemonic_name mnemonics.Nop) mnemonics.Nop
 unfolding words meaning_of spells
 nop_means = refl
 
+nop_plain : is_plain (mnemonic_name mnemonics.Nop) ≡ true
+unfolding words
+nop_plain = refl
+
+lock_plain : is_plain (prefix_name prefixes.Lock) ≡ true
+unfolding words
+lock_plain = refl
+
+repne_plain : is_plain (prefix_name (prefixes.Repeat repeats.Repne)) ≡ true
+unfolding words
+repne_plain = refl
+
+rep_plain : is_plain (prefix_name (prefixes.Repeat repeats.Rep)) ≡ true
+unfolding words
+rep_plain = refl
+
+byte_plain : is_plain (keyword_name keywords.Byte) ≡ true
+unfolding words
+byte_plain = refl
+
+word_plain : is_plain (keyword_name keywords.Word) ≡ true
+unfolding words
+word_plain = refl
+
+far_plain : is_plain (keyword_name keywords.Far) ≡ true
+unfolding words
+far_plain = refl
+
+short_plain : is_plain (keyword_name keywords.Short) ≡ true
+unfolding words
+short_plain = refl
+
 abbrev mnemonic_token : Mnemonic → Token
 mnemonic_token m = tokens.Word (meanings.Mnemonic m)
 
@@ -228,9 +264,9 @@ module _ (words : AreRead) where
 
   opens_prefix : (p : Prefix) → Opens (prefix_text p) (prefix_tokens p)
   opens_prefix (prefixes.Segment r) = opens_segment r
-  opens_prefix prefixes.Lock = opens_prefix_word prefixes.Lock refl (words.prefixes prefixes.Lock)
-  opens_prefix (prefixes.Repeat repeats.Repne) = opens_prefix_word (prefixes.Repeat repeats.Repne) refl (words.prefixes (prefixes.Repeat repeats.Repne))
-  opens_prefix (prefixes.Repeat repeats.Rep) = opens_prefix_word (prefixes.Repeat repeats.Rep) refl (words.prefixes (prefixes.Repeat repeats.Rep))
+  opens_prefix prefixes.Lock = opens_prefix_word prefixes.Lock lock_plain (words.prefixes prefixes.Lock)
+  opens_prefix (prefixes.Repeat repeats.Repne) = opens_prefix_word (prefixes.Repeat repeats.Repne) repne_plain (words.prefixes (prefixes.Repeat repeats.Repne))
+  opens_prefix (prefixes.Repeat repeats.Rep) = opens_prefix_word (prefixes.Repeat repeats.Rep) rep_plain (words.prefixes (prefixes.Repeat repeats.Rep))
 
   opens_prefixes : (ps : List Prefix) → Opens (flat_map prefix_text ps) (flat_map prefix_tokens ps)
   opens_prefixes [] = λ rest us reads. reads
@@ -265,9 +301,9 @@ module _ (words : AreRead) where
 
   opens_size : (s : Option Keyword) → IsSizeWord s → Opens (size_text s) (size_tokens (said_size s))
   opens_size None is = λ rest us reads. reads
-  opens_size (Some keywords.Byte) is = opens_keyword keywords.Byte refl
-  opens_size (Some keywords.Word) is = opens_keyword keywords.Word refl
-  opens_size (Some keywords.Far) is = opens_keyword keywords.Far refl
+  opens_size (Some keywords.Byte) is = opens_keyword keywords.Byte byte_plain
+  opens_size (Some keywords.Word) is = opens_keyword keywords.Word word_plain
+  opens_size (Some keywords.Far) is = opens_keyword keywords.Far far_plain
   opens_size (Some _) is = absurd is
 
   says_memory : (m : WrittenMemory) → IsSizeWord m.size → IsAddress m.base m.displacement → Says (memory_text m) (address_tokens (said_address m))
@@ -288,10 +324,10 @@ module _ (words : AreRead) where
   says_operand (Word n) is = says_number n is
   says_operand (Short n) is =
       opens_then (keyword_name keywords.Short ++ 32 ∷ []) (word_text n) (tokens.Word (meanings.Keyword keywords.Short) ∷ []) (tokens.Number n ∷ [])
-      (opens_keyword keywords.Short refl) (says_number n is)
+      (opens_keyword keywords.Short short_plain) (says_number n is)
   says_operand (Far s o) is =
       opens_then (keyword_name keywords.Far ++ 32 ∷ []) (word_text s ++ 58 ∷ word_text o) (tokens.Word (meanings.Keyword keywords.Far) ∷ [])
-      (tokens.Number s ∷ tokens.Mark marks.Colon ∷ tokens.Number o ∷ []) (opens_keyword keywords.Far refl)
+      (tokens.Number s ∷ tokens.Mark marks.Colon ∷ tokens.Number o ∷ []) (opens_keyword keywords.Far far_plain)
       (says_then (word_text s) 58 (word_text o) (tokens.Number s ∷ []) (tokens.Mark marks.Colon ∷ tokens.Number o ∷ []) refl (says_number s is.0)
       (opens_then (58 ∷ []) (word_text o) (tokens.Mark marks.Colon ∷ []) (tokens.Number o ∷ []) opens_colon (says_number o is.1)))
   says_operand (Memory m) is = says_memory m is.0 is.1
@@ -345,7 +381,7 @@ module _ (words : AreRead) where
       (operand_written f v next (second_of f.row) (first_of f.row) fits)
 
   says_nop : Says (mnemonic_name mnemonics.Nop) (mnemonic_token mnemonics.Nop ∷ [])
-  says_nop = says_meant (mnemonic_name mnemonics.Nop) (meanings.Mnemonic mnemonics.Nop) refl nop_means
+  says_nop = says_meant (mnemonic_name mnemonics.Nop) (meanings.Mnemonic mnemonics.Nop) nop_plain nop_means
 
   says_body : (f : Form) (v : Values) (next : ℕ) → FitsForm f v → Says (body_text f v next) (mnemonic_token (mnemonic_in f) ∷ tokens_said (operands_in f v next))
   unfolding body_text

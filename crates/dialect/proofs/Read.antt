@@ -35,13 +35,13 @@ use Rattle.dialect.specs.declared.register.Register.TheVariants as registers
 use Rattle.dialect.specs.declared.keyword.Keyword.TheVariants as keywords
 use Rattle.dialect.specs.declared.meaning.Meaning.TheVariants as meanings
 use Rattle.dialect.specs.Words.{words, spells, meaning_of}
-use Rattle.dialect.specs.Names.{arithmetic_name, shift_name, product_name, unary_name, jump_name, looping_name, strings_name, adjust_name, transfer_name, processor_name, operation_name}
+use Rattle.dialect.specs.Names.{operation_name}
 use Rattle.dialect.specs.Laws.{OperationsAreRead, RegistersAreRead, PrefixesAreRead, KeywordsAreRead, StandsFor}
 
 abbrev Plain : List ℕ → Operation → Type 0
 Plain name operation = meaning_of name ≡ Some (meanings.Mnemonic (mnemonics.Plain operation))
 
-arithmetic_read : (x : ArithmeticType) → Plain (arithmetic_name x) (Arithmetic x)
+arithmetic_read : (x : ArithmeticType) → Plain (operation_name (Arithmetic x)) (Arithmetic x)
 unfolding words meaning_of spells
 arithmetic_read Add = refl
 arithmetic_read Or = refl
@@ -53,7 +53,7 @@ arithmetic_read Xor = refl
 arithmetic_read Cmp = refl
 arithmetic_read Test = refl
 
-shift_read : (x : ShiftType) → Plain (shift_name x) (Shift x)
+shift_read : (x : ShiftType) → Plain (operation_name (Shift x)) (Shift x)
 unfolding words meaning_of spells
 shift_read Rol = refl
 shift_read Ror = refl
@@ -63,21 +63,21 @@ shift_read Shl = refl
 shift_read Shr = refl
 shift_read Sar = refl
 
-product_read : (x : ProductType) → Plain (product_name x) (Product x)
+product_read : (x : ProductType) → Plain (operation_name (Product x)) (Product x)
 unfolding words meaning_of spells
 product_read Mul = refl
 product_read Imul = refl
 product_read Div = refl
 product_read Idiv = refl
 
-unary_read : (x : UnaryType) → Plain (unary_name x) (Unary x)
+unary_read : (x : UnaryType) → Plain (operation_name (Unary x)) (Unary x)
 unfolding words meaning_of spells
 unary_read Inc = refl
 unary_read Dec = refl
 unary_read Not = refl
 unary_read Neg = refl
 
-jump_read : (x : JumpCondition) → Plain (jump_name x) (Jump x)
+jump_read : (x : JumpCondition) → Plain (operation_name (Jump x)) (Jump x)
 unfolding words meaning_of spells
 jump_read Overflow = refl
 jump_read NotOverflow = refl
@@ -96,14 +96,14 @@ jump_read NotLess = refl
 jump_read LessOrZero = refl
 jump_read Greater = refl
 
-looping_read : (x : LoopingType) → Plain (looping_name x) (Looping x)
+looping_read : (x : LoopingType) → Plain (operation_name (Looping x)) (Looping x)
 unfolding words meaning_of spells
 looping_read Loopne = refl
 looping_read Loope = refl
 looping_read Loop = refl
 looping_read Jcxz = refl
 
-strings_read : (x : StringsType) → Plain (strings_name x) (Strings x)
+strings_read : (x : StringsType) → Plain (operation_name (Strings x)) (Strings x)
 unfolding words meaning_of spells
 strings_read Movsb = refl
 strings_read Movsw = refl
@@ -116,7 +116,7 @@ strings_read Lodsw = refl
 strings_read Scasb = refl
 strings_read Scasw = refl
 
-adjust_read : (x : AdjustType) → Plain (adjust_name x) (Adjust x)
+adjust_read : (x : AdjustType) → Plain (operation_name (Adjust x)) (Adjust x)
 unfolding words meaning_of spells
 adjust_read Daa = refl
 adjust_read Das = refl
@@ -127,7 +127,7 @@ adjust_read Aad = refl
 adjust_read Cbw = refl
 adjust_read Cwd = refl
 
-transfer_read : (x : TransferType) → Plain (transfer_name x) (Transfer x)
+transfer_read : (x : TransferType) → Plain (operation_name (Transfer x)) (Transfer x)
 unfolding words meaning_of spells
 transfer_read Mov = refl
 transfer_read Xchg = refl
@@ -144,7 +144,7 @@ transfer_read Xlat = refl
 transfer_read In = refl
 transfer_read Out = refl
 
-processor_read : (x : ProcessorType) → Plain (processor_name x) (Processor x)
+processor_read : (x : ProcessorType) → Plain (operation_name (Processor x)) (Processor x)
 unfolding words meaning_of spells
 processor_read Hlt = refl
 processor_read Cmc = refl

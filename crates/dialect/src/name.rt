@@ -1,6 +1,8 @@
 //! The names under which operations, registers, prefixes and keywords are written: of several the first.
 ghost use Rattle.std.specs.Prelude.{◌≡◌};
-ghost use Rattle.dialect.specs.Names.{adjust_name, arithmetic_name, byte_register_name, control_name, jump_name, keyword_name, looping_name, mnemonic_name, operation_name, prefix_name, processor_name, product_name, register_name, segment_register_name, shift_name, strings_name, transfer_name, unary_name, word_register_name};
+ghost use Rattle.isa.specs.declared.operation.Operation.TheVariants as operations;
+ghost use Rattle.dialect.specs.declared.register.Register.TheVariants as registers;
+ghost use Rattle.dialect.specs.Names.{keyword_name, mnemonic_name, operation_name, prefix_name, register_name};
 
 use crate::keyword::Keyword;
 use crate::mnemonic::Mnemonic;
@@ -31,8 +33,9 @@ pub fn operation_name(operation: Operation) -> &'static str
     }
 }
 
+#[tactic(auto, unfolding(crate::specs::Words::words))]
 fn arithmetic_name(arithmetic: Arithmetic) -> &'static str
-    ensures { result.now ≡ arithmetic_name arithmetic }
+    ensures { result.now ≡ operation_name (operations.Arithmetic arithmetic) }
 {
     match arithmetic {
         Arithmetic::Add => "ADD",
@@ -47,8 +50,9 @@ fn arithmetic_name(arithmetic: Arithmetic) -> &'static str
     }
 }
 
+#[tactic(auto, unfolding(crate::specs::Words::words))]
 fn shift_name(shift: Shift) -> &'static str
-    ensures { result.now ≡ shift_name shift }
+    ensures { result.now ≡ operation_name (operations.Shift shift) }
 {
     match shift {
         Shift::Rol => "ROL",
@@ -61,8 +65,9 @@ fn shift_name(shift: Shift) -> &'static str
     }
 }
 
+#[tactic(auto, unfolding(crate::specs::Words::words))]
 fn product_name(product: Product) -> &'static str
-    ensures { result.now ≡ product_name product }
+    ensures { result.now ≡ operation_name (operations.Product product) }
 {
     match product {
         Product::Mul => "MUL",
@@ -72,8 +77,9 @@ fn product_name(product: Product) -> &'static str
     }
 }
 
+#[tactic(auto, unfolding(crate::specs::Words::words))]
 fn unary_name(unary: Unary) -> &'static str
-    ensures { result.now ≡ unary_name unary }
+    ensures { result.now ≡ operation_name (operations.Unary unary) }
 {
     match unary {
         Unary::Inc => "INC",
@@ -83,8 +89,9 @@ fn unary_name(unary: Unary) -> &'static str
     }
 }
 
+#[tactic(auto, unfolding(crate::specs::Words::words))]
 fn jump_name(condition: JumpCondition) -> &'static str
-    ensures { result.now ≡ jump_name condition }
+    ensures { result.now ≡ operation_name (operations.Jump condition) }
 {
     match condition {
         JumpCondition::Overflow => "JO",
@@ -106,8 +113,9 @@ fn jump_name(condition: JumpCondition) -> &'static str
     }
 }
 
+#[tactic(auto, unfolding(crate::specs::Words::words))]
 fn looping_name(looping: Looping) -> &'static str
-    ensures { result.now ≡ looping_name looping }
+    ensures { result.now ≡ operation_name (operations.Looping looping) }
 {
     match looping {
         Looping::Loopne => "LOOPNE",
@@ -117,8 +125,9 @@ fn looping_name(looping: Looping) -> &'static str
     }
 }
 
+#[tactic(auto, unfolding(crate::specs::Words::words))]
 fn strings_name(strings: Strings) -> &'static str
-    ensures { result.now ≡ strings_name strings }
+    ensures { result.now ≡ operation_name (operations.Strings strings) }
 {
     match strings {
         Strings::Movsb => "MOVSB",
@@ -134,8 +143,9 @@ fn strings_name(strings: Strings) -> &'static str
     }
 }
 
+#[tactic(auto, unfolding(crate::specs::Words::words))]
 fn adjust_name(adjust: Adjust) -> &'static str
-    ensures { result.now ≡ adjust_name adjust }
+    ensures { result.now ≡ operation_name (operations.Adjust adjust) }
 {
     match adjust {
         Adjust::Daa => "DAA",
@@ -149,8 +159,9 @@ fn adjust_name(adjust: Adjust) -> &'static str
     }
 }
 
+#[tactic(auto, unfolding(crate::specs::Words::words))]
 fn transfer_name(transfer: Transfer) -> &'static str
-    ensures { result.now ≡ transfer_name transfer }
+    ensures { result.now ≡ operation_name (operations.Transfer transfer) }
 {
     match transfer {
         Transfer::Mov => "MOV",
@@ -170,8 +181,9 @@ fn transfer_name(transfer: Transfer) -> &'static str
     }
 }
 
+#[tactic(auto, unfolding(crate::specs::Words::words))]
 fn control_name(control: Control) -> &'static str
-    ensures { result.now ≡ control_name control }
+    ensures { result.now ≡ operation_name (operations.Control control) }
 {
     match control {
         Control::Jmp => "JMP",
@@ -187,8 +199,9 @@ fn control_name(control: Control) -> &'static str
     }
 }
 
+#[tactic(auto, unfolding(crate::specs::Words::words))]
 fn processor_name(processor: Processor) -> &'static str
-    ensures { result.now ≡ processor_name processor }
+    ensures { result.now ≡ operation_name (operations.Processor processor) }
 {
     match processor {
         Processor::Hlt => "HLT",
@@ -206,6 +219,7 @@ fn processor_name(processor: Processor) -> &'static str
 
 impl Mnemonic {
     /// The first mnemonic with this meaning.
+    #[tactic(auto, unfolding(crate::specs::Words::words))]
     pub fn name(self) -> &'static str
         ensures { result.now ≡ mnemonic_name self }
     {
@@ -231,8 +245,9 @@ impl Register {
     }
 }
 
+#[tactic(auto, unfolding(crate::specs::Words::words))]
 fn byte_register_name(register: ByteRegister) -> &'static str
-    ensures { result.now ≡ byte_register_name register }
+    ensures { result.now ≡ register_name (registers.Byte register) }
 {
     match register {
         ByteRegister::Al => "AL",
@@ -246,8 +261,9 @@ fn byte_register_name(register: ByteRegister) -> &'static str
     }
 }
 
+#[tactic(auto, unfolding(crate::specs::Words::words))]
 fn word_register_name(register: WordRegister) -> &'static str
-    ensures { result.now ≡ word_register_name register }
+    ensures { result.now ≡ register_name (registers.Word register) }
 {
     match register {
         WordRegister::Ax => "AX",
@@ -261,8 +277,9 @@ fn word_register_name(register: WordRegister) -> &'static str
     }
 }
 
+#[tactic(auto, unfolding(crate::specs::Words::words))]
 fn segment_register_name(register: SegmentRegister) -> &'static str
-    ensures { result.now ≡ segment_register_name register }
+    ensures { result.now ≡ register_name (registers.Segment register) }
 {
     match register {
         SegmentRegister::Es => "ES",
@@ -273,6 +290,7 @@ fn segment_register_name(register: SegmentRegister) -> &'static str
 }
 
 /// The first word for a prefix; of an override its segment register, behind which a colon is written.
+#[tactic(auto, unfolding(crate::specs::Words::words))]
 pub fn prefix_name(prefix: Prefix) -> &'static str
     ensures { result.now ≡ prefix_name prefix }
 {
@@ -286,6 +304,7 @@ pub fn prefix_name(prefix: Prefix) -> &'static str
 
 impl Keyword {
     /// Its word.
+    #[tactic(auto, unfolding(crate::specs::Words::words))]
     pub fn name(self) -> &'static str
         ensures { result.now ≡ keyword_name self }
     {
