@@ -10,8 +10,8 @@ from tests.support import ToolCase, example
 from toolbox.chips import Chips, facts
 from toolbox.program import path
 
-CONTROLLER = 'controller IR {} IRR {} ISR {} IMR {} lowest {} INT {} vector 0F awaits {} LTIM 0 uPM {} AEOI 0 rotates 0 SMM {} P 0 RIS 0'
-COUNTER = 'counter 0 mode 0 RW 3 BCD 0 count 0000 newest {} load 0 OUT 0 GATE 1 first none latch none high 0'
+CONTROLLER = 'controller IR {} IRR {} ISR {} IMR {} lowest {} INT {} vector 0F awaits {} LTIM 0 uPM {} AEOI 0 rotates 0 SMM {} P 0 RIS 0 risen 00 SNGL 1 IC4 1'
+COUNTER = 'counter 0 mode 0 RW 3 BCD 0 count 0000 newest {} load 0 OUT 0 GATE 1 first none latch none high 0 loaded 0 due 0 strobe 0 decimal 0'
 PORTS = 'ports A in 00 B out {} C in/in 00'
 PROCESSOR = 'processor {} busy 0 IF {} inhibits none step 0 repeat 0'
 QUIET = CONTROLLER.format('00', '00', '00', '00', 7, 0, 'none', 1, 0)
@@ -73,13 +73,16 @@ class Facts(unittest.TestCase):
 
 
 # What counter 0 shows after each tick from its count on, the gate high: the rows of docs/chips.md. Counter 2 for modes 1 and 5.
+# And whether the next tick loads.
 ROWS = (
-    ('8253', '10h', 4, '04L 03L 02L 01L 00H FFH FEH'),
-    ('8253', '14h', 3, '03H 02H 01L 03H 02H 01L 03H'),
-    ('8253', '16h', 4, '04H 02H 04L 02L 04H 02H'),
-    ('8253', '16h', 5, '05H 04H 02H 05L 02L 05H 04H 02H 05L 02L'),
-    ('8253', '18h', 3, '03H 02H 01H 00L FFH FEH FDH'),
-    ('8254', '16h', 5, '04H 02H 00H 04L 02L 04H 02H 00H 04L 02L'),
+    ('8253', '10h', 4, '04L 03L 02L 01L 00H FFH FEH', '0000000'),
+    ('8253', '14h', 3, '03H 02H 01L 03H 02H 01L 03H', '0010010'),
+    ('8253', '14h', 1, '01H 01H 01H', '111'),
+    ('8253', '16h', 4, '04H 02H 04L 02L 04H 02H', '010101'),
+    ('8253', '16h', 5, '05H 04H 02H 05L 02L 05H 04H 02H 05L 02L', '0010100101'),
+    ('8253', '18h', 3, '03H 02H 01H 00L FFH FEH FDH', '0000000'),
+    ('8254', '14h', 3, '03H 02H 01L 03H 02H 01L 03H', '0010010'),
+    ('8254', '16h', 5, '04H 02H 00H 04L 02L 04H 02H 00H 04L 02L', '0010100101'),
 )
 TRIGGERED = (('92h', 3, '03L 02L 01L 00H FFH'), ('9Ah', 3, '03H 02H 01H 00L FFH'))
 # A controller in 8086 mode, single, edge mode, vectors from 8 on, whose mask lets IR0 through; and a handler's vector.
@@ -91,6 +94,54 @@ COUNTS = (('43h', '14h'), ('40h', '100'))  # mode 2, low byte
 def writes(*pairs: tuple[str, str]) -> str:
     """Port writes: the OUT of the n-th begins in clock 5 + 14 n, n being 1 and more, behind the far jump's 15 clocks."""
     return ''.join(f' MOV AL,{value}\n OUT {port},AL\n' for port, value in pairs)
+
+
+SET = writes(('63h', '99h'), ('61h', '1'))  # port B drives its lines, and gate 2 is high
+LATE = ' NOP\n'  # 3 clocks
+# Two moments at which a counter shows the same but for one word, which is 0 at the first and 1 at the second; and the count and
+# OUT some ticks later. A moment is a program and a clock.
+ALIKE = (
+    # mode 3, N = 5 from clock 53 on, in the high half of a 4, of 2 ticks; and from 56 on in the high half of a 5, of 3
+    (
+        'keeps',
+        '8254',
+        'counter 0',
+        (writes(('43h', '16h'), ('40h', '4')) + 2 * LATE + writes(('40h', '5')), 54, '04L'),
+        (writes(('43h', '16h'), ('40h', '5')) + 3 * LATE + writes(('40h', '5')), 57, '00H'),
+        2,
+    ),
+    # mode 3, N = 4: the last tick of a high half; and the gate low from 78 to 92, since OUT is low at 76 and high then
+    (
+        'due',
+        '8253',
+        'counter 2',
+        (SET + writes(('43h', '96h'), ('42h', '4')), 68, '04L'),
+        (SET + writes(('43h', '96h'), ('42h', '4')) + LATE + writes(('61h', '0'), ('61h', '1')), 93, '04H'),
+        1,
+    ),
+    # mode 4, N = 3: behind the strobe the count goes round, and 65,536 ticks after the load it is 3 again
+    (
+        'strobe',
+        '8253',
+        'counter 0',
+        (writes(('43h', '18h'), ('40h', '3')), 36 + 4 * 65536, '00H'),
+        (writes(('43h', '18h'), ('40h', '3')), 36, '00L'),
+        3,
+    ),
+    # mode 5, N = 3, triggered in clock 61: FFFF at 80; a control word in 81 stops it, and no trigger follows on the count of 95
+    (
+        'loaded',
+        '8253',
+        'counter 2',
+        (
+            writes(('63h', '99h'), ('43h', '9Ah'), ('42h', '3'), ('61h', '1')) + 2 * LATE + writes(('43h', '9Ah'), ('42h', '3')),
+            100,
+            'FFH',
+        ),
+        (writes(('63h', '99h'), ('43h', '9Ah'), ('42h', '3'), ('61h', '1')), 80, 'FEH'),
+        1,
+    ),
+)
 
 
 class Probed(ToolCase):
@@ -110,15 +161,20 @@ class Probed(ToolCase):
         self.assertEqual((done.returncode, done.stderr), (0, ''))
         return done.stdout.splitlines()
 
+    def words(self, seen: Chips, line: str, words: str) -> str:
+        """The values of these words."""
+        return ' '.join(seen.value(line, word) for word in words.split())
+
     def counts(self, seen: list[Chips], counter: str) -> str:
         """The counts, each with the level of OUT."""
         return ' '.join(it.value(counter, 'count')[2:] + 'LH'[int(it.value(counter, 'OUT'))] for it in seen)
 
     def test_counts_at_each_tick(self) -> None:
-        for timer, word, count, wanted in ROWS:
+        for timer, word, count, wanted, loads in ROWS:
             # the count is written in clock 33, and the tick of clock 36 loads it
             seen = self.probed(writes(('43h', word), ('40h', str(count))) + ' HLT', 'go 36\nchips\n' + 'go 4\nchips\n' * wanted.count(' '), timer=timer)
             self.assertEqual(self.counts(seen, 'counter 0'), wanted, (timer, word))
+            self.assertEqual(''.join(it.value('counter 0', 'load') for it in seen), loads, (timer, word))
             self.assertEqual({(it.value('counter 0', 'RW'), it.value('counter 0', 'newest')) for it in seen}, {('1', f'{count:04X}')})
 
     def test_counts_behind_a_trigger(self) -> None:
@@ -128,8 +184,49 @@ class Probed(ToolCase):
                 writes(('63h', '99h'), ('43h', word), ('42h', str(count)), ('61h', '1')) + ' HLT',
                 'go 60\nchips\ngo 2\nchips\ngo 2\nchips\n' + 'go 4\nchips\n' * wanted.count(' '),
             )
-            self.assertEqual([it.value('counter 2', 'GATE') + it.value('counter 2', 'load') for it in seen[:3]], ['00', '11', '10'])
+            self.assertEqual([self.words(it, 'counter 2', 'GATE load due loaded') for it in seen[:3]], ['0 0 0 0', '1 1 1 0', '1 0 0 1'])
             self.assertEqual(self.counts(seen[2:], 'counter 2'), wanted, word)
+
+    def test_what_goes_on_otherwise(self) -> None:
+        for word, timer, counter, *moments, ticks in ALIKE:
+            shown, later = [], []
+            for lines, clock, wanted in moments:
+                before, after = self.probed(lines + ' HLT', f'go {clock}\nchips\ngo {4 * ticks}\nchips\n', timer=timer)
+                shown.append(before.lines[counter])
+                later.append((self.counts([after], counter), wanted))
+            self.assertEqual([it.pop(word) for it in shown], ['0', '1'], word)
+            self.assertEqual(*shown)
+            self.assertEqual(*zip(*later))
+
+    def test_a_strobe_that_is_due(self) -> None:
+        # the count is written in clock 33 and loaded at 36; the third tick from there reaches 0
+        seen = self.probed(writes(('43h', '18h'), ('40h', '3')) + ' HLT', 'go 34\nchips\ngo 2\nchips\n' + 4 * 'go 4\nchips\n')
+        self.assertEqual([it.value('counter 0', 'strobe') for it in seen], ['0', '1', '1', '1', '0', '0'])
+
+    def test_a_zero_that_is_kept(self) -> None:
+        # the high half of 5 has 3 ticks, the last one at 0, and the low half 2
+        seen = self.probed(writes(('43h', '16h'), ('40h', '5')) + ' HLT', 'go 36\nchips\n' + 5 * 'go 4\nchips\n', timer='8254')
+        self.assertEqual([it.value('counter 0', 'keeps') for it in seen], ['1', '1', '1', '0', '0', '1'])
+
+    def test_a_gate_that_is_low_at_1(self) -> None:
+        # mode 2, N = 2, loaded at 64: 1 at 76; gate 2 is low from 78 to 92, and OUT high
+        lines = SET + writes(('43h', '94h'), ('42h', '2')) + LATE + writes(('61h', '0'), ('61h', '1')) + ' HLT'
+        seen = self.probed(lines, 'go 76\nchips\ngo 3\nchips\ngo 14\nchips\n')
+        self.assertEqual([self.words(it, 'counter 2', 'count OUT GATE load due') for it in seen], ['0001 0 1 1 0', '0001 1 0 0 0', '0001 1 1 1 1'])
+
+    def test_a_decimal_count_under_a_binary_word(self) -> None:
+        # 34 is loaded at clock 36; the control word of clock 47 stops it at 32, and the count of 61 is loaded at 64
+        lines = writes(('43h', '11h'), ('40h', '34h'), ('43h', '10h'), ('40h', '34h')) + ' HLT'
+        seen = self.probed(lines, 'go 44\nchips\ngo 8\nchips\ngo 12\nchips\n')
+        self.assertEqual(
+            [self.words(it, 'counter 0', 'BCD count newest loaded decimal') for it in seen], ['1 0032 0034 1 1', '0 0032 none 0 1', '0 0034 0034 1 0']
+        )
+
+    def test_a_rise_whose_line_is_low_again(self) -> None:
+        # IR0 rises as the control word of clock 75 sets OUT high; the count of 89 is loaded at 92: 1 with OUT low at 100
+        lines = writes(*READY, ('43h', '14h'), ('40h', '3')) + ' HLT'
+        seen = self.probed(lines, 'go 74\nchips\ngo 2\nchips\ngo 24\nchips\ngo 4\nchips\n')
+        self.assertEqual([self.words(it, 'controller', 'IR IRR risen') for it in seen], ['00 00 00', '01 01 01', '00 00 01', '01 01 01'])
 
     def test_bytes_and_latches(self) -> None:
         # decimal, two bytes: 34h in clock 33, 12h in 47, loaded at 48; a latch in clock 61, behind three more ticks
@@ -174,14 +271,20 @@ class Probed(ToolCase):
 
     def test_initialisation(self) -> None:
         for pairs, wanted in (
-            ((('20h', '13h'),), ('07', 'ICW2', '0')),
-            ((('20h', '11h'), ('21h', '40h')), ('47', 'ICW3', '0')),
-            ((('20h', '13h'), ('21h', '40h')), ('47', 'ICW4', '0')),
-            ((('20h', '12h'), ('21h', '40h')), ('47', 'none', '0')),
-            (READY, ('0F', 'none', '1')),
+            ((('20h', '13h'),), '07 ICW2 0 1 1'),
+            ((('20h', '12h'),), '07 ICW2 0 1 0'),
+            ((('20h', '11h'),), '07 ICW2 0 0 1'),
+            ((('20h', '10h'),), '07 ICW2 0 0 0'),
+            ((('20h', '11h'), ('21h', '40h')), '47 ICW3 0 0 1'),
+            ((('20h', '10h'), ('21h', '40h')), '47 ICW3 0 0 0'),
+            ((('20h', '11h'), ('21h', '40h'), ('21h', '0')), '47 ICW4 0 0 1'),
+            ((('20h', '10h'), ('21h', '40h'), ('21h', '0')), '47 none 0 0 0'),
+            ((('20h', '13h'), ('21h', '40h')), '47 ICW4 0 1 1'),
+            ((('20h', '12h'), ('21h', '40h')), '47 none 0 1 0'),
+            (READY, '0F none 1 1 1'),
         ):
             (seen,) = self.probed(writes(*pairs) + ' HLT', 'go 90\nchips\n')
-            self.assertEqual(tuple(seen.value('controller', it) for it in ('vector', 'awaits', 'uPM')), wanted)
+            self.assertEqual(self.words(seen, 'controller', 'vector awaits uPM SNGL IC4'), wanted)
 
     def test_modes(self) -> None:
         words = (('20h', '1Bh'), ('21h', '40h'), ('21h', '3'), ('21h', '0F0h'), ('20h', '80h'), ('20h', '6Bh'), ('20h', '0C3h'), ('20h', '0Ch'))
@@ -215,7 +318,7 @@ class Probed(ToolCase):
     def test_a_counter_that_was_never_programmed(self) -> None:
         files = self.program(writes(*READY) + WAITS.format(''))
         answers = self.answers(*files, 'go 3000\nchips\n')[1:]
-        self.assertEqual(answers[1], 'counter 0 mode 0 RW 3 BCD 0 count 0000 newest none load 0 OUT 0 GATE 1 first none latch none high 0')
+        self.assertEqual(answers[1], COUNTER.format('none'))
         self.assertEqual(facts(answers), ['the processor waits for an interrupt, and IR0 comes from counter 0, which no count has been written to'])
 
     def test_the_debuggers_commands(self) -> None:

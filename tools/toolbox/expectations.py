@@ -19,8 +19,8 @@ from toolbox.services import Served, served_of
 
 # What a chip's line tells, by its words (docs/probe.md).
 CHIPS = (
-    'controller (IR|IRR|ISR|IMR|lowest|INT|vector|awaits|LTIM|uPM|AEOI|rotates|SMM|P|RIS)',
-    'counter [0-2] (mode|RW|BCD|count|newest|load|OUT|GATE|first|latch|high|status|latched)',
+    'controller (IR|IRR|ISR|IMR|lowest|INT|vector|awaits|LTIM|uPM|AEOI|rotates|SMM|P|RIS|risen|SNGL|IC4)',
+    'counter [0-2] (mode|RW|BCD|count|newest|load|OUT|GATE|first|latch|high|loaded|due|strobe|decimal|status|latched|keeps)',
     'ports [ABC]',
     'keyboard (latch|lost|waiting)',
     'speaker level',

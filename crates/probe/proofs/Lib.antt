@@ -1,6 +1,7 @@
 mod Listing
 mod Telling
 pub mod Registers
+pub mod Loading
 mod Rows
 pub mod AddingUp
 pub mod Counting

@@ -3,7 +3,7 @@
 -- "Operation Control Words").
 -- To be believed by callers of this crate: the headline does not rest on it.
 use Rattle.pic8259.specs.Parts.{requests}
-use Rattle.std.specs.Prelude.{ℕ, List, ◌++◌, codes, slice_index}
+use Rattle.std.specs.Prelude.{ℕ, not, List, ◌++◌, codes, slice_index}
 use Rattle.std.specs.Fmt.{decimal}
 use Rattle.board_types.specs.Digits.{hex_byte_text}
 use Rattle.pic8259.specs.declared.controller.Expected.{Expected}
@@ -51,7 +51,17 @@ unfoldable pub controller_reads : PicState → List ℕ
 controller_reads s =
     codes " SMM " ++ (flag_text s.special_mask
     ++ (codes " P " ++ (flag_text s.polled
-    ++ (codes " RIS " ++ (flag_text s.reads_served ++ codes "\n")))))
+    ++ (codes " RIS " ++ flag_text s.reads_served))))
+
+-- the levels whose line has risen since they were last taken, a bit a level, whatever the lines are now; and by ICW1
+-- that no ICW3 belongs to the sequence (SNGL), and that ICW4 does (IC4)
+unfoldable pub controller_kept : PicState → List ℕ
+controller_kept s =
+    codes " risen " ++ (hex_byte_text (byte_of s.risen)
+    ++ (codes " SNGL " ++ (flag_text (not s.is_cascaded)
+    ++ (codes " IC4 " ++ flag_text s.asks_icw4))))
 
 unfoldable pub controller_line : PicState → List ℕ
-controller_line s = controller_registers s ++ (controller_output s ++ (controller_modes s ++ controller_reads s))
+controller_line s =
+    controller_registers s
+    ++ (controller_output s ++ (controller_modes s ++ (controller_reads s ++ (controller_kept s ++ codes "\n"))))

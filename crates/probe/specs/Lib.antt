@@ -25,3 +25,4 @@ pub mod Watched
 pub mod Looked
 pub mod Tried
 pub mod MomentLaws
+pub mod ChipLaws

@@ -1,11 +1,11 @@
 //! The interrupt controller as text.
 ghost use Rattle.pic8259.specs.Parts.{requests};
-ghost use Rattle.std.specs.Prelude.{◌≡◌, ◌<◌, IfOk, if◌then◌else◌, slice_index};
+ghost use Rattle.std.specs.Prelude.{◌≡◌, ◌<◌, IfOk, if◌then◌else◌, not, slice_index};
 ghost use Rattle.std.specs.String.{string_bytes};
 ghost use Rattle.pic8259.specs.Image.{expected_of, flag_of, pic_of};
 ghost use Rattle.pic8259.specs.Levels.{byte_of};
 ghost use Rattle.pic8259.specs.Pic.{is_requesting, vector};
-ghost use Rattle.probe.specs.Controller.{awaited_text, controller_line, controller_modes, controller_output, controller_reads, controller_registers};
+ghost use Rattle.probe.specs.Controller.{awaited_text, controller_kept, controller_line, controller_modes, controller_output, controller_reads, controller_registers};
 
 use crate::shown::digit;
 use board_types::digits::HexByte;
@@ -25,6 +25,9 @@ pub(crate) fn controller_line(alloc: Global, image: &PicImage) -> Result<String,
     text.push_str(modes.as_str())?;
     let reads = controller_reads(alloc, image)?;
     text.push_str(reads.as_str())?;
+    let kept = controller_kept(alloc, image)?;
+    text.push_str(kept.as_str())?;
+    text.push_str("\n")?;
     Ok(text)
 }
 
@@ -68,7 +71,17 @@ fn controller_reads(alloc: Global, image: &PicImage) -> Result<String, AllocErro
     let smm = flag_digit(image.special_mask);
     let poll = flag_digit(image.polled);
     let ris = flag_digit(image.reads_served);
-    format!(in alloc; " SMM {smm} P {poll} RIS {ris}\n")
+    format!(in alloc; " SMM {smm} P {poll} RIS {ris}")
+}
+
+#[tactic(auto, unfolding(crate::specs::Controller::controller_kept, pic8259::specs::Image::pic_of))]
+fn controller_kept(alloc: Global, image: &PicImage) -> Result<String, AllocError>
+    ensures { IfOk result (λ text. string_bytes text ≡ controller_kept (pic_of image.now)) }
+{
+    let risen = HexByte(risen_register(image));
+    let sngl = is_single(image);
+    let ic4 = flag_digit(image.asks_icw4);
+    format!(in alloc; " risen {risen} SNGL {sngl} IC4 {ic4}")
 }
 
 /// The request lines that are high, a bit a level, as in the registers.
@@ -102,6 +115,22 @@ fn mask_register(image: &PicImage) -> u8
     ensures { result ≡ byte_of (pic_of image.now).masked }
 {
     image.masked
+}
+
+/// The levels whose line has risen since they were last taken.
+#[tactic(auto, using(crate::proofs::Registers::byte_of_set), unfolding(pic8259::specs::Image::pic_of))]
+fn risen_register(image: &PicImage) -> u8
+    ensures { result ≡ byte_of (pic_of image.now).risen }
+{
+    image.risen
+}
+
+/// 1 where no ICW3 belongs to the sequence (SNGL of ICW1).
+#[tactic(auto, unfolding(pic8259::specs::Image::pic_of))]
+fn is_single(image: &PicImage) -> u8
+    ensures { result ≡ (if not (pic_of image.now).is_cascaded then 1 else 0) }
+{
+    digit(image.is_cascaded == 0)
 }
 
 /// The level with the lowest priority.

@@ -2,13 +2,15 @@
 ghost use Rattle.std.specs.Prelude.{◌≡◌, ◌%◌, ◌<◌, ◌≤◌, IfOk, if◌then◌else◌, [], ◌++◌, OnOk};
 ghost use Rattle.std.specs.String.{string_bytes};
 ghost use Rattle.board_types.specs.Lines.{is_high};
-ghost use Rattle.pit8253.specs.Counter.{is_8254, reads_high, status_of};
-ghost use Rattle.pit8253.specs.Image.{counter_of, flag_of, kind_of, line_of, option_of};
+ghost use Rattle.pit8253.specs.Counter.{after_ticks, is_8254, reads_high, status_of};
+ghost use Rattle.pit8253.specs.Image.{counter_of, flag_of, kind_of, line_of, option_of, progress_of};
 ghost use Rattle.pit8253.specs.Program.{access_number, access_of, digits_of, mode_number, mode_of, modulus, radix_number, radix_of};
-ghost use Rattle.probe.specs.Counter.{counter_counts, counter_line, counter_lines, counter_status, newest_of};
+ghost use Rattle.probe.specs.Counter.{counter_counts, counter_line, counter_lines, counter_running, counter_status, loads_next, newest_of};
 
 use crate::shown::{ByteOrNone, WordOrNone, digit};
 use board_types::digits::{HexByte, HexWord};
+use board_types::timed::Timed;
+use pit8253::counter::Counter;
 use pit8253::image::CounterImage;
 use std::alloc::{AllocError, Global};
 
@@ -24,6 +26,8 @@ pub(crate) fn counter_line(
     let mut text = counter_counts(alloc, number, image)?;
     let lines = counter_lines(alloc, image)?;
     text.push_str(lines.as_str())?;
+    let running = counter_running(alloc, image)?;
+    text.push_str(running.as_str())?;
     push_status(alloc, &mut text, image)?;
     text.push_str("\n")?;
     Ok(text)
@@ -47,13 +51,24 @@ fn counter_counts(alloc: Global, number: u8, image: &CounterImage) -> Result<Str
 fn counter_lines(alloc: Global, image: &CounterImage) -> Result<String, AllocError>
     ensures { IfOk result (λ text. string_bytes text ≡ counter_lines (counter_of image.now)) }
 {
-    let load = flag_digit(image.load_due);
+    let load = loads_next(image);
     let out = level_digit(image.out);
     let gate = level_digit(image.gate);
     let first = ByteOrNone(byte_where(image.has_first_byte, image.first_byte));
     let latch = WordOrNone(word_where(image.has_latch, image.latch));
     let high = reads_high(image);
     format!(in alloc; " load {load} OUT {out} GATE {gate} first {first} latch {latch} high {high}")
+}
+
+/// 1 if the next tick loads the newest count: that alone clears a null count.
+fn loads_next(image: &CounterImage) -> u8
+    ensures { result ≡ (if loads_next (counter_of image.now) then 1 else 0) }
+{
+    let mut null = *image;
+    null.is_null = 1;
+    let mut counter = Counter::from_image(&null);
+    counter.advance(1);
+    digit(counter.image().is_null == 0)
 }
 
 /// 1 where the next read of the count gives its high byte.
@@ -66,6 +81,17 @@ fn reads_high(image: &CounterImage) -> u8
         2 => 1,
         _ => flag_digit(image.high_next),
     }
+}
+
+#[tactic(auto, unfolding(crate::specs::Counter::counter_running, pit8253::specs::Image::counter_of))]
+fn counter_running(alloc: Global, image: &CounterImage) -> Result<String, AllocError>
+    ensures { IfOk result (λ text. string_bytes text ≡ counter_running (counter_of image.now)) }
+{
+    let loaded = digit(image.progress > 1);
+    let due = flag_digit(image.load_due);
+    let strobe = flag_digit(image.strobe_due);
+    let decimal = flag_digit(image.count_radix);
+    format!(in alloc; " loaded {loaded} due {due} strobe {strobe} decimal {decimal}")
 }
 
 /// Adds the status of an 8254's counter.
@@ -87,7 +113,8 @@ fn counter_status(alloc: Global, image: &CounterImage) -> Result<String, AllocEr
 {
     let status = HexByte(status(image));
     let latched = ByteOrNone(latched_status(image));
-    format!(in alloc; " status {status} latched {latched}")
+    let keeps = keeps_zero(image);
+    format!(in alloc; " status {status} latched {latched} keeps {keeps}")
 }
 
 /// The mode's number, 0 to 5.
@@ -172,6 +199,14 @@ fn latched_status(image: &CounterImage) -> Option<u8>
     ensures { result ≡ (counter_of image.now).status }
 {
     byte_where(image.has_status, image.status)
+}
+
+/// 1 where the running half keeps its 0.
+#[tactic(auto, unfolding(pit8253::specs::Image::counter_of))]
+fn keeps_zero(image: &CounterImage) -> u8
+    ensures { result ≡ (if (counter_of image.now).keeps_zero then 1 else 0) }
+{
+    flag_digit(image.keeps_zero)
 }
 
 fn byte_where(is_there: u8, byte: u8) -> Option<u8>

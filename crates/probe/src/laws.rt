@@ -1,4 +1,5 @@
-//! What holds of counts, of stops and of probes, over the definitions alone.
+//! What holds of counts, of stops, of probes and of what `chips` prints, over the definitions alone.
+ghost use Rattle.probe.specs.ChipLaws.{LoadsAsTold};
 ghost use Rattle.probe.specs.MomentLaws.{EachMomentOnce, MomentsAreRuns, OneListOfRanges, PastTheEndAlike};
 ghost use Rattle.probe.specs.Laws.{AnswersAsDebugger, CountsAddUp, ProbesStand, StandingEndsAlike, StandingMetAlike};
 
@@ -35,4 +36,9 @@ pub fn each_moment_stands_once()
 pub fn moments_are_runs()
     ensures runs { MomentsAreRuns }
     ensures past_the_end { PastTheEndAlike }
+{}
+
+/// The next tick of a counter loads its newest count if `chips` says so, and else it doesn't.
+pub fn loads_as_told()
+    ensures { LoadsAsTold }
 {}
