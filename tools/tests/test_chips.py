@@ -321,6 +321,22 @@ class Probed(ToolCase):
         self.assertEqual(answers[1], COUNTER.format('none'))
         self.assertEqual(facts(answers), ['the processor waits for an interrupt, and IR0 comes from counter 0, which no count has been written to'])
 
+    def test_the_last_clock(self) -> None:
+        """What would run past it, or type a key past it, is refused; what ends at it isn't."""
+        files = self.program(' HLT')
+        last = 1 << 40
+        refused = ('counts 7', 'signals 7', 'events 7 keys', f'key 1E {last + 1}', f'moments 1E {last} {last} 7', f'moments 1E {last} {last + 1} 6')
+        told = self.answers(*files, '\n'.join((f'go {last - 6}', *refused, 'go 0', f'moments 1E {last - 5} {last} 6', 'signals 6', 'key 1E', 'events 1 keys')))
+        self.assertEqual(
+            told,
+            [f'clock {last - 6}', *['fault 42 ClockLimit'] * 6, f'clock {last - 6}', f'{last - 5} {last} none', f'clock {last}', *['fault 42 ClockLimit'] * 2],
+        )
+
+    def test_no_clocks(self) -> None:
+        """Nothing happens in none, also where a stop holds: a run ends at a later clock."""
+        told = self.answers(*self.program(' HLT'), 'halted\ngo 40\ncounts 0\nsignals 0\nevents 0 starts keys\nmoments 1E 50 60 0\nmoments 1E 50 60 1\ngo 0\n')
+        self.assertEqual(told[2:], ['before 0', *['clock 16'] * 3, '50 60 none', '50 60 stop 1 17 17', 'clock 16'])
+
     def test_the_debuggers_commands(self) -> None:
         """Each is answered as `pcboard debug` answers it."""
         commands = (
