@@ -31,7 +31,7 @@ place_back End = refl
 one_place : (a b : Source) → place_of a ≡ place_of b → a ≡ b
 one_place a b same = sym (place_back a) ∙ ap at_place same ∙ place_back b
 
--- before a place, or in it
+-- a source in one of the places up to k is in an earlier one, or is the one in place k
 earlier_or_here : (other s : Source) (k : ℕ) → place_of s ≡ k → place_of other < k + 1 → (place_of other < k) ⊎ (other ≡ s)
 earlier_or_here other s k here less = elim (cases_lt (place_of other) k) [
   | inl before ↦ inl before
@@ -83,7 +83,7 @@ by_order d k s kept clock at here least due false after =
     later (inl more) less = omega arith
     later (inr same) less = omega (arith, same.0)
 
--- one source more
+-- one more source
 one_more : (d : DeadlinesState) (k : ℕ) (s : Source) (first : Option (ℕ × Source)) (at : Option ℕ) → place_of s ≡ k → Least d k first → deadline_of d s ≡ at → Least d (k + 1) (sooner first at s)
 one_more d k s None None here none due = λ other less. elim (earlier_or_here other s k here less) [
   | inl earlier ↦ none other earlier

@@ -1,5 +1,5 @@
--- The definitions on worked values: which of several deadlines comes next. Of those on one clock the timer's come first,
--- counter 0's before counter 2's, then the keys', the processor's and the run's end.
+-- The definitions on worked values: which of several deadlines comes next. Of those at one clock the timer's come
+-- first, counter 0's before counter 2's, then the keys', the processor's and the run's end.
 use Rattle.std.proofs.Common.{◌≡◌, ℕ, ◌<◌, ◌≤◌, ◌⊎◌, inl, inr, Bool, true, false, ◌&&◌, ◌||◌, nat_eq, nat_le, nat_lt, List, [], ◌∷◌, Option, None, Some, refl, sym, ap, ◌∙◌, arith}
 use Rattle.std.proofs.lemmas.Bool.Decides.{nat_tests}
 use Rattle.scheduler.specs.declared.deadlines.Source.{Source}
@@ -12,7 +12,7 @@ both true true is = (refl, refl)
 both true false is = absurd (cc)
 both false b is = absurd (cc)
 
--- whether a deadline comes behind the one of a source at a clock, by the clock or by the place
+-- whether a deadline comes after that of a source at a clock, by the clock or by the place
 comes_behind : ℕ → Source → Source → Option ℕ → Bool
 comes_behind clock source other None = true
 comes_behind clock source other (Some at) = nat_lt clock at || (nat_eq clock at && nat_le (place_of source) (place_of other))
@@ -50,7 +50,7 @@ each p is = by_source (all_true (p Counter0) (p Counter2) (p Keys) (p Processor)
     by_source told Processor = told.3
     by_source told End = told.4
 
--- whether all come behind a source at a clock
+-- whether all other deadlines come after that of a source at a clock
 comes_first : DeadlinesState → ℕ → Source → Bool
 unfolding comes_behind
 comes_first d clock source = all (λ other. comes_behind clock source other (deadline_of d other))
@@ -69,12 +69,12 @@ abbrev at_clocks : List (Source × ℕ) → DeadlinesState
 at_clocks [] = no_deadlines
 at_clocks (it ∷ more) = with_deadline (at_clocks more) it.0 (Some it.1)
 
--- all five on one clock
+-- all five at one clock
 five : IsNext (at_clocks ((End, 7) ∷ (Processor, 7) ∷ (Keys, 7) ∷ (Counter2, 7) ∷ (Counter0, 7) ∷ [])) 7 Counter0
 unfolding comes_behind comes_first
 five = next_by _ 7 Counter0 refl refl
 
--- each pair on one clock
+-- each pair at one clock
 counter_0_before_counter_2 : IsNext (at_clocks ((Counter2, 7) ∷ (Counter0, 7) ∷ [])) 7 Counter0
 unfolding comes_behind comes_first
 counter_0_before_counter_2 = next_by _ 7 Counter0 refl refl

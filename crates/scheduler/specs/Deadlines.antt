@@ -4,7 +4,7 @@ use Rattle.std.specs.Prelude.{◌≡◌, ℕ, ◌<◌, ◌≤◌, ◌⊎◌, Opt
 use Rattle.scheduler.specs.declared.deadlines.Source.{Source}
 use Rattle.scheduler.specs.declared.deadlines.Source.TheVariants.{Counter0, Counter2, Keys, Processor, End}
 
--- for each source the clock at which it is due next, if it is
+-- the clock at which each source is due next, if it is
 pub record DeadlinesState : Type 0 where
   pub counter_0 : Option ℕ
   pub counter_2 : Option ℕ
@@ -29,7 +29,7 @@ with_deadline d Keys at = record d { keys = at }
 with_deadline d Processor at = record d { processor = at }
 with_deadline d End at = record d { end = at }
 
--- the order of those that are due on one clock
+-- the order of sources that are due at one clock
 abbrev pub place_of : Source → ℕ
 place_of Counter0 = 0
 place_of Counter2 = 1
@@ -37,7 +37,7 @@ place_of Keys = 2
 place_of Processor = 3
 place_of End = 4
 
--- a source is due at a clock, and none before it: none at an earlier clock, nor at that clock in an earlier place
+-- a source is due at a clock, and no other one earlier, or at that clock in an earlier place
 pub record IsNext (d : DeadlinesState) (clock : ℕ) (source : Source) : Type 0 where
   pub due : deadline_of d source ≡ Some clock
   pub first : (other : Source) (at : ℕ) → deadline_of d other ≡ Some at

@@ -8,22 +8,22 @@ ghost use Rattle.scheduler.specs.Sooner.{sooner, next_of};
 use board_types::clock::Clock;
 use std::marker::Model;
 
-/// What may be due. Of those that are due on one clock the first in this order comes first.
+/// What may be due. Of those that are due at one clock, the first in this order comes first.
 #[derive(Clone, Copy, Debug, PartialEq, Eq)]
 pub enum Source {
-    /// OUT0 of the timer turns.
+    /// OUT0 of the timer takes another level.
     Counter0,
-    /// OUT2 of the timer turns.
+    /// OUT2 of the timer takes another level.
     Counter2,
     /// A key code arrives.
     Keys,
-    /// The processor is free.
+    /// The processor becomes free.
     Processor,
     /// The run ends.
     End,
 }
 
-/// For each source the clock at which it is due next, if it is.
+/// The clock at which each source is due next, if it is.
 #[derive(Clone, Copy)]
 pub struct Deadlines {
     counter_0: Option<Clock>,
@@ -56,7 +56,7 @@ impl Model for Deadlines {
 }
 
 impl Deadlines {
-    /// Nothing is due.
+    /// Deadlines of which none is set.
     pub fn new() -> Deadlines
         ensures { result ≡ no_deadlines }
     {
@@ -69,7 +69,7 @@ impl Deadlines {
         }
     }
 
-    /// `source` is due at the clock `at` now, or isn't.
+    /// Sets the clock at which `source` is due next, or that it isn't due.
     pub fn set(&mut self, source: Source, at: Option<Clock>)
         ensures { self.new ≡ with_deadline self.old source at }
     {
@@ -82,8 +82,7 @@ impl Deadlines {
         }
     }
 
-    /// The least clock at which something is due, and of what is due then the first in the order of `Source`; `None`
-    /// where nothing is due.
+    /// The least clock at which a source is due, and the first source in order that is due then; `None` if none is.
     pub fn next(&self) -> Option<(Clock, Source)>
         ensures { MatchOption result ((source : Source) → deadline_of self.now source ≡ None) (λ first. IsNext self.now
             first.0 first.1) }
@@ -102,7 +101,7 @@ impl Deadlines {
     }
 }
 
-/// The sooner of two, the first where they are due on one clock.
+/// The sooner of two deadlines; the first one, if both are at one clock.
 fn sooner(
     first: Option<(Clock, Source)>,
     at: Option<Clock>,
