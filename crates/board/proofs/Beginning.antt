@@ -1,4 +1,4 @@
--- A clock in which the processor acts, and the leap over the others of its step; first where it writes to no port.
+-- An act, and the leap over the other clocks of its step; first an act that writes to no port.
 use Rattle.std.proofs.Common.{◌≡◌, ℕ, ◌+◌, ◌-◌, ◌<◌, ◌≤◌, inl, inr, List, ◌++◌, length, refl, sym, ap, ◌∙◌, subst, arith}
 use Rattle.std.specs.Prelude.{◌⊎◌}
 use Rattle.cached_chips.proofs.Quiet.{level_stays}
@@ -28,14 +28,14 @@ same_level s quietly =
     ap (is_speaker_high_after s.chips) quietly.act.silent
     ∙ sym (level_stays s.chips (s.chips.clock + 1) (omega arith) quietly.quiet))
 
--- the board's first clock of a step, with what it lists, and the others that are leapt over
+-- an act of the board, with what it lists, and the leap over the other clocks of its step
 
 rest_on : (within : ℕ) (p : Plain) (new : BoardState) → PassesOver within p new.plain → (new ≡ record new { plain = p }) ⊎ ((1 ≤ p.busy) × IsLeapOn within 0 (record new { plain = p }) new)
 rest_on within p new (inl same) = inl (ap (λ q. record new { plain = q }) same)
 rest_on within p new (inr rest) =
     inr (rest.0, record { leap = rest.1; changes = refl; trail = refl; room = refl; turns = omega arith })
 
--- `listed`: the board with the change of that clock in its list
+-- `listed` is the board with the change of that clock in its list
 pub act_on : (within : ℕ) (old listed new : BoardState) → listed.plain ≡ old.plain → listed.trail ≡ old.trail → listed.turns ≡ old.turns → listed.changes ≡ old.changes ++ change_next old.plain → old.room + length old.changes ≤ listed.room + length listed.changes → 1 ≤ work_next old.plain → PassesOver within (after_clock listed.plain) new.plain → new.trail ≡ last 32 (listed.trail ++ trail_next listed.plain) → new.changes ≡ listed.changes → new.room ≡ listed.room → new.turns ≡ listed.turns + 1 → IsActOn within old new
 act_on within old listed new plain trail turns changes room work passed entries same same_room more = record {
   begun = record new { plain = after_clock old.plain };
@@ -70,7 +70,7 @@ goes_over_from end s p t first before (inr rest) =
 pub goes_over : (end : ℕ) (s t : Plain) → clock_of s < end → PassesOver end (after_clock s) t → GoesOn end s t
 goes_over end s t before passed = goes_over_from end s (after_clock s) t (clock_goes_by s) before passed
 
--- the plain board's clock, told by what the processor does in it
+-- the plain board's clock, by what the processor does in it
 pub clock_by_act : (s : Plain) (a : Act) (acted : StepResult ChipsState) → a ≡ next_act s → acted ≡ after_act s.clocks s.cpu s.busy s.chips a → record { cpu = acted.cpu; busy = acted.clocks - 1; chips = chips_after_clock acted.bus s.keys; keys = s.keys; clocks = s.clocks } ≡ after_clock s
 unfolding after_clock
 clock_by_act s a acted now is =

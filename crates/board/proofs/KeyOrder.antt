@@ -33,7 +33,7 @@ pub past_at : (next clock : ℕ) (keys : List StampedKey) → Awaits next clock 
 past_at next clock keys awaits j d within =
     subst (λ (k : StampedKey). k.stamp < clock) (get_or-take next keys j d within) (awaits.past j d (in_take next j keys within awaits.within))
 
--- keys from a place in the list on come with a clock or later
+-- keys from a place in the list on come at a clock or later
 pub later_at : (next clock : ℕ) (keys : List StampedKey) → All (λ k. clock ≤ k.stamp) (drop next keys) → (j : ℕ) (d : StampedKey) → next ≤ j → j < length keys → clock ≤ (get_or keys j d).stamp
 later_at next clock keys later j d from within =
     let place : next + (j - next) ≡ j = omega (arith, from) in
@@ -155,7 +155,7 @@ codes_between from to clock keys order first last =
     ∙ ap (λ xs. xs ++ codes_at due clock) (codes_none from clock keys first)
     ∙ all_due clock due stamps)
 
--- the keys up to one that comes before a clock do so, too
+-- the keys up to one that comes before a clock come before it, too
 pub earlier_than : (index clock : ℕ) (keys : List StampedKey) (d : StampedKey) → IsInOrder keys → index < length keys → (get_or keys index d).stamp < clock → (j : ℕ) (e : StampedKey) → j < index + 1 → (get_or keys j e).stamp < clock
 earlier_than index clock keys d in_order within before j e up_to =
     let same : (get_or keys index e).stamp ≡ (get_or keys index d).stamp = ap (λ (k : StampedKey). k.stamp) (get_or_default keys index e d within) in
@@ -168,7 +168,7 @@ earlier_than index clock keys d in_order within before j e up_to =
 pub awaits_first : (keys : List StampedKey) → Awaits 0 0 keys
 awaits_first keys = awaits_from 0 0 keys (omega arith) (λ j d within. absurd (omega (arith, within))) (λ j d from within. omega arith)
 
--- codes that arrive behind others
+-- codes that arrive after others
 pub arrived_after : (s t : ChipsState) (codes : List ℕ) (code : ℕ) → t ≡ after_arrivals s codes → after_arrival t code ≡ after_arrivals s (codes ++ code ∷ [])
 arrived_after s t codes code so_far = ap (λ u. after_arrival u code) so_far ∙ sym (fold-append after_arrival s codes (code ∷ []))
 
@@ -196,7 +196,7 @@ pub have_later : (a : SoFar) (clock n late : ℕ) (keys : List StampedKey) → H
 have_later a clock n late keys have none at =
     record { awaits = awaits_later a.count clock n late keys have.awaits none at; next = have.next }
 
--- the next stamp is that of a clock behind which so many have arrived
+-- the next stamp after a clock, if the number of keys that have arrived is known
 pub next_of : (a : SoFar) (clock : ℕ) (keys : List StampedKey) → HaveArrived a (clock + 1) keys → IsNextStamp clock keys a.next
 next_of a clock keys have = have.next clock have.awaits
 
@@ -214,7 +214,7 @@ pub no_key : (s : Plain) (n : ℕ) (p : Option ℕ) → IsNextStamp s.chips.cloc
 unfolding clock_of
 no_key s n p next after = no_key_by s.chips.clock n s.keys p next after
 
--- so many keys have still arrived behind all clocks of a step
+-- no more keys have arrived after all clocks of a step
 pub still_arrived : (a : SoFar) (clock busy free late : ℕ) (keys : List StampedKey) → HaveArrived a (clock + 1) keys → free ≡ clock + max busy 1 → ComesAfter free a.next → late ≡ free → HaveArrived a (late + 1) keys
 still_arrived a clock busy free late keys have is later at =
     have_later a clock (max busy 1) late keys have

@@ -18,7 +18,7 @@ use Rattle.board.specs.Reach.{PassesNone}
 use Rattle.board.proofs.Search.{none_between, none_held}
 use Rattle.board.proofs.Turns.{SoFar, before_rest, behind, so_far_leap, so_far_none, so_far_tick, act_alone, steps_lead, one_more}
 
--- what holds at a clock after some is told from where the board stands then
+-- what holds some clocks after a board that is itself some clocks later
 later_on : (stops : List Condition) (n j : ℕ) (s p : Plain) (here : Option ℕ) → p ≡ after_clocks s n → n ≤ j → holding stops (after_clocks p (j - n)) ≡ here → holding stops (after_clocks s j) ≡ here
 later_on stops n j s p here is past holds =
     let place : n + (j - n) ≡ j = omega (arith, past) in
@@ -34,7 +34,7 @@ none_more stops n m j s p is before after within =
       | inr late ↦ later_on stops n j s p None is late (after (j - n) (omega (arith, late, within)))
     ]
 
--- the same is told at each of m clocks more
+-- a stop holds at each of m clocks more
 last_more : (stops : List Condition) (n m clock : ℕ) (s p : Plain) (last : Option (ℕ × ℕ)) (here : Option ℕ) → p ≡ after_clocks s n → IsLastOf stops n s last → 1 ≤ m → ((i : ℕ) → i < m → holding stops (after_clocks p i) ≡ here) → clock + 1 ≡ clock_of s + (n + m) → IsLastOf stops (n + m) s (found_at last here clock)
 last_more stops n m clock s p None None is none some after at = λ j within. none_more stops n m j s p is (none j) after within
 last_more stops n m clock s p (Some found) None is last some after at = record {
@@ -52,7 +52,7 @@ last_more stops n m clock s p last (Some number) is found some after at = record
   clock_is = omega (arith, at, some);
 }
 
--- a run so far, with what it found before the clock where it stands
+-- a run so far, with what it found before its present clock
 pub record Looked (stops : List Condition) (end : ℕ) (s t : BoardState) (last : Option (ℕ × ℕ)) : Type 0 where
   pub so_far : SoFar 1 end s t
   pub last_is : IsLastOf stops so_far.passed s.plain last
@@ -91,7 +91,7 @@ looked_short stops end s t u last here looked is before (inl leap) = looked_leap
 looked_short stops end s t u last here looked is before (inr act) =
     let tick = act_alone t u act in looked_tick stops end s t u last here looked is before tick.0 tick.1
 
--- a step with the leap behind it, where nothing holds at its start and all wait for a free processor
+-- the other clocks of a step, if nothing holds at its start and all stops wait for a free processor
 looked_rest : (stops : List Condition) (end : ℕ) (s b u : BoardState) (last : Option (ℕ × ℕ)) → AllAwaitFree stops → Looked stops end s b last → (u ≡ b) ⊎ ((1 ≤ b.plain.busy) × IsLeapOn end 0 b u) → Looked stops end s u last
 looked_rest stops end s b u last waits looked (inl same) = subst (λ x. Looked stops end s x last) (sym same) looked
 looked_rest stops end s b u last waits looked (inr rest) =

@@ -1,4 +1,4 @@
--- Clocks that may be leapt over: what a board is after them, and that nothing is told of them.
+-- Clocks that may be leapt over: what a board is after them, and that nothing is seen of them.
 use Rattle.wiring.specs.EachWire.{is_requested}
 use Rattle.std.proofs.Common.{◌≡◌, ℕ, zero, suc, ◌+◌, ◌-◌, ◌<◌, ◌≤◌, inl, inr, Bool, false, if◌then◌else◌, List, [], ◌∷◌, ◌++◌, Some, refl, sym, ap, ◌∙◌, subst, arith}
 use Rattle.std.specs.Prelude.{◌&&◌, ◌==◌, cond, nat_eq}
@@ -40,7 +40,7 @@ use Rattle.board_plain.specs.Trail.{entry_at, event_of, trail_in, trail_next}
 use Rattle.board_plain.proofs.Quiet.{clock_alone, holds_later, none_comes, nothing_by}
 use Rattle.board.proofs.Ticking.{no_change}
 
--- the processor does nothing where it is busy or idle
+-- the processor does nothing while it is busy or idle
 
 pub not_free : (n : ℕ) → 1 ≤ n → nat_eq n 0 ≡ false
 not_free n some = grind (arith, nat_tests)
@@ -191,13 +191,13 @@ unfolding holding
 holding_same stops s t same =
     same_position (λ condition. holds condition t) (λ condition. holds condition s) 1 stops (λ condition. one_same condition s t same)
 
--- bytes stay where the beam alone moves
+-- bytes stay while only the beam moves
 pub bytes_stay : (s t : Plain) (beam : ℕ) → t.chips.memory ≡ s.chips.memory → t.chips.mda ≡ record s.chips.mda { raster = beam } → (address : ℕ) → byte_of t address ≡ byte_of s address
 unfolding byte_of byte_at text_byte
 bytes_stay s t beam memory mda address =
     λ k. if is_text_address address then text_byte (mda k) (address - 0xB0000) else map.byte_at (memory k) address
 
--- so is a busy processor before its step's end
+-- a busy processor stays busy before its step's end
 pub busy_still : (busy n k : ℕ) → k < n → n ≤ busy → nat_eq (busy - k) 0 ≡ nat_eq busy 0
 busy_still busy n k before within = not_free (busy - k) (omega (arith, before, within)) ∙ sym (not_free busy (omega (arith, before, within)))
 

@@ -1,4 +1,4 @@
--- A turn is one of those that a caller makes by itself: its entries and its wires.
+-- What a turn begins, and what it does to the wires, for callers that make one turn at a time.
 use Rattle.std.proofs.Common.{◌≡◌, ℕ, ◌+◌, ◌-◌, ◌<◌, ◌≤◌, inl, inr, Bool, true, false, List, [], ◌∷◌, ◌++◌, length, map, Option, None, refl, sym, ap, ◌∙◌, subst, arith, append-nil}
 use Rattle.std.proofs.lemmas.Bool.Decides.{nat_tests}
 use Rattle.std.specs.Prelude.{◌⊎◌, nat_lt, IfOk, IfSome, IsTrue, OnOk, Result, Ok, Err}
@@ -48,7 +48,7 @@ sized_begins s bytes d n is found some =
     let more : nat_lt 0 n ≡ true = grind (arith, nat_tests, some) in
     sym (starts s d (sym (found_by_size bytes d n is found) ∙ more))
 
--- and one that has none doesn't
+-- what was decoded as no row begins nothing
 pub sizeless_begins : (s : Plain) (bytes : List ℕ) (d : Decoding) (n : ℕ) → n ≡ size_of d → IsDecoded bytes d → n ≤ 0 → [] ≡ map begun_of (entry_at s (start_of s.cpu s.chips d))
 sizeless_begins s bytes d n is found none =
     let more : nat_lt 0 n ≡ false = grind (arith, nat_tests, none) in
@@ -58,7 +58,7 @@ pub begins_by : (s : Plain) (act : Act) (begun : List Begun) → act ≡ next_ac
 unfolding trail_next
 begins_by s act begun next is = is ∙ ap (λ (a : Act). map begun_of (entry_at s (event_of s.cpu s.chips a))) next
 
--- a leap
+-- a turn that is a leap
 once_leapt : (edges : Bool) (within end : ℕ) (s u : BoardState) (begun : Option Begun) → length s.trail ≤ 32 → clock_of s.plain < end → IsLeapOn end 1 s u → (¬ (IsTrue edges) → WiresStayThen within s.plain u.plain) → option_to_list begun ≡ map begun_of (trail_next s.plain) → IfSome begun (λ b. b.clock ≡ clock_of s.plain) → IsOneTurn edges within end s u begun
 once_leapt edges within end s u begun few before on stay is clock =
     let leap = on.leap in
@@ -87,7 +87,7 @@ once_leapt edges within end s u begun few before on stay is clock =
       };
     }
 
--- a clock
+-- a turn that is one clock
 once_ticked : (edges : Bool) (within end : ℕ) (s u : BoardState) (begun : Option Begun) → length s.trail ≤ 32 → clock_of s.plain < within → within ≤ end → IsTickOn s u → (¬ (IsTrue edges) → WiresStayThen within s.plain u.plain) → option_to_list begun ≡ map begun_of (trail_next s.plain) → IfSome begun (λ b. b.clock ≡ clock_of s.plain) → IsOneTurn edges within end s u begun
 once_ticked edges within end s u begun few before order tick stay is clock =
     let passed = tick.clock in record {
@@ -104,7 +104,7 @@ once_ticked edges within end s u begun few before order tick stay is clock =
       leap = λ past. absurd (omega (arith, before, past));
     }
 
--- a clock with a leap after it
+-- a turn that is an act with a leap after it
 once_acted : (edges : Bool) (within end : ℕ) (s b u : BoardState) (begun : Option Begun) → length s.trail ≤ 32 → clock_of s.plain < within → within ≤ end → IsTickOn s b → (u ≡ b) ⊎ ((1 ≤ b.plain.busy) × IsLeapOn within 0 b u) → (¬ (IsTrue edges) → WiresStayThen within s.plain u.plain) → option_to_list begun ≡ map begun_of (trail_next s.plain) → IfSome begun (λ x. x.clock ≡ clock_of s.plain) → IsOneTurn edges within end s u begun
 once_acted edges within end s b u begun few before order tick (inl same) stay is clock =
     once_ticked edges within end s u begun few before order (subst (IsTickOn s) (sym same) tick) stay is clock
@@ -153,7 +153,7 @@ same_then s t u first second = record {
   speaker = second.speaker ∙ sym first.speaker;
 }
 
--- in a leap they stay in the first clock too
+-- in a leap the wires stay in the first clock too
 pub stay_then : (within : ℕ) (s t : Plain) → clock_of s < clock_of t → WiresStay s t → WiresStayThen within s t
 stay_then within s t later stay = record {
   later = λ j some few.
@@ -161,7 +161,7 @@ stay_then within s t later stay = record {
   leap = λ past. stay;
 }
 
--- after the first clock they stay as that leaves them
+-- after the first clock the wires stay as that leaves them
 pub stay_after_first : (within : ℕ) (s t : Plain) → clock_of t ≤ within → WiresStay (after_clock s) t → WiresStayThen within s t
 stay_after_first within s t before stay = record {
   later = λ j some few.
@@ -173,7 +173,7 @@ stay_after_first within s t before stay = record {
   leap = λ past. absurd (omega (arith, before, past));
 }
 
--- a clock with a leap after it ends by the clock by which its clocks may
+-- a step whose other clocks are leapt over ends by the clock `within`
 pub passes_within : (within : ℕ) (s t : Plain) → clock_of s < within → PassesOver within (after_clock s) t → clock_of t ≤ within
 passes_within within s t before (inl same) =
     let first = clock_goes_by s in
@@ -183,7 +183,7 @@ passes_within within s t before (inr leap) =
     let clocks = leap.1.within in
     let here = leap.1.unseen.clock in omega (arith, before, first, here, clocks)
 
--- of a turn that isn't refused
+-- a turn that isn't refused
 pub turned_once : {E : Type 0} (edges : Bool) (within end by to : ℕ) (s u : BoardState) (answer : Result (Option Begun) E) → length s.trail ≤ 32 → clock_of s.plain < within → within ≤ end → by ≡ within → to ≡ end → OnOk answer (IsTurnOn by to s u) → (¬ (IsTrue edges) → OnOk answer (WiresStayThen by s.plain u.plain)) → IfOk answer (λ begun. option_to_list begun ≡ map begun_of (trail_next s.plain)) → IfOk answer (λ begun. IfSome begun (λ b. b.clock ≡ clock_of s.plain)) → IfOk answer (IsOneTurn edges within end s u)
 turned_once edges within end by to s u (Ok begun) few before order is at turn stay begins clock =
     once_turned edges within end s u begun few before order (subst (λ n. IsTurnOn n end s u) is (subst (λ n. IsTurnOn by n s u) at turn))

@@ -26,7 +26,7 @@ use Rattle.board_plain.proofs.Codes.{codes_append, codes_more}
 use Rattle.board.proofs.KeyOrder.{past_at, to_come_at}
 use Rattle.board.proofs.Works.{edge_0_works, edge_2_works, keys_come}
 
--- a last clock is behind every deadline that acts before it, and up to every other
+-- a last clock is before every deadline of a source that acts before it, and not after any other
 
 early : (other : Source) → acts_before other ≡ true → place_of other ≤ 2
 early Counter0 acts = omega arith
@@ -134,7 +134,7 @@ from_now s end d End at deadlines within due =
     let same : Some end ≡ Some at = sym deadlines.end ∙ due in
     let is : end ≡ at = cc in omega (arith, is, within)
 
--- all that is said of a room up to the last clock that may be leapt over
+-- all that is said of the clocks up to the last one that may be leapt over
 pub record IsRoom (limit : ℕ) (s : Plain) (n : ℕ) : Type 0 where
   pub within : n ≤ limit
   pub may_leap : MayLeap s n
@@ -182,7 +182,7 @@ room s end d last holds deadlines within limit nothing next =
       },
     )
 
--- where keys have arrived up to a place, the next stamp is that of the key there
+-- after keys have arrived up to a place, the next stamp is that of the key there
 
 not_sooner : (next j : ℕ) (keys : List StampedKey) (d e : StampedKey) → IsInOrder keys → next ≤ j → j < length keys → (get_or keys next d).stamp ≤ (get_or keys j e).stamp
 not_sooner next j keys d e in_order from inside =
@@ -197,7 +197,7 @@ not_sooner next j keys d e in_order from inside =
           omega (arith, order, same)
     ]
 
--- the keys that stand before a place are due as well where they are in the list
+-- a key that is due in the front of a list is due in the whole list
 some_due : (keys : List StampedKey) (next at : ℕ) (d : StampedKey) → codes_at (take (next + 1) keys) at ≡ codes_at (take next keys) at ++ (get_or keys next d).code ∷ [] → 1 ≤ length (codes_at keys at)
 some_due keys next at d more =
     let parts : codes_at keys at ≡ codes_at (take (next + 1) keys) at ++ codes_at (drop (next + 1) keys) at =

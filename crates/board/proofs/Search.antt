@@ -34,7 +34,7 @@ searched_first stops end s u few before on = record {
   none = subst (λ n. NoStop stops n s.plain) (omega arith) (no_stop_none stops s.plain);
 }
 
--- nothing holds where it looks
+-- nothing holds at the clock at which it looks
 pub none_here : (stops : List Condition) (end : ℕ) (s t : BoardState) → (searched : Searched stops end s t) → holding stops t.plain ≡ None → NoStop stops searched.so_far.passed s.plain
 none_here stops end s t searched here =
     let some = searched.some in
@@ -44,7 +44,7 @@ none_here stops end s t searched here =
     (no_stop_more stops (n - 1) s.plain searched.none
     (ap (λ k. holding stops (after_clocks s.plain k)) whole ∙ ap (holding stops) (sym searched.so_far.ran.plain) ∙ here))
 
--- nor in a leap, short of its end
+-- nothing holds during a leap, before its end
 none_in_leap : (stops : List Condition) (n end count : ℕ) (s t u : BoardState) → Ran n s t → NoStop stops n s.plain → holding stops t.plain ≡ None → (on : IsLeapOn end count t u) → NoStop stops (n + on.leap.clocks - 1) s.plain
 none_in_leap stops n end count s t u ran none here on j first within =
     elim (leb_tells j n) [
@@ -80,7 +80,7 @@ searched_short stops end s t u searched here before (inl leap) = searched_leap s
 searched_short stops end s t u searched here before (inr act) =
     let tick = act_alone t u act in searched_tick stops end s t u searched here before tick.0 tick.1
 
--- a busy processor isn't free, so none of those that await that holds
+-- a busy processor isn't free, so no stop that waits for that holds
 
 not_free : (s : Plain) → 1 ≤ s.busy → is_free s ≡ false
 not_free s some = grind (arith, nat_tests)
@@ -108,7 +108,7 @@ searched_over stops end s t u waits searched here before (inl leap) = searched_l
 searched_over stops end s t u waits searched here before (inr act) =
     searched_rest stops end s act.begun u waits (searched_tick stops end s t act.begun searched here before act.first act.work) act.rest
 
--- nor where IP may be passed
+-- nothing holds between steps, at an IP that may be passed
 pub none_between : (passes : ℕ → Type 0) (stops : List Condition) (n end : ℕ) (t w : Noted) → PassesNone passes stops → holding stops t.plain ≡ None → AreQuietSteps passes n end t w → MayGoOn passes n w → holding stops w.plain ≡ None
 unfolding AreQuietSteps
 none_between passes stops zero end t w none here same goes_on = ap (λ (x : Noted). holding stops x.plain) same ∙ here
@@ -141,7 +141,7 @@ between_moves passes end true t u before (inl on) = let moved = on.1 in omega (a
 between_moves passes end true t u before (inr on) = turn_moves end t u before on
 between_moves passes end false t u before on = short_moves end t u before on
 
--- a condition holds where it looks
+-- a condition holds at the clock at which it looks
 pub stop_found : (stops : List Condition) (end count : ℕ) (s t : BoardState) (number clock : ℕ) → Searched stops end s t → end ≡ clock_of s.plain + count → holding stops t.plain ≡ Some number → clock ≡ clock_of t.plain → StopsAt stops count s.plain (record { number = number; clock = clock })
 stop_found stops end count s t number clock searched is here at =
     let n : ℕ = searched.so_far.passed in
@@ -151,7 +151,7 @@ stop_found stops end count s t number clock searched is here at =
     stops_here stops count (n - 1) s t number clock (omega (arith, some, gone, within, is)) searched.none
     (subst (λ k. Ran k s t) (omega (arith, some)) searched.so_far.ran) here at
 
--- none does up to the end
+-- none holds up to the end
 pub none_found : (stops : List Condition) (end count : ℕ) (s t : BoardState) → (searched : Searched stops end s t) → end ≡ clock_of s.plain + count → end ≤ clock_of t.plain → holding stops t.plain ≡ None → NoStop stops count s.plain
 none_found stops end count s t searched is past here =
     let gone = searched.so_far.ran.clock in
@@ -174,7 +174,7 @@ held_search stops end count s t u searched here is before held =
       fits = λ enough. not_held_before_stop stops count n s t u (omega (arith, clock, is, before)) searched.so_far.ran unheld held enough;
     }
 
--- nor is there a stop before the first clock
+-- no stop comes before the first clock
 pub held_at_once : (stops : List Condition) (end count : ℕ) (s u : BoardState) → length s.trail ≤ 32 → end ≡ clock_of s.plain + count → clock_of s.plain < end → IsHeldBack s u → HeldSearch stops count s u
 held_at_once stops end count s u few is before held =
     let so_far = so_far_none end s few (omega (arith, before)) in
@@ -198,7 +198,7 @@ found stops end count s t number clock searched is here at = record {
   counts = counted 2 end s t searched.so_far (omega arith);
 }
 
--- and one that finds none
+-- a search that finds none
 pub record NotFound (stops : List Condition) (count : ℕ) (s t : BoardState) : Type 0 where
   pub none : NoStop stops count s.plain
   pub ran : Ran count s t

@@ -25,7 +25,7 @@ none_there t i (x ∷ xs) d none =
     let not_first : t x ≡ false = none 0 (omega arith) in
     rw not_first (none_there t (i + 1) xs d (λ k h. none (suc k) (omega (arith, h))))
 
--- a condition holds at the clock after n at which none did: it is the stop, and the run's length is known by its clock
+-- a condition holds at the clock after n at which none did: it is the stop, and its clock gives the run's length
 pub stops_here : (stops : List Condition) (count n : ℕ) (s t : BoardState) (number clock : ℕ) → n < count → NoStop stops n s.plain → Ran (n + 1) s t → holding stops t.plain ≡ Some number → clock ≡ clock_of t.plain → StopsAt stops count s.plain (record { number = number; clock = clock })
 stops_here stops count n s t number clock within none ran here is = record {
   passed = n + 1;
@@ -47,7 +47,7 @@ none_passed stops n s t u none ran held =
     let same : clock_of u.plain ≡ clock_of t.plain = ap (λ (b : BoardState). clock_of b.plain) held.kept in
     subst (λ k. NoStop stops k s.plain) (omega (arith, gone, same)) none
 
--- nor has it the room that it needs up to its stop
+-- a run that is held back lacks room that it needs before its stop
 not_held_to : (stops : List Condition) (n passed : ℕ) (s t u : BoardState) (stopped : Option Stop) → passed < n → Ran passed s t → NoStop stops passed s.plain → IsHeldBack t u → IsStopOf stops n s.plain stopped → length (changes_in s.plain (run_length n s.plain stopped)) ≤ s.room → ⊥
 not_held_to stops n passed s t u None within ran none held is fits = not_held n passed s t u within ran held fits
 not_held_to stops n passed s t u (Some stop) within ran none held is fits =

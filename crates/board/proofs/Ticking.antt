@@ -46,7 +46,7 @@ stopped n passed s t u within so_far held = record {
   full = ap (λ (b : BoardState). b.room) held.kept ∙ held.full;
 }
 
--- where the level changes the clock brings one change
+-- if the level changes, the clock brings one change
 one_if_not_same : (a b : Line) (change : SpeakerChange) → a ≢ b → length (if beq (is_high a) (is_high b) then [] else change ∷ []) ≡ 1
 one_if_not_same Low Low change differs = absurd (differs refl)
 one_if_not_same Low High change differs = refl
@@ -97,7 +97,7 @@ pub no_change : (p : Plain) → speaker_level (after_clock p) ≡ speaker_level 
 unfolding change_next
 no_change p same = rw (same_to _ _ same) refl
 
--- it changes: the clock and the level are listed
+-- if the level changes, the clock and the level are listed
 pub change_listed : (p : Plain) (level : Line) → speaker_level (after_clock p) ≢ speaker_level p → level ≡ speaker_level (after_clock p) → (record { clock = clock_of p + 1; level = level }) ∷ [] ≡ change_next p
 unfolding change_next
 change_listed p level differs is = rw (not_same _ _ differs) (ap (λ l. record { clock = clock_of p + 1; level = l } ∷ []) is)
@@ -119,7 +119,7 @@ first_seen seen s =
     ∙ ap (λ xs. xs ++ seen (after_clocks s 0)) (gathered_zero after_clock seen s)
     ∙ ap seen (iterate_zero after_clock s)
 
--- nothing is seen in it where nothing is in it and some more
+-- nothing is in the first clock if nothing is in it and some more
 left_empty : {A : Type 0} (xs ys : List A) → xs ++ ys ≡ [] → xs ≡ []
 left_empty [] ys none = refl
 left_empty (x ∷ xs) ys none = absurd (let never : x ∷ (xs ++ ys) ≡ [] = none in cc)

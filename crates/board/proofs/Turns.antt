@@ -169,7 +169,7 @@ so_far_turn spare end s t u so_far before (inl leap) = so_far_leap spare end 1 s
 so_far_turn spare end s t u so_far before (inr act) =
     so_far_rest spare end s act.begun u (so_far_tick spare end s t act.begun so_far before act.first act.work) act.rest
 
--- at the end of a run, or where it stands
+-- at the end of a run, or at the clock that it has reached
 
 pub ran_whole : (spare end count : ℕ) (s t : BoardState) → (so_far : SoFar spare end s t) → end ≡ clock_of s.plain + count → end ≤ clock_of t.plain → Ran count s t
 ran_whole spare end count s t so_far is past =
@@ -244,7 +244,7 @@ act_alone old new act =
           let within = rest.1.leap.within in absurd (omega (arith, clock, some, within))
     ]
 
--- so does a leap
+-- a leap that ends with the next clock
 leap_alone : (old new : BoardState) → length old.trail ≤ 32 → IsLeapOn (clock_of old.plain + 1) 1 old new → IsTickOn old new
 leap_alone old new few on =
     let some = on.leap.some in
@@ -266,7 +266,7 @@ pub turn_alone : (old new : BoardState) → length old.trail ≤ 32 → IsTurnOn
 turn_alone old new few (inl leap) = leap_alone old new few leap
 turn_alone old new few (inr act) = (act_alone old new act).0
 
--- it goes on
+-- a run goes on
 
 leap_moves : (end count : ℕ) (t u : BoardState) → clock_of t.plain < end → IsLeapOn end count t u → end - clock_of u.plain < end - clock_of t.plain
 leap_moves end count t u before on =
@@ -290,7 +290,7 @@ short_moves end t u before (inr act) = let clock = (act_alone t u act).0.clock i
 
 -- steps at once, while nothing comes
 
--- the board behind so many of them
+-- the board after n steps
 abbrev pub behind : BoardState → ℕ → Noted → BoardState
 behind t n v = record t { plain = v.plain; trail = v.trail; turns = t.turns + n }
 
@@ -309,7 +309,7 @@ so_far_each passes (suc n) spare end s t v steps so_far =
     so_far_turn spare end s (behind t n w) (behind t (suc n) v) before steps.2.before
     (inr (one_more n end t w v steps.2))
 
--- where they lead
+-- the board to which steps lead
 pub steps_lead : (passes : ℕ → Type 0) (end : ℕ) (t u : BoardState) → (on : AreStepsOn passes end t u) → behind t on.count (record { plain = u.plain; trail = u.trail }) ≡ u
 steps_lead passes end t u on = λ k. record u { changes = sym on.changes k; room = sym on.room k; turns = sym on.turns k }
 
@@ -342,12 +342,12 @@ steps_alone passes t u moved on =
     subst (IsActOn (clock_of t.plain + 1) t) (steps_lead passes (clock_of t.plain + 1) t u on)
     (one_alone passes on.count t (record { plain = u.plain; trail = u.trail }) moved on.steps)
 
--- a turn, told of the plain board within
+-- a leap, as a turn, from the view of the engine within
 pub board_leaps : (end : ℕ) (old seen new : BoardState) → old ≡ seen → IsLeap end old.plain new.plain → new.changes ≡ old.changes → new.trail ≡ old.trail → new.room ≡ old.room → new.turns ≡ old.turns + 1 → IsLeapOn end 1 seen new
 board_leaps end old seen new same leap changes trail room turns =
     subst (λ b. IsLeapOn end 1 b new) same (record { leap = leap; changes = changes; trail = trail; room = room; turns = turns })
 
--- the same between two looks for a stop
+-- a turn between two looks for a stop that may be whole
 pub if_whole : {E : Type 0} (passes : ℕ → Type 0) (end : ℕ) (old new : BoardState) (result : Result Unit E) → OnOk result (IsTurnOn end end old new) → OnOk result (IsTurnBetween true passes end old new)
 if_whole passes end old new (Ok x) turn = inr turn
 if_whole passes end old new (Err e) turn = turn

@@ -70,7 +70,7 @@ no_key_event clock c codes none settled =
 reached_idle : (s : Plain) → next_act s ≡ Nothing → chips_reached s ≡ wires.after_clock s.chips
 reached_idle s nothing = ap (λ (a : Act). wires.after_clock (after_act s.clocks s.cpu s.busy s.chips a).bus) nothing
 
--- so nothing happens
+-- nothing happens
 uneventful : (s : Plain) → next_act s ≡ Nothing → codes_at s.keys (clock_of s + 1) ≡ [] → KeysSettled (wires.after_clock s.chips) → unwired_next s ≡ []
 unfolding unwired_next
 uneventful s nothing codes settled =
@@ -85,7 +85,7 @@ settled_once : (c : ChipsState) → WiresHold (wires.after_clocks c 1) → KeysS
 unfolding iterate
 settled_once c holds = holds.keys
 
--- in clocks in which the processor does nothing and no key comes
+-- nothing happens in clocks in which the processor does nothing and no key comes
 pub quiet_clock : (s : Plain) (n k : ℕ) → k < n → WiresHold s.chips → NoKeyComes s n → after_clocks s k ≡ passed_by s k → next_act (after_clocks s k) ≡ Nothing → unwired_next (after_clocks s k) ≡ []
 unfolding clock_of passed_by
 quiet_clock s n k before holds no_key here nothing =

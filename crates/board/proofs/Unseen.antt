@@ -1,4 +1,4 @@
--- Clocks of which nothing is seen: what a board is after them, which wires stay, and how a leap over them is told.
+-- Unseen clocks: what a board is after them, which wires stay, and what a leap over them makes.
 use Rattle.wiring.specs.EachWire.{is_requested}
 use Rattle.std.proofs.Common.{◌≡◌, ℕ, ◌+◌, ◌-◌, ◌≤◌, inl, inr, Option, sym, ap, ◌∙◌, subst, arith}
 use Rattle.board_types.proofs.Iterate.{iterate_zero}
@@ -43,7 +43,7 @@ pub pass_unseen : (s : Plain) (n : ℕ) → WiresHold s.chips → MayPass s n �
 pass_unseen s n holds (inl may_leap) = subst (IsUnseen s n) (leapt_by n s holds may_leap) (leapt_unseen s n holds may_leap)
 pass_unseen s n holds (inr alone) = alone_unseen s n holds alone
 
--- when there are such clocks
+-- when clocks are unseen
 
 begins_now : (s : Plain) → BeginsNothing s → boundary_of s.cpu (is_requested s.chips) ≡ boundaries.Nothing
 begins_now s (inl anyhow) = anyhow (is_requested s.chips)
@@ -111,7 +111,7 @@ stay_here s t same = λ j few.
     let none : j ≡ 0 = omega (arith, few, clock) in
     same_as s (after_clocks s j) (ap (after_clocks s) none ∙ iterate_zero after_clock s)
 
--- the parts after such a leap
+-- the parts after a leap over unseen clocks
 
 pub left_by : (s : Plain) (n to busy : ℕ) (c : ChipsState) → to ≡ s.chips.clock + n → c ≡ wires.after_clocks s.chips (to - s.chips.clock) → busy ≡ s.busy - (to - s.chips.clock) → record s { busy = busy; chips = c } ≡ passed_by s n
 unfolding passed_by

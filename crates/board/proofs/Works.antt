@@ -118,7 +118,7 @@ pub acts_now : (p : Plain) → is_idle (next_act p) ≡ false → 1 ≤ work_nex
 unfolding work_next steps_next
 acts_now p not = let some = act_works (next_act p) not in omega (arith, some)
 
--- so it is at a boundary where it does something
+-- a processor that does something at its boundary does work
 pub acts_there : (s : Plain) (boundary : Boundary) → act_at s.cpu s.chips boundary ≡ next_act s → is_idle (act_at s.cpu s.chips boundary) ≡ false → 1 ≤ work_next s
 acts_there s boundary at acts = acts_now s (ap is_idle (sym at) ∙ acts)
 
@@ -133,13 +133,13 @@ unless_it_acts : (p : Plain) (idle : Bool) → is_idle (next_act p) ≡ idle →
 unless_it_acts p false is works = acts_now p is
 unless_it_acts p true is works = works (nothing_done (next_act p) is)
 
--- so are keys
+-- a key that comes is work
 
 pub keys_come : (p : Plain) → 1 ≤ length (codes_at p.keys (clock_of p + 1)) → 1 ≤ work_next p
 unfolding work_next keys_next
 keys_come p some = omega (arith, some)
 
--- and a turn of OUT0 or OUT2
+-- a turn of OUT0 or OUT2 is work
 
 level_turns : (a b : Line) → b ≢ a → edges_of a b ≡ 1
 level_turns Low Low differs = absurd (differs refl)

@@ -1,4 +1,4 @@
--- Clocks in which the processor does nothing and of which nothing is seen but where they end, and leaps over them: no wire
+-- Clocks in which the processor does nothing and of which nothing is seen before they end, and leaps over them: no wire
 -- changes in them, or the chips go on alone, whatever the timer does.
 -- For proofs alone: no public contract rests on it.
 use Rattle.wiring.specs.EachWire.{is_requested}
@@ -22,32 +22,33 @@ use Rattle.events.specs.Events.{unwired_next}
 use Rattle.board.specs.Leap.{IsTightTo, MayLeap}
 use Rattle.board.specs.OneTurn.{HaveSameWires}
 
--- a free processor begins nothing whatever the timer does: whatever is requested, or by what is requested now, which the
--- timer doesn't change
+-- a free processor begins nothing whatever the timer does: whether or not an interrupt is requested, or as one is or
+-- isn't requested now, which the timer can't change
 abbrev pub BeginsNothing : Plain → Type 0
 BeginsNothing s =
     ((request : Bool) → boundary_of s.cpu request ≡ boundaries.Nothing)
     ⊎ ((boundary_of s.cpu (is_requested s.chips) ≡ boundaries.Nothing) × IsTimerInhibited s.chips)
 
--- the processor does nothing for n clocks, whatever the timer does in them: it is busy in them, or free and begins nothing
+-- the processor does nothing for n clocks, whatever the timer does in them: it is busy in them, or free and begins
+-- nothing
 abbrev pub StaysIdleAnyhow : Plain → ℕ → Type 0
 StaysIdleAnyhow s n = (n ≤ s.busy) ⊎ ((s.busy ≡ 0) × BeginsNothing s)
 
--- what is enough for it of a processor that does nothing now
+-- what is enough for `StaysIdleAnyhow` if the processor does nothing now
 abbrev pub TimerBeginsNothing : Plain → Type 0
 TimerBeginsNothing s = (1 ≤ s.busy) ⊎ ((boundaries.Nothing ≡ boundary_of s.cpu true) ⊎ IsTimerInhibited s.chips)
 
--- n clocks in which it does so and no key comes, while the chips go on alone
+-- n clocks in which the processor stays idle whatever the timer does, no key comes, and the chips go on alone
 pub record IsAlone (s : Plain) (n : ℕ) : Type 0 where
   pub idle : StaysIdleAnyhow s n
   pub no_key : NoKeyComes s n
   pub alone : GoesOnAlone s.chips
 
--- n clocks of which nothing is seen
+-- n unseen clocks: a leap may pass over them
 abbrev pub MayPass : Plain → ℕ → Type 0
 MayPass s n = MayLeap s n ⊎ IsAlone s n
 
--- a board n such clocks later
+-- the board n unseen clocks later
 unfoldable pub passed_by : Plain → ℕ → Plain
 passed_by s n = record s { busy = s.busy - n; chips = wires.after_clocks s.chips n }
 
@@ -55,8 +56,8 @@ passed_by s n = record s { busy = s.busy - n; chips = wires.after_clocks s.chips
 abbrev pub GoUnseen : ChipsState → ℕ → Type 0
 GoUnseen chips to = IsQuiet chips to ⊎ GoesOnAlone chips
 
--- a board n clocks later, of which nothing is seen: no change of the speaker's level and no entry is listed, no step
--- begins, no condition changes before the last of them, and nothing happens but to the wires; processor and keyboard stay
+-- a board n unseen clocks later: no change of the speaker's level and no entry is listed, no step begins, no condition
+-- changes before the last of them, and nothing happens but to the wires; processor and keyboard stay
 pub record IsUnseen (s : Plain) (n : ℕ) (t : Plain) : Type 0 where
   pub plain : t ≡ after_clocks s n
   pub clock : clock_of t ≡ clock_of s + n
@@ -69,19 +70,19 @@ pub record IsUnseen (s : Plain) (n : ℕ) (t : Plain) : Type 0 where
   pub cpu : (k : ℕ) → k ≤ n → (after_clocks s k).cpu ≡ s.cpu
   pub keyboard : (k : ℕ) → k ≤ n → (after_clocks s k).chips.keyboard ≡ s.chips.keyboard
 
--- a clock, or the last before a stamp where that one is earlier
+-- the clock `end`, or the last one before a stamp if that is earlier
 abbrev pub last_before : Option ℕ → ℕ → ℕ
 last_before None end = end
 last_before (Some at) end = min end (at - 1)
 
--- a clock, at most `end`, up to which nothing is seen; up to a later one there may be
+-- a clock, at most `end`, up to which nothing is seen, and no later one could be known to be
 pub record IsUnseenTo (end : ℕ) (s : Plain) (to : ℕ) : Type 0 where
   pub from : clock_of s ≤ to
   pub within : to ≤ end
   pub may_pass : MayPass s (to - clock_of s)
   pub tight : IsTightTo (end - clock_of s) s (to - clock_of s) (passed_by s (to - clock_of s))
 
--- a leap over such clocks, at most to a clock
+-- a leap over unseen clocks, at most to the clock `end`
 pub record IsLeap (end : ℕ) (s t : Plain) : Type 0 where
   pub clocks : ℕ
   pub some : 1 ≤ clocks
@@ -89,12 +90,12 @@ pub record IsLeap (end : ℕ) (s t : Plain) : Type 0 where
   pub unseen : IsUnseen s clocks t
   pub tight : IsTightTo (end - clock_of s) s clocks t
 
--- other clocks of a step are leapt over so, or none
+-- other clocks of a step are leapt over, at most to the clock `end`, or none are
 abbrev pub PassesOver : ℕ → Plain → Plain → Type 0
 PassesOver end s t = (t ≡ s) ⊎ ((1 ≤ s.busy) × IsLeap end s t)
 
--- the chips pass the first clock of a step of so many clocks, or all, as this relation of boards says, whatever processor makes
--- it, and by whatever table
+-- the chips pass the first clock of a step of `busy` clocks, or all, in a way that this relation allows between the two
+-- boards, whatever the processor and the clock table
 abbrev pub PassBy : (Plain → Plain → Type 0) → ℕ → ChipsState → List StampedKey → ℕ → ChipsState → Type 0
 PassBy passes busy chips keys left after =
     (cpu : CpuState) (table : ClockTable) → WiresHold (chips_after_clock chips keys)
@@ -104,12 +105,12 @@ PassBy passes busy chips keys left after =
 abbrev pub PassOver : ℕ → ℕ → ChipsState → List StampedKey → ℕ → ChipsState → Type 0
 PassOver end busy chips keys left after = PassBy (PassesOver end) busy chips keys left after
 
--- no wire changes on the way from a board to a later one
+-- no wire changes on the way from one board to a later one
 abbrev pub WiresStay : Plain → Plain → Type 0
 WiresStay s t = (j : ℕ) → j ≤ clock_of t - clock_of s → HaveSameWires s (after_clocks s j)
 
--- no wire changes on the way from its first clock; past the clock `within` only a leap leads, in which none changes in the first
--- clock either
+-- no wire changes after the first clock on the way from one board to a later one; only a leap leads past the clock
+-- `within`, and no wire changes in its first clock either
 pub record WiresStayThen (within : ℕ) (s t : Plain) : Type 0 where
   pub later : (j : ℕ) → 1 ≤ j → j ≤ clock_of t - clock_of s → HaveSameWires (after_clock s) (after_clocks s j)
   pub leap : within < clock_of t → WiresStay s t

@@ -5,7 +5,7 @@ use Rattle.board_types.specs.declared.keys.StampedKey.{StampedKey}
 use Rattle.board.specs.declared.arrivals.Arrived.{Arrived}
 use Rattle.board_plain.specs.Plain.{codes_at}
 
--- the first `next` keys are stamped before a clock, and the others with it or later
+-- the first `next` keys are stamped before a clock, and the others at it or later
 pub record Awaits (next clock : ℕ) (keys : List StampedKey) : Type 0 where
   pub within : next ≤ length keys
   pub past : All (λ k. k.stamp < clock) (take next keys)
@@ -17,7 +17,7 @@ IsNextStamp clock keys None = All (λ k. k.stamp ≤ clock) keys
 IsNextStamp clock keys (Some at) =
     (clock < at) × All (λ k. (k.stamp ≤ clock) ⊎ (at ≤ k.stamp)) keys × (1 ≤ length (codes_at keys at))
 
--- so many have arrived before a clock, and the next stamp is known
+-- how many keys have arrived before a clock, and the stamp of the next one
 pub record HaveArrived (arrived : Arrived) (clock : ℕ) (keys : List StampedKey) : Type 0 where
   pub awaits : Awaits arrived.count clock keys
   pub next : (before : ℕ) → Awaits arrived.count (before + 1) keys → IsNextStamp before keys arrived.next

@@ -7,7 +7,7 @@ use Rattle.board_plain.specs.Board.{BoardState}
 use Rattle.board_plain.specs.Plain.{clock_of}
 use Rattle.board.specs.Turns.{AreStepsOn, IsTurnOn}
 
--- whether it holds only where the processor is free
+-- whether a condition holds only while the processor is free
 abbrev pub awaits_free : Condition → Bool
 awaits_free Free = true
 awaits_free (At cs ip) = true
@@ -22,8 +22,8 @@ AllAwaitFree stops = (k : ℕ) → k < length stops → awaits_free (slice_index
 abbrev pub ArePassedOn : (ℕ → Type 0) → ℕ → BoardState → BoardState → Type 0
 ArePassedOn passes end old new = AreStepsOn passes end old new × (clock_of old.plain < clock_of new.plain)
 
--- a turn between two looks for a stop: where all wait for a free processor, an act may have all its clocks, and there may be steps
--- at once, between which IP is one that may be passed; else an act has its first clock
+-- a turn between two looks for a stop: if all stops wait for a free processor, an act may have all its clocks, and
+-- there may be several steps, between which IP may be passed; otherwise an act has only its first clock
 abbrev pub IsTurnBetween : Bool → (ℕ → Type 0) → ℕ → BoardState → BoardState → Type 0
 IsTurnBetween true passes end old new = ArePassedOn passes end old new ⊎ IsTurnOn end end old new
 IsTurnBetween false passes end old new = IsTurnOn (clock_of old.plain + 1) end old new

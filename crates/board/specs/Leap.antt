@@ -1,5 +1,5 @@
 -- Clocks in which nothing happens but that the beam moves, the counters tick and the processor is busy or idle: how
--- many there are at least, and what is left of a board after them.
+-- many there are at least, and what a board is after them.
 -- For proofs alone: no public contract rests on it.
 use Rattle.wiring.specs.EachWire.{is_requested}
 use Rattle.std.specs.Prelude.{ℕ, ◌≡◌, ◌≢◌, ◌+◌, ◌-◌, ◌<◌, ◌≤◌, ◌^◌, ◌⊎◌, [], Bool, true, false, min, Option, None, Some}
@@ -37,7 +37,7 @@ pub record MayLeap (s : Plain) (n : ℕ) : Type 0 where
   pub out_0 : IsSteady after_ticks out_of s.chips.pit.counter_0 (ticks_between s.chips.clock (s.chips.clock + n))
   pub out_2 : IsSteady after_ticks out_of s.chips.pit.counter_2 (ticks_between s.chips.clock (s.chips.clock + n))
 
--- a stamp, if there is one, comes after a clock
+-- a stamp, if there is one, is later than a clock
 abbrev pub ComesAfter : ℕ → Option ℕ → Type 0
 ComesAfter clock None = Unit {0}
 ComesAfter clock (Some at) = clock < at
@@ -49,40 +49,40 @@ pub record IsQuietBoundary (s : Plain) (boundary : Boundary) : Type 0 where
   pub quiet : IsQuiet s.chips (s.chips.clock + 1)
   pub wires : WiresHold s.chips
 
--- an act that isn't to do nothing, and that writes to no port
+-- an act that isn't `Nothing` and writes to no port
 pub record IsSilentAct (cpu : CpuState) (act : Act) : Type 0 where
   pub some : is_idle act ≡ false
   pub silent : writes_of cpu act ≡ []
 
--- the processor makes such an act, and the chips are quiet up to the next clock
+-- the processor makes an act that writes to no port, and the chips are quiet up to the next clock
 pub record ActsQuietly (s : Plain) : Type 0 where
   pub act : IsSilentAct s.cpu (next_act s)
   pub quiet : IsQuiet s.chips (s.chips.clock + 1)
   pub wires : WiresHold s.chips
 
--- n such clocks at once
+-- n idle and quiet clocks at once
 unfoldable pub leapt : Plain → ℕ → Plain
 leapt s n = record s { busy = s.busy - n; chips = wires.leapt s.chips n }
 
--- n clocks that lead to a board can't be more: they are all that are asked for, or the processor is free at their end, or
--- the clock after them has work
+-- n clocks that lead to a board can't be more: they are all that are asked for, or the processor becomes free at their
+-- end, or the clock after them has work
 abbrev pub IsTightTo : ℕ → Plain → ℕ → Plain → Type 0
 IsTightTo limit s n t = (n ≡ limit) ⊎ (((1 ≤ s.busy) × (n ≡ s.busy)) ⊎ (1 ≤ work_next t))
 
--- the same of such clocks at once
+-- n clocks that are leapt over at once can't be more
 abbrev pub IsTight : ℕ → Plain → ℕ → Type 0
 IsTight limit s n = IsTightTo limit s n (leapt s n)
 
--- the clock at which a busy processor is free, where there is such a clock
+-- the clock at which a busy processor becomes free, unless it is later than 2^40
 abbrev pub IsFreeClock : Plain → Option ℕ → Type 0
 IsFreeClock s None = (s.busy ≡ 0) ⊎ (2 ^ 40 < s.chips.clock + s.busy)
 IsFreeClock s (Some at) = (1 ≤ s.busy) × (at ≡ s.chips.clock + s.busy)
 
--- the clock at which a busy processor is free, at most an end; of a free one that end
+-- the clock at which a busy processor becomes free, at most `end`; `end` of a free one
 abbrev pub IsFreeBy : ℕ → Plain → ℕ → Type 0
 IsFreeBy end s free = ((s.busy ≡ 0) × (free ≡ end)) ⊎ ((1 ≤ s.busy) × (free ≡ min end (clock_of s + s.busy)))
 
--- when the parts of a board are due next, its processor doing nothing now
+-- when the parts of a board are due next, if its processor does nothing now
 pub record AreDeadlines (s : Plain) (until : ℕ) (d : DeadlinesState) : Type 0 where
   pub counter_0 : IsEdgeOf s.chips.pit.counter_0 s.chips.clock d.counter_0
   pub counter_2 : IsEdgeOf s.chips.pit.counter_2 s.chips.clock d.counter_2

@@ -13,7 +13,7 @@ use Rattle.board_plain.specs.Trail.{trail_in}
 use Rattle.events.specs.Events.{unwired_next}
 use Rattle.board.specs.declared.one_turn.Begun.{Begun}
 
--- the type of the interrupt that was entered, where one was
+-- the type of the interrupt that was entered, or none for an instruction
 abbrev pub type_of : TrailEvent → Option ℕ
 type_of (Instruction instr bytes) = None
 type_of (Entry kind) = Some kind
@@ -26,22 +26,23 @@ begun_of e = record { clock = e.clock; cs = e.cs; ip = e.ip; entered = type_of e
 abbrev pub begun_in : Plain → ℕ → List Begun
 begun_in s n = map begun_of (trail_in s n)
 
--- the controller is the same, and so are OUT0, OUT2 and the speaker's level
+-- the controller, OUT0, OUT2 and the speaker's level are unchanged
 pub record HaveSameWires (s t : Plain) : Type 0 where
   pub pic : t.chips.pic ≡ s.chips.pic
   pub out_0 : t.chips.pit.counter_0.out ≡ s.chips.pit.counter_0.out
   pub out_2 : t.chips.pit.counter_2.out ≡ s.chips.pit.counter_2.out
   pub speaker : speaker_level t ≡ speaker_level s
 
--- In the first of n clocks nothing happens but to the wires, and to these neither unless edges of the timer may be leapt over;
--- and what holds at the start holds at each clock before the last.
+-- In the first of n clocks nothing happens but to the wires, and nothing to them either unless edges of the timer may
+-- be leapt over; and what holds at the start holds at each clock before the last.
 pub record StartsStill (edges : Bool) (n : ℕ) (s : Plain) : Type 0 where
   pub quiet : unwired_next s ≡ []
   pub wires : ¬ (IsTrue edges) → HaveSameWires s (after_clock s)
   pub conditions : (stops : List Condition) (j : ℕ) → j < n → holding stops (after_clocks s j) ≡ holding stops s
 
--- Some clocks, at most up to the clock `end`. What happens in them does so in the first; unless edges of the timer may be
--- leapt over, no wire changes but in it either. Past the clock `within` only a leap leads, whose first clock is as still.
+-- One turn, at most up to the clock `end`. What happens in it happens in its first clock; wires, too, change only there
+-- unless edges of the timer may be leapt over. Only a leap leads past the clock `within`, and nothing happens in its
+-- first clock either.
 pub record IsOneTurn (edges : Bool) (within end : ℕ) (old new : BoardState) (begun : Option Begun) : Type 0 where
   pub passed : ℕ
   pub some : 1 ≤ passed

@@ -7,7 +7,7 @@ use Rattle.board_plain.specs.Plain.{Plain}
 use Rattle.board_plain.specs.Stops.{holding}
 use Rattle.board.specs.declared.stop.Reach.{Reach}
 
--- an address within a reach
+-- a condition that waits for an address within a reach
 abbrev pub IsWithin : Reach → Condition → Type 0
 IsWithin reach (At cs ip) = (reach.lowest ≤ ip) × (ip ≤ reach.highest)
 IsWithin reach _ = ⊥
@@ -18,11 +18,11 @@ AllWithin reach stops =
     ((reach.lowest ≡ 0) × (2 ^ 16 ≤ reach.highest + 1))
     ⊎ ((k : ℕ) → k < length stops → IsWithin reach (slice_index_or stops k Free))
 
--- no stop within the reach is at such an IP
+-- an IP at which no stop within the reach is
 abbrev pub may_pass : Reach → ℕ → Type 0
 may_pass reach ip = (ip < 2 ^ 16) × (reach.lowest ≤ ip → reach.highest < ip)
 
--- where IP may be passed no stop holds
+-- no stop holds at an IP that may be passed
 abbrev pub PassesNone : (ℕ → Type 0) → List Condition → Type 0
 PassesNone passes stops = (p : Plain) → passes p.cpu.registers.ip → holding stops p ≡ None
 

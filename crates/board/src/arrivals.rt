@@ -10,14 +10,14 @@ use board_types::clock::Clock;
 use board_types::keys::StampedKey;
 use cached_chips::cached::CachedChips;
 
-/// How many of the keys have arrived, and the stamp of the next one, where one comes.
+/// How many of the keys have arrived, and the stamp of the next one, if one is to come.
 #[derive(Clone, Copy)]
 pub(crate) struct Arrived {
     pub(crate) count: usize,
     pub(crate) next: Option<Clock>,
 }
 
-/// What is known once so many have arrived.
+/// What is known after `count` of `keys` have arrived.
 pub(crate) fn so_far(keys: &[StampedKey], count: usize) -> Arrived
     requires { IsInOrder keys.now }
     ensures { (clock : ℕ) → Awaits count (clock + 1) keys.now → HaveArrived result (clock + 1) keys.now }
@@ -28,7 +28,7 @@ pub(crate) fn so_far(keys: &[StampedKey], count: usize) -> Arrived
     }
 }
 
-/// The keys that are stamped `clock` arrive; `next` have arrived before. Answers how many have arrived then.
+/// Lets the keys that are stamped `clock` arrive, after the first `next`. Answers how many have arrived then.
 pub(crate) fn arrive_at(
     chips: &mut CachedChips,
     keys: &[StampedKey],
@@ -51,7 +51,7 @@ pub(crate) fn arrive_at(
     keys.len()
 }
 
-/// The keys that are stamped `clock` arrive, if there are any.
+/// Lets the keys that are stamped `clock` arrive, if there are any; one comparison is enough if there are none.
 #[inline(always)]
 fn let_arrive(chips: &mut CachedChips, keys: &[StampedKey], arrived: &mut Arrived, clock: u64)
     requires some { 1 ≤ clock }
@@ -67,7 +67,7 @@ fn let_arrive(chips: &mut CachedChips, keys: &[StampedKey], arrived: &mut Arrive
     arrive(chips, keys, arrived, clock);
 }
 
-/// The keys that are stamped with this clock arrive, if there are any.
+/// Lets the keys that are stamped `clock` arrive, if there are any, and finds the next stamp.
 #[inline(never)]
 fn arrive(chips: &mut CachedChips, keys: &[StampedKey], arrived: &mut Arrived, clock: u64)
     requires in_order { IsInOrder keys.now }
@@ -108,7 +108,7 @@ pub(crate) fn comes_after(clock: u64, stamp: Option<Clock>) -> bool
     }
 }
 
-/// The next stamp at which keys arrive, of which the first `next` have arrived; none where all have.
+/// The stamp of the next key after the first `next`; `None` if all have arrived.
 fn next_stamp(keys: &[StampedKey], next: usize) -> Option<Clock>
     requires { IsInOrder keys.now }
     ensures { (clock : ℕ) → Awaits next (clock + 1) keys.now → IsNextStamp clock keys.now result }
@@ -119,7 +119,7 @@ fn next_stamp(keys: &[StampedKey], next: usize) -> Option<Clock>
     }
 }
 
-/// How many keys are stamped before `clock`: all but the first `count` are known to come with it or later.
+/// How many keys are stamped before `clock`: at most `count`, as all others are known to come at it or later.
 pub(crate) fn count_before(keys: &[StampedKey], count: usize, clock: u64) -> usize
     requires in_order { IsInOrder keys.now }
     requires within { count ≤ length keys.now }

@@ -1,4 +1,4 @@
-//! The board: run for a number of clocks, and read.
+//! The board: it runs for a number of clocks, and is read.
 ghost use Rattle.std.specs.Prelude.{ℕ, IsTrue, None, true, All, map, IfSome, ◌-◌, slice_get, ◌≡◌, ◌+◌, ◌*◌, ◌<◌, ◌≤◌, ◌^◌, [], ◌∷◌, ◌++◌, length, OnErr, OnOk, IfOk, IsOk, ◌↔◌};
 ghost use Rattle.std.specs.Option.{option_to_list};
 ghost use Rattle.std.specs.Result.{IfErr, IsErrOf};
@@ -55,7 +55,7 @@ pub struct Board<A: Allocator = Global> {
     pub(crate) engine: Engine,
     changes: Vec<SpeakerChange, A>,
     trail: Trail,
-    /// The leaps of time and the clocks that were made by themselves since power-on; each is a clock at least.
+    /// The acts, the leaps of time and the steps of the run's loop since power-on, each a clock at least.
     turns: u64,
 }
 
@@ -79,10 +79,9 @@ impl<A: Allocator> Model for Board<A> {
 }
 
 impl Board {
-    /// A board at power-on with the image's bytes in its memory and these keys to come; those stamped 0 have
-    /// arrived. Refused as `RamSize` where the RAM's size isn't a multiple of 16 KB from 16 to 640 or the image
-    /// has a byte between the RAM's end and A0000h, and as `Memory` where there is none to make the board in;
-    /// the keys are dropped then.
+    /// A board at power-on with the image's bytes in its memory and these keys to come; those stamped 0 have arrived.
+    /// Refused as `RamSize` if the RAM's size isn't a multiple of 16 KB from 16 to 640 or the image has a byte between
+    /// the RAM's end and A0000h, and as `Memory` if there is none for the board; the keys are dropped then.
     pub fn new(
         alloc: Global,
         image: &Image,
@@ -123,7 +122,7 @@ impl Board {
     {
         let changes = self.changes.clone()?;
         let trail = self.trail.copy()?;
-        // last, so that a copy of all chips needn't be let go where there is no memory for the lists
+        // last, so that no copy of all chips is made in vain if there is no memory for the lists
         let engine = self.engine.copy()?;
         Ok(Board {
             engine,
@@ -133,7 +132,7 @@ impl Board {
         })
     }
 
-    /// This board, whose list of changes, as `changes` has it, goes on in the memory of another allocator.
+    /// This board with its list of changes in the memory of another allocator: `changes` has the same ones.
     pub fn with_changes<A: Allocator>(self, changes: Vec<SpeakerChange, A>) -> Board<A>
         requires { changes.items ≡ self.changes }
         ensures plain { result.plain ≡ self.plain }
@@ -151,10 +150,9 @@ impl Board {
 }
 
 impl<A: Allocator> Board<A> {
-    /// Runs the board for `count` processor clocks. Refused as `ClockLimit`, with nothing changed, where it
-    /// would go past clock 2^40. As `Memory` only where the next clock changes the speaker's level and the
-    /// list of changes has no room and can't grow: the board then stands at that clock, and a new run goes on
-    /// from there.
+    /// Runs the board for `count` processor clocks. Refused as `ClockLimit`, with nothing changed, if it would go past
+    /// clock 2^40. Refused as `Memory` only if the next clock changes the speaker's level and the list of changes has
+    /// no room and can't grow: the board then stands at the clock before that change, and a new run goes on from there.
     pub fn run(&mut self, count: u64) -> Result<(), BoardFault>
         ensures plain { OnOk result (self.new.plain ≡ after_clocks self.old.plain count) }
         ensures clock { OnOk result (clock_of self.new.plain ≡ clock_of self.old.plain + count) }
@@ -186,8 +184,8 @@ impl<A: Allocator> Board<A> {
     }
 
     /// Runs the board for `count` processor clocks, or up to the first clock after the start at which one of `stops`
-    /// holds, and answers that stop. Refused as `run` is; where it is refused as `Memory`, none held at any clock
-    /// after the start up to the one where the board stands.
+    /// holds, and answers that stop. Refused as `run` is; if as `Memory`, no stop has held at any clock after the
+    /// start, up to the one at which the board stands.
     pub fn run_until(&mut self, count: u64, stops: &Stops) -> Result<Stopped, BoardFault>
         requires { All HasAddress stops.now.items }
         ensures stop { IfOk result (λ stopped. IsStopOf stops.now.items count self.old.plain stopped) }
@@ -217,7 +215,7 @@ impl<A: Allocator> Board<A> {
         let end = self.clock().get() + count;
         let whole = all_await_free(stops.as_slice());
         let reach = Reach::of(stops.as_slice());
-        // a stop that holds at the start is none there, so the first clock is made by itself
+        // a stop that holds at the start doesn't count, so the first clock is a turn of its own
         let next = self.clock().get() + 1;
         self.turn(next, next)?;
         'turns: loop {
@@ -232,9 +230,9 @@ impl<A: Allocator> Board<A> {
         }
     }
 
-    /// Runs the board for `count` processor clocks, and answers the last clock, from the start to the end, both among them, at
-    /// which one of `stops` holds, with the least number of one that does, or `None` where none holds at any. Refused as `run`
-    /// is, without an answer.
+    /// Runs the board for `count` processor clocks, and answers the last clock from the start to the end, both
+    /// included, at which one of `stops` holds, with the least number of those that do; `None` if none holds at any.
+    /// Refused as `run` is, without an answer.
     pub fn run_last(
         &mut self,
         count: u64,
@@ -264,16 +262,16 @@ impl<A: Allocator> Board<A> {
         let mut last = None;
         'turns: while self.clock().get() < end {
             let here = self.holding(stops, &reach);
-            // where none holds, a step with the leap behind it passes none
+            // if none holds here, the other clocks of a step pass none that waits for a free processor
             self.turn_between(end, passes_none(whole, here), &reach)?;
-            // what holds before a turn does so up to the clock before the one that the turn comes to
+            // what holds before a turn holds up to the last clock before the turn's end
             last = later(last, here, self.clock());
         }
         Ok(latest(last, self.holding(stops, &reach), self.clock()))
     }
 
-    /// Makes room for `n` more changes of the speaker's level. Refused as `Memory`, with nothing changed, where
-    /// the list can't grow; never where it has the room.
+    /// Makes room for `n` more changes of the speaker's level. Refused as `Memory`, with nothing changed, if the list
+    /// can't grow; never if it has the room.
     pub fn reserve_speaker(&mut self, n: usize) -> Result<(), BoardFault>
         ensures ok { OnOk result (n ≤ self.new.room) }
         ensures plain { self.new.plain ≡ self.old.plain }
@@ -289,7 +287,7 @@ impl<A: Allocator> Board<A> {
         Ok(())
     }
 
-    /// The least number of a condition that holds, `reach` being where IP has to be for that.
+    /// The least number of a stop that holds; `reach` is where IP has to be for that.
     #[inline(always)]
     fn holding(&self, stops: &Stops, reach: &Reach) -> Option<usize>
         requires address { All HasAddress stops.now.items }
@@ -308,9 +306,9 @@ impl<A: Allocator> Board<A> {
         Clock::LAST - self.engine.chips.clock().get() < count
     }
 
-    /// A turn between two looks for a stop: where it may be `whole`, an act with all its clocks, or as many steps at once as come
-    /// to no IP within `reach` before the last; else an act's first clock. Or time leaps, where nothing is seen up to `end`: no
-    /// condition changes on the way, short of the last clock.
+    /// A turn between two looks for a stop. If it may be `whole`, it is an act with all its clocks, or steps of the
+    /// run's loop, of which only the last may lead to an IP within `reach`; otherwise an act's first clock. Or it is a
+    /// leap up to `end`, during which no condition changes before the last clock.
     #[inline(always)]
     fn turn_between(&mut self, end: u64, whole: bool, reach: &Reach) -> Result<(), BoardFault>
         requires before_end { clock_of self.old.plain < end }
@@ -325,7 +323,7 @@ impl<A: Allocator> Board<A> {
         self.clock_turn(end)
     }
 
-    /// A turn between two looks for a stop, which may be whole.
+    /// A turn between two looks for stops that all wait for a free processor, so an act may have all its clocks.
     #[inline(always)]
     fn whole_turn(&mut self, end: u64, reach: &Reach) -> Result<(), BoardFault>
         requires before_end { clock_of self.old.plain < end }
@@ -340,7 +338,7 @@ impl<A: Allocator> Board<A> {
         self.turn(end, end)
     }
 
-    /// A turn between two looks for a stop, in which an act has its first clock.
+    /// A turn between two looks for a stop, in which an act has only its first clock.
     #[inline(always)]
     fn clock_turn(&mut self, end: u64) -> Result<(), BoardFault>
         requires before_end { clock_of self.old.plain < end }
@@ -356,9 +354,9 @@ impl<A: Allocator> Board<A> {
         self.turn(next, end)
     }
 
-    /// One turn, beside the steps that are made at once: where the processor does nothing and nothing is seen, time leaps, at most
-    /// to the clock `end`; else what the processor does is made, with those of its clocks that end by `within`. It is kept out of
-    /// the run's loop, whose values then stay in registers.
+    /// A turn, beside the steps of the run's loop: if the processor does nothing and nothing is seen, time leaps, at
+    /// most to the clock `end`; otherwise the processor acts, and those other clocks of its step pass that end by
+    /// `within`. Kept out of the run's loop.
     #[inline(never)]
     fn turn(&mut self, within: u64, end: u64) -> Result<(), BoardFault>
         requires before { clock_of self.old.plain < within }
@@ -374,9 +372,9 @@ impl<A: Allocator> Board<A> {
         Ok(())
     }
 
-    /// A turn from this case of a boundary, with a note of its first clock's accesses. Answers what begins. If it may not leap over edges of the
-    /// timer, no wire changes but in its first clock. `L` is a tag alone: each caller has a copy of its own, which LLVM
-    /// takes in.
+    /// A turn at this case of a boundary; the accesses of its first clock are noted. Answers what begins. Unless it may
+    /// leap over edges of the timer, wires change in its first clock alone. `L` is only a tag: each caller has a copy
+    /// of its own, small enough for LLVM to inline.
     #[inline(always)]
     pub(crate) fn turn_by<L, N: Notes>(
         &mut self,
@@ -410,7 +408,7 @@ impl<A: Allocator> Board<A> {
         }
     }
 
-    /// A turn in which the processor does nothing: a leap of time, or where this clock has work, the clock, and the rest of a step.
+    /// A turn in which the processor does nothing: a leap of time, or, if this clock has work, an act.
     #[inline(always)]
     fn pass<N: Notes>(
         &mut self,
@@ -438,7 +436,7 @@ impl<A: Allocator> Board<A> {
         self.act(&Act::Nothing, notes, over_edges, within)
     }
 
-    /// A leap of time as a turn. Answers whether there is one: else this clock has work.
+    /// A leap of time as a turn. Answers whether there was one; if not, this clock has work.
     #[inline(always)]
     fn leap(&mut self, over_edges: bool, end: u64) -> bool
         requires idle { acts.Nothing ≡ next_act self.old.plain }
@@ -456,8 +454,8 @@ impl<A: Allocator> Board<A> {
         true
     }
 
-    /// What the processor does in this clock, `next`, as a turn, with those of its clocks that end by `within`. The list of changes
-    /// grows before anything else changes. Answers what begins.
+    /// An act, as a turn: the processor does `next` in this clock, and those other clocks of its step pass that end by
+    /// `within`. The list of changes grows before anything else changes. Answers what begins.
     #[inline(always)]
     fn act<N: Notes>(
         &mut self,
@@ -486,7 +484,7 @@ impl<A: Allocator> Board<A> {
         Ok(begun)
     }
 
-    /// Makes that turn, whose change is listed.
+    /// Makes the act of `act`, after its change of the speaker's level is listed.
     #[inline(always)]
     fn make<N: Notes>(&mut self, next: &Act, notes: &mut N, over_edges: bool, within: u64)
         requires next { next.now ≡ next_act self.old.plain }
@@ -506,7 +504,7 @@ impl<A: Allocator> Board<A> {
         self.turns += 1;
     }
 
-    /// Steps at once, while nothing comes. Answers whether there were any.
+    /// Makes steps of the run's loop, while nothing comes. Answers whether there were any.
     #[inline(always)]
     fn quiet_steps<W: Watch>(&mut self, end: u64, watch: &W) -> bool
         requires before_end { clock_of self.old.plain < end }
@@ -523,7 +521,7 @@ impl<A: Allocator> Board<A> {
         true
     }
 
-    /// Lists the change that the next clock brings, if it brings one; at it the speaker is `high`.
+    /// Lists the change of the speaker's level at the next clock, if there is one; it is `high` then.
     #[inline(always)]
     fn list_change(&mut self, high: bool) -> Result<(), BoardFault>
         requires within { clock_of self.old.plain < 2 ^ 40 }
@@ -615,8 +613,8 @@ impl<A: Allocator> Board<A> {
         self.engine.chips.lost()
     }
 
-    /// How many turns the board has made since power-on, at most one a clock: each clock that was made by itself is one,
-    /// each leap of time, and each step's first clock together with the leap over its others.
+    /// How many turns the board has made since power-on, at most one a clock: an act with the leap over the other
+    /// clocks of its step is one, and so is each other leap of time and each step of the run's loop.
     pub fn turns(&self) -> u64
         ensures { result ≡ self.now.turns }
     {
@@ -628,15 +626,15 @@ impl<A: Allocator> Board<A> {
         self.engine.chips.decodes()
     }
 
-    /// The changes of the speaker's level since power-on, where it is low.
+    /// The changes of the speaker's level since power-on, when it is low.
     pub fn speaker_changes(&self) -> &[SpeakerChange]
         ensures { result.now ≡ self.now.changes }
     {
         self.changes.as_slice()
     }
 
-    /// The entry at `i` of the last 32 of the trail, the oldest being at 0: an instruction that was begun or an
-    /// interrupt that was entered at a free boundary.
+    /// The entry at `i` of the last 32 of the trail, from the oldest at 0 on: an instruction that began, or an
+    /// interrupt that was entered, at a free boundary.
     pub fn trail(&self, i: usize) -> Option<TrailEntry>
         ensures entry { result ≡ slice_get self.now.trail i }
         ensures length { length self.now.trail ≤ 32 }
@@ -654,7 +652,7 @@ impl<A: Allocator> Board<A> {
     }
 }
 
-/// Whether a step with the leap behind it passes no stop: where `whole`, and nothing holds here.
+/// Whether the other clocks of a step pass no stop: all stops wait for a free processor (`whole`), and none holds here.
 fn passes_none(whole: bool, here: Option<usize>) -> bool
     ensures { IsTrue result → IsTrue whole × (here ≡ None) }
 {
@@ -664,7 +662,8 @@ fn passes_none(whole: bool, here: Option<usize>) -> bool
     }
 }
 
-/// What is found last where `here` holds up to the clock before `clock`, `last` being what was found before.
+/// What a search has found last if the stop number `here` holds up to the clock before `clock`; `last` is what it found
+/// before.
 fn later(last: Option<(Clock, usize)>, here: Option<usize>, clock: Clock) -> Option<(Clock, usize)>
     requires { 1 ≤ clock }
     ensures { result ≡ found_before last here clock }
@@ -675,7 +674,7 @@ fn later(last: Option<(Clock, usize)>, here: Option<usize>, clock: Clock) -> Opt
     }
 }
 
-/// What is found last where `here` holds at `clock`.
+/// What a search has found last if the stop number `here` holds at `clock`; `last` is what it found before.
 fn latest(last: Option<(Clock, usize)>, here: Option<usize>, clock: Clock) -> Option<(Clock, usize)>
     ensures { result ≡ found_at last here clock }
 {

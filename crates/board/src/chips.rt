@@ -1,4 +1,4 @@
-//! What a board's chips hold at its clock, and its processor between two boundaries.
+//! What a board's chips hold at its clock, and the state of its processor between two boundaries.
 ghost use Rattle.std.specs.Prelude.{◌≡◌, ◌≤◌, is_some, map};
 ghost use Rattle.board_plain.specs.Plain.{clock_of, codes_at, speaker_level};
 ghost use Rattle.board_types.specs.declared.keys.StampedKey.{StampedKey};
@@ -45,7 +45,7 @@ impl<A: Allocator> Board<A> {
         self.engine.chips.keyboard()
     }
 
-    /// The keys that came at a clock that is reached, in order.
+    /// The keys that came at this clock, in order. The board must have reached it.
     pub fn keys_at(&self, clock: Clock) -> &[StampedKey]
         requires { clock ≤ clock_of self.now.plain }
         ensures { map (λ (k : StampedKey). k.code) result.now ≡ codes_at self.now.plain.keys clock }

@@ -1,4 +1,6 @@
-//! The system board, run: an engine in which time leaps, and which shows what the plain board is at each clock.
+//! The system board, run: its engine leaps over time, and its view is the plain board at each clock. `run_from` is the
+//! run's loop over single steps: what is rare is kept out of it by `#[inline(never)]`, so that its values stay in
+//! registers.
 #![tactic(auto)]
 
 mod acts;

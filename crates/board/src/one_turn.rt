@@ -1,4 +1,4 @@
-//! One turn of a board at a time, with what begins in it.
+//! A board that runs turn by turn, with what begins in each.
 ghost use Rattle.std.specs.Prelude.{◌≡◌, ◌<◌, ◌≤◌, IfOk, IfSome, OnErr, OnOk, map};
 ghost use Rattle.std.specs.Option.{option_to_list};
 ghost use Rattle.std.specs.Result.{IfErr};
@@ -19,8 +19,8 @@ use decode::decoded::Decoded;
 use execute_noted::notes::Notes;
 use std::alloc::Allocator;
 
-/// What began at a clock: an instruction, or, where it has a type, the entry of an interrupt. Of an entry CS:IP are those
-/// that it pushes.
+/// What began at a clock: an instruction, or the entry of an interrupt, which has its type; CS:IP are then those that
+/// the entry pushed.
 #[derive(Clone, Copy, Debug, PartialEq, Eq)]
 pub struct Begun {
     pub clock: Clock,
@@ -31,7 +31,7 @@ pub struct Begun {
 }
 
 impl Engine {
-    /// What begins by this act, as the trail lists it, without an instruction's bytes.
+    /// What begins by this act, as the trail has it, but without an instruction's bytes.
     #[inline(always)]
     pub(crate) fn begins(&self, next: &Act) -> Option<Begun>
         requires exact { IsExact self.now.cpu self.now.chips next.now }
@@ -47,7 +47,7 @@ impl Engine {
         }
     }
 
-    /// The instruction that begins, if one was decoded at CS:IP.
+    /// The instruction that begins, unless no row fits the bytes at CS:IP.
     #[inline(always)]
     fn starts(&self, decoded: &Decoded) -> Option<Begun>
         requires exact { IsExact self.now.cpu self.now.chips (Instruction decoded.now) }
@@ -62,7 +62,7 @@ impl Engine {
         }
     }
 
-    /// An instruction that begins in this clock, or the entry of an interrupt.
+    /// What begins in this clock at CS:IP: an instruction, or the entry of an interrupt of this type.
     #[inline(always)]
     #[tactic(auto, unfolding(board_plain::specs::Plain::clock_of))]
     fn begun(&self, entered: Option<u8>) -> Begun
@@ -83,11 +83,11 @@ impl Engine {
 }
 
 impl<A: Allocator> Board<A> {
-    /// One turn of a run that ends at the clock `end`: a clock, a leap of time, or a step of an instruction or of a repeat with
-    /// the leap over those of its other clocks that end by `within`. Answers what begins in it, and notes its accesses: all that
-    /// happens in it happens in its first clock, but that `over_edges` lets it leap over edges of the timer, which change wires at
-    /// other clocks too. Past `within` only a leap leads, in whose first clock nothing happens either.
-    /// Refused as `Memory` where `run` would be, with nothing changed.
+    /// Makes one turn of a run that ends at the clock `end`: an act, with the leap over those other clocks of its step
+    /// that end by `within`, or a leap. Answers what begins in it, and notes its accesses. All that happens in a turn
+    /// happens in its first clock, except that a turn that may leap over edges of the timer (`over_edges`) may change
+    /// wires at other clocks. Only a leap leads past `within`, and nothing happens in its first clock either. Refused
+    /// as `Memory` if `run` would be, with nothing changed.
     pub fn run_turn<N: Notes>(
         &mut self,
         within: Clock,

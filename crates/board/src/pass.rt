@@ -13,7 +13,7 @@ use board_types::clock::Clock;
 use board_types::keys::StampedKey;
 use cached_chips::cached::CachedChips;
 
-/// The clock `end`, or the last before a stamp where that one is earlier.
+/// The clock `end`, or the last one before the stamp if that is earlier.
 pub(crate) fn before_stamp(stamp: Option<Clock>, end: u64) -> u64
     ensures { result ≡ last_before stamp end }
 {
@@ -23,7 +23,7 @@ pub(crate) fn before_stamp(stamp: Option<Clock>, end: u64) -> u64
     }
 }
 
-/// A clock up to which nothing comes to a processor that is busy for so many clocks, as far as that is known.
+/// A clock up to which nothing comes to a processor that is busy for `busy` clocks, as far as that is known.
 #[inline(always)]
 pub(crate) fn known_quiet_to(busy: u16, chips: &CachedChips, arrived: &Arrived) -> u64
     ensures { IsKnownQuiet result busy chips.now arrived.now.next }
@@ -38,7 +38,8 @@ pub(crate) fn known_quiet_to(busy: u16, chips: &CachedChips, arrived: &Arrived) 
     }
 }
 
-/// The chips' part of a step of so many clocks, up to `end`, in a run that may leap over edges; and what is known then.
+/// The chips' part of a step of `busy` clocks that may lead past the bound, up to `end`, over edges of the timer, too;
+/// sets `quiet_to` to what is known then. Answers how many clocks of the step are left.
 #[inline(never)]
 pub(crate) fn pass_behind(
     chips: &mut CachedChips,
@@ -62,8 +63,8 @@ pub(crate) fn pass_behind(
     left
 }
 
-/// The chips' part of a step of `busy` clocks: of all of them, where they end by `end` and it is known that nothing is seen of
-/// them, and else of the first. Then it is found out how long the chips stay quiet. Answers how many clocks are left.
+/// The chips' part of a step of `busy` clocks: all of them if they end by `end` and are known to be unseen, else the
+/// first one. Then it looks ahead for how long the chips stay quiet. Answers how many clocks are left.
 #[inline(always)]
 pub(crate) fn pass_over(
     chips: &mut CachedChips,
@@ -95,8 +96,8 @@ pub(crate) fn pass_over(
     busy.saturating_sub(1)
 }
 
-/// Whether it is known that nothing is seen of the chips up to the clock `to`: they are quiet, or, where edges of the timer may
-/// be leapt over, they go on alone.
+/// Whether it is known that nothing is seen of the chips up to the clock `to`: they are quiet, or, if edges of the
+/// timer may be leapt over, they go on alone.
 #[inline(always)]
 pub(crate) fn goes_unseen(chips: &CachedChips, to: u64, over_edges: bool) -> bool
     requires { chips.now.clock < to }

@@ -1,4 +1,4 @@
-//! What is known of some stops beforehand: whether they wait for a free processor, and at which IP they may hold.
+//! What is known of stops beforehand: whether they wait for a free processor, and at which IP they may hold.
 ghost use Rattle.std.specs.Prelude.{◌≡◌, IsTrue};
 ghost use Rattle.board.specs.AwaitFree.{awaits_free, AllAwaitFree};
 ghost use Rattle.board.specs.Reach.{AllWithin};
@@ -6,7 +6,7 @@ ghost use Rattle.board.specs.Reach.{AllWithin};
 use crate::watch::Watch;
 use board_plain::stop::Condition;
 
-/// Whether it holds only where the processor is free.
+/// Whether this condition holds only while the processor is free.
 fn awaits_free(condition: Condition) -> bool
     ensures { result ≡ awaits_free condition }
 {
@@ -16,7 +16,7 @@ fn awaits_free(condition: Condition) -> bool
     }
 }
 
-/// Whether each of them holds only where the processor is free.
+/// Whether each of these conditions holds only while the processor is free.
 pub(crate) fn all_await_free(conditions: &[Condition]) -> bool
     ensures { IsTrue result → AllAwaitFree conditions.now }
 {
@@ -42,7 +42,7 @@ impl Reach {
         highest: u16::MAX,
     };
 
-    /// Where IP has to be for one of them to hold.
+    /// The IPs at which one of these conditions may hold.
     pub(crate) fn of(conditions: &[Condition]) -> Reach
         ensures { AllWithin result conditions.now }
     {
@@ -66,13 +66,13 @@ impl Watch for Reach {
 
     ghost passes = { may_pass };
 
-    /// Whether one of them may hold at this IP.
+    /// Whether one of the conditions may hold at this IP.
     #[inline(always)]
     fn has(&self, ip: u16) -> bool {
         self.lowest <= ip && ip <= self.highest
     }
 
-    /// Whether none of them may hold at any of so many IPs.
+    /// Whether none of the conditions can hold at any of `size` IPs from `start` on.
     #[inline(always)]
     fn spares(&self, start: u16, size: u16) -> bool {
         self.highest < start || u32::from(start) + u32::from(size) <= u32::from(self.lowest)

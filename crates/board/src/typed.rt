@@ -12,7 +12,8 @@ use std::alloc::{Allocator, Global};
 use std::mem;
 
 impl<A: Allocator> Board<A> {
-    /// The board's keys with one more, after those that aren't stamped later. Refused as `Memory` if there is none for them.
+    /// The board's keys with one more, placed after all that aren't stamped later. Refused as `Memory` if there is none
+    /// for them.
     pub fn keys_with(&self, alloc: Global, key: StampedKey) -> Result<Keys, BoardFault>
         ensures keys { IfOk result (λ keys. keys ≡ inserted self.now.plain.keys key) }
         ensures fault { IfErr result (λ fault. fault ≡ BoardFault.Memory) }
@@ -26,7 +27,7 @@ impl<A: Allocator> Board<A> {
         Ok(keys)
     }
 
-    /// Has these keys in place of its own: those that are stamped later than its clock are still to come.
+    /// Takes these keys in place of its own: those that are stamped later than its clock are still to come.
     pub fn take_keys(&mut self, keys: Keys)
         ensures { self.new ≡ record self.old { plain = record self.old.plain { keys = keys } } }
     {
@@ -35,7 +36,7 @@ impl<A: Allocator> Board<A> {
 }
 
 impl Engine {
-    /// Has these keys in place of its own; what was known of the next one is known no more.
+    /// Takes these keys in place of its own, and forgets what was known of the next one.
     fn take_keys(&mut self, keys: Keys)
         ensures { self.new ≡ record self.old { keys = keys } }
     {

@@ -1,23 +1,23 @@
-//! At which IP a run may have to look for a stop.
+//! The IPs at which a run may have to look for a stop.
 ghost use Rattle.std.specs.Prelude.{ℕ, ◌≡◌, ◌+◌, ◌<◌, ◌≤◌, IsTrue};
 ghost use Rattle.board_types.specs.Address.{offset_after};
 
-/// What a run watches.
+/// What a run watches for.
 pub(crate) trait Watch {
-    // that none of what is watched is at an IP
+    // nothing that is watched for is at this IP
     ghost passes: { Self → ℕ → Type 0 };
 
-    /// Whether something that is watched may be at this IP.
+    /// Whether something that is watched for may be at this IP.
     fn has(&self, ip: u16) -> bool
         ensures { ¬ (IsTrue result) → passes self.now ip };
 
-    /// Whether it is known that nothing is watched at any of so many IPs from `start` on.
+    /// Whether it is known that nothing is watched for at any of `size` IPs from `start` on.
     fn spares(&self, start: u16, size: u16) -> bool
         requires { start + size ≤ 65536 }
         ensures { IsTrue result → (k : ℕ) → k < size → passes self.now (offset_after start k) };
 }
 
-/// A run without stops.
+/// Watches for nothing: a run without stops.
 #[derive(Clone, Copy)]
 pub(crate) struct Nothing;
 

@@ -1,4 +1,4 @@
--- The keys from there on come with the clock or later.
+-- The keys from there on come at the clock or later.
 use Rattle.std.proofs.Common.{ℕ, ◌<◌, ◌≤◌, length, get_or}
 use Rattle.board_types.specs.declared.keys.StampedKey.{StampedKey}
 use Rattle.board.proofs.arrivals.count_before.Given as goal
