@@ -1,4 +1,4 @@
-//! What the processor of the system board reaches: memory and chips, with the decodings of what stands in memory.
+//! What the processor of the system board reaches: memory and chips, with a cache of what is decoded there.
 #![tactic(auto)]
 
 pub mod cached;

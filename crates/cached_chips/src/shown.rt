@@ -1,4 +1,4 @@
-//! What the chips hold at the present clock, where they may lag behind it.
+//! What the chips hold at the present clock, even while they lag.
 ghost use Rattle.std.specs.Prelude.{◌≡◌};
 ghost use Rattle.mda_text.specs.Registers.{registers_of};
 
